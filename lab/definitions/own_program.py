@@ -6,32 +6,45 @@
     result(me)                 what the node has found after the last pulse, as words
     last_pulse(nodes, degree)  the last pulse, of the number of nodes and the greatest degree; the number of nodes if
                                the file has no such function
+    right(results, neighbours) whether that is what has to be found, of the words and the neighbours of each node, both
+                               by identifier: True, or in words what isn't right; if the file has such a function
+    always(results, neighbours)    the same, of what nodes have found so far, at any time
+    drawn(me)                  a pair for pictures: a colour from 0 or None, and a port or None, if the file has it
 
-`me` is the node: `me.id`, `me.degree` (how many ports it has, from 0), `me.nodes`, `me.greatest_degree`, and whatever
-the file keeps there. A payload is a pair: a word of small letters, and a number from 0. What to send is one payload for
-all ports, a list with a payload or None for each, or None. At the last pulse nothing may be sent.
+`me` is the node: `me.id`, `me.degree` (how many ports it has, from 0), `me.nodes`, `me.greatest_degree`, `me.random`
+(chance by a seed: lab/definitions/lots.py), and whatever the file keeps there. A payload is a pair: a word of small
+letters, and a number from 0. What to send is one payload for all ports, a list with a payload or None for each, or
+None. At the last pulse nothing may be sent.
 
-The file is run as it is, with the rights of who calls the command. Nothing is proved of it."""
+The file is run as it is, with the rights of who calls the command; what it prints goes to standard error. Nothing is
+proved of it."""
+import contextlib
 import copy
 import os
+import sys
 import traceback
 from types import SimpleNamespace
 
+from lab.definitions.lots import Lots
+from lab.definitions.values import frozen
 from lab.wrong import Wrong, wrong_line
 
-NEEDED = ("greet", "next", "result")
+NEEDED, MAY_BE = ("greet", "next", "result"), ("last_pulse", "right", "always", "drawn")
+COLOURS = 8
+AGAIN = "does it use chance other than `me.random`, or a variable outside `me`?"
 
 
-def own_program(path: str) -> type:
-    """The program of a file."""
+def own_program(path: str, lots: str = "1") -> type:
+    """The program of a file; `lots` is the seed of `me.random`."""
     functions = run_file(path)
     missing = [name for name in NEEDED if not callable(functions.get(name))]
+    missing += [name for name in MAY_BE if name in functions and not callable(functions[name])]
     if missing:
         raise Wrong(f"{path} has no function {' and no function '.join(missing)}")
 
     class Own(OwnNode):
         name = os.path.splitext(os.path.basename(path))[0]
-        file, of_file = path, functions
+        file, of_file, seed = path, functions, lots
 
     return Own
 
@@ -53,13 +66,25 @@ def run_file(path: str) -> dict:
 
 
 def called(path: str, function, *values):
-    """What a function of the file returns; whatever it raises is said with its line."""
+    """What a function of the file returns; whatever it raises is said with its line, and what it prints goes to
+    standard error."""
     try:
-        return function(*values)
-    except Exception as why:
+        with contextlib.redirect_stdout(sys.stderr):
+            return function(*values)
+    except (Exception, SystemExit) as why:
         lines = [frame.lineno for frame in traceback.extract_tb(why.__traceback__) if frame.filename == path]
         said = f"{type(why).__name__}: {why}" if str(why) else type(why).__name__
         raise (wrong_line(path, lines[-1], said) if lines else Wrong(f"{path}: {said}")) from None
+
+
+class Me(SimpleNamespace):
+    """A node as the file has it. Most have no need of chance, so `random` is made when it is first asked for."""
+
+    def __getattr__(self, name):
+        if name != "random":
+            raise AttributeError(f"`me` has no `{name}`")
+        self.random = Lots(self._lots)
+        return self.random
 
 
 class OwnNode:
@@ -68,11 +93,12 @@ class OwnNode:
     name: str
     file: str
     of_file: dict
+    seed: str
 
     def __init__(self, net, v):
         self.last = self.last_pulse(net)
-        self.me = SimpleNamespace(id=net.identifiers[v], degree=len(net.neighbours[v]), nodes=len(net.neighbours),
-                                  greatest_degree=net.greatest_degree)
+        self.me = Me(id=net.identifiers[v], degree=len(net.neighbours[v]), nodes=len(net.neighbours),
+                     greatest_degree=net.greatest_degree, _lots=f"{self.seed} {net.identifiers[v]}")
         self.degree = self.me.degree
 
     @classmethod
@@ -84,6 +110,9 @@ class OwnNode:
             raise Wrong(f"{cls.file}: `last_pulse` returns {last!r}, which is no pulse")
         return last
 
+    def where(self, function: str, pulse: int) -> str:
+        return f"{self.file}: `{function}` at pulse {pulse} of the node of identifier {self.me.id}"
+
     def greet(self) -> list:
         return self.sent("greet", 0, called(self.file, self.of_file["greet"], self.me))
 
@@ -94,12 +123,12 @@ class OwnNode:
     def sent(self, function: str, pulse: int, what) -> list:
         """By port, what a function returned, with the words of payloads as the definitions write them."""
         slots = list(what) if isinstance(what, list) else [what] * self.degree
-        where = f"{self.file}: `{function}` at pulse {pulse} of the node of identifier {self.me.id}"
+        where = self.where(function, pulse)
         if len(slots) != self.degree:
             raise Wrong(f"{where} returns a list of {len(slots)} for {self.degree} ports")
         for slot in slots:
-            if slot is not None and not is_payload(slot):
-                raise Wrong(f"{where} sends {slot!r}: a payload is a pair, a word of small letters and a number from 0")
+            if slot is not None and (why := no_payload(slot)):
+                raise Wrong(f"{where} sends {slot!r}: {why}")
         if pulse == self.last and any(slot is not None for slot in slots):
             raise Wrong(f"{where} sends something, and {pulse} is the last pulse")
         return [slot and (slot[0].title(), slot[1]) for slot in slots]
@@ -110,28 +139,103 @@ class OwnNode:
             raise Wrong(f"{self.file}: `result` returns {words!r}: it must be words on one line")
         return words
 
+    def drawn(self) -> tuple[int | None, int | None]:
+        """Colour and port for pictures, if the file says them."""
+        if "drawn" not in self.of_file:
+            return None, None
+        pair = called(self.file, self.of_file["drawn"], self.me)
+        if not (isinstance(pair, tuple) and len(pair) == 2 and is_below(pair[0], COLOURS)
+                and is_below(pair[1], self.degree)):
+            raise Wrong(f"{self.file}: `drawn` returns {pair!r} at the node of identifier {self.me.id}: it must be a pair, "
+                        f"a colour below {COLOURS} or None, and a port or None")
+        return pair
+
     def copied(self):
         node = copy.copy(self)
-        node.me = copy.deepcopy(self.me)
+        memo = {}
+        node.me = Me(**{name: self.held(name, copy.deepcopy, value, memo) for name, value in vars(self.me).items()})
         return node
 
     def key(self):
         """Equal for equal nodes of one vertex."""
-        return frozen(vars(self.me))
+        seen = {}
+        return tuple(self.held(name, frozen, value, seen) for name, value in sorted(vars(self.me).items()))
+
+    def held(self, name: str, function, value, memo):
+        """What copies or compares a value that the file keeps in `me`, if it can be copied and compared."""
+        try:
+            return function(value, memo)
+        except RecursionError:
+            raise Wrong(f"{self.file}: `me.{name}` is too deep to be compared") from None
+        except Exception:
+            raise Wrong(f"{self.file}: `me.{name}` has a {culprit(value)} in it, which can't be copied and compared, as "
+                        "each order of events needs it: keep plain values there") from None
 
 
-def is_payload(slot) -> bool:
-    return (isinstance(slot, tuple) and len(slot) == 2 and isinstance(slot[0], str) and slot[0].isascii()
-            and slot[0].isalpha() and slot[0].islower() and isinstance(slot[1], int) and not isinstance(slot[1], bool)
-            and 0 <= slot[1] < 2 ** 128)
+def culprit(value) -> str:
+    """The type of what can't be copied in a value, as far as that is easily found."""
+    inside = value.values() if isinstance(value, dict) else value if isinstance(value, (list, tuple, set)) else (
+        vars(value).values() if hasattr(value, "__dict__") else ())
+    for one in inside:
+        try:
+            frozen(copy.deepcopy(one), {})
+        except Exception:
+            return culprit(one)
+    return type(value).__name__
 
 
-def frozen(value):
-    """A value as one that can be compared and is a key of dictionaries."""
-    if isinstance(value, dict):
-        return "dict", tuple(sorted(((repr(key), frozen(one)) for key, one in value.items()), key=repr))
-    if isinstance(value, (set, frozenset)):
-        return "set", tuple(sorted(map(frozen, value), key=repr))
-    if isinstance(value, (list, tuple)):
-        return type(value).__name__, tuple(map(frozen, value))
-    return (type(value).__name__, value) if isinstance(value, (int, str, type(None), bool)) else repr(value)
+def no_payload(slot) -> str:
+    """Why something is no payload, or nothing."""
+    if not (isinstance(slot, tuple) and len(slot) == 2 and isinstance(slot[0], str) and slot[0].isascii()
+            and slot[0].isalpha() and slot[0].islower() and is_below(slot[1], float("inf")) and slot[1] is not None):
+        return "a payload is a pair, a word of small letters and a number from 0"
+    return "" if slot[1] < 2 ** 128 else "its number has to be below 2^128"
+
+
+def is_below(number, bound) -> bool:
+    """Whether something is a number from 0 below the bound, or None."""
+    return number is None or isinstance(number, int) and not isinstance(number, bool) and 0 <= number < bound
+
+
+# What a file has to keep to, and what has to hold.
+
+def check_repeats(net, program: type) -> None:
+    """Refuses a program of a file that does something else the second time: then the rounds, and what nodes find in
+    them, mean nothing. The second time the nodes come in the opposite order."""
+    if not issubclass(program, OwnNode):
+        return
+    vertices = sorted(net.neighbours)
+    for (node, function, pulse, one), (_, _, _, two) in zip(rounds_of(net, program, vertices),
+                                                           rounds_of(net, program, vertices[::-1])):
+        if one != two:
+            raise Wrong(f"{node.where(function, pulse)} does something else the second time: {AGAIN}")
+
+
+def rounds_of(net, program: type, order: list[int]):
+    """(node, function, pulse, what it sends or finds) of all rounds, by vertex, the nodes being called in an order."""
+    ports = {v: sorted(net.neighbours[v]) for v in net.neighbours}
+    nodes = {v: program(net, v) for v in order}
+    sent = {v: nodes[v].greet() for v in order}
+    yield from ((nodes[v], "greet", 0, sent[v]) for v in sorted(order))
+    for pulse in range(1, program.last_pulse(net) + 1):
+        inboxes = {v: [sent[w][ports[w].index(v)] for w in ports[v]] for v in order}
+        sent = {v: nodes[v].next(pulse, inboxes[v]) for v in order}
+        yield from ((nodes[v], "next", pulse, sent[v]) for v in sorted(order))
+    found = {v: nodes[v].result() for v in order}
+    yield from ((nodes[v], "result", nodes[v].last, found[v]) for v in sorted(order))
+
+
+def what_is_wrong(net, program: type, found: dict[int, str], function: str = "right") -> str:
+    """What the file's `right` or `always` says of what nodes have found, in words; nothing if that is right, or if the
+    file has no such function."""
+    if not issubclass(program, OwnNode) or function not in program.of_file:
+        return ""
+    name = net.identifiers
+    said = called(program.file, program.of_file[function], {name[v]: words for v, words in found.items()},
+                  {name[v]: sorted(name[w] for w in ws) for v, ws in net.neighbours.items()})
+    if said is True:
+        return ""
+    if said is not False and (not isinstance(said, str) or not said.strip() or "\n" in said):
+        raise Wrong(f"{program.file}: `{function}` returns {said!r}: it must be True, False, or what isn't right in words "
+                    "on one line")
+    return said or f"`{function}` says that it isn't right"

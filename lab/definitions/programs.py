@@ -11,16 +11,17 @@ PROGRAMS = {program.name: program for program in (Colouring, Leader, Layers)}
 HELP = "what the nodes run: colouring, leader, layers, or a file of your own, as NAME.py (colouring)"
 
 
-def program_at(name: str) -> type:
-    """The program of a name, or of a file whose name ends in `.py`."""
+def program_at(name: str, lots: str = "1") -> type:
+    """The program of a name, or of a file whose name ends in `.py`; `lots` is the seed of its nodes' chance."""
     if name in PROGRAMS:
         return PROGRAMS[name]
     if name.endswith(".py"):
-        return own_program(name)
+        return own_program(name, lots)
     raise Wrong(f"there is no program {name}: there are {', '.join(PROGRAMS)}, and a file of your own, as {name}.py"
                 if os.sep not in name else f"{name} is no name of a program, and doesn't end in .py")
 
 
 def add_program(words):
-    """Adds the option to a command line."""
+    """Adds the options to a command line."""
     words.add_argument("--program", default=Colouring.name, metavar="P", help=HELP)
+    words.add_argument("--lots", default="1", metavar="N", help="the seed of a file's `me.random` (1)")

@@ -5,6 +5,7 @@ import sys
 from collections import Counter
 
 from lab.definitions.nodes import Colouring
+from lab.definitions.own_program import AGAIN, check_repeats
 from lab.definitions.programs import add_program, program_at
 from lab.schedules import ruled_rounds
 from lab.schedules.reading import network_at
@@ -185,9 +186,11 @@ def searched(given, net):
         sys.stderr.write(f"\r\033[Kexplore: {states:,} states of at most {given.limit:,}, {depth} events far")
         sys.stderr.flush()
 
+    program = program_at(given.program, given.lots)
+    check_repeats(net, program)
     try:
         return Space(net, given.without, given.limit, given.puts, False, progress if show else None, given.reduce,
-                     program_at(given.program))
+                     program)
     except TooMany:
         raise Wrong(f"there are more than {given.limit:,} states: use --limit for more, "
                     f"at some {BYTES_A_STATE} bytes each") from None
@@ -235,7 +238,10 @@ def rounded(number):
 
 
 def broken_text(given, space):
+    s, _ = space.first_fault()
     what = space.faults[space.first_fault()]
+    if s not in space.broken and not given.without:     # the synchroniser keeps all its rules, so it is the file
+        raise Wrong(f"{given.program} does something else in another order of events: {AGAIN} ({what})")
     listed = space.with_puts(space.path_to_fault())
     first = f"broken after {events_words(listed)}{', maybe not the fewest' * space.reduce}: {what}\n"
     return "".join([first, *event_lines(listed), refused_words(given.without)])

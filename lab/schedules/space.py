@@ -28,7 +28,9 @@ neighbours are apart and how much a link holds don't.
     space.wires(s)        {(v, w): [wire, ..]}, what each link holds, in words, the one that comes next first
     space.ends            the states in which nothing is possible
     space.faults          {(s, e): what goes wrong in words}, e being the event's number in steps(s); and {(s, None):
-                          words} for a state in which nothing is possible though some node waits
+                          words} for a state in which nothing is possible though some node waits, or of which the file
+                          of a program says that it isn't right
+    space.broken          the states of the latter
     space.first_fault()   the key of a fault that the fewest events lead to
     space.path(s)         a shortest list of events from the start to state s; space.path_to_fault() one that ends with
                           the event of the first fault
@@ -45,6 +47,7 @@ from array import array
 from collections import namedtuple
 
 from lab.definitions.nodes import Colouring, Refused, wire_words
+from lab.definitions.own_program import OwnNode, what_is_wrong
 from lab.schedules.ruled_node import Rounds, RuledNode, program_refuses
 
 PHASES = ["greet", "orient", "seed"] + ["step"] * 4 + ["shift", "drop"] * 3
@@ -81,7 +84,7 @@ class Space:
         self.contents, self.content_number, self.popped, self.added = [()], {(): 0}, {}, {}
         self.events, self.event_number = [], {}
         self.moves = [{} for _ in self.vertices]
-        self.faults, self.ends = {}, []
+        self.faults, self.ends, self.broken, self.said = {}, [], set(), {}
         self.first, self.event_of, self.target = array("I", [0]), array("I"), array("I")
         self.search(progress)
 
@@ -252,6 +255,18 @@ class Space:
             self.ends.append(s)
             if not self.is_whole(state):
                 self.faults[s, None] = self.stuck_words(s)
+        if issubclass(self.program, OwnNode) and (words := self.wrong_words(state, not some)):
+            self.faults[s, None] = words
+            self.broken.add(s)
+
+    def wrong_words(self, state, is_end):
+        """What the file of a program says of what its nodes have found in a state."""
+        found = tuple(self.locals[a][state[a]].program.result() for a in range(len(self.vertices)))
+        if (found, is_end) not in self.said:
+            results = dict(zip(self.vertices, found))
+            self.said[found, is_end] = what_is_wrong(self.net, self.program, results, "always") or (
+                what_is_wrong(self.net, self.program, results) if is_end else "")
+        return self.said[found, is_end]
 
     def reached(self, state, s, e):
         t = self.number.get(state)

@@ -332,7 +332,7 @@ def main(words):
     try:
         net = network_in(bytes_of(given.network), given.network)
         text = bytes_of(given.transcript)
-        program = program_at(given.program)
+        program = program_at(given.program, given.lots)
     except (OSError, WrongNetwork) as failed:
         print(f"check-transcript: {failed}", file=sys.stderr)
         return 2

@@ -28,6 +28,21 @@ def next(me, pulse, inbox):
 def result(me):
     return 'x'
 """
+FLOOD = """\
+def greet(me):
+    me.best = me.id
+    return ("best", me.id)
+def next(me, pulse, inbox):
+    heard = max((number for word, number in filter(None, inbox)), default=0)
+    if heard <= me.best:
+        return None
+    me.best = heard
+    return ("best", heard) if pulse < me.nodes else None
+def result(me):
+    return f"best {me.best}"
+"""
+SHARED = FLOOD.replace("def greet", "best = 0\ndef greet").replace("    heard =", "    global best\n    heard =").replace(
+    'me.best = heard', 'me.best = best = max(best, heard)').replace('("best", heard)', '("best", best)')
 # (what the file has, what is said of it, after its name)
 WRONG = [
     ("def greet(me:\n", " line 1: '(' was never closed"),
@@ -35,7 +50,7 @@ WRONG = [
     (GOOD.replace("def result", "def results"), " has no function result"),
     ("greet = 1\n", " has no function greet and no function next and no function result"),
     (GOOD.replace("return None\ndef next", "return me.colour\ndef next"),
-     " line 2: AttributeError: 'types.SimpleNamespace' object has no attribute 'colour'"),
+     " line 2: AttributeError: `me` has no `colour`"),
     (GOOD.replace("return None\ndef next", "return ('Word', 1)\ndef next"),
      ": `greet` at pulse 0 of the node of identifier 1 sends ('Word', 1): a payload is a pair, a word of small letters "
      "and a number from 0"),
@@ -133,6 +148,85 @@ class OwnAlgorithms(Case):
                     file.write(last)
                 done = script("check-transcript", example("chain6.col"), path, "--program", program)
                 self.note(f"a wrong run of {program}", done[0] == 1 and b"WrongWire" in done[2], done)
+
+    def test_what_me_may_keep(self):
+        """Nodes are compared by value: an object, chance or an iterator in `me` makes no more states than plain numbers
+        do. By hand: of two nodes the greater identifier is the leader, in every order."""
+        plain = self.told(FLOOD)
+        self.note("a number", plain[0] == 0 and "\none end: 1 best 2, 2 best 2\n" in plain[1], plain)
+        for name, lines in (("an object", ("me.best = ", "me.table = Table()\n    me.table.best = ")),
+                            ("unused chance", ("me.best = ", "me.chance = random.Random(1)\n    me.best = ")),
+                            ("an iterator", ("me.best = ", "me.turns = iter([1, 2, 3])\n    me.best = ")),
+                            ("a list that has itself", ("me.best = ", "me.x = []\n    me.x.append(me.x)\n    me.best = "))):
+            text = "import random\nclass Table:\n    pass\n" + FLOOD.replace(*lines)
+            text = text.replace("me.best", "me.table.best") if "Table()" in lines[1] else text
+            text = text.replace("me.table.table.best", "me.table.best")
+            got = self.told(text)
+            self.note(name, got == plain, got)
+        for what, named in (("(n for n in [1])", "generator"), ("open(__file__)", "TextIOWrapper"),
+                            ("{1: [lambda: 0, (n for n in [1])]}", "generator")):
+            got = self.told(FLOOD.replace("me.best = ", f"me.kept = {what}\n    me.best = "))
+            said = f"`me.kept` has a {named} in it, which can't be copied and compared"
+            self.note(f"refused: {what}", got[0] == 1 and said in got[2] and got[2].count("\n") == 1, got)
+
+    def test_chance(self):
+        """Chance by the seed is the same in the rounds and in each order; other chance and shared variables are
+        named."""
+        draws = FLOOD.replace("me.best = me.id", "me.best = me.random.randrange(1000)").replace("me.id)", "me.best)")
+        first, again, other = self.told(draws), self.told(draws), self.told(draws, "--lots", "other")
+        good = first == again and first[0] == other[0] == 0 and first[1] != other[1] and "one end" in other[1]
+        self.note("me.random", good, (first, again, other))
+        for name, text, where in (
+            ("chance", "import random\n" + draws.replace("me.random", "random"), "`greet` at pulse 0 of the node of "),
+            ("a variable", SHARED, "`next` at pulse 1 of the node of identifier 1 "),
+        ):
+            for command, network in (("explore", "path.col"), ("simulate", "chain6.col")):
+                got = self.told(text, command=command, network=network)
+                said = "does something else the second time: does it use chance other than `me.random`, or a variable"
+                self.note(f"{name} in {command}", got[0] == 1 and where in got[2] and said in got[2], got)
+        got = self.told(FLOOD.replace("def greet", "KEPT = {}\ndef greet").replace("me.best", "KEPT[me.id]"))
+        self.note("a place for each node in one variable", got[0] == 1 and "the second time" in got[2], got)
+        # The rounds, twice, have 12 calls, so they can't show this one.
+        late = FLOOD.replace("def greet", "CALLS = []\ndef greet").replace("    if heard", "    CALLS.append(pulse)\n    if heard")
+        got = self.told(late.replace('("best", heard)', '("best", heard + (len(CALLS) > 12))'))
+        self.note("a late one", got[0] == 1 and "does something else in another order of events: " in got[2], got)
+
+    def test_what_has_to_hold(self):
+        """`right` is asked at the end and `always` in each state; the list is as short as there is one. By hand: node 1
+        of two learns of node 2 in its pulse 1, before which it takes a payload, an acknowledgement and a safe; and for
+        these node 2 takes a payload and an acknowledgement."""
+        for text, first in (
+            (FLOOD + "def right(results, neighbours):\n    return len(set(results.values())) == 1\n", "every schedule"),
+            (FLOOD + "def right(results, neighbours):\n    return f'{results[1]} and {neighbours[2]}'\n",
+             "broken after 28 events (16 takes and pulses): best 2 and [1]\n"),
+            (FLOOD + "def always(results, neighbours):\n    return results[1] != 'best 2'\n",
+             "broken after 11 events (6 takes and pulses): `always` says that it isn't right\n"),
+        ):
+            got = self.told(text)
+            self.note(first, got[0] == 0 and got[1].startswith(first), got)
+        for returned in ("None", "7", "''"):
+            got = self.told(FLOOD + f"def right(results, neighbours):\n    return {returned}\n")
+            self.note(f"right returns {returned}", got[0] == 1 and "it must be True, False, or what isn't" in got[2], got)
+
+    def test_what_it_prints(self):
+        """It goes to standard error, and leaves what the command writes as it was."""
+        for name, words in (("explore", ["two.col"]), ("simulate", ["chain6.col"])):
+            plain = self.told(FLOOD, command=name, network=words[0])
+            loud = self.told(FLOOD.replace("def greet(me):", "print('HERE')\ndef greet(me):\n    print('THERE')"),
+                             command=name, network=words[0])
+            good = loud[:2] == plain[:2] and "HERE\n" in loud[2] and "THERE\n" in loud[2]
+            self.note(f"{name} with prints", good, (plain, loud))
+        got = self.told(FLOOD.replace("me.best = me.id", "me.best = __import__('sys').exit(0)"))
+        self.note("exit", (got[0], got[1]) == (1, "") and " line 2: SystemExit: 0" in got[2], got)
+
+    def told(self, text, *words, command="explore", network="two.col"):
+        """Status, output and errors of a command with a file of this text."""
+        with tempfile.TemporaryDirectory() as folder:
+            path = os.path.join(folder, "flood.py")
+            with open(path, "w", encoding="utf-8") as file:
+                file.write(text)
+            status, out, errors = script(command, example(network), "--program", path, *words)
+        return status, out.decode(), errors.decode()
 
     def test_pictures(self):
         for kind, name in (("rounds", "petersen.col"), ("run", "chain6.col"), ("overview", "chain6.col"),
