@@ -537,7 +537,8 @@ def named_input(path):
 def options_of(given):
     """The options of a kind as the command line has them."""
     found = {field.name: getattr(given, field.name) for field in fields(Options) if hasattr(given, field.name)}
-    return Options(**found | {"program": program_at(getattr(given, "program", Colouring.name)),
+    name, lots = (getattr(given, option, default) for option, default in (("program", Colouring.name), ("lots", "1")))
+    return Options(**found | {"program": program_at(name, lots),
                               "progress": progress if sys.stderr.isatty() else None})
 
 

@@ -18,7 +18,8 @@ def draw(rounds, pulses=None):
               f"Rounds of {rounds.program.name} on {network.name}")
     svg.heading(f"{network.name}: {rounds.program.name}, pulse by pulse to pulse {rounds.last}",
                 "Left in a column is what the node has found after the pulse, where it is new; an arrow is a message, "
-                "read in the next pulse.", left_out(rounds, shown, bool(pulses)))
+                "read in the next pulse.", left_out(rounds, shown, bool(pulses)),
+                f"It isn't right at the end: {rounds.wrong}." if rounds.wrong else "")
     x_of = {pulse.number: LEFT + k * column for k, pulse in enumerate(shown)}
     for k, pulse in enumerate(shown):
         x = x_of[pulse.number]

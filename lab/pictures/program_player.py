@@ -1,9 +1,12 @@
 """The player's frames of a program other than the colouring: the messages of each pulse, and what each node has
 found."""
-from lab.pictures.palette import INK, PAPER, SOFT, WIRES
+from lab.pictures.marks import draw_edge
+from lab.pictures.palette import CHANNEL_HUES, INK, PAPER, SOFT, WIRES, text_on
 from lab.pictures.player_page import EDGE, FULL_FRAMES, LABEL, SIZE, Film
 from lab.pictures.program_picture import is_new
 from lab.pictures.svg import Svg, counted
+
+MOST_LETTERS = 13           # of what a node has found, below it
 
 
 def caption(rounds, number):
@@ -15,7 +18,14 @@ def caption(rounds, number):
     if found:
         named = ", ".join(map(str, found[:12])) + " .." * (len(found) > 12)
         said += f" Something new is found by {named}."
+    if number == rounds.last and rounds.wrong:
+        said += f" It isn't right: {rounds.wrong}."
     return f"pulse {number} of {rounds.last} · {rounds.program.name}", said
+
+
+def shortened(words):
+    """What there is room for below a node."""
+    return words if len(words) <= MOST_LETTERS else f"{words[:MOST_LETTERS - 2]}.."
 
 
 class ProgramFilm(Film):
@@ -36,6 +46,9 @@ class ProgramFilm(Film):
         pulse = self.rounds.pulses[number]
         with svg.group("panel"):
             svg.element("use", href="#edges", color=EDGE)
+            for v, (_, w) in pulse.drawn.items():
+                if w:
+                    draw_edge(svg, self.places, self.bend, v, w, INK, 3.2, 11, self.radius + 2, mark="found-edge")
             for v in self.network.vertices:
                 self.vertex(svg, v, pulse, None)
             for v, w, _, sent in pulse.puts:
@@ -46,9 +59,14 @@ class ProgramFilm(Film):
         x, y = self.places[v]
         if pulse.number and is_new(self.rounds, pulse, v):
             svg.circle(x, y, 1.4 * self.radius, "#FFF3B0", "#C9A800", 1.5, mark="chooses")
-        svg.circle(x, y, self.radius, PAPER, INK, 1.6, mark="blank")
-        svg.text(x, y + 0.35 * LABEL, v, LABEL, INK, "middle", bold=True)
-        svg.text(x, y + 1.4 * self.radius + LABEL + 1, pulse.results[v], LABEL, SOFT, "middle", halo=3, mark="found")
+        colour, _ = pulse.drawn.get(v, (None, None))
+        fill = PAPER if colour is None else CHANNEL_HUES[colour]
+        svg.circle(x, y, self.radius, fill, INK, 1.6, mark="blank" if colour is None else "found-colour")
+        svg.text(x, y + 0.35 * LABEL, v, LABEL, text_on(fill), "middle", bold=True)
+        words = pulse.results[v]
+        with svg.group("result", words if len(words) > MOST_LETTERS else None):
+            svg.text(x, y + 1.4 * self.radius + LABEL + 1, shortened(words), LABEL, SOFT, "middle", halo=3,
+                     mark="found")
 
     @staticmethod
     def legend():

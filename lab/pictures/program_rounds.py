@@ -2,7 +2,7 @@
 (lab/definitions/programs.py)."""
 from lab.definitions.colours import Network
 from lab.definitions.nodes import Colouring, ports_of
-from lab.definitions.own_program import OwnNode
+from lab.definitions.own_program import OwnNode, check_repeats, what_is_wrong
 from lab.pictures.colouring import Rounds
 from lab.wrong import Wrong, wrong_line
 
@@ -12,15 +12,16 @@ MOST_STEPS = 2_000_000
 
 class ProgramPulse:
     """What all nodes did in one pulse: `results[v]` is what v has found after it, in words, `puts` as (v, w, word,
-    number)."""
+    number); `drawn[v]`, if a program of one's own says it, a colour and the vertex at the other end of an edge."""
 
-    def __init__(self, number, results, puts):
-        self.number, self.results, self.puts = number, results, puts
+    def __init__(self, number, results, puts, drawn):
+        self.number, self.results, self.puts, self.drawn = number, results, puts, drawn
         self.phase, self.step, self.colours, self.chosen = "", None, {}, {}
 
 
 class ProgramRounds:
-    """A synchronous run of a program: `pulses` are those from 0 to `last`. It has no forests."""
+    """A synchronous run of a program: `pulses` are those from 0 to `last`. It has no forests. `wrong` is what the file
+    of a program says isn't right at its end, or nothing."""
 
     forests, first = 0, {}
 
@@ -30,6 +31,7 @@ class ProgramRounds:
         self.last = program.last_pulse(self.net)
         if self.last * network.nodes > MOST_STEPS:
             raise Wrong(f"{network.name}: {self.last} pulses of {network.nodes} nodes are too many to be drawn")
+        check_repeats(self.net, program)
         ports = {v: ports_of(self.net, v) for v in network.vertices}
         nodes = {v: program(self.net, v) for v in network.vertices}
         sent, self.pulses = {v: nodes[v].greet() for v in nodes}, []
@@ -38,10 +40,12 @@ class ProgramRounds:
             inboxes = {v: [sent[w][ports[w].index(v)] for w in ports[v]] for v in nodes}
             sent = {v: nodes[v].next(p, inboxes[v]) for v in nodes}
             self.add(p, nodes, ports, sent)
+        self.wrong = what_is_wrong(self.net, program, self.pulses[-1].results)
 
     def add(self, number, nodes, ports, sent):
         puts = [(v, w, slot[0].lower(), slot[1]) for v in nodes for w, slot in zip(ports[v], sent[v]) if slot]
-        self.pulses.append(ProgramPulse(number, {v: node.result() for v, node in nodes.items()}, puts))
+        drawn = {v: drawn_of(node, ports[v]) for v, node in nodes.items() if isinstance(node, OwnNode)}
+        self.pulses.append(ProgramPulse(number, {v: node.result() for v, node in nodes.items()}, puts, drawn))
 
     def lines(self):
         """The text of rounds, line by line."""
@@ -56,6 +60,12 @@ class ProgramRounds:
                 if pulse.number == self.last:
                     yield f"{v} {pulse.results[v]}"
                 yield from puts[v]
+
+
+def drawn_of(node, neighbours):
+    """The colour and the neighbour that a node of an own program is drawn with."""
+    colour, port = node.drawn()
+    return colour, None if port is None else neighbours[port]
 
 
 def rounds_of(network, identifiers, program):

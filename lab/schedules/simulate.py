@@ -88,6 +88,7 @@ class Player:
     added to it, by the number of steps made."""
 
     def __init__(self, net, program=Colouring):
+        check_repeats(net, program)
         self.state, self.now, self.rows = NetState(net, program), 0, []
         self.clock = Clock(net.neighbours)
         links = list(self.state.link)
@@ -244,7 +245,6 @@ def check_names(name, net, given):
 def rows_asked(net, given):
     """The rows of the run that the command line asks for; a list that ends early is said."""
     program = program_at(given.program, given.lots)
-    check_repeats(net, program)
     if not given.events:
         return played(net, given.policy, given.seed, given.slow, given.lazy, program=program)
     player = played_by_list(net, given.events, program)

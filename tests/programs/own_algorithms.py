@@ -43,6 +43,23 @@ def result(me):
 """
 SHARED = FLOOD.replace("def greet", "best = 0\ndef greet").replace("    heard =", "    global best\n    heard =").replace(
     'me.best = heard', 'me.best = best = max(best, heard)').replace('("best", heard)', '("best", best)')
+TREE = """\
+def greet(me):
+    me.layer, me.by = (0, None) if me.id == 1 else (None, None)
+    return ("hops", 0) if me.id == 1 else None
+def next(me, pulse, inbox):
+    came = [(slot[1], port) for port, slot in enumerate(inbox) if slot]
+    if me.layer is not None or not came:
+        return None
+    me.layer, me.by = min(came)[0] + 1, min(came)[1]
+    return ("hops", me.layer) if pulse < me.nodes else None
+def result(me):
+    return f"layer {me.layer} by the port {me.by}" if me.layer else f"layer {me.layer}"
+def drawn(me):
+    return (me.layer - 1 if me.layer else None), me.by
+def right(results, neighbours):
+    return RIGHT
+"""
 # (what the file has, what is said of it, after its name)
 WRONG = [
     ("def greet(me:\n", " line 1: '(' was never closed"),
@@ -235,9 +252,32 @@ class OwnAlgorithms(Case):
             self.note(f"picture {kind}", (status, text[:4], fault) == (0, b"<svg", b""), fault)
         status, text, fault = script("picture", "player", example("petersen.col"), "--program", SET)
         self.note("picture player", (status, text[:15], fault) == (0, b"<!doctype html>", b""), fault)
+        self.note_all(self.rows_of_a_tree())
         _, text, _ = script("picture", "rounds", example("path.col"), "--program", SET)
         # Node 3 is in at pulse 1, 2 out at 2, and 1 in at 3.
         self.note("what is found", text.count(b'class="found"') == 6, text)
+
+    def rows_of_a_tree(self):
+        """A row of six, whose nodes say a colour and the port to the node before: by hand, in pulse 6 five edges are
+        drawn, all nodes have their colours, and only what is too long to be read below a node is shortened."""
+        path = os.path.join(self.enterContext(tempfile.TemporaryDirectory()), "tree.py")
+        for right, said in (("True", False), ("'no tree'", True)):
+            with open(path, "w", encoding="utf-8") as file:
+                file.write(TREE.replace("RIGHT", right))
+            _, page, fault = script("picture", "player", example("chain6.col"), "--program", path)
+            last = page.decode().rpartition('class="panel"')[2].partition("</svg>")[0]
+            marks = [last.count(f'class="{mark}"') for mark in ("found-edge", "found-colour", "blank")]
+            yield f"a tree, {right}", (marks, fault) == ([5, 5, 1], b""), (marks, fault)
+            yield f"words of it, {right}", (b"<title>layer 5 by the port 0</title>" in page
+                                            and b"layer 5 by .." in page), page[-2000:]
+            _, picture, _ = script("picture", "rounds", example("chain6.col"), "--program", path)
+            for text in (page, picture):
+                yield f"what isn't right, {right}", (b"right: no tree" in text or b"the end: no tree" in text) == said, text
+        for returned, why in (("1", "a pair"), ("(9, None)", "a colour below 8"), ("(1, 5)", "a port")):
+            with open(path, "w", encoding="utf-8") as file:
+                file.write(TREE.replace("return (me.layer - 1 if me.layer else None), me.by", f"return {returned}"))
+            done = script("picture", "player", example("chain6.col"), "--program", path)
+            yield f"drawn returns {returned}", done[:2] == (1, b"") and why.encode() in done[2], done
 
     def test_wrong_files(self):
         with tempfile.TemporaryDirectory() as folder:
