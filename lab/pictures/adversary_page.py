@@ -8,7 +8,7 @@ import re
 from lab.definitions.nodes import Colouring, wire_words
 from lab.pictures.adversary_dares import dares_of, plan_in
 from lab.pictures.adversary_table import table_of
-from lab.pictures.palette import WIRES, channel_hue, text_on
+from lab.pictures.palette import PALE, WIRES, channel_hue, text_on
 from lab.pictures.places import circle, fit, gap
 from lab.pictures.program_rounds import is_own
 from lab.pictures.schedules_space import left_out_words, title_of
@@ -17,7 +17,6 @@ from lab.pictures.svg import escaped, shown
 WIDTH, HEIGHT, MARGIN_X, MARGIN_Y, RADIUS = 430, 336, 84, 68, 25
 HALF_WIDTH, HALF_HEIGHT = 31, 9
 MOST_SLOTS, LEAST_EDGE = 4, 150
-PALE = {"payload": "#E3F0F8", "ack": "#F4F4F4", "safe": "#FBE8DC", "close": "#E4E4E4"}
 PAGE = os.path.join(os.path.dirname(os.path.abspath(__file__)), "adversary_page.html")
 
 

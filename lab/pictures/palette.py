@@ -15,6 +15,8 @@ FOREST_COLOURS = ["#004488", "#997700", "#994455", "#6699CC", "#EECC66", "#EE99A
 ALONE = "#DDDDDD"
 
 WIRES = {"payload": "#0072B2", "ack": "#9A9A9A", "safe": "#D55E00", "close": "#111111"}
+# The grounds of wires with words in them.
+PALE = {"payload": "#E3F0F8", "ack": "#F4F4F4", "safe": "#FBE8DC", "close": "#E4E4E4"}
 
 DARK_FILLS = {"#0072B2", "#444444", "#004488", "#994455", "#997700"}
 

@@ -1,0 +1,110 @@
+// The marks of the pictures, as light descriptions that `patch` makes into elements.
+import {CHANNELS, DARK, FORESTS, INK, PALE, WHITE, WIRES, WRONG} from "./hues.js";
+
+const SVG = "http://www.w3.org/2000/svg";
+// `inside` is a text or a list of marks.
+export function mark(name, attributes = {}, inside = null) { return {name, attributes, inside}; }
+
+// Makes a parent's children what a list says. Elements are kept from frame to frame, and only what differs is changed.
+export function patch(parent, list) {
+  let child = parent.firstChild;
+  for (const wanted of list) {
+    if (!wanted) continue;
+    if (!child || child.nodeName !== wanted.name) {
+      const fresh = document.createElementNS(SVG, wanted.name);
+      if (child) parent.replaceChild(fresh, child); else parent.append(fresh);
+      child = fresh;
+    }
+    update(child, wanted);
+    child = child.nextSibling;
+  }
+  while (child) {
+    const next = child.nextSibling;
+    child.remove();
+    child = next;
+  }
+}
+function update(element, wanted) {
+  const before = element.shown || {}, now = wanted.attributes;
+  for (const key in now) {
+    if (now[key] === before[key]) continue;
+    if (now[key] === null || now[key] === undefined) element.removeAttribute(key);
+    else element.setAttribute(key, now[key]);
+  }
+  for (const key in before) if (!(key in now)) element.removeAttribute(key);
+  element.shown = now;
+  if (Array.isArray(wanted.inside)) patch(element, wanted.inside);
+  else if (element.words !== wanted.inside) element.textContent = element.words = wanted.inside;
+}
+
+export function html(name, words, attributes = {}) {
+  const element = document.createElement(name);
+  if (words !== undefined && words !== null) element.textContent = words;
+  for (const key in attributes) element.setAttribute(key, attributes[key]);
+  return element;
+}
+// A row of a table, with `th` or `td`.
+export function row(name, cells) {
+  const line = html("tr");
+  cells.forEach(words => line.append(html(name, words)));
+  return line;
+}
+function inkOn(fill) { return DARK.includes(fill) ? WHITE : INK; }
+function hue(channel) { return CHANNELS[(channel - 1) % 8]; }
+function isRing(channel) { return Math.floor((channel - 1) / 8) % 2 === 1; }
+function digitsOf(number) { return BigInt(number).toString(2).length; }
+// A number as a mark has room for: 128d is one of 128 binary digits.
+export function short(number) {
+  const words = String(number);
+  return words.length < 4 ? words : digitsOf(words) + "d";
+}
+export function words(x, y, size, fill, said, more = {}) {
+  return mark("text", {x, y: y + 0.36 * size, "font-size": size.toFixed(1), fill, "text-anchor": "middle", ...more},
+    String(said));
+}
+const BOLD = {"font-weight": "bold"};
+export const HALO = {"paint-order": "stroke", stroke: "var(--paper)", "stroke-width": 3};
+// A channel: its hue, full or as a ring, and its number.
+export function channelCircle(x, y, r, channel) {
+  const fill = hue(channel), ring = isRing(channel), wide = Math.max(2, r * 0.25);
+  const size = r * (channel < 10 ? 1.12 : 0.92) * (ring ? 0.85 : 1);
+  return [mark("circle", ring ? {cx: x, cy: y, r: r - wide / 2, fill: WHITE, stroke: fill, "stroke-width": wide}
+    : {cx: x, cy: y, r, fill, stroke: "var(--rim)"}), words(x, y, size, ring ? INK : inkOn(fill), channel, BOLD)];
+}
+// A colour of 0 to 5 in a forest, or in grey a number that is none yet.
+export function colourSquare(x, y, half, colour, isColour) {
+  const said = isColour ? String(colour) : short(colour);
+  let fill = FORESTS[colour], ink, size = half * 1.12;
+  if (isColour) ink = inkOn(fill);
+  else {
+    const level = 235 - Math.min(140, 7 * digitsOf(colour));
+    fill = `rgb(${level},${level},${level})`;
+    ink = level > 130 ? INK : WHITE;
+    size = half * (said.length < 3 ? 1 : 0.8);
+  }
+  return [mark("rect", {x: x - half, y: y - half, width: 2 * half, height: 2 * half, rx: half * 0.25, fill,
+    stroke: "var(--rim)"}), words(x, y, size, ink, said, BOLD)];
+}
+export function blank(x, y, r, said) {
+  return [mark("circle", {cx: x, cy: y, r, fill: "var(--paper)", stroke: "var(--ink)", "stroke-width": 1.6}),
+    said === undefined ? null : words(x, y, r * 0.9, "var(--ink)", said, BOLD)];
+}
+export function barMark(x, y, r, channel) {
+  return [mark("circle", {cx: x, cy: y, r, fill: WHITE, stroke: hue(channel)}),
+    words(x, y, r * 1.2, INK, channel, BOLD),
+    mark("line", {x1: x - 0.9 * r, y1: y + 0.9 * r, x2: x + 0.9 * r, y2: y - 0.9 * r, stroke: WRONG,
+      "stroke-width": 1.5})];
+}
+export function pillWidth(said, size) { return said.length * size * 0.62 + 9; }
+// A pill with words: a message on its way.
+export function pill(x, y, said, kind, size, more = {}) {
+  const wide = pillWidth(said, size), high = size + 6;
+  return [mark("rect", {x: x - wide / 2, y: y - high / 2, width: wide, height: high, rx: high / 2, fill: PALE[kind],
+    stroke: WIRES[kind], "stroke-width": 1.6, ...more}), words(x, y, size, INK, said)];
+}
+// A red note on a white ground.
+export function note(x, y, said) {
+  const wide = said.length * 7 + 12;
+  return [mark("rect", {x: x - wide / 2, y: y - 10, width: wide, height: 20, rx: 10, fill: WHITE, stroke: WRONG,
+    "stroke-width": 1.5}), words(x, y, 11.5, WRONG, said, BOLD)];
+}

@@ -1,0 +1,126 @@
+// The rounds of a network, pulse by pulse, by what lab/ has worked out.
+import {HALO, blank, channelCircle, colourSquare, html, mark, pill, pillWidth, short, words} from "./marks.js";
+import {nameOf} from "./stage.js";
+
+const ORIENT = 1, SEED = 2, LAST_COLOUR = 12;
+
+export class RoundsFilm {
+  constructor(found, net) {
+    Object.assign(this, {found, net, last: found.last, forests: found.forests, merged: []});
+    this.parent = new Map(found.parents.map(([v, f, w]) => [v + " " + f, w]));
+    let now = {};
+    found.pulses.forEach((pulse, p) => {
+      if (Object.keys(pulse.chosen).length) now = {...now, ...pulse.chosen};
+      const alone = p === found.last && !found.forests;
+      this.merged.push(alone ? Object.fromEntries(found.first.map((c, k) => [k + 1, c])) : now);
+    });
+  }
+  // The forest of a pulse: the one that is merged, or the one that is looked at.
+  forestAt(p, chosen) {
+    const {step} = this.found.pulses[p];
+    return step ? step[0] : p >= SEED && p <= LAST_COLOUR && this.forests ? chosen : null;
+  }
+  hasChosen(v, p) {
+    const [, three, old] = this.found.pulses[p].step, width = (this.last - 12) / this.forests / 3;
+    for (let at = p - three * width - old; at <= p; at++) if (v in this.found.pulses[at].chosen) return true;
+    return false;
+  }
+  node(p, forest, v, x, y, r) {
+    const pulse = this.found.pulses[p], parts = [], lit = mark("circle", {cx: x, cy: y, r: 1.4 * r,
+      fill: "var(--chosen)", stroke: "var(--glow)", "stroke-width": 1.5});
+    if (pulse.results) {
+      return [pulse.new.includes(v) && lit, ...blank(x, y, r, v),
+        words(x, y + r + 12, Math.min(11.5, r), "var(--ink)", pulse.results[v - 1], HALO)];
+    }
+    if (pulse.colours && forest !== null) {
+      const colour = pulse.colours[v - 1][forest];
+      parts.push(...colourSquare(x, y, r, colour, p > SEED && colour <= 5));
+    } else if (v in this.merged[p]) {
+      parts.push(v in pulse.chosen && lit, ...channelCircle(x, y, r, this.merged[p][v] + 1));
+    } else parts.push(...blank(x, y, r));
+    if (pulse.step && !this.hasChosen(v, p)) parts.push(...this.turnMark(p, forest, v, x, y, r));
+    return parts;
+  }
+  // When it is a node's turn in a merge: its colour in the forest, and its old colour.
+  turnMark(p, forest, v, x, y, r) {
+    const old = v in this.merged[p] ? this.merged[p][v] : this.found.first[v - 1], half = 0.45 * r;
+    const colour = this.found.pulses[LAST_COLOUR].colours[v - 1][forest];
+    return [...colourSquare(x - 0.9 * r, y + 1.1 * r, half, colour, true),
+      words(x + 0.15 * r, y + 1.1 * r, half * 1.9, "var(--ink)", old, {...HALO, "font-weight": "bold"})];
+  }
+  arrows(stage, p, forest) {
+    const pulse = this.found.pulses[p], links = [];
+    const upTo = p === ORIENT ? this.forests : pulse.step ? forest + 1 : null;
+    this.parent.forEach((w, key) => {
+      const [v, f] = key.split(" ").map(Number);
+      if (upTo !== null ? f >= upTo : f !== forest) return;
+      const mine = f === forest || p === ORIENT;
+      links.push(...stage.arrow(v, w, mine ? "var(--strong)" : "var(--edge)", mine ? 2 : 1.4));
+    });
+    return links;
+  }
+  // The messages of a pulse, `part` of the way. `why` fades those that didn't decide the chosen node's channel.
+  messages(stage, p, part, chosen, why) {
+    const heard = new Set(why ? why.messages.map(m => m.join(" ")) : []), shown = [];
+    const size = Math.max(9, Math.min(12, stage.radius * 0.6));
+    for (const [v, w, word, sent] of this.found.pulses[p].puts) {
+      if (word === "colour" && this.parent.get(w + " " + chosen) !== v) continue;
+      const said = short(word === "chosen" ? sent + 1 : sent);
+      const whole = Math.hypot(stage.X(v) - stage.X(w), stage.Y(v) - stage.Y(w)), start = Math.min(0.12, 12 / whole);
+      const [x, y] = stage.beside(v, w, start + (1 - start) * part, pillWidth(said, size), size + 6);
+      shown.push(mark("g", {class: "token", opacity: why && !heard.has([p, v, w].join(" ")) ? 0.25 : null},
+        [mark("title", {}, `${v} tells ${w}: ${word} ${sent}`), ...pill(x, y, said, "payload", size)]));
+    }
+    return shown;
+  }
+  draw(stage, at, {forest = 0, node = null, why = null, quiet = false} = {}) {
+    const p = Math.min(this.last, Math.floor(at)), pulse = this.found.pulses[p], shown = this.forestAt(p, forest);
+    const names = new Set(why ? why.identifiers : []);
+    stage.draw({node: (v, x, y, r) => this.node(p, shown, v, x, y, r), links: this.arrows(stage, p, shown),
+      above: quiet ? [] : this.messages(stage, p, at - p, forest, why), below: Boolean(pulse.results || pulse.step),
+      label: pulse.results ? v => nameOf(this.net, v).slice(String(v).length).trim() : quiet ? v => String(v) : null,
+      ring: v => v === node ? "var(--glow)" : names.has(v) ? "var(--edge)" : null,
+      edge: () => ({stroke: p === 0 ? "var(--edge)" : "var(--hair)"})});
+    return p;
+  }
+  // [caption, sentence] of a pulse.
+  said(p) {
+    const {caption, said} = this.found.pulses[p];
+    return [caption.split(" · ").slice(1).join(" · ") || caption, said];
+  }
+  // Buttons of the forests; `choose(f)` is called by a click.
+  chips(p, chosen, choose) {
+    if (this.forests < 2) return [];
+    const {step} = this.found.pulses[p];
+    return Array.from({length: this.forests}, (_, f) => {
+      const chip = html("button", "forest " + f, {"aria-pressed": f === (step ? step[0] : chosen), "data-forest": f});
+      chip.disabled = Boolean(step);
+      chip.onclick = () => choose(f);
+      return chip;
+    });
+  }
+  // The colours of a node and of its parent, forest by forest, after the pulses 2 to 12: a size and marks.
+  strips(p, v) {
+    const rows = [], side = 19, parts = [];
+    for (let f = 0; f < this.forests; f++) {
+      const up = this.parent.get(v + " " + f);
+      if (up) rows.push([up, f, "parent " + up]);
+      rows.push([v, f, `forest ${f}, node ${v}${up ? "" : ", a root"}`]);
+    }
+    for (let q = SEED; q <= LAST_COLOUR; q++) {
+      const x = 132 + (q - 2) * 20;
+      parts.push(words(x, 7, 9, "var(--soft)", q, {"font-weight": q === p ? "bold" : "normal"}));
+    }
+    rows.forEach(([who, f, said], k) => {
+      const y = 16 + k * (side + 3) + side / 2;
+      parts.push(words(0, y, 10.5, who === v ? "var(--ink)" : "var(--soft)", said, {"text-anchor": "start"}));
+      for (let q = SEED; q <= LAST_COLOUR; q++) {
+        const colour = this.found.pulses[q].colours[who - 1][f], x = 132 + (q - 2) * 20;
+        parts.push(...colourSquare(x, y, side / 2 - 0.5, colour, q > SEED && colour <= 5),
+          q === p && mark("rect", {x: x - 10, y: y - 10, width: 20, height: 20, fill: "none", stroke: "var(--glow)",
+            "stroke-width": 2}));
+      }
+    });
+    return [`0 0 350 ${16 + rows.length * (side + 3)}`, parts];
+  }
+}

@@ -1,0 +1,137 @@
+// A run without a clock: rows that lab/pictures/watch_page.py has worked out of a transcript.
+import {PALE, INK, WHITE, WIRES} from "./hues.js";
+import {HALO, channelCircle, html, mark, pill, pillWidth, row, words} from "./marks.js";
+import {nameOf} from "./stage.js";
+
+const AWAITS = {ack: WIRES.ack, safe: WIRES.safe, close: WIRES.safe};
+
+// How many of a list are at its beginning of which this is true.
+function firstOf(list, isTrue) {
+  let low = 0, high = list.length;
+  while (low < high) { const half = (low + high) >> 1; if (isTrue(list[half])) low = half + 1; else high = half; }
+  return low;
+}
+// A wire in words, or if there is no room for them by its number and the first letter of its kind.
+export function wireWords(said, isLong) {
+  const [kind, pulse, word, number] = said.split(" ");
+  if (kind === "payload") return (isLong ? word + " " : "") + (number.length < 5 ? number : number.slice(0, 3) + "…");
+  return isLong ? kind + (pulse ? " " + pulse : "") : kind[0] + (pulse || "");
+}
+// A wire's mark at a place of its way, 0 at its start and 1 at its end.
+export function wireMark(stage, v, w, far, said, isLong, more = {}, look = {}) {
+  const kind = said.split(" ")[0], size = Math.max(9, Math.min(11.5, stage.radius * 0.55));
+  const shown = wireWords(said, isLong), [x, y] = stage.beside(v, w, far, pillWidth(shown, size), size + 6, 3);
+  return mark("g", {class: "wire", ...more},
+    [mark("title", {}, `${said}, from ${v} to ${w}`), ...pill(x, y, shown, kind, size, look)]);
+}
+// A node under the synchroniser: its pulse, what it awaits of whom and what it keeps, and what it has found.
+export function alphaMarks(stage, is, v, x, y, r) {
+  const parts = [mark("circle", {cx: x, cy: y, r, fill: is.e ? PALE.close : is.s ? PALE.safe : WHITE, stroke: INK,
+    "stroke-width": 1.6}), words(x, y, r * 0.9, INK, is.p, {"font-weight": "bold"})];
+  const due = new Map(is.w.map(([what, w]) => [w, what]).reverse()), kept = new Map(is.k.map(([what, w]) => [w, what]));
+  for (const w of stage.near(v)) {
+    if (!due.has(w) && !kept.has(w)) continue;
+    const m = stage.middle(v, w), far = Math.hypot(m[0] - x, m[1] - y) || 1;
+    const hue = kept.has(w) ? (kept.get(w) === "safe" ? WIRES.safe : WIRES.payload) : AWAITS[due.get(w)];
+    parts.push(mark("circle", {cx: x + (m[0] - x) / far * r, cy: y + (m[1] - y) / far * r, r: Math.max(3, r * 0.2),
+      fill: kept.has(w) ? hue : WHITE, stroke: hue, "stroke-width": 2}));
+  }
+  if (typeof is.c === "string") parts.push(words(x, y + r + 10, 11, "var(--ink)", is.c, HALO));
+  else if (is.c) parts.push(...channelCircle(x + 0.95 * r, y + 0.75 * r, Math.max(6, r * 0.5), is.c));
+  return parts;
+}
+function grouped(list) {
+  const by = new Map();
+  list.forEach(([what, w]) => by.set(what, (by.get(what) || []).concat(w)));
+  return Array.from(by, ([what, ws]) => `${what} of ${ws.join(", ")}`).join("; ");
+}
+// What a node waits for, in words.
+export function waitsWords(is) { return is.e ? "done" : grouped(is.w) || `nothing: may make pulse ${is.p + 1}`; }
+// A table of what each node (or one of many) waits for and keeps. `more(v)` gives a last column.
+export function waitsTable(looks, {only = null, lit = null, head = "", more = () => ""}) {
+  const shown = html("table");
+  shown.append(row("th", ["node", "pulse", "waits for", "has, and keeps early", head].filter((w, k) => k < 4 || w)));
+  looks.forEach((is, k) => {
+    if (looks.length > 12 && only !== k + 1) return;
+    const keeps = [grouped(is.h), is.k.length ? "early: " + grouped(is.k) : ""].filter(Boolean).join("; ");
+    const cells = [k + 1, is.p, waitsWords(is), keeps, more(k + 1, is)];
+    const line = row("td", head ? cells : cells.slice(0, 4));
+    if (lit === k + 1) line.className = "on";
+    shown.append(line);
+  });
+  const box = html("div");
+  box.append(shown);
+  if (looks.length > 12 && !only) box.append(html("p", "Click a node to see what it waits for.", {class: "soft"}));
+  return box;
+}
+// What the marks mean.
+export function runLegend(place) {
+  place.replaceChildren(...Object.keys(PALE).map(kind => {
+    const shown = html("b", kind);
+    shown.style.borderColor = WIRES[kind];
+    shown.style.background = PALE[kind];
+    return shown;
+  }), html("br"), "A node has its pulse inside: orange when it has said safe, grey when it is done. On its border, "
+    + "towards a neighbour: open what it awaits (grey: ack, orange: safe), full what came early and is kept.");
+}
+
+export class RunFilm {
+  // `found` has table, last and pulses.
+  constructor(found, net) {
+    Object.assign(this, {found, net, table: found.table, own: net.nodes.map(() => [])});
+    this.table.rows.forEach((row_, at) => this.own[row_[1] - 1].push([at, row_[2]]));
+  }
+  rowsBy(stamp) { return firstOf(this.table.rows, one => one[0] <= stamp); }
+  look(v, at) {
+    const low = firstOf(this.own[v - 1], one => one[0] < at);
+    return low ? this.table.looks[this.own[v - 1][low - 1][1]] : this.table.start[v - 1];
+  }
+  looks(at) { return this.net.nodes.map((_, k) => this.look(k + 1, at)); }
+  last(at) { return at ? this.table.rows[at - 1] : null; }
+  said(at) {
+    const last = this.last(at);
+    return last ? `entry ${at.toLocaleString("en")}, stamp ${last[0]}: node ${last[1]} ${this.table.texts[last[3]]}`
+      : "nothing has happened yet";
+  }
+  // The stamp of the next entry, or of the one before, that is wanted. Entries of one stamp are of different nodes, and
+  // none depends on another, so they are stepped over together.
+  stepped(at, way, isWanted = () => true) {
+    let next = at;
+    do next += way; while (next > 0 && next < this.table.rows.length && !isWanted(this.table.rows[next - 1]));
+    if (next <= 0) return this.table.stamps[0];
+    const stamp = this.table.rows[Math.min(next, this.table.rows.length) - 1][0];
+    return way < 0 && at && stamp === this.table.rows[at - 1][0] ? stamp - 1 : stamp;
+  }
+  // Where the run is when its last node has made a pulse, and on the way to the next one: {stamp, at, said}.
+  atPulse(pulse) {
+    const whole = Math.floor(pulse), {all, rows, stamps} = this.table, k = whole - this.found.pulses[0], from = all[k];
+    if (!from) return {stamp: stamps[1], at: rows.length, said: "the end"};
+    const said = from[1] ? `node ${rows[from[1] - 1][1]} makes pulse ${whole}, the last to do so` : "the start";
+    if (pulse === whole) return {stamp: from[0], at: from[1], said};
+    const to = k + 1 < all.length ? all[k + 1][0] : stamps[1], stamp = from[0] + (to - from[0]) * (pulse - whole);
+    return {stamp, at: Math.max(from[1], this.rowsBy(stamp)), said: `on the way to pulse ${whole + 1}`};
+  }
+  wires(stage, stamp, at, {node, only}) {
+    const isLong = this.net.nodes.length <= 12 && stage.wide > 500, shown = [];
+    for (const wire of this.table.wires) {
+      if (wire[3] >= at || wire[5] !== null && wire[5] < at) continue;
+      const said = this.table.texts[wire[2]];
+      if (only && !said.startsWith("payload")) continue;
+      const far = wire[5] === null ? 0.5 : Math.max(0, Math.min(1, (stamp - wire[4]) / (wire[6] - wire[4])));
+      const pale = node && wire[0] !== node && wire[1] !== node;
+      shown.push(wireMark(stage, wire[0], wire[1], far, said, isLong, {opacity: pale ? 0.25 : null}));
+    }
+    return shown;
+  }
+  draw(stage, stamp, {at = this.rowsBy(stamp), node = null, only = false, slow = [], lazy = []} = {}) {
+    const last = this.last(at), waits = new Set(slow.map(e => e.join("-")));
+    const isWord = typeof this.table.start[0].c === "string";
+    stage.draw({node: (v, x, y, r) => alphaMarks(stage, this.look(v, at), v, x, y, r), bars: false, apart: 4.6,
+      above: this.wires(stage, stamp, at, {node, only}), below: isWord,
+      ring: v => last && last[1] === v ? "var(--glow)" : node === v ? "var(--edge)" : null,
+      label: v => nameOf(this.net, v) + (lazy.includes(v) ? " (waits)" : ""),
+      edge: (v, w) => waits.has(v + "-" + w) ? SLOW : {}});
+    return at;
+  }
+}
+export const SLOW = {stroke: "#56B4E9", "stroke-width": 5, "stroke-dasharray": "2 6"};

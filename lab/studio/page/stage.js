@@ -1,0 +1,189 @@
+// A picture of a network: where things are on the screen, what is drawn, and what is under the pointer.
+import {HALO, barMark, mark, patch, words} from "./marks.js";
+
+const LARGEST = 22;
+
+export class Stage {
+  // `net` has nodes {x, y, id, name, bars} from 0, and edges [v, w] from 1.
+  constructor(svg, net) {
+    Object.assign(this, {svg, net, to: {scale: 1, x: 0, y: 0}, radius: LARGEST, wide: 1, high: 1, apart: 2.9,
+      isZoomed: false, key: "", bends: new Map(), turns: new Map(), close: []});
+    patch(svg, Array.from({length: 4}, () => mark("g", {}, [])));
+    [this.edges, this.arrows, this.nodes, this.over] = svg.children;
+  }
+
+  // The scale that fits the network into the stage; it is kept while the network is drawn on.
+  fit() {
+    const box = this.svg.getBoundingClientRect(), xs = this.net.nodes.map(n => n.x), ys = this.net.nodes.map(n => n.y);
+    this.wide = box.width || 1;
+    this.high = box.height || 1;
+    this.isZoomed = false;
+    const margin = Math.min(64, 12 + this.wide / 14), least = list => Math.min(...list);
+    const most = list => Math.max(...list);
+    if (xs.length < 2) {
+      this.to = {scale: 1, x: this.wide / 2 - (xs[0] || 0), y: this.high / 2 - (ys[0] || 0)};
+      if (!xs.length) this.to = {scale: 1, x: 0, y: 0};
+      return;
+    }
+    const across = most(xs) - least(xs), up = most(ys) - least(ys);
+    const scale = Math.min(1.4, (this.wide - 2 * margin) / (across || 1), (this.high - 2 * margin) / (up || 1));
+    this.to = {scale, x: (this.wide - scale * across) / 2 - scale * least(xs),
+      y: (this.high - scale * up) / 2 - scale * least(ys)};
+  }
+  zoom(by, x = this.wide / 2, y = this.high / 2) {
+    const scale = Math.max(0.02, Math.min(20, this.to.scale * by)), real = scale / this.to.scale;
+    this.to = {scale, x: x - real * (x - this.to.x), y: y - real * (y - this.to.y)};
+    this.isZoomed = true;
+  }
+  pan(dx, dy) {
+    this.to = {...this.to, x: this.to.x + dx, y: this.to.y + dy};
+    this.isZoomed = true;
+  }
+  isOutside() {
+    return this.net.nodes.some((_, k) => this.X(k + 1) < 0 || this.Y(k + 1) < 0 || this.X(k + 1) > this.wide
+      || this.Y(k + 1) > this.high);
+  }
+  X(v) { return this.net.nodes[v - 1].x * this.to.scale + this.to.x; }
+  Y(v) { return this.net.nodes[v - 1].y * this.to.scale + this.to.y; }
+  // A point of the window on the stage, and in the network.
+  point(event) {
+    const box = this.svg.getBoundingClientRect();
+    return [event.clientX - box.left, event.clientY - box.top];
+  }
+  placeOf(event) {
+    const [x, y] = this.point(event);
+    return {x: Math.round((x - this.to.x) / this.to.scale), y: Math.round((y - this.to.y) / this.to.scale)};
+  }
+  nodeAt(event, slack = 8) {
+    const [x, y] = this.point(event);
+    let best = null, near = this.radius + slack;
+    this.net.nodes.forEach((_, k) => {
+      const far = Math.hypot(this.X(k + 1) - x, this.Y(k + 1) - y);
+      if (far < near) { near = far; best = k + 1; }
+    });
+    return best;
+  }
+  edgeAt(event) {
+    const [x, y] = this.point(event);
+    let best = null, near = 11;
+    this.net.edges.forEach(edge => {
+      for (let t = 0.04; t < 1; t += 0.02) {
+        const at = this.along(edge[0], edge[1], t), far = Math.hypot(at[0] - x, at[1] - y);
+        if (far < near) { near = far; best = edge; }
+      }
+    });
+    return best;
+  }
+  near(v) { return this.close[v - 1] || []; }
+
+  // Edges that pass a third node too near are bent, as lab/pictures/places.py bends them.
+  measure() {
+    const {nodes, edges} = this.net;
+    const now = JSON.stringify([nodes.map(n => [n.x, n.y]), edges, this.to, this.wide, this.apart]);
+    if (now === this.key) return;
+    this.key = now;
+    this.turns = new Map();
+    this.close = nodes.map(() => []);
+    edges.forEach(([v, w]) => { this.close[v - 1].push(w); this.close[w - 1].push(v); });
+    this.close.forEach(list => list.sort((a, b) => a - b));
+    const xs = nodes.map((_, k) => this.X(k + 1)), ys = nodes.map((_, k) => this.Y(k + 1));
+    let least = 1e9;
+    xs.forEach((x, v) => {
+      for (let w = v + 1; w < xs.length; w++) least = Math.min(least, Math.hypot(x - xs[w], ys[v] - ys[w]));
+    });
+    this.radius = Math.max(5, Math.min(LARGEST, this.wide / 16, least / this.apart));
+    this.bends = new Map(edges.map(([a, b]) => [a + " " + b, this.bendOf(a - 1, b - 1, xs, ys)]));
+  }
+  bendOf(a, b, xs, ys) {
+    const dx = xs[b] - xs[a], dy = ys[b] - ys[a], length = Math.hypot(dx, dy) || 1;
+    const near = xs.some((_, v) => {
+      const on = (xs[v] - xs[a]) * dx + (ys[v] - ys[a]) * dy;
+      const off = Math.abs((xs[v] - xs[a]) * dy - (ys[v] - ys[a]) * dx) / length;
+      return v !== a && v !== b && on > 0 && on < length * length && off < this.radius + 2;
+    });
+    return near ? 0.75 * this.radius + 0.045 * length : 0;
+  }
+  bend(a, b) { return this.bends.get(Math.min(a, b) + " " + Math.max(a, b)) || 0; }
+  // The point towards which the edge from a to b is drawn.
+  middle(a, b) {
+    const by = this.bend(a, b) * (a < b ? 1 : -1), dx = this.X(b) - this.X(a), dy = this.Y(b) - this.Y(a);
+    const length = Math.hypot(dx, dy) || 1;
+    return [(this.X(a) + this.X(b)) / 2 + dy / length * by * 2, (this.Y(a) + this.Y(b)) / 2 - dx / length * by * 2];
+  }
+  along(a, b, t) {
+    const m = this.middle(a, b), s = 1 - t;
+    return [s * s * this.X(a) + 2 * t * s * m[0] + t * t * this.X(b),
+      s * s * this.Y(a) + 2 * t * s * m[1] + t * t * this.Y(b)];
+  }
+  // A place on the way from a to b, to the right of it and off the nodes, for something of this size.
+  beside(a, b, t, wide, high, aside = 0) {
+    const dx = this.X(b) - this.X(a), dy = this.Y(b) - this.Y(a), whole = Math.hypot(dx, dy) || 1;
+    const across = Math.abs(dx) / whole, up = Math.abs(dy) / whole;
+    const touch = this.radius + 3 + (across * wide + up * high) / 2, off = Math.min(0.5, touch / whole);
+    const at = this.along(a, b, off + t * (1 - 2 * off)), by = 3 + aside + (up * wide + across * high) / 2;
+    return [at[0] - dy / whole * by, at[1] + dx / whole * by];
+  }
+  line(a, b, attributes) {
+    const m = this.middle(a, b), from = `M${this.X(a)} ${this.Y(a)}`, to = `${this.X(b)} ${this.Y(b)}`;
+    return mark("path", {d: this.bend(a, b) ? `${from}Q${m[0]} ${m[1]} ${to}` : `${from}L${to}`, fill: "none",
+      ...attributes});
+  }
+  // An arrow from a to b, whose head touches b.
+  arrow(a, b, stroke, width) {
+    const m = this.middle(a, b), dx = this.X(b) - m[0], dy = this.Y(b) - m[1], far = Math.hypot(dx, dy) || 1;
+    const ex = dx / far, ey = dy / far, size = Math.max(6, Math.min(10, this.radius * 0.6)), half = size * 0.45;
+    const tx = this.X(b) - ex * (this.radius + 2), ty = this.Y(b) - ey * (this.radius + 2);
+    const bx = tx - ex * size, by = ty - ey * size;
+    return [this.line(a, b, {stroke, "stroke-width": width}), mark("path", {fill: stroke,
+      d: `M${tx} ${ty}L${bx - ey * half} ${by + ex * half}L${bx + ey * half} ${by - ex * half}Z`})];
+  }
+  // Where a node's label has room: of 16 directions the one farthest from its edges.
+  turn(v, taken) {
+    const key = v + " " + taken;
+    if (this.turns.has(key)) return this.turns.get(key);
+    const angles = this.near(v).map(w => {
+      const m = this.middle(v, w);
+      return Math.atan2(m[1] - this.Y(v), m[0] - this.X(v));
+    });
+    let best = [-1, 0];
+    for (const k of [12, 4, 11, 13, 3, 5, 10, 14, 2, 6, 0, 8, 1, 7, 9, 15]) {
+      const turn = k * Math.PI / 8, least = Math.min(Math.PI, ...angles.concat(taken).map(other =>
+        Math.abs(Math.atan2(Math.sin(turn - other), Math.cos(turn - other)))));
+      if (least > best[0] + 0.05) best = [least, turn];
+    }
+    this.turns.set(key, best[1]);
+    return best[1];
+  }
+
+  // Draws all. `edge(v, w)` gives an edge's attributes, `node(v, x, y, r)` the marks of a node, `label(v)` its words;
+  // `links` and `above` are marks; `ring(v)` is the colour of a ring around it, or nothing. `below` says that something
+  // is written below each node, `grip(v)` what a node is said to be for.
+  draw({edge, node, label, ring, links = [], above = [], bars = true, apart = 2.9, below = false}) {
+    this.apart = apart;
+    this.measure();
+    this.svg.setAttribute("viewBox", `0 0 ${this.wide} ${this.high}`);
+    patch(this.edges, this.net.edges.map(([v, w]) => this.line(v, w, {stroke: "var(--edge)", "stroke-width": 1.6,
+      ...(edge ? edge(v, w) : {}), "data-edge": v + "-" + w})));
+    patch(this.arrows, links);
+    patch(this.nodes, this.net.nodes.map((_, k) => this.group(k + 1, {node, label, ring, bars, below})));
+    patch(this.over, above);
+  }
+  group(v, {node, label, ring, bars, below}) {
+    const x = this.X(v), y = this.Y(v), r = this.radius, size = Math.max(10, Math.min(13, r * 0.75));
+    const colour = ring && ring(v), said = label ? label(v) : nameOf(this.net, v), own = this.net.nodes[v - 1].bars;
+    const taken = (below ? [1.57] : []).concat(bars && own.length ? [0.8] : []), turn = this.turn(v, taken);
+    // The corners of a square are farther out than a circle.
+    const wide = said.length * size * 0.3, far = r * (1 + 0.4 * Math.abs(Math.sin(2 * turn))) + 5 + size / 2;
+    const lx = x + Math.cos(turn) * (far + Math.max(0, wide - 5) * Math.abs(Math.cos(turn)));
+    const parts = [colour && mark("circle", {cx: x, cy: y, r: r + 5, fill: "none", stroke: colour, "stroke-width": 4}),
+      ...node(v, x, y, r), words(lx, y + Math.sin(turn) * far, size, "var(--soft)", said, HALO)];
+    if (bars) own.slice(0, 4).forEach((bar, n) => parts.push(...barMark(x + r + 5 + n * 13, y + r + 3, 6, bar)));
+    return mark("g", {class: "node", tabindex: 0, role: "button", "data-node": v, "aria-label": `node ${said || v}`},
+      parts);
+  }
+}
+// A node's number, with its name and its identifier if it has them.
+export function nameOf(net, v) {
+  const {name, id} = net.nodes[v - 1], own = id.length > 8 ? id.slice(0, 6) + "…" : id;
+  return v + (name ? " " + name.slice(0, 12) : "") + (own && own !== String(v) ? ` (${own})` : "");
+}

@@ -1,0 +1,46 @@
+// A slider with a play button. `show` is called with each new place; `speed` says how much of it passes in a second.
+export class Time {
+  constructor({slider, play, back, next, speed}, {show, step, rate, ended}) {
+    Object.assign(this, {slider, button: play, speed, show, step, rate, ended: ended || (() => 0), timer: null, at: 0});
+    play.onclick = () => this.toggle();
+    back.onclick = () => { this.stop(); step(-1); };
+    next.onclick = () => { this.stop(); step(1); };
+    slider.oninput = () => { const value = +slider.value; this.stop(); this.set(value); };
+  }
+  range(least, most) {
+    this.slider.min = least;
+    this.slider.max = most;
+  }
+  set(value) {
+    this.at = Math.max(+this.slider.min, Math.min(+this.slider.max, value));
+    this.slider.value = this.at;
+    this.show(this.at);
+  }
+  stop() {
+    cancelAnimationFrame(this.timer);
+    this.timer = null;
+    this.button.textContent = "▶ play";
+  }
+  toggle() {
+    if (this.timer) { this.stop(); return this.ended(); }
+    if (this.at >= +this.slider.max) this.set(+this.slider.min);
+    this.button.textContent = "❚❚ stop";
+    let before = null;
+    const tick = now => {
+      if (before !== null) this.set(this.at + Math.min(100, now - before) / 1000 * this.speed.value * this.rate());
+      before = now;
+      if (this.at >= +this.slider.max) { this.stop(); return this.ended(); }
+      this.timer = requestAnimationFrame(tick);
+    };
+    this.timer = requestAnimationFrame(tick);
+  }
+  // The keys that all pages with a slider have; whether it was one of them.
+  key(event) {
+    const on = event.target.tagName, {key} = event;
+    if (key === "ArrowRight" || key === "ArrowLeft") { this.stop(); this.step(key === "ArrowRight" ? 1 : -1); }
+    else if (key === " " && on !== "BUTTON" && on !== "SUMMARY") this.toggle();
+    else return false;
+    event.preventDefault();
+    return true;
+  }
+}
