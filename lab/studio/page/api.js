@@ -1,0 +1,53 @@
+// Calls of the server. A later call of the same key ends the one before: the server ends its process then.
+const KEPT = "studio-token";
+const given = new URLSearchParams(location.search).get("token");
+if (given) {
+  localStorage.setItem(KEPT, given);
+  history.replaceState(null, "", location.pathname + location.hash);
+}
+export const token = given || localStorage.getItem(KEPT) || "";
+const running = new Map();
+
+// What the server says isn't so.
+export class Wrong extends Error {}
+
+export function cancel(key) {
+  const control = running.get(key);
+  if (control) control.abort();
+  running.delete(key);
+}
+
+// The answer and how long it took, {answer, ms, whole}; null if a later call of the key, or cancel, ended it.
+export async function call(name, asked = {}, {key = name, progress, part} = {}) {
+  cancel(key);
+  const control = new AbortController(), begun = performance.now();
+  running.set(key, control);
+  try {
+    const got = await fetch("/call/" + name, {method: "POST", signal: control.signal, body: JSON.stringify(asked),
+      headers: {"X-Token": token, "Content-Type": "application/json"}});
+    if (!got.ok) throw new Wrong(await got.text());
+    const reader = got.body.getReader(), decoder = new TextDecoder();
+    let rest = "", last = null;
+    for (;;) {
+      const {value, done} = await reader.read();
+      rest += decoder.decode(value || new Uint8Array(), {stream: !done});
+      const lines = rest.split("\n");
+      rest = lines.pop();
+      for (const line of lines) {
+        last = JSON.parse(line);
+        if (last.of && progress) progress(last.done, last.of);
+        if (last.part && part) part(last.part);
+      }
+      if (done) break;
+    }
+    if (last && last.wrong !== undefined) throw new Wrong(last.wrong);
+    if (!last || last.answer === undefined) throw new Wrong("the call was ended: it took too much time or memory");
+    return {answer: last.answer, ms: last.ms, whole: performance.now() - begun};
+  } catch (fault) {
+    if (control.signal.aborted) return null;
+    if (fault instanceof TypeError) throw new Wrong("the server doesn’t answer: has the command studio been ended?");
+    throw fault;
+  } finally {
+    if (running.get(key) === control) running.delete(key);
+  }
+}

@@ -1,0 +1,84 @@
+// What the tabs of the studio share: the stage, what is said of calls, and the tab that is seen.
+import {Wrong, cancel} from "./api.js";
+import {net} from "./model.js";
+import {html} from "./marks.js";
+import {Stage} from "./stage.js";
+
+export const by = id => document.getElementById(id), all = words => Array.from(document.querySelectorAll(words));
+// What is seen. `hello` is what there is to choose from, `program` what the nodes run; `slow` and `lazy` are the links
+// and the nodes that wait, `without` the rule of the synchroniser that is left out.
+export const seen = {tab: "draw", node: null, edge: null, lesson: null, hello: null, program: "colouring", slow: [],
+  lazy: []};
+export const stage = new Stage(by("net"), net);
+// Each tab is {hints, enter, show, click, link, follow, key}; studio.js sets the hooks.
+export const tabs = {}, hooks = {};
+// Elements of a picture have no property `hidden`.
+export function hide(id, isHidden) { by(id).toggleAttribute("hidden", isHidden); }
+export function isHidden(id) { return by(id).hasAttribute("hidden"); }
+export function show() { hooks.show(); }
+export function go(tab, more) { hooks.go(tab, more); }
+
+let wrongKey = null, busyWith = null;
+export function wrong(said, key = null) {
+  // What went well takes back what it said before, and nothing else.
+  if (!said && key && wrongKey !== key) return;
+  by("wrong").textContent = said || "";
+  wrongKey = key;
+}
+export function took(said, tab = seen.tab) { if (tab === seen.tab) by("took").textContent = said; }
+export function busy(said, key, onCancel) {
+  const box = by("busy");
+  if (!said) {
+    if (busyWith === key) { box.hidden = true; busyWith = null; }
+    return;
+  }
+  box.hidden = false;
+  busyWith = key;
+  box.querySelector("span").textContent = said;
+  box.querySelector("progress").removeAttribute("value");
+  box.querySelector("button").onclick = () => {
+    if (onCancel) onCancel(); else cancel(key);
+    busy(null, key);
+  };
+}
+export function progress(done, of) {
+  const bar = by("busy").querySelector("progress");
+  bar.max = of;
+  bar.value = done;
+}
+// Does it, and says what is wrong; what takes longer than a moment is said to be under way.
+export async function tried(key, said, does) {
+  const later = setTimeout(() => busy(said, key), 250);
+  try { await does(); wrong("", key); } catch (fault) {
+    if (!(fault instanceof Wrong)) console.error(fault);
+    wrong(fault instanceof Wrong ? fault.message : "a fault of this page: " + fault.message, key);
+    return false;
+  } finally { clearTimeout(later); busy(null, key); }
+  return true;
+}
+// How long the last answer to each call took, for tests.
+export const measured = {};
+export function ms(got, name) {
+  measured[name] = [got.ms, got.whole];
+  return `${Math.round(got.ms)} ms, ${Math.round(got.whole)} ms until it was here`;
+}
+export function option(select, value, said, title = "") {
+  select.append(html("option", said || value, {value, title}));
+}
+export function picture(svg, said) {
+  const shown = html("img", null, {alt: said, src: URL.createObjectURL(new Blob([svg], {type: "image/svg+xml"}))});
+  shown.onload = () => URL.revokeObjectURL(shown.src);
+  return shown;
+}
+export function count(n, what) { return `${n.toLocaleString("en")} ${what}${n === 1 ? "" : "s"}`; }
+// Edges of an address, as 2-3_4-5.
+export function listOf(said) { return (said || "").split("_").filter(Boolean); }
+export function edgesOf(said) { return listOf(said).map(pair => pair.split("-").map(Number)); }
+// A click on an edge has its link wait, or no more.
+export function toggleSlow(edge) {
+  const name = edge.join("-"), has = seen.slow.some(e => e.join("-") === name);
+  seen.slow = has ? seen.slow.filter(e => e.join("-") !== name) : seen.slow.concat([edge]);
+}
+export function toggleLazy(v) {
+  seen.lazy = seen.lazy.includes(v) ? seen.lazy.filter(w => w !== v) : seen.lazy.concat(v);
+}

@@ -1,0 +1,103 @@
+// The tab Check: a plan that is typed or clicked, with the verdict on it, and transcripts.
+import {call} from "./api.js";
+import {by, hooks, listOf, ms, seen, show, stage, tabs, took, tried} from "./base.js";
+import {blank, channelCircle, html, note} from "./marks.js";
+import {net, neighbours, text} from "./model.js";
+
+export const check = {plan: [], verdict: null, typed: null};
+const CLASH = {stroke: "var(--wrong)", "stroke-width": 3, "stroke-dasharray": "5 4"};
+const SAID = {C4: "one channel", C8: "barred here", C1: "no channel yet", C5: "too great"};
+
+function set(v, channel) { check.plan[v - 1] = Math.max(0, Math.min(9999, channel)); }
+function ask() {
+  show();
+  return tried("check", "checking", async () => {
+    const got = await call("check", {network: text(), plan: check.plan});
+    if (!got) return;
+    check.verdict = got.answer;
+    took("check: " + ms(got, "check"), "check");
+    show();
+  });
+}
+function showPlan() {
+  const is = check.verdict, at = is && !is.ok ? is.at.filter(v => v >= 1 && v <= net.nodes.length) : [], above = [];
+  const {plan} = check, isWrong = (v, w) => at.length === 2 && at.includes(v) && at.includes(w);
+  if (at.length) {
+    const spot = at.length === 2 ? stage.middle(...at) : [stage.X(at[0]), stage.Y(at[0]) - stage.radius - 18];
+    above.push(...note(...spot, SAID[is.code] || is.code));
+  }
+  stage.draw({above, ring: v => at.includes(v) ? "var(--wrong)" : null,
+    node: (v, x, y, r) => plan[v - 1] ? channelCircle(x, y, r, plan[v - 1]) : blank(x, y, r),
+    edge: (v, w) => isWrong(v, w) ? {stroke: "var(--wrong)", "stroke-width": 5}
+      : plan[v - 1] && plan[v - 1] === plan[w - 1] ? CLASH : {}});
+  const place = by("verdict");
+  if (!is) return place.replaceChildren();
+  const left = plan.filter(channel => !channel).length, who = seen.hello.proved ? "The proved program" : "Python";
+  place.className = "verdict " + (is.ok ? "good" : is.code === "C1" ? "" : "bad");
+  const more = is.ok ? [html("p", `${who} finds this plan proper: neighbours differ, no channel is barred at its node, `
+    + `and the greatest is ${is.said.split(" ")[1]}.`)]
+    : is.code === "C1" && left ? [html("p", `${left} of ${net.nodes.length} nodes have no channel yet: the check names `
+      + "the first. Dashed edges are clashes that this page sees.")]
+    : [html("p", sentence(is)), html("p", "What to do: " + is.do + ".", {class: "soft"})];
+  place.replaceChildren(html("b", is.said), ...more);
+}
+function sentence(is) {
+  const words = is.words[0].toUpperCase() + is.words.slice(1) + ".";
+  return is.code === "C4" && is.at.length === 2 ? `${words} Both have channel ${check.plan[is.at[0] - 1]}.` : words;
+}
+function click(v, _edge, event) {
+  if (!v) return;
+  const degree = Math.max(0, ...net.nodes.map((_, k) => neighbours(k + 1).length));
+  const most = degree + 1 + Math.max(0, ...net.nodes.map(n => n.bars.length));
+  const now = check.plan[v - 1] + (event.shiftKey ? -1 : 1);
+  check.typed = v;
+  set(v, now > most ? 1 : now < 0 ? most : now);
+  ask();
+}
+// Digits typed soon after each other are one number.
+let typedAt = 0;
+function key(event, on) {
+  const v = on || check.typed;
+  if (!/^[0-9]$/.test(event.key) || !v) return false;
+  const more = v === check.typed && event.timeStamp - typedAt < 1200;
+  set(v, more ? 10 * check.plan[v - 1] + +event.key : +event.key);
+  check.typed = v;
+  typedAt = event.timeStamp;
+  ask();
+  return true;
+}
+tabs.check = {
+  click, key, show: showPlan, hint: () => "Click a node for its next channel, or type it; Shift goes back.",
+  enter() {
+    check.plan = net.nodes.map((_, k) => check.plan[k] || 0);
+    ask();
+  },
+  link: add => add("plan", check.plan.join("_")),
+  follow: given => { check.plan = listOf(given.get("plan")).map(Number); },
+};
+by("blank").onclick = () => { check.plan = net.nodes.map(() => 0); ask(); };
+by("ones").onclick = () => { check.plan = net.nodes.map(() => 1); ask(); };
+by("take").onclick = () => tried("take", "looking for the plan", async () => {
+  const got = await call("plan", {network: text()}, {key: "take"});
+  if (!got) return;
+  check.plan = got.answer.plan;
+  ask();
+});
+by("judged").onclick = () => tried("judge", "judging", async () => {
+  const got = await call("judge", {network: text(), transcript: by("transcript").value, program: seen.program});
+  if (!got) return;
+  const is = got.answer, place = by("judgement"), {proved} = is;
+  // The machine counts lines from the network's first one.
+  const said = proved && proved.said.replace(/line (\d+)/, (_, line) => `line ${line - is.before}`);
+  place.className = "verdict " + (is.ok ? "good" : "bad");
+  place.replaceChildren(html("p", (is.ok ? "✓ " : "✗ ") + is.words));
+  if (proved) place.append(html("p", proved.ok ? `✓ ${proved.by} accepts it, too.` : `✗ ${proved.by}: ${said}`));
+  if (is.line) choose(by("transcript"), is.line);
+});
+// Chooses a line of a text.
+function choose(box, line) {
+  const lines = box.value.split("\n"), from = lines.slice(0, line - 1).join("\n").length + (line > 1);
+  box.focus();
+  box.setSelectionRange(from, from + (lines[line - 1] || "").length);
+}
+by("watchit").onclick = () => hooks.go("run", {transcript: by("transcript").value});

@@ -1,0 +1,220 @@
+// The tab Draw: the network is drawn with the mouse, a finger or keys, and its plan is shown after each change.
+import {call, cancel} from "./api.js";
+import {all, by, count, go, hooks, ms, picture, seen, show, stage, tabs, took, tried, wrong} from "./base.js";
+import {blank, channelCircle, html} from "./marks.js";
+import * as model from "./model.js";
+import {change, net, neighbours, text} from "./model.js";
+
+export const drawn = {plan: null, fresh: false};
+let timer = null;
+
+function showPlan() {
+  const plan = drawn.plan ? drawn.plan.plan : [];
+  stage.draw({ring: v => v === seen.node ? "var(--glow)" : null,
+    edge: (v, w) => seen.edge && seen.edge.join() === `${v},${w}` ? {stroke: "var(--glow)", "stroke-width": 4} : {},
+    node: (v, x, y, r) => plan[v - 1] ? channelCircle(x, y, r, plan[v - 1]) : blank(x, y, r)});
+  const [undos, redos] = model.depth();
+  by("undo").disabled = !undos;
+  by("redo").disabled = !redos;
+  by("delete").disabled = !seen.node && !seen.edge;
+}
+function facts() {
+  const is = drawn.plan, place = by("plan");
+  if (!net.nodes.length) return place.replaceChildren(html("p", "Nothing is drawn yet."));
+  if (!is) return;
+  const bars = is.bars ? ` and ${count(is.bars, "barred channel")}` : "";
+  place.replaceChildren(html("b", `${count(new Set(is.plan).size, "channel")} of the ${is.allowed} allowed`), html("p",
+    `${count(net.nodes.length, "node")}, ${count(net.edges.length, "edge")}, at most ${count(is.degree, "neighbour")}`
+    + `${bars}; ${count(is.forests, "forest")}; the last pulse is ${is.last}. `
+    + (seen.hello.proved ? "The plan is that of the proved program plain." : "The plan is that of the definitions.")));
+}
+// Asks for the plan, a moment after the last change.
+export function askPlan() {
+  clearTimeout(timer);
+  cancel("plan");
+  drawn.fresh = false;
+  by("plan").classList.add("old");
+  if (!net.nodes.length) { drawn.plan = null; facts(); return show(); }
+  timer = setTimeout(() => tried("plan", "looking for the plan", async () => {
+    const got = await call("plan", {network: text()});
+    if (!got) return;
+    drawn.plan = got.answer;
+    drawn.fresh = true;
+    by("plan").classList.remove("old");
+    took("plan: " + ms(got, "plan"), "draw");
+    if (seen.tab === "draw") { facts(); if (!by("chosen").contains(document.activeElement)) inspect(); show(); }
+  }), 40);
+}
+
+// The chosen node or edge.
+export function inspect() {
+  const place = by("chosen"), v = seen.node;
+  if (seen.tab !== "draw") return;
+  if (seen.edge) {
+    return place.replaceChildren(html("h2", `Edge ${seen.edge.join(" – ")}`),
+      html("p", "Delete removes it.", {class: "soft"}));
+  }
+  if (!v) return place.replaceChildren();
+  const node = net.nodes[v - 1], box = html("div", null, {class: "grid"});
+  const field = (said, value, use, more = {}) => {
+    const label = html("label", said), input = html("input", null, {type: "text", ...more});
+    input.value = value;
+    input.onchange = () => change(() => use(input.value.trim()));
+    label.append(input);
+    box.append(label);
+  };
+  field("name", node.name, value => { node.name = value; }, {maxlength: 40});
+  field("identifier (else its number)", node.id, value => { node.id = value.replace(/\D/g, "").slice(0, 39); },
+    {inputmode: "numeric"});
+  field("barred channels", node.bars.join(", "), value => {
+    node.bars = Array.from(new Set((value.match(/\d+/g) || []).map(Number))).sort((a, b) => a - b);
+  }, {placeholder: "for example 1, 4"});
+  const channel = drawn.plan && drawn.plan.plan[v - 1];
+  place.replaceChildren(html("h2", `Node ${v}` + (channel ? `, channel ${channel}` : "")), box,
+    html("p", `neighbours: ${neighbours(v).join(", ") || "none"}`));
+  const why = html("button", "why this channel?");
+  why.onclick = () => { seen.node = v; go("rounds", {at: 1e9}); };
+  if (channel) place.append(why);
+}
+function choose(v, edge = null) { seen.node = v; seen.edge = edge; inspect(); show(); }
+function remove() {
+  if (seen.edge) model.toggleEdge(...seen.edge);
+  else if (seen.node) { const v = seen.node; seen.node = null; model.removeNode(v); }
+}
+function click(v, edge, event) {
+  if (v && seen.node && v !== seen.node) {
+    const from = seen.node;
+    if (!event.shiftKey) seen.node = null;
+    return model.toggleEdge(from, v);
+  }
+  if (v) return choose(v === seen.node ? null : v);
+  if (edge) return choose(null, edge);
+  if (seen.node || seen.edge) return choose(null);
+  change(n => n.nodes.push({...stage.placeOf(event), id: "", name: "", bars: []}));
+}
+// A node where there is room: to the right of the last one, or in the middle.
+function addByKey() {
+  const last = net.nodes[net.nodes.length - 1], up = net.nodes.length % 2 ? 30 : -30;
+  const place = last ? {x: last.x + 70, y: last.y + up} : {x: stage.wide / 2, y: stage.high / 2};
+  change(n => n.nodes.push({...place, id: "", name: "", bars: []}));
+  if (stage.isOutside()) { stage.fit(); show(); }
+}
+// `on` is the node that has the focus.
+function key(event, on) {
+  const way = {ArrowLeft: [-20, 0], ArrowRight: [20, 0], ArrowUp: [0, -20], ArrowDown: [0, 20]}[event.key];
+  if (on && way) change(n => { n.nodes[on - 1].x += way[0]; n.nodes[on - 1].y += way[1]; }, "key " + on, "move");
+  else if (event.key === "Delete" || event.key === "Backspace") {
+    if (on) { seen.node = on; seen.edge = null; }
+    remove();
+  } else if (event.key === "Escape") choose(null);
+  else if (event.key.toLowerCase() === "a") addByKey();
+  else return false;
+  return true;
+}
+tabs.draw = {
+  click, key, show: showPlan, link: () => 0, follow: () => 0,
+  hint: () => seen.node ? "Click another node to join the two, or to part them; an empty place lets go."
+    : net.nodes.length > 1 ? "Click a node, then another, to join them or to part them. Drag to move."
+      : "Click to add a node.",
+  enter() { inspect(); facts(); show(); },
+};
+
+// Files.
+export async function openFile(file, heading = null) {
+  by("heading").hidden = true;
+  if (file.size > 4e6) return wrong("That file is larger than the studio reads.");
+  const bytes = new Uint8Array(await file.arrayBuffer());
+  let words = "";
+  for (let k = 0; k < bytes.length; k += 32768) words += String.fromCharCode(...bytes.subarray(k, k + 32768));
+  await tried("read", "reading the file", async () => {
+    const got = await call("read", {name: file.name, data: btoa(words), heading});
+    if (!got) return;
+    model.load(got.answer);
+    if (seen.tab !== "draw") go("draw");
+    took(got.answer.said.join("; ") || `read: ${ms(got, "read")}`);
+  });
+  // Whether a table's first row is a heading can't always be seen.
+  by("heading").hidden = heading !== null || !by("wrong").textContent.includes("--heading");
+  all("#heading button").forEach(one => { one.onclick = () => openFile(file, one.dataset.heading === "yes"); });
+}
+export function download(words, name) {
+  const link = html("a", null, {href: URL.createObjectURL(new Blob([words], {type: "text/plain"})), download: name});
+  link.click();
+  setTimeout(() => URL.revokeObjectURL(link.href), 1000);
+}
+// Making networks.
+export function makeForm() {
+  const form = by("make"), kind = html("select", null, {"aria-label": "kind"}), sizes = html("span");
+  const {kinds} = seen.hello, usual = {nodes: 8, rows: 3, columns: 4, edges: 12, seed: 1};
+  Object.keys(kinds).forEach(one => kind.append(html("option", one)));
+  const fields = () => {
+    const is = kinds[kind.value];
+    sizes.replaceChildren(...is.sizes.concat(is.chance ? ["seed"] : []).map(name => {
+      const label = html("label", name), input = html("input", null, {type: "number", name, min: 0, max: 400});
+      input.value = usual[name];
+      label.append(input);
+      return label;
+    }));
+  };
+  kind.onchange = fields;
+  kind.value = "random";
+  fields();
+  form.append(kind, sizes, html("button", "make"));
+  form.onsubmit = event => {
+    event.preventDefault();
+    const asked = Object.fromEntries(Array.from(sizes.querySelectorAll("input"), one => [one.name, one.value]));
+    tried("make", "making it", async () => {
+      const got = await call("make", {kind: kind.value, sizes: asked, seed: asked.seed});
+      if (got) { model.load(got.answer); took("made: " + ms(got, "made")); }
+    });
+  };
+}
+by("undo").onclick = model.undo;
+by("redo").onclick = model.redo;
+by("delete").onclick = remove;
+by("clear").onclick = () => change(n => { n.nodes = []; n.edges = []; n.name = ""; });
+by("tidy").onclick = () => tried("tidy", "laying it out", async () => {
+  const got = await call("tidy", {network: text()});
+  if (!got) return;
+  change(n => { n.nodes = got.answer.nodes; });
+  stage.fit();
+  show();
+  took("tidied: " + ms(got, "tidied"));
+});
+by("apply").onclick = () => openFile(new File([by("text").value], (net.name || "network") + ".col"));
+by("file").onchange = () => { if (by("file").files[0]) openFile(by("file").files[0]); by("file").value = ""; };
+by("save").onclick = () => download(text(), (net.name || "network") + ".col");
+
+// The tab Pictures: what the command `picture` draws.
+const KINDS = {
+  plan: "The plan.", matrix: "Who interferes with whom, by channel.", forests: "The forests, and each merge.",
+  rounds: "A row for each node of each forest.", bits: "One node above its parent, digit by digit.",
+  why: "What decided the channel of the chosen node.", run: "Space and time of the run of the tab No clock.",
+  overview: "The pulses of that run.", node: "The synchroniser as an automaton.",
+  tally: "The wires of that run by pulse."};
+const OF_RUN = ["run", "overview", "node", "tally"];
+let kind = "forests";
+function askPicture() {
+  all("#kinds button").forEach(one => one.setAttribute("aria-pressed", one.dataset.kind === kind));
+  by("kindsaid").textContent = KINDS[kind];
+  tried("picture", "drawing", async () => {
+    const transcript = OF_RUN.includes(kind) ? await tabs.run.transcript() : null, v = seen.node;
+    const vertex = kind === "why" ? v || 1 : kind === "bits" ? v : null;
+    const got = await call("picture", {kind, network: text(), name: net.name, forest: tabs.rounds.forest(), vertex,
+      transcript});
+    if (!got) return;
+    by("picture").replaceChildren(picture(got.answer, kind));
+    by("keep").href = URL.createObjectURL(new Blob([got.answer], {type: "image/svg+xml"}));
+    by("keep").download = `${net.name || "network"}-${kind}.svg`;
+    took("picture: " + ms(got, "picture"), "pictures");
+  });
+}
+Object.keys(KINDS).forEach(one => {
+  const button = html("button", one, {"data-kind": one});
+  button.onclick = () => { kind = one; askPicture(); hooks.link(); };
+  by("kinds").append(button);
+});
+tabs.pictures = {
+  hint: () => "", click: () => 0, show: () => 0, enter: askPicture, link: add => add("kind", kind),
+  follow: given => { if (KINDS[given.get("kind")]) kind = given.get("kind"); },
+};

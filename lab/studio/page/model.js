@@ -1,0 +1,94 @@
+// The network that is drawn: nodes {x, y, id, name, bars} from 0, edges [v, w] from 1, the lower node first. An id is
+// the digits of an identifier, or "" for the node's own number.
+export const net = {name: "", nodes: [], edges: [], example: ""};
+const past = [], future = [], heard = [];
+
+export function onChange(listener) { heard.push(listener); }
+function tell(what) { heard.forEach(listener => listener(what)); }
+function kept() { return JSON.stringify(net); }
+function put(text) { Object.assign(net, JSON.parse(text)); }
+
+// A change that can be undone; one with the same key as the last one is part of it, as the moves of a drag.
+let lastKey = null;
+export function change(does, key = null, what = "edit") {
+  if (key === null || key !== lastKey) { past.push(kept()); future.length = 0; }
+  if (past.length > 200) past.shift();
+  lastKey = key;
+  does(net);
+  net.example = "";
+  net.edges.sort((a, b) => a[0] - b[0] || a[1] - b[1]);
+  tell(what);
+}
+export function undo() { if (past.length) { future.push(kept()); put(past.pop()); lastKey = null; tell("undo"); } }
+export function redo() { if (future.length) { past.push(kept()); put(future.pop()); lastKey = null; tell("undo"); } }
+export function depth() { return [past.length, future.length]; }
+export function load(found, example = "") {
+  if (net.nodes.length) { past.push(kept()); future.length = 0; }
+  lastKey = null;
+  Object.assign(net, {name: found.name || "", nodes: found.nodes, edges: found.edges, example});
+  tell("load");
+}
+
+export function hasEdge(v, w) { return net.edges.some(e => e[0] === Math.min(v, w) && e[1] === Math.max(v, w)); }
+export function toggleEdge(v, w) {
+  const [low, high] = [Math.min(v, w), Math.max(v, w)];
+  change(n => {
+    if (hasEdge(v, w)) n.edges = n.edges.filter(e => e[0] !== low || e[1] !== high);
+    else n.edges.push([low, high]);
+  });
+}
+export function removeNode(v) {
+  change(n => {
+    n.nodes.splice(v - 1, 1);
+    n.edges = n.edges.filter(e => e[0] !== v && e[1] !== v).map(e => e.map(one => one > v ? one - 1 : one));
+  });
+}
+export function neighbours(v) {
+  return net.edges.filter(e => e.includes(v)).map(e => e[0] === v ? e[1] : e[0]).sort((a, b) => a - b);
+}
+
+// In the DIMACS format.
+export function text() {
+  const lines = [];
+  net.nodes.forEach((node, k) => lines.push(`c at ${k + 1} ${round(node.x)} ${round(node.y)}`));
+  net.nodes.forEach((node, k) => { if (node.name) lines.push(`c name ${k + 1} ${node.name.replace(/\s+/g, " ")}`); });
+  lines.push(`p edge ${net.nodes.length} ${net.edges.length}`);
+  net.nodes.forEach((node, k) => { if (node.id !== "") lines.push(`i ${k + 1} ${node.id}`); });
+  net.nodes.forEach((node, k) => node.bars.forEach(bar => lines.push(`b ${k + 1} ${bar}`)));
+  net.edges.forEach(e => lines.push(`e ${e[0]} ${e[1]}`));
+  return lines.join("\n") + "\n";
+}
+function round(number) { return Math.round(number * 10) / 10; }
+
+// In an address: x.y_x.y~1-2_1-3, and after them the identifiers ~i1-17, the bars ~b1-3 and the names ~n1-Oslo.
+export function code() {
+  const parts = [net.nodes.map(n => Math.round(n.x) + "." + Math.round(n.y)).join("_"),
+    net.edges.map(e => e.join("-")).join("_")];
+  const more = (letter, rows) => { if (rows.length) parts.push(letter + rows.join("_")); };
+  more("i", net.nodes.flatMap((n, k) => n.id !== "" ? [`${k + 1}-${n.id}`] : []));
+  more("b", net.nodes.flatMap((n, k) => n.bars.map(bar => `${k + 1}-${bar}`)));
+  more("n", net.nodes.flatMap((n, k) => n.name ? [`${k + 1}-${escapeName(n.name)}`] : []));
+  return parts.join("~");
+}
+function escapeName(name) { return encodeURIComponent(name).replace(/[~_]/g, c => c === "~" ? "%7E" : "%5F"); }
+export function fromCode(words) {
+  const [places, edges, ...more] = words.split("~");
+  const nodes = (places ? places.split("_") : []).map(place => {
+    const found = /^(-?\d{1,6})\.(-?\d{1,6})$/.exec(place);
+    if (!found) throw new Error("the address has no network that can be read");
+    return {x: +found[1], y: +found[2], id: "", name: "", bars: []};
+  });
+  const pairs = list => (list ? list.split("_") : []).map(pair => {
+    const found = /^(\d{1,5})-(.*)$/.exec(pair);
+    if (!found || !nodes[found[1] - 1]) throw new Error("the address has no network that can be read");
+    return [+found[1], found[2]];
+  });
+  const found = {name: "", nodes, edges: pairs(edges).map(([v, w]) => [Math.min(v, +w), Math.max(v, +w)])};
+  if (found.edges.some(e => !nodes[e[1] - 1] || e[0] === e[1])) throw new Error("the address has a wrong edge");
+  more.forEach(part => pairs(part.slice(1)).forEach(([v, said]) => {
+    if (part[0] === "i") nodes[v - 1].id = said.replace(/\D/g, "");
+    if (part[0] === "b") nodes[v - 1].bars.push(+said || 1);
+    if (part[0] === "n") nodes[v - 1].name = decodeURIComponent(said);
+  }));
+  return found;
+}

@@ -1,0 +1,33 @@
+// Whether the proved programs answer or Python's definitions, and the build that a button begins.
+import {Wrong, call} from "./api.js";
+import {by, seen, wrong} from "./base.js";
+
+let ready = null, timer = null;
+// `done` is called when the programs have been built.
+export function watchBuild(done) {
+  ready = done;
+  show({lines: [], ended: false});
+  if (!seen.hello.proved) look();
+}
+function show(is) {
+  by("unproved").hidden = seen.hello.proved;
+  by("begin").hidden = is.lines.length > 0 && !is.ended;
+  by("progress").textContent = is.lines[is.lines.length - 1] || "";
+  by("progress").title = is.lines.join("\n");
+}
+async function ask(name) {
+  clearTimeout(timer);
+  try {
+    const got = await call(name);
+    if (!got) return;
+    const is = got.answer;
+    if (is.proved && !seen.hello.proved) { await ready(); return show(is); }
+    show(is);
+    if (is.lines.length && !is.ended) timer = setTimeout(look, 2000);
+  } catch (fault) {
+    if (!(fault instanceof Wrong)) throw fault;
+    wrong(fault.message);
+  }
+}
+function look() { return ask("built"); }
+by("begin").onclick = () => ask("build");

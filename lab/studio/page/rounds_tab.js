@@ -1,0 +1,113 @@
+// The tab Rounds: the network at each pulse, why a node has its channel, and what goes wrong without a rule.
+import {Wrong, call} from "./api.js";
+import {by, hide, ms, picture, seen, show, stage, tabs, took, tried} from "./base.js";
+import {html, patch} from "./marks.js";
+import {net, text} from "./model.js";
+import {RoundsFilm} from "./rounds.js";
+import {time} from "./timing.js";
+
+export const rounds = {forest: 0, why: null, whyOf: null, film: null, of: null, without: ""};
+
+export async function load(program = seen.program) {
+  const asked = text(), key = program + asked;
+  if (key === rounds.of) return true;
+  const got = await call("rounds", {network: asked, program});
+  if (!got) return false;
+  const film = new RoundsFilm(got.answer, net);
+  Object.assign(rounds, {film, of: key, why: null, whyOf: null, took: got, forest: Math.min(rounds.forest,
+    Math.max(0, film.forests - 1))});
+  return true;
+}
+function isReady() { return rounds.film && rounds.of === seen.program + text(); }
+function showAt() {
+  if (!isReady()) return;
+  const {film} = rounds, node = seen.program === "colouring" ? seen.node : null;
+  const why = rounds.whyOf === node ? rounds.why : null;
+  const p = film.draw(stage, time.at, {forest: rounds.forest, node, why}), [caption, said] = film.said(p);
+  by("when").textContent = `pulse ${p} of ${film.last}`;
+  by("said").replaceChildren(html("b", caption), html("br"), said);
+  by("forests").replaceChildren(...film.chips(p, rounds.forest, f => { rounds.forest = f; show(); }));
+  const [box, parts] = node && film.forests ? film.strips(p, node) : ["0 0 350 0", []];
+  hide("strips", !parts.length);
+  by("strips").setAttribute("viewBox", box);
+  patch(by("strips"), parts);
+}
+// Why the chosen node has its channel.
+async function askWhy() {
+  const place = by("why"), v = seen.program === "colouring" ? seen.node : null;
+  if (!v) { rounds.why = rounds.whyOf = null; place.replaceChildren(); return show(); }
+  if (rounds.whyOf === v && rounds.why) return show();
+  const got = await call("why", {network: text(), vertex: v});
+  if (!got || seen.node !== v) return;
+  Object.assign(rounds, {why: got.answer, whyOf: v});
+  took("why: " + ms(got, "why"), "rounds");
+  const [head, summary, ...lines] = got.answer.lines, more = html("details"), list = html("ul");
+  more.append(html("summary", "step by step, from its choice back to identifiers"), list);
+  lines.forEach(line => list.append(html("li", line.trim())));
+  place.replaceChildren(html("h2", head.replace(" of this network", "")), html("p", summary), more, bitsOf(v));
+  show();
+}
+function bitsOf(v) {
+  const bits = html("details"), kept = html("figure");
+  bits.append(html("summary", "bit by bit"), kept);
+  bits.ontoggle = async () => {
+    if (!bits.open || kept.childNodes.length) return;
+    try {
+      const asked = {network: text(), kind: "bits", vertex: v, forest: rounds.forest};
+      const got = await call("picture", asked, {key: "bits"});
+      if (got) kept.append(picture(got.answer, `bit steps of node ${v}`));
+    } catch (fault) { if (!(fault instanceof Wrong)) throw fault; kept.append(html("p", fault.message)); }
+  };
+  return bits;
+}
+// What goes wrong without a rule of the rounds.
+function askBroken() {
+  const place = by("broken");
+  if (!rounds.without) return place.replaceChildren();
+  tried("broken", "looking for what goes wrong", async () => {
+    const got = await call("broken", {network: text(), name: net.name, without: rounds.without});
+    if (!got) return;
+    const {here, words, picture: svg} = got.answer, rule = seen.hello.rules.rounds[rounds.without];
+    place.replaceChildren(html("p", `Left out: ${rule.says}; ${rule.without}.`, {class: "soft"}),
+      html("p", words.map(said => said[0].toUpperCase() + said.slice(1)).join(". ") + ".", {class: here ? "bad" : ""}),
+      html("p", here ? "" : "A smallest network on which they go wrong:"), picture(svg, "without " + rounds.without));
+    by("picture").replaceChildren(picture(svg, "without " + rounds.without));
+  });
+}
+tabs.rounds = {
+  load, forest: () => rounds.forest, show: showAt,
+  hint: () => seen.program === "colouring" ? "Click a node to see why it has its channel." : "",
+  click(v) {
+    if (!v || seen.program !== "colouring") return;
+    seen.node = v === seen.node ? null : v;
+    tried("why", "looking for the reasons", askWhy);
+  },
+  enter() {
+    const isColouring = seen.program === "colouring";
+    by("program2").value = seen.program;
+    by("broken").parentNode.hidden = !isColouring;
+    by("without2").value = rounds.without;
+    tried("rounds", "asking for the rounds", async () => {
+      if (!await load() || seen.tab !== "rounds") return;
+      time.range(0, rounds.film.last);
+      took("rounds: " + ms(rounds.took, "rounds"));
+      time.set(time.at);
+      await askWhy();
+    });
+    askBroken();
+  },
+  step: way => time.set(way > 0 ? Math.floor(time.at + 1) : Math.ceil(time.at - 1)),
+  rate: () => 0.8,
+  link(add) {
+    add("at", Math.round(time.at * 100) / 100);
+    add("forest", rounds.forest);
+    add("node", seen.node);
+    add("broken", rounds.without);
+  },
+  follow(given) {
+    rounds.forest = +given.get("forest") || 0;
+    rounds.without = seen.hello.rules.rounds[given.get("broken")] ? given.get("broken") : "";
+  },
+};
+by("program2").onchange = () => { seen.program = by("program2").value; time.at = 0; tabs.rounds.enter(); };
+by("without2").onchange = () => { rounds.without = by("without2").value; askBroken(); show(); };

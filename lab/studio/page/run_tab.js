@@ -1,0 +1,245 @@
+// The tab No clock: a run by a seed or by real threads, its verdicts, another order or the rounds beside it.
+import {call} from "./api.js";
+import {all, by, hide, isHidden, listOf, ms, progress, seen, show, stage, tabs, took, toggleLazy, toggleSlow, tried,
+  wrong} from "./base.js";
+import {net, text} from "./model.js";
+import {rounds} from "./rounds_tab.js";
+import {RunFilm, runLegend, waitsTable} from "./run.js";
+import {Stage} from "./stage.js";
+import {time} from "./timing.js";
+
+// `steps` come first, as the tab Adversary has made them; `other` is the policy and the seed of a second run.
+export const run = {film: null, found: null, of: null, key: null, steps: [], transcript: null, other: null, film2: null,
+  key2: null, judgedAt: null};
+const second = new Stage(by("second"), net), small = new Stage(by("small"), net);
+let judgeTimer = null;
+
+function how() {
+  return {how: by("made").value, policy: by("policy").value, seed: by("seed").value, workers: +by("workers").value,
+    capacity: +by("capacity").value};
+}
+function asked() {
+  const {slow, lazy, program} = seen;
+  return run.transcript ? {network: text(), program, transcript: run.transcript}
+    : {network: text(), program, slow, lazy, steps: run.steps.join("_"), ...how()};
+}
+function take(found, network, isPart) {
+  Object.assign(run, {found, film: new RunFilm(found, net), of: network, isPart, judgedAt: null});
+  by("judgehere").textContent = "";
+  if (!isPart) return verdicts(found);
+  by("same").textContent = "";
+  by("judge").className = "verdict soft";
+  by("judge").textContent = "This is its beginning: the rest is on its way.";
+}
+export async function load() {
+  const wanted = asked(), key = JSON.stringify(wanted);
+  if (key !== run.key) {
+    const part = found => { take(found, wanted.network, true); place(time.at); };
+    const got = await call("run", wanted, {progress, part});
+    if (!got) return false;
+    run.key = wanted.how === "threads" ? null : key;
+    run.took = got;
+    take(got.answer, wanted.network, false);
+  }
+  return await loadOther();
+}
+async function loadOther() {
+  if (!run.other) { run.film2 = null; return true; }
+  const wanted = {network: text(), program: seen.program, how: "seed", ...run.other}, key = JSON.stringify(wanted);
+  if (key === run.key2 && run.film2) return true;
+  const got = await call("run", wanted, {progress, key: "run2"});
+  if (!got) return false;
+  Object.assign(run, {key2: key, film2: new RunFilm(got.answer, net), found2: got.answer});
+  return true;
+}
+function isReady() { return run.film && run.of === text(); }
+function ask() {
+  const isSeed = by("made").value === "seed";
+  all(".seeded").forEach(one => { one.hidden = !isSeed; });
+  all(".threads").forEach(one => { one.hidden = isSeed; });
+  by("handed").hidden = !run.steps.length && !run.transcript;
+  by("handedsaid").textContent = run.transcript ? "This is the transcript of the tab Check."
+    : `The first ${run.steps.length} steps are those of the tab Adversary.`;
+  all(".other").forEach(one => { one.hidden = !run.other; });
+  time.stop();
+  return tried("run", "playing the run", async () => {
+    if (!await load() || seen.tab !== "run") return;
+    if (by("beside").checked) await tabs.rounds.load();
+    place(time.at);
+    took("run: " + ms(run.took, "run"));
+    judgeSoon();
+  });
+}
+function lay(names) { Object.entries(names).forEach(([name, is]) => by("stage").classList.toggle(name, is)); }
+// Whether the network is so long that pictures of it go one below the other.
+function isLong() {
+  const span = list => Math.max(...list) - Math.min(...list);
+  return span(net.nodes.map(n => n.x)) > 2 * span(net.nodes.map(n => n.y)) || by("stage").offsetWidth < 500;
+}
+// Puts the slider to a place of the run that is there: a stamp, or of two runs a pulse.
+function place(at) {
+  if (seen.tab !== "run") return;
+  lay({two: Boolean(run.film2), beside: by("beside").checked, long: isLong()});
+  hide("second", !run.film2);
+  hide("small", !by("beside").checked);
+  stage.fit();
+  const [low, high] = run.film2 ? pulses() : run.found.table.stamps;
+  time.range(low, high);
+  time.set(at);
+}
+// The pulses that both runs show; one more is their ends.
+function pulses() {
+  const [a, b] = [run.found.pulses, run.found2.pulses];
+  return [Math.max(a[0], b[0]), Math.min(a[1], b[1]) + 1];
+}
+function showAt() {
+  if (!isReady()) return;
+  const only = by("payloads").checked, options = {node: seen.node, only, slow: seen.slow, lazy: seen.lazy};
+  let at;
+  if (run.film2) {
+    const here = run.film.atPulse(time.at), there = run.film2.atPulse(time.at);
+    at = here.at;
+    if (second.wide !== by("second").getBoundingClientRect().width) second.fit();
+    run.film.draw(stage, here.stamp, {...options, at});
+    run.film2.draw(second, there.stamp, {...options, slow: [], lazy: [], at: there.at});
+    by("now").textContent = `first run, stamp ${Math.floor(here.stamp)}: ${here.said}; second, stamp `
+      + `${Math.floor(there.stamp)}: ${there.said}`;
+    by("when").textContent = `pulse ${Math.floor(time.at)}`;
+  } else {
+    at = run.film.draw(stage, time.at, options);
+    by("now").textContent = run.film.said(at);
+    by("when").textContent = "stamp " + Math.floor(time.at);
+  }
+  run.at = at;
+  const results = run.found.results || [], last = run.film.last(at);
+  const isFound = (v, is) => is.c === results[v - 1] && (is.e || is.p === run.found.last);
+  by("table").replaceChildren(waitsTable(run.film.looks(at), {only: seen.node, lit: last && last[1],
+    head: "in the rounds", more: (v, is) => (results[v - 1] || "") + (isFound(v, is) ? " ✓" : "")}));
+  showRounds(at);
+}
+// The rounds, small, at the pulse of the slowest node or of the one that is followed.
+function showRounds(at) {
+  if (isHidden("small") || !rounds.film || rounds.of !== seen.program + text()) return;
+  const looks = run.film.looks(at);
+  const p = seen.node ? looks[seen.node - 1].p : Math.min(...looks.map(is => is.p));
+  if (small.wide !== by("small").getBoundingClientRect().width) small.fit();
+  rounds.film.draw(small, Math.min(p, rounds.film.last), {forest: rounds.forest, node: seen.node, quiet: true});
+  by("small").setAttribute("aria-label", `the rounds, pulse ${p}`);
+  by("besidesaid").textContent = ` (pulse ${p})`;
+}
+// What is said of the whole run.
+function verdicts(found) {
+  const {judge} = found, entries = judge.entries.toLocaleString("en"), [same, pulses_, payloads] = found.same;
+  by("judge").className = "verdict " + (judge.ok ? "good" : "bad");
+  by("judge").textContent = judge.ok ? `✓ ${judge.by} accepts these ${entries} entries, a whole run.`
+    : `✗ ${judge.by}: ${judge.said}`;
+  const {film} = run, end = film.table.rows.length;
+  const ends = found.results.every((result, k) => film.look(k + 1, end).c === result);
+  const said = `${same === pulses_ ? "✓" : "✗"} Beside the rounds: the same payloads in ${same} of ${pulses_} pulses `
+    + `(${payloads.toLocaleString("en")} of them)`;
+  by("same").className = "verdict " + (same === pulses_ ? "good" : "bad");
+  by("same").textContent = said + (found.cut ? ", as far as it is shown." : ends ? ", and the same results." : ".");
+}
+function judgeSoon() {
+  clearTimeout(judgeTimer);
+  if (time.timer || run.film2) return;
+  judgeTimer = setTimeout(() => judgeHere().catch(fault => wrong(fault.message)), 150);
+}
+// The judge plays the entries up to here, and says where each node is: the page's own account has to agree.
+async function judgeHere() {
+  const {at, found} = run;
+  if (seen.tab !== "run" || !isReady() || run.isPart || run.judgedAt === at) return;
+  const lines = found.text.split("\n", at + 1).join("\n");
+  const got = await call("replay", {network: text(), transcript: lines, program: seen.program});
+  if (!got || run.at !== at || run.found !== found) return;
+  run.judgedAt = at;
+  const is = got.answer, agrees = is.ok && is.pulses.every((p, k) => p === run.film.look(k + 1, at).p);
+  by("judgehere").className = "verdict " + (agrees ? "good" : "bad");
+  by("judgehere").textContent = !is.ok ? `✗ Up to here: ${is.said}` : `${agrees ? "✓" : "✗"} Up to here it accepts `
+    + `${is.entries.toLocaleString("en")} entries; its nodes are ${agrees ? "at the pulses shown" : "elsewhere"}, and `
+    + (is.wires === 1 ? "1 wire is on its way." : `${is.wires} wires are on their way.`);
+}
+// A stored or a new transcript of the network, for pictures.
+async function transcript() {
+  if (!isReady() || run.isPart) await load();
+  return run.found.text;
+}
+function lazyBox() {
+  by("lazybox").hidden = !seen.node;
+  by("lazy").checked = seen.lazy.includes(seen.node);
+  by("lazysaid").textContent = ` node ${seen.node} waits`;
+}
+tabs.run = {
+  transcript, ask, stopped: judgeSoon, rate: () => run.film2 ? 0.4 : 2.5,
+  show() { showAt(); lazyBox(); judgeSoon(); },
+  hint: () => "Click an edge to make its link wait, a node to follow it.",
+  click(v, edge) {
+    if (v) { seen.node = v === seen.node ? null : v; return show(); }
+    if (!edge) return;
+    toggleSlow(edge);
+    by("made").value = "seed";
+    ask();
+  },
+  enter(more = {}) {
+    if (more.transcript !== undefined) Object.assign(run, {transcript: more.transcript || null, steps: []});
+    if (more.steps) Object.assign(run, {transcript: null, steps: more.steps});
+    by("program").value = seen.program;
+    runLegend(by("runlegend"));
+    ask();
+  },
+  leave() {
+    lay({two: false, beside: false, long: false});
+    hide("second", true);
+    hide("small", true);
+  },
+  step(way) {
+    if (run.film2) return time.set(way > 0 ? Math.floor(time.at + 1) : Math.ceil(time.at - 1));
+    const only = by("payloads").checked, {texts} = run.found.table;
+    time.set(run.film.stepped(run.at, way, entry => (!only || / payload /.test(texts[entry[3]]))
+      && (!seen.node || entry[1] === seen.node)));
+  },
+  link(add) {
+    const is = how();
+    add("at", Math.round(time.at * 100) / 100);
+    if (is.how === "threads") add("how", is.how);
+    else {
+      if (is.policy !== "random") add("policy", is.policy);
+      add("seed", encodeURIComponent(is.seed));
+    }
+    add("steps", run.steps.join("_"));
+    add("node", seen.node);
+    if (run.other) add("other", `${run.other.policy}.${encodeURIComponent(run.other.seed)}`);
+    add("beside", by("beside").checked ? 1 : 0);
+  },
+  follow(given) {
+    by("seed").value = given.has("seed") ? decodeURIComponent(given.get("seed")) : "1";
+    by("policy").value = seen.hello.policies[given.get("policy")] ? given.get("policy") : "random";
+    by("made").value = given.get("how") === "threads" ? "threads" : "seed";
+    by("beside").checked = given.get("beside") === "1";
+    run.transcript = null;
+    run.steps = given.get("tab") === "run" ? listOf(given.get("steps")) : [];
+    const [policy, seed] = (given.get("other") || "").split(".");
+    run.other = seen.hello.policies[policy] ? {policy, seed: decodeURIComponent(seed || "1")} : null;
+    by("two").checked = Boolean(run.other);
+    by("policy2").value = policy && run.other ? policy : "newest";
+    by("seed2").value = run.other ? run.other.seed : "2";
+  },
+};
+["made", "policy", "seed", "workers", "capacity"].forEach(id => { by(id).onchange = ask; });
+by("program").onchange = () => { seen.program = by("program").value; time.at = 0; ask(); };
+by("how").onsubmit = event => { event.preventDefault(); ask(); };
+by("again").onclick = () => {
+  if (by("made").value === "seed") by("seed").value = /^\d+$/.test(by("seed").value) ? +by("seed").value + 1 : 1;
+  ask();
+};
+by("forget").onclick = () => { Object.assign(run, {steps: [], transcript: null}); ask(); };
+by("payloads").onchange = show;
+by("beside").onchange = ask;
+["two", "policy2", "seed2"].forEach(id => {
+  by(id).onchange = () => {
+    run.other = by("two").checked ? {policy: by("policy2").value, seed: by("seed2").value} : null;
+    if (id === "two") time.at = 0;
+    ask();
+  };
+});
+by("lazy").onchange = () => { toggleLazy(seen.node); by("made").value = "seed"; ask(); };

@@ -1,0 +1,200 @@
+// The tab Adversary: whoever looks is the network, and chooses which message is taken next and which node pulses.
+import {call, token} from "./api.js";
+import {all, busy, by, go, hooks, listOf, seen, show, stage, tabs, toggleLazy, toggleSlow, took, tried}
+  from "./base.js";
+import {html} from "./marks.js";
+import {net, neighbours, text} from "./model.js";
+import {SLOW, alphaMarks, waitsWords, wireMark} from "./run.js";
+import {nameOf} from "./stage.js";
+
+// `made` are the steps so far, as `3` (node 3 makes its next pulse) or `2-1` (node 2 takes the next wire from node 1).
+export const steps = {made: [], found: null, without: ""};
+const KEYED = 9;
+
+function ask(more = {}) {
+  return tried("steps", "playing these steps", async () => {
+    const {slow, lazy, program} = seen;
+    const got = await call("steps", {network: text(), program, slow, lazy, without: steps.without,
+      steps: steps.made.join("_"), ...more});
+    if (!got) return;
+    steps.found = got.answer;
+    steps.made = got.answer.made;
+    took(`${steps.made.length} steps, ${Math.round(got.ms)} ms`, "adversary");
+    show();
+  });
+}
+// Whether a step is held: its link, or its node, waits.
+function isHeld(step) {
+  const [v, w] = step.split("-").map(Number);
+  return seen.lazy.includes(v) || w && seen.slow.some(e => e.join("-") === [v, w].sort((a, b) => a - b).join("-"));
+}
+function isFree(step) { return steps.found.steps.includes(step) && !isHeld(step); }
+function make(step) {
+  if (!isFree(step)) return;
+  steps.made = steps.made.concat(step);
+  ask();
+}
+function stepOf(v, w, place) { return `${w}-${v}` + (place ? "-" + place : ""); }
+// The wires of a link, the next one nearest to its taker.
+function queue([v, w, wires]) {
+  const isLong = net.nodes.length <= 12 && stage.wide > 500;
+  const length = Math.hypot(stage.X(v) - stage.X(w), stage.Y(v) - stage.Y(w)) || 1;
+  const wide = (isLong ? 92 : 34) / Math.max(1, length - 2 * stage.radius);
+  const apart = Math.min(1 / Math.max(1, wires.length - 1), wide);
+  return wires.map((said, place) => {
+    const step = stepOf(v, w, place), free = isFree(step);
+    return wireMark(stage, v, w, 1 - place * apart, said, isLong, {"data-step": free ? step : null,
+      opacity: free ? null : 0.6}, {"stroke-dasharray": free ? null : "3 2", "stroke-width": free ? 2 : 1.2});
+  }).reverse();
+}
+function showAt() {
+  const is = steps.found;
+  if (!is || is.looks.length !== net.nodes.length) return;
+  const slow = new Set(seen.slow.map(e => e.join("-")));
+  const isWord = typeof is.looks[0].c === "string";
+  stage.draw({node: (v, x, y, r) => alphaMarks(stage, is.looks[v - 1], v, x, y, r), bars: false, apart: 4.6,
+    below: isWord, ring: v => isFree(String(v)) ? "var(--good)" : v === seen.node ? "var(--edge)" : null,
+    label: v => nameOf(net, v) + (seen.lazy.includes(v) ? " (held)" : ""),
+    edge: (v, w) => slow.has(v + "-" + w) ? SLOW : {}, above: is.wires.flatMap(queue)});
+  sayWhere(is);
+  listSteps(is);
+  by("list").value = is.list.join("\n") + "\n";
+  by("list").scrollTop = by("list").scrollHeight;
+  by("undostep").disabled = by("anew").disabled = !steps.made.length;
+  ["chance", "chance20", "instep"].forEach(id => { by(id).disabled = is.over || !is.steps.some(isFree); });
+}
+function sayWhere(is) {
+  const box = by("stepsaid"), {judge} = is, n = steps.made.length, done = is.looks.every(look => look.e);
+  const lines = [html("b", n ? `${n}: ${is.said}.` : "Nothing has happened yet: choose what comes first.")];
+  if (is.fault) lines.push(html("p", `✗ ${is.fault}.`, {class: "bad"}));
+  if (is.over) lines.push(html("p", "Its program refuses that, so the run ends here: go back.", {class: "bad"}));
+  else if (done) lines.push(html("p", `All have halted: ${is.looks.map(look => look.c).join(", ")}.`, {class: "good"}));
+  else if (!is.steps.length) lines.push(html("p", "Nothing can happen, and not all are done.", {class: "bad"}));
+  else if (!is.steps.some(isFree)) lines.push(html("p", "All that could happen is held.", {class: "soft"}));
+  if (judge) {
+    const agrees = judge.ok && judge.pulses.every((p, k) => p === is.looks[k].p);
+    const where = agrees ? "at these pulses" : "elsewhere";
+    const said = judge.ok ? `accepts these ${is.entries} entries, and its nodes are ${where}.` : judge.said;
+    lines.push(html("p", `${agrees ? "✓" : "✗"} ${judge.by} ${said}`, {class: agrees ? "good" : "bad"}));
+  }
+  box.replaceChildren(...lines);
+}
+// What can happen now, node by node, as buttons; of a large network the chosen node's, or the first ones.
+function listSteps(is) {
+  const place = by("possible"), on = document.activeElement, focus = place.contains(on) ? on.dataset.step : null;
+  const few = net.nodes.length <= 12, byNode = new Map();
+  is.steps.forEach(step => { const v = parseInt(step, 10); byNode.set(v, (byNode.get(v) || []).concat(step)); });
+  let keyed = 0;
+  const rows = net.nodes.map((_, k) => k + 1).filter(v => few || (seen.node ? v === seen.node : byNode.has(v)));
+  place.replaceChildren(...rows.slice(0, 14).map(v => {
+    const line = html("div", null, {class: "possible"}), look = is.looks[v - 1], hold = html("button",
+      seen.lazy.includes(v) ? "let go" : "hold", {class: "quiet", "aria-label": `hold node ${v}`});
+    hold.onclick = () => { toggleLazy(v); show(); };
+    line.append(html("b", `node ${v} `), html("span", `pulse ${look.p}: ${waitsWords(look)} `, {class: "soft"}), hold);
+    (byNode.get(v) || []).forEach(step => {
+      const free = isFree(step), button = html("button", null, {"data-step": step, class: kindOf(is, step)});
+      if (free && keyed < KEYED) button.append(html("kbd", ++keyed), " ");
+      button.append(saidOf(is, step));
+      button.disabled = !free;
+      button.onclick = () => make(step);
+      line.append(button);
+    });
+    return line;
+  }));
+  if (rows.length > 14) place.append(html("p", `and ${rows.length - 14} more nodes: click one`, {class: "soft"}));
+  const again = focus && (place.querySelector(`[data-step="${focus}"]`) || place.querySelector("[data-step]"));
+  if (again) again.focus();
+}
+function wireOf(is, step) {
+  const [w, v, place] = step.split("-").map(Number), found = is.wires.find(one => one[0] === v && one[1] === w);
+  return found ? found[2][place || 0] : "";
+}
+function kindOf(is, step) { return step.includes("-") ? wireOf(is, step).split(" ")[0] : "pulse"; }
+function saidOf(is, step) {
+  const [v, w, place] = step.split("-").map(Number);
+  if (!w) return `make pulse ${is.looks[v - 1].p + 1}`;
+  return `${wireOf(is, step).replace(/^payload \d+ /, "")} from ${w}` + (place ? `, before ${place} others` : "");
+}
+// A list of events as `forestplay events` has it: puts make themselves.
+function playList() {
+  const found = [];
+  for (const line of by("list").value.split("\n")) {
+    const [kind, v, port, place] = line.split(":")[0].trim().split(/\s+/);
+    if (kind === "pulse") found.push(v);
+    if (kind === "take") found.push([v, neighbours(+v)[port], place].filter(one => one !== undefined).join("-"));
+  }
+  const before = steps.made;
+  steps.made = found;
+  ask().then(ok => { if (!ok) steps.made = before; });
+}
+// Every order of events of a tiny network, in a frame that can reach nothing.
+function search() {
+  const form = html("form", null, {method: "post", action: "/frame/adversary", target: "frame"}), frame = by("frame");
+  const asked = {token, network: text(), name: net.name || "this network", without: steps.without,
+    program: seen.program};
+  Object.entries(asked).forEach(([name, value]) => {
+    const field = html("input", null, {type: "hidden", name});
+    field.value = value;
+    form.append(field);
+  });
+  document.body.append(form);
+  const close = () => { frame.hidden = true; frame.onload = null; frame.src = "about:blank"; };
+  busy("searching all orders of events", "adversary", close);
+  frame.onload = () => { busy(null, "adversary"); frame.hidden = false; by("unsearch").hidden = false; };
+  form.submit();
+  form.remove();
+}
+tabs.adversary = {
+  search, show: showAt,
+  hint: () => "Click a message to have it taken, a node in a green ring to make its pulse, an edge to hold it.",
+  click(v, edge, event, step) {
+    if (step) return make(step);
+    if (v && steps.found && isFree(String(v))) return make(String(v));
+    if (v) { seen.node = v === seen.node ? null : v; return show(); }
+    if (edge) { toggleSlow(edge); show(); }
+  },
+  key(event, on) {
+    if (on) return false;
+    const tools = {u: "undostep", r: "chance", s: "instep"}, made = all("#possible [data-step]:not(:disabled)");
+    if (/^[1-9]$/.test(event.key) && made[event.key - 1]) made[event.key - 1].click();
+    else if (tools[event.key]) by(tools[event.key]).click();
+    else return false;
+    return true;
+  },
+  enter(more = {}) {
+    const rule = seen.hello.rules.orders[steps.without];
+    by("program3").value = seen.program;
+    by("without").value = steps.without;
+    by("rule").textContent = rule ? `Left out: ${rule.says}; ${rule.without}.` : "";
+    by("search").parentNode.hidden = net.nodes.length > 4;
+    steps.found = null;
+    if (more.fresh) steps.made = [];
+    ask();
+  },
+  leave() { by("frame").hidden = by("unsearch").hidden = true; by("frame").src = "about:blank"; },
+  link(add) {
+    add("steps", steps.made.join("_"));
+    add("without", steps.without);
+    add("node", seen.node);
+  },
+  follow(given) {
+    steps.without = seen.hello.rules.orders[given.get("without")] ? given.get("without") : "";
+    steps.made = given.get("tab") === "adversary" ? listOf(given.get("steps")) : [];
+  },
+};
+function seed() { return String(Math.floor(Math.random() * 1e9)); }
+by("undostep").onclick = () => { steps.made = steps.made.slice(0, -1); ask(); };
+by("chance").onclick = () => ask({by: 1, seed: seed()});
+by("chance20").onclick = () => ask({by: 20, seed: seed()});
+by("instep").onclick = () => ask({in_step: true});
+by("anew").onclick = () => { steps.made = []; ask(); };
+by("handover").onclick = () => { by("made").value = "seed"; go("run", {steps: steps.made, at: 0}); };
+by("playlist").onclick = playList;
+by("without").onchange = () => {
+  steps.without = by("without").value;
+  tabs.adversary.enter({fresh: true});
+  hooks.link();
+};
+by("program3").onchange = () => { seen.program = by("program3").value; tabs.adversary.enter({fresh: true}); };
+by("search").onclick = search;
+by("unsearch").onclick = () => tabs.adversary.leave();

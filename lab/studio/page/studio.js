@@ -1,0 +1,259 @@
+// The studio: its tabs, the mouse on the stage, keys, and the address, which says all that is seen.
+import {call, cancel, token} from "./api.js";
+import {all, by, edgesOf, hooks, listOf, measured, option, seen, show, stage, tabs, took, tried, wrong}
+  from "./base.js";
+import {askPlan, download, drawn, inspect, makeForm, openFile} from "./draw.js";
+import {check} from "./check.js";
+import {rounds} from "./rounds_tab.js";
+import {run} from "./run_tab.js";
+import {steps} from "./steps_tab.js";
+import {html} from "./marks.js";
+import * as model from "./model.js";
+import {change, net, text} from "./model.js";
+import {time} from "./timing.js";
+import {watchBuild} from "./proved.js";
+
+const TIMED = ["rounds", "run"];
+const CALLS = ["rounds", "why", "broken", "run", "run2", "replay", "check", "picture", "steps"];
+
+hooks.show = () => {
+  const tab = tabs[seen.tab];
+  if (net.nodes.length || seen.tab === "draw") tab.show();
+  by("empty").hidden = net.nodes.length > 0;
+  by("hint").textContent = tab.hint();
+  hooks.link();
+};
+hooks.go = (name, more = {}) => {
+  time.stop();
+  if (more.at !== undefined) time.at = more.at;
+  else if (name !== seen.tab) time.at = 0;
+  if (tabs[seen.tab].leave) tabs[seen.tab].leave();
+  seen.tab = name;
+  enter(more);
+};
+function enter(more = {}) {
+  const name = seen.tab;
+  // What another tab has asked for isn't wanted any more.
+  CALLS.forEach(cancel);
+  all("nav button").forEach(one => one.setAttribute("aria-selected", one.dataset.tab === name));
+  all("[data-panel]").forEach(one => { one.hidden = one.dataset.panel !== name; });
+  by("time").hidden = !TIMED.includes(name);
+  by("net").style.display = name === "pictures" ? "none" : "";
+  by("picture").hidden = name !== "pictures";
+  took("");
+  wrong("");
+  if (name !== "draw" && !net.nodes.length) { tabs.draw.show(); wrong("Draw a network first."); return hooks.link(); }
+  stage.fit();
+  tabs[name].enter(more);
+  hooks.show();
+}
+model.onChange(what => {
+  by("text").value = text();
+  // Moving changes no plan.
+  if (what === "move") return show();
+  if (drawn.plan && (what !== "edit" || drawn.plan.plan.length > net.nodes.length)) drawn.plan = null;
+  if (seen.node > net.nodes.length) seen.node = null;
+  seen.edge = null;
+  seen.slow = seen.slow.filter(e => model.hasEdge(e[0], e[1]));
+  seen.lazy = seen.lazy.filter(v => v <= net.nodes.length);
+  check.verdict = null;
+  steps.made = run.steps = [];
+  run.transcript = null;
+  if (what === "undo" && stage.isOutside()) stage.fit();
+  if (what === "load") { wrong(""); seen.node = null; check.plan = []; seen.slow = []; seen.lazy = []; stage.fit(); }
+  inspect();
+  if (seen.tab === "draw") show();
+  askPlan();
+  if (seen.tab !== "draw") enter();
+});
+
+// The mouse, a finger or a pen: a click, a drag of a node, a drag of the ground, two fingers.
+const svg = stage.svg, fingers = new Map();
+let drag = null, apart = null;
+function spread() {
+  const [a, b] = Array.from(fingers.values()), wide = a.clientX - b.clientX, high = a.clientY - b.clientY;
+  return [Math.hypot(wide, high), b.clientX + wide / 2, b.clientY + high / 2];
+}
+svg.onmousedown = event => event.preventDefault();
+svg.onpointerdown = event => {
+  if (event.button) return;
+  if (document.activeElement) document.activeElement.blur();
+  fingers.set(event.pointerId, event);
+  svg.setPointerCapture(event.pointerId);
+  if (fingers.size > 1) { drag = null; apart = spread(); return; }
+  const v = stage.nodeAt(event, event.pointerType === "touch" ? 14 : 6), token = event.target.closest("[data-step]");
+  drag = {v, step: token && token.dataset.step, x: event.clientX, y: event.clientY, moved: false,
+    key: "drag " + Date.now()};
+};
+svg.onpointermove = event => {
+  if (fingers.has(event.pointerId)) fingers.set(event.pointerId, event);
+  if (fingers.size > 1 && apart) {
+    const now = spread(), box = svg.getBoundingClientRect();
+    stage.zoom(now[0] / (apart[0] || 1), now[1] - box.left, now[2] - box.top);
+    stage.pan(now[1] - apart[1], now[2] - apart[2]);
+    apart = now;
+    return show();
+  }
+  if (!drag || !drag.moved && Math.hypot(event.clientX - drag.x, event.clientY - drag.y) < 5) return;
+  if (drag.v && seen.tab === "draw") {
+    const {v, key} = drag;
+    change(n => Object.assign(n.nodes[v - 1], stage.placeOf(event)), key, "move");
+  } else if (!drag.v && net.nodes.length) {
+    const from = drag.moved || drag;
+    stage.pan(event.clientX - from.x, event.clientY - from.y);
+    show();
+  }
+  drag.moved = {x: event.clientX, y: event.clientY};
+};
+svg.onpointerup = event => {
+  const was = drag;
+  drag = null;
+  apart = null;
+  fingers.delete(event.pointerId);
+  if (!was || was.moved) return was && hooks.link();
+  if (seen.tab !== "draw" && !net.nodes.length) return;
+  tabs[seen.tab].click(was.v, was.v ? null : stage.edgeAt(event), event, was.step);
+};
+svg.onpointercancel = event => { fingers.delete(event.pointerId); drag = apart = null; };
+svg.onwheel = event => {
+  event.preventDefault();
+  stage.zoom(Math.exp(-event.deltaY / 500), ...stage.point(event));
+  show();
+};
+function refit() { stage.fit(); show(); }
+by("zoomin").onclick = () => { stage.zoom(1.25); show(); };
+by("zoomout").onclick = () => { stage.zoom(0.8); show(); };
+by("zoomfit").onclick = refit;
+new ResizeObserver(() => { if (!drag && seen.hello && !stage.isZoomed) refit(); }).observe(by("stage"));
+
+// The address.
+let linked = "", isFollowing = false;
+hooks.link = () => {
+  // Another address is about to be followed: it isn't written over.
+  if (!seen.hello || isFollowing || time.timer || drag && drag.moved || linked && location.hash !== linked) return;
+  const shown = net.example ? "example=" + net.example : net.nodes.length ? "net=" + model.code() : "";
+  const words = [shown, "tab=" + seen.tab];
+  const add = (name, value) => { if (value) words.push(`${name}=${value}`); };
+  if (seen.program !== "colouring") add("program", seen.program);
+  if (seen.tab === "run" || seen.tab === "adversary") {
+    add("slow", seen.slow.map(e => e.join("-")).join("_"));
+    add("lazy", seen.lazy.join("_"));
+  }
+  tabs[seen.tab].link(add);
+  add("lesson", seen.lesson);
+  history.replaceState(null, "", "#" + words.filter(Boolean).join("&"));
+  linked = location.hash;
+};
+function pairsOf(hash) {
+  return new Map(hash.split("&").map(part => [part.split("=")[0], part.split("=").slice(1).join("=")]));
+}
+async function follow() {
+  if (location.hash === linked && linked) return;
+  linked = "";
+  isFollowing = true;
+  const {hello} = seen;
+  let given = pairsOf(location.hash.slice(1));
+  const lesson = hello.lessons.find(one => String(one.number) === given.get("lesson"));
+  seen.lesson = lesson ? lesson.number : null;
+  if (lesson && !given.has("tab")) given = pairsOf(lesson.open);
+  showLesson(lesson);
+  if (tabs[seen.tab].leave) tabs[seen.tab].leave();
+  await tried("example", "opening", async () => {
+    const example = given.get("example");
+    let found = null;
+    if (example) found = (await call("example", {name: example})).answer;
+    else if (given.has("net")) found = model.fromCode(given.get("net"));
+    else if (hello.opened && !net.nodes.length) found = hello.opened;
+    seen.tab = "draw";
+    if (found) model.load(found, example || "");
+    seen.program = hello.programs.includes(given.get("program")) ? given.get("program") : "colouring";
+    Object.assign(seen, {slow: edgesOf(given.get("slow")), lazy: listOf(given.get("lazy")).map(Number),
+      node: +given.get("node") || null});
+    if (seen.node > net.nodes.length) seen.node = null;
+    Object.values(tabs).forEach(tab => tab.follow(given));
+    time.at = +given.get("at") || 0;
+    seen.tab = tabs[given.get("tab")] ? given.get("tab") : "draw";
+  });
+  isFollowing = false;
+  enter();
+}
+function showLesson(lesson) {
+  const box = by("lesson");
+  box.hidden = !lesson;
+  if (!lesson) return;
+  const close = html("button", "close", {class: "quiet"});
+  close.onclick = () => { seen.lesson = null; box.hidden = true; hooks.link(); };
+  box.replaceChildren(close, html("b", `${lesson.number}. ${lesson.title}`), html("i", lesson.ask),
+    html("p", lesson.see), html("p", "Exercise: " + lesson.do));
+}
+by("copy").onclick = async () => {
+  hooks.link();
+  try { await navigator.clipboard.writeText(location.href); took("The link is copied; it has no token in it."); }
+  catch { took("The address of this page is the link; it has no token in it."); }
+};
+by("save").onclick = () => download(text(), (net.name || "network") + ".col");
+by("examples").onchange = async () => {
+  const name = by("examples").value;
+  by("examples").value = "";
+  if (name) await tried("example", "opening", async () => {
+    const got = await call("example", {name});
+    if (got) model.load(got.answer, name);
+  });
+};
+by("lessons").onchange = () => {
+  const number = by("lessons").value;
+  by("lessons").value = "";
+  if (number) location.hash = "lesson=" + number;
+};
+all("nav button").forEach(one => { one.onclick = () => hooks.go(one.dataset.tab); });
+
+document.onkeydown = event => {
+  const on = event.target.tagName, mod = event.ctrlKey || event.metaKey, key = event.key;
+  if (["INPUT", "TEXTAREA", "SELECT"].includes(on) && event.target.type !== "range") return;
+  const node = on === "g" && event.target.dataset.node ? +event.target.dataset.node : null;
+  if (mod && key.toLowerCase() === "z") { if (event.shiftKey) model.redo(); else model.undo(); }
+  else if (mod && key.toLowerCase() === "y") model.redo();
+  else if (mod || event.altKey) return;
+  else if (node && (key === "Enter" || key === " ")) tabs[seen.tab].click(node, null, event);
+  else if (key === "+" || key === "=") by("zoomin").click();
+  else if (key === "-") by("zoomout").click();
+  else if (TIMED.includes(seen.tab) && time.key(event)) return;
+  else if (!tabs[seen.tab].key || !tabs[seen.tab].key(event, node)) return;
+  event.preventDefault();
+};
+document.ondragover = event => { event.preventDefault(); document.body.classList.add("drop"); };
+document.ondragleave = () => document.body.classList.remove("drop");
+document.ondrop = event => {
+  event.preventDefault();
+  document.body.classList.remove("drop");
+  if (event.dataTransfer.files[0]) openFile(event.dataTransfer.files[0]);
+};
+window.onhashchange = follow;
+
+// What there is to choose from; asked again when the programs are built.
+async function greet() {
+  seen.hello = (await call("hello")).answer;
+  const threads = by("made").querySelector("[value=threads]");
+  threads.disabled = !seen.hello.proved;
+  threads.textContent = seen.hello.proved ? "by real threads" : "by real threads (not built)";
+}
+async function begin() {
+  if (!token) return wrong("This page has no token: open the address that the command studio has printed.");
+  stage.fit();
+  if (!await tried("hello", "beginning", greet)) return;
+  const {hello} = seen;
+  hello.examples.forEach(name => option(by("examples"), name));
+  hello.lessons.forEach(one => option(by("lessons"), one.number, `${one.number}. ${one.title}`));
+  ["program", "program2", "program3"].forEach(id => hello.programs.forEach(name => option(by(id), name)));
+  ["policy", "policy2"].forEach(id => Object.keys(hello.policies).forEach(name => {
+    option(by(id), name, name, hello.policies[name]);
+  }));
+  Object.entries({without: "orders", without2: "rounds"}).forEach(([id, of]) => {
+    Object.keys(hello.rules[of]).forEach(name => option(by(id), name, `${name}: ${hello.rules[of][name].says}`));
+  });
+  makeForm();
+  watchBuild(async () => { await greet(); run.key = rounds.of = null; enter(); askPlan(); });
+  await follow();
+}
+window.studio = {net, seen, time, drawn, run, rounds, check, steps, stage, measured};
+begin();
