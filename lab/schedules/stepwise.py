@@ -1,0 +1,127 @@
+"""A run that someone makes step by step: whoever does is the network, and chooses which message is taken next and which
+node makes its pulse. A put is made as soon as it can be. Rules may be left out (rules.OF_SCHEDULES).
+
+A step is written as `3`, node 3 makes its next pulse; `2-1`, node 2 takes the next wire from node 1; or `2-1-4`, it
+takes the wire that overtakes four others, without the rule `fifo`."""
+import random
+import re
+
+from lab.definitions.nodes import Colouring, Refused, wire_words
+from lab.schedules.policies import Step
+from lab.schedules.ruled_node import Rounds, RuledNode, program_refuses
+from lab.schedules.simulate import Player
+from lab.wrong import Wrong
+
+
+class Stepwise(Player):
+    """`made` are the steps so far, `lines` the events as `forestplay events` reads them. `fault` says what went wrong
+    first; after `is_over` nothing goes on, since a program has refused what came."""
+
+    def __init__(self, net, program=Colouring, without=()):
+        super().__init__(net, program)
+        self.without, self.made, self.lines = without, [], []
+        self.said, self.fault, self.is_over = "", None, False
+        self.rounds = Rounds(net, program) if without else None
+        if without:
+            self.state.nodes = {v: RuledNode(net, v, without, program) for v in net.neighbours}
+        for v in self.state.nodes:
+            self.put_all(v)
+
+    def put_all(self, v):
+        self.look_at(v)
+        while puts := [step for step in self.steps[v] if step.kind == "put"]:
+            self.lines.append(f"put {v} {self.state.port_to[v, puts[0].neighbour]}")
+            self.make(puts[0])
+
+    def words_on(self, v, w):
+        """What the link from v to w holds, in words."""
+        return [wire_words(wire) for wire in self.state.link[v, self.state.port_to[v, w]]]
+
+    def possible(self):
+        """The steps that can come next."""
+        found = []
+        for v, own in self.steps.items():
+            found += [str(v) for step in own if step.kind == "pulse"]
+            for step in (step for step in own if step.kind == "take"):
+                found.append(f"{v}-{step.neighbour}")
+                if "fifo" in self.without:
+                    later = range(1, len(self.words_on(step.neighbour, v)))
+                    found += [f"{v}-{step.neighbour}-{place}" for place in later]
+        return found
+
+    def follow(self, steps):
+        for number, step in enumerate(steps, 1):
+            fields = re.fullmatch(r"(\d{1,5})(?:-(\d{1,5}))?(?:-(\d{1,5}))?", step)
+            v, w, place = (int(field or 0) for field in fields.groups()) if fields else (0, 0, 0)
+            kind = "take" if w else "pulse"
+            own = [one for one in self.steps.get(v, ()) if (one.kind, one.neighbour) == (kind, w)]
+            if self.is_over or not own or place and not self.may_overtake(v, w, place):
+                raise Wrong(f"step {number} of the list, {step}, isn't possible there")
+            self.step(own[0], step, place)
+
+    def may_overtake(self, v, w, place):
+        return "fifo" in self.without and place < len(self.words_on(w, v))
+
+    def step(self, step: Step, word: str, place: int = 0):
+        """One step, and the puts that it makes possible."""
+        v, w, node = step.node, step.neighbour, self.state.nodes[step.node]
+        fault = None
+        if w:
+            wires = self.state.link_to(v, self.state.port_to[v, w])
+            wires.insert(0, wires.pop(place))
+            self.said = f"node {v} takes {wire_words(wires[0])} from {w}"
+        else:
+            self.said = f"node {v} makes pulse {node.pulse_number + 1}"
+            fault = self.fault_of(v, node)
+        self.made.append(word)
+        self.lines.append(f"take {v} {self.state.port_to[v, w]}" + f" {place}" * bool(place) if w else f"pulse {v}")
+        self.fault = self.fault or fault
+        if not self.is_over:
+            try:
+                self.make(step)
+                self.put_all(v)
+            except Refused:
+                self.is_over, self.fault = True, self.fault or f"node {v} can't take what came from {w}"
+
+    def fault_of(self, v, node):
+        """What is wrong with a pulse, if a rule is left out; its program may refuse it."""
+        if not self.rounds:
+            return None
+        inbox = [port.present for port in node.ports]
+        fault = self.rounds.fault(v, node.pulse_number + 1, inbox)
+        if (fault or node.wrong) and program_refuses(node.program, node.pulse_number + 1, inbox):
+            self.is_over = True
+            return fault or f"the program of node {v} refuses the inbox of pulse {node.pulse_number + 1}"
+        node.wrong = node.wrong or fault is not None
+        return fault
+
+    def free(self, held):
+        """The steps that can come next and that nothing holds."""
+        return [step for own in self.steps.values() for step in own if not held.waits(step)]
+
+    def by_chance(self, count, seed, held):
+        """As many steps more, each as likely as any other."""
+        source = random.Random(f"{seed} {len(self.made)}")
+        for _ in range(count):
+            steps = self.free(held)
+            if self.is_over or not steps:
+                return
+            self.step_on(steps[int(source.random() * len(steps))])
+
+    def in_step(self, held):
+        """All nodes make one pulse: what can come comes first, and then those that are behind make theirs."""
+        goal, last = 1 + self.lowest(), self.state.nodes[1].last
+        while not self.is_over and not (goal <= last and self.lowest() >= goal):
+            steps = self.free(held)
+            takes = [step for step in steps if step.kind == "take"]
+            behind = [step for step in steps if step.kind == "pulse"
+                      and self.state.nodes[step.node].pulse_number < goal]
+            if not takes and not behind:
+                return
+            self.step_on((takes or behind)[0])
+
+    def lowest(self):
+        return min(node.pulse_number for node in self.state.nodes.values())
+
+    def step_on(self, step):
+        self.step(step, f"{step.node}-{step.neighbour}" if step.neighbour else str(step.node))

@@ -1,0 +1,38 @@
+"""What the page asks with a call: a network as a text, a program by its name. No call names a file."""
+from lab.definitions.nodes import Colouring
+from lab.definitions.programs import PROGRAMS, program_at
+from lab.networks.network_text import read_network
+from lab.wrong import Wrong
+
+# What the command line gives: the network to begin with, and programs of one's own by name; and whether the programs
+# are proved and built.
+OPENED = {"network": None, "own": {}, "is_proved": False}
+# Nodes that are drawn; that the rounds, and a run without a clock, are shown of; of which every order is searched.
+MOST_DRAWN, MOST_ROUNDS, MOST_RUN, MOST_SEARCHED = 400, 100, 40, 4
+
+
+def network_asked(asked, most=MOST_DRAWN):
+    network = read_network(asked["network"], "the network")
+    network.name = str(asked.get("name") or "this network")[:60]
+    if network.nodes == 0:
+        raise Wrong("no node yet")
+    if network.nodes > most:
+        raise Wrong(f"this is shown of at most {most} nodes, and here are {network.nodes}")
+    return network
+
+
+def program_asked(asked):
+    name = asked.get("program") or Colouring.name
+    return program_at(OPENED["own"].get(name, name) if name in (*PROGRAMS, *OPENED["own"]) else "?")
+
+
+def rules_asked(asked, among):
+    """The rules to be left out, if they are among those that can be."""
+    rules = tuple(str(asked.get("without") or "").split(",")) if asked.get("without") else ()
+    if not set(rules) <= set(among):
+        raise Wrong("there is no such rule")
+    return rules
+
+
+def pairs_asked(listed):
+    return [(int(v), int(w)) for v, w in listed]

@@ -1,0 +1,104 @@
+"""Who answers: the proved programs, or before they are built the definitions of lab/, which are tested and not proved.
+Both give the same; `OPENED["is_proved"]` says which it is."""
+import re
+
+from lab.definitions.colours import plan_text
+from lab.definitions.nodes import Colouring, NetState, Refused, entry_words, make
+from lab.networks.plan_text import clashes
+from lab.pictures.colouring import Rounds
+from lab.pictures.program_rounds import is_own
+from lab.pictures.rounds import read_rounds
+from lab.programs import called
+from lab.schedules.reading import network_of
+from lab.studio.asked import OPENED
+from lab.transcripts.check import whole_run
+from lab.transcripts.reading import Wrong as WrongEntry, read
+from lab.wrong import Wrong
+
+MOST_TEXT = 64 << 20
+MACHINE, PYTHON = "The proved machine", "Python (not proved)"
+
+
+def said_by(name, words, *texts):
+    """(status, output, what is said on standard error) of a program, as texts."""
+    done = called(name, words, "".join(texts).encode())
+    if len(done.stdout) > MOST_TEXT:
+        raise Wrong(f"{name} wrote {len(done.stdout):,} bytes, more than a page can show")
+    return done.returncode, done.stdout.decode(), done.stderr.decode().strip()
+
+
+def text_from(name, words, network_text):
+    status, output, said = said_by(name, words, network_text)
+    if status:
+        raise Wrong(said or f"{name} ended with status {status}")
+    return output
+
+
+def option(program):
+    return [] if program is Colouring else ["--program", program.name]
+
+
+def plan_of(text):
+    """The plan of a network, as a text."""
+    if OPENED["is_proved"]:
+        return text_from("forestplan", ["plain"], text)
+    return plan_text(text.encode()).decode()
+
+
+def rounds_of(network, text):
+    """The rounds of the colouring."""
+    if OPENED["is_proved"]:
+        return read_rounds(text_from("forestplay", ["rounds"], text), "the rounds", network)
+    return Rounds(network, network.identifiers)
+
+
+def verdict_on(network, text, plan):
+    """What `check` says of a plan {vertex: channel}, as `proper 3` or `C4 vertices 1 2`."""
+    if OPENED["is_proved"]:
+        lines = ["plan", *(f"{v} {channel}" for v, channel in plan.items())]
+        status, output, said = said_by("forestplan", ["check"], text, "\n".join(lines) + "\n")
+        return output.strip() if status == 0 else said.removeprefix("forestplan: ")
+    for v, channel in plan.items():
+        if channel > network.channels:
+            return f"C5 vertex {v}"
+        if channel in network.barred(v):
+            return f"C8 vertex {v}"
+    blank = [v for v in network.vertices if v not in plan]
+    if blank:
+        return f"C1 vertex {blank[0]}"
+    same = sorted(clashes(network, plan))
+    return f"C4 vertices {same[0][0]} {same[0][1]}" if same else f"proper {max(plan.values())}"
+
+
+def judged(network, network_text, text, program):
+    """What is said of a whole transcript: {ok, said, by}."""
+    entries = {"entries": max(0, text.count("\n") - 1)}
+    if OPENED["is_proved"] and not is_own(program):
+        status, output, said = said_by("forestplay", ["replay", *option(program)], network_text, "\n", text)
+        return entries | {"ok": status == 0, "said": said or output, "by": MACHINE}
+    try:
+        _, words = whole_run(network_of(network), text.encode(), program)
+        return entries | {"ok": True, "said": words, "by": PYTHON}
+    except WrongEntry as fault:
+        return entries | {"ok": False, "said": str(fault), "by": PYTHON}
+
+
+def beginning_judged(network, network_text, entries, program):
+    """What is said of the first entries of a run, each without its stamp: {ok, said, pulses, wires, by}."""
+    text = "\n".join([f"transcript 1 {network.nodes}", *entries]) + "\n"
+    if OPENED["is_proved"] and not is_own(program):
+        status, output, said = said_by("forestplay", ["replay", *option(program)], network_text, "\n", text)
+        at = [int(found.group(1)) for found in re.finditer(r"^node \d+ pulse (\d+)", output, re.M)]
+        flying = len(re.findall(r"\b(?:payload|ack|safe|close)\b", output))
+        return {"ok": status == 0, "said": said, "pulses": at, "wires": flying, "by": MACHINE}
+    state, said = NetState(network_of(network), program), ""
+    try:
+        for entry in read(text.encode(), program.name)[1]:
+            try:
+                make(state, entry)
+            except Refused as refused:
+                raise WrongEntry(entry.line, str(refused), entry_words(state, entry, refused)[2:]) from None
+    except WrongEntry as fault:
+        said = str(fault)
+    return {"ok": not said, "said": said, "pulses": [state.nodes[v].pulse_number for v in network.vertices],
+            "wires": sum(map(len, state.link.values())), "by": PYTHON}

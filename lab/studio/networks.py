@@ -1,0 +1,79 @@
+"""The calls on networks: what there is, examples, files, networks that are made, and layouts."""
+import base64
+import os
+
+from lab.definitions.programs import PROGRAMS
+from lab.networks.command_line import CHANCE, SIZES
+from lab.networks.network import MAKERS
+from lab.networks.network_text import read_network, stem
+from lab.networks.reading import read_any
+from lab.networks.texts import text_of
+from lab.pictures.layout import laid_out
+from lab.pictures.places import LARGEST_CIRCLE, circle, fit, places_of
+from lab.programs import TOP
+from lab.schedules.rules import OF_ROUNDS, OF_SCHEDULES
+from lab.schedules.simulate import HABITS
+from lab.studio.asked import MOST_DRAWN, OPENED, network_asked
+from lab.studio.lessons import LESSONS
+from lab.version import NUMBER
+from lab.wrong import Wrong
+
+EXAMPLES = os.path.join(TOP, "examples")
+
+
+def shown(network, said=()):
+    """A network as the page has it. Identifiers are texts: they may have 39 digits."""
+    if network.nodes > MOST_DRAWN:
+        raise Wrong(f"{network.name}: the studio draws at most {MOST_DRAWN} nodes, and here are {network.nodes}")
+    places = fit(places_of(network), 1000, 700, 70) if network.nodes else {}
+    nodes = [{"x": round(places[v][0], 1), "y": round(places[v][1], 1), "id": str(network.said.get(v, "")),
+              "name": network.names.get(v, ""), "bars": network.barred(v)} for v in network.vertices]
+    return {"name": network.name, "nodes": nodes, "edges": network.edges, "said": list(said)}
+
+
+def hello(_asked, _tell):
+    """What there is to choose from."""
+    rules = {"orders": OF_SCHEDULES, "rounds": OF_ROUNDS}
+    return {
+        "version": NUMBER,
+        "proved": OPENED["is_proved"],
+        "opened": OPENED["network"],
+        "examples": sorted(stem(file) for file in os.listdir(EXAMPLES) if file.endswith(".col")),
+        "kinds": {kind: {"sizes": SIZES[kind], "chance": kind in CHANCE} for kind in MAKERS},
+        "programs": [*PROGRAMS, *OPENED["own"]],
+        "policies": HABITS,
+        "rules": {of: {word: {"says": rule.says, "without": rule.without} for word, rule in rules[of].items()}
+                  for of in rules},
+        "lessons": LESSONS,
+    }
+
+
+def example(asked, _tell):
+    name = asked["name"]
+    if name + ".col" not in os.listdir(EXAMPLES):
+        raise Wrong(f"there is no example {name}")
+    with open(os.path.join(EXAMPLES, name + ".col"), encoding="utf-8") as file:
+        return shown(read_network(file.read(), name))
+
+
+def file_read(asked, _tell):
+    """A file that was dropped on the page, in any form that `network read` reads."""
+    return shown(*read_any(base64.b64decode(asked["data"]), str(asked["name"])[:80], asked.get("heading")))
+
+
+def make(asked, _tell):
+    kind = asked["kind"]
+    sizes = [int(asked["sizes"][size]) for size in SIZES[kind]]
+    if max(sizes) > MOST_DRAWN or len(sizes) == 2 and kind != "random" and sizes[0] * sizes[1] > MOST_DRAWN:
+        raise Wrong(f"the studio draws at most {MOST_DRAWN} nodes")
+    seed = [int(asked["seed"])] if kind in CHANCE else []
+    more = [float(asked.get("reach") or 0.26), *seed] if kind == "disk" else seed
+    network = read_network(text_of(MAKERS[kind](*sizes, *more)), kind)
+    network.name = "-".join(map(str, [kind, *sizes, *more]))
+    return shown(network)
+
+
+def tidy(asked, _tell):
+    network = network_asked(asked)
+    network.given = circle(network.nodes) if network.nodes <= LARGEST_CIRCLE else laid_out(network)
+    return shown(network)

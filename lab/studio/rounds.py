@@ -1,0 +1,114 @@
+"""The calls on plans and rounds: the plan, its verdict, the rounds pulse by pulse, why a node has its channel, what
+goes wrong without a rule, and pictures."""
+import re
+
+from lab.definitions.nodes import Colouring
+from lab.networks.codes import code_of
+from lab.networks.plan_text import read_plan
+from lab.pictures import broken_picture, player_page, program_player, why_picture
+from lab.pictures.colouring import Rounds
+from lab.pictures.picture import OF_PLAN, OF_RUN, Options, Text, drawing
+from lab.pictures.program_picture import is_new
+from lab.pictures.program_rounds import ProgramRounds
+from lab.pictures.sizes import last_pulse, least_wires
+from lab.schedules.reading import network_of
+from lab.schedules.ruled_rounds import RuledRounds
+from lab.schedules.rules import OF_ROUNDS
+from lab.studio.asked import MOST_ROUNDS, network_asked, program_asked, rules_asked
+from lab.studio.judges import plan_of, rounds_of, verdict_on
+from lab.wrong import Wrong
+
+
+KINDS = (*OF_PLAN, "forests", "rounds", "bits", "why", *OF_RUN)
+
+
+def plan(asked, _tell):
+    """The plan, and what the network comes to."""
+    network = network_asked(asked)
+    channels = read_plan(plan_of(asked["network"]), "the plan", network)
+    last = last_pulse(network)
+    return {"plan": [channels[v] for v in network.vertices], "allowed": network.channels, "degree": network.degree,
+            "bars": network.most_bars, "last": last, "forests": (last - 12) // (3 * network.channels),
+            "wires": least_wires(network)}
+
+
+def check(asked, _tell):
+    """The verdict on a plan, whoever made it, and what its code means."""
+    network = network_asked(asked)
+    channels = {v: int(channel) for v, channel in zip(network.vertices, asked["plan"]) if channel}
+    said = verdict_on(network, asked["network"], channels)
+    if said.startswith("proper"):
+        return {"ok": True, "said": said, "at": []}
+    found = code_of(said)
+    if found is None:
+        raise Wrong(said)
+    code, where, _ = found
+    at = [int(n) for n in re.findall(r"\d+", said.partition(" ")[2])]
+    return {"ok": False, "said": said, "code": code.name, "at": at if code.name != "C6" else [],
+            "words": code.what.format(at=where or code.at), "do": code.do}
+
+
+def number(value):
+    """A number that JavaScript can hold, or its digits."""
+    return value if value < 2 ** 53 else str(value)
+
+
+def rounds(asked, _tell):
+    """The rounds, pulse by pulse."""
+    network = network_asked(asked, MOST_ROUNDS)
+    program = program_asked(asked)
+    if program is not Colouring:
+        return film_of(ProgramRounds(network, network.identifiers, program))
+    return film_of(rounds_of(network, asked["network"]))
+
+
+def film_of(found):
+    """The rounds as the page plays them; of another program than the colouring each node's result in words."""
+    vertices, pulses, is_colouring = found.network.vertices, [], isinstance(found, Rounds)
+    of = player_page if is_colouring else program_player
+    for pulse in found.pulses:
+        caption, said = of.caption(found, pulse.number)
+        row = {"caption": caption, "said": said, "step": pulse.step, "chosen": pulse.chosen, "colours": None,
+               "puts": [[v, w, word, number(sent)] for v, w, word, sent in pulse.puts]}
+        if pulse.colours:
+            row["colours"] = [[number(pulse.colours[v, f]) for f in range(found.forests)] for v in vertices]
+        if not is_colouring:
+            row["results"] = [pulse.results[v] for v in vertices]
+            row["new"] = [v for v in vertices if pulse.number and is_new(found, pulse, v)]
+        pulses.append(row)
+    parents = sorted(found.parents.items()) if is_colouring else []
+    return {"last": found.last, "forests": found.forests, "pulses": pulses, "first": list(found.first.values()),
+            "parents": [[v, f, w] for (v, f), w in parents]}
+
+
+def why(asked, _tell):
+    """Why a node has its channel."""
+    network = network_asked(asked, MOST_ROUNDS)
+    cone = why_picture.Cone(Rounds(network, network.identifiers), int(asked["vertex"]))
+    return {"lines": why_picture.text(cone).splitlines(), "identifiers": cone.identifiers(),
+            "messages": [[p, v, w] for p, v, w, _ in sorted(cone.messages)], "summary": why_picture.summary(cone)}
+
+
+def broken(asked, _tell):
+    """What the rounds of this network do without a rule, in words; and a picture of it, or of a smallest network on
+    which they go wrong."""
+    network, without = network_asked(asked, MOST_ROUNDS), rules_asked(asked, OF_ROUNDS)
+    if not without:
+        raise Wrong("which rule is left out?")
+    found = RuledRounds(network_of(network), without)
+    here = found.clash is not None
+    words = found.words().split("\n") if here else ["the rounds of this network go right without it"]
+    return {"here": here, "words": words, "picture": broken_picture.draw(network if here else None, without)}
+
+
+def picture(asked, _tell):
+    """A picture, as the command `picture` draws it."""
+    kind, network, texts = asked["kind"], network_asked(asked), []
+    if kind not in KINDS:
+        raise Wrong(f"there is no picture {kind}")
+    if kind in OF_PLAN:
+        texts = [Text("plan", "the plan", plan_of(asked["network"]))]
+    if kind in OF_RUN:
+        texts = [Text("transcript", "the run", str(asked["transcript"]))]
+    options = Options(program_asked(asked), forest=asked.get("forest"), vertex=asked.get("vertex"))
+    return drawing(kind, network, options, texts)

@@ -1,0 +1,167 @@
+"""The calls on runs without a clock: a run by a seed, by threads or of a transcript, its verdicts, and a run that is
+made step by step."""
+import contextlib
+
+from lab.definitions.nodes import Colouring
+from lab.pictures.program_rounds import ProgramRounds, is_own, rounds_of
+from lab.pictures.sizes import last_pulse, least_wires
+from lab.pictures.watch_page import Run, Steps, look_of, steps_of_text
+from lab.schedules.policies import POLICIES, policy_of
+from lab.schedules.reading import network_of
+from lab.schedules.rules import OF_SCHEDULES
+from lab.schedules.simulate import Held, Player, edges_of, events_of, text_of_rows
+from lab.schedules.stepwise import Stepwise
+from lab.studio.asked import MOST_DRAWN, MOST_RUN, OPENED, network_asked, pairs_asked, program_asked, rules_asked
+from lab.studio.judges import beginning_judged, judged, option, text_from
+from lab.transcripts.check import whole_run
+from lab.transcripts.reading import Wrong as WrongEntry
+from lab.wrong import Wrong
+
+# More wires than this are played by threads alone: the slow definitions would take minutes.
+MOST_WIRES_PLAYED = 60_000
+# A part of a run is shown after so many entries, while the rest is worked out.
+PART = 1_500
+MOST_STEPS, MOST_BY_CHANCE = 6_000, 200
+
+
+def held_of(asked, net):
+    """The links and nodes that wait."""
+    slow = {tuple(sorted(edge)) for edge in pairs_asked(asked.get("slow", []))}
+    lazy = {int(v) for v in asked.get("lazy", [])}
+    if not slow <= set(edges_of(net)) or not lazy <= set(net.neighbours):
+        raise Wrong("a link or a node that waits isn't in this network")
+    return slow, lazy
+
+
+def played(asked, network, program, tell):
+    """(transcript, run) by a seed, which no thread made; steps of somebody's may come first."""
+    net = network_of(network)
+    most = least_wires(network, program)
+    if most > MOST_WIRES_PLAYED:
+        raise Wrong(f"a run has more than {most:,} wires: take the threads, since a seeded run is played slowly")
+    if asked["policy"] not in POLICIES:
+        raise Wrong(f"there is no policy {asked['policy']}")
+    chooser = policy_of(asked["policy"], sorted(net.neighbours), edges_of(net), str(asked.get("seed", "1")))
+    policy, player = Held(chooser, *held_of(asked, net)), Player(net, program)
+    made = Steps(player.state)
+    for step in first_steps(asked, net, program):
+        made.add(player.make(player.step_of(*step)))
+    # About: twice a wire for each of its puts and takes, and as many again for the payloads and their acknowledgements.
+    of, next_part = 2 * most + len(net.neighbours) * last_pulse(network, program), PART
+    for entry in player.entries(policy):
+        made.add(entry)
+        if not player.now % 200:
+            tell(min(player.now, of), of)
+        if player.now == next_part:
+            next_part *= 2
+            tell(part=shown(Run("the run", network, made.by_stamp())))
+    return text_of_rows(network.nodes, player.rows), Run("the run", network, made.by_stamp())
+
+
+def first_steps(asked, net, program):
+    """(kind, vertex, port) of the events that steps of somebody's come to."""
+    stepwise = Stepwise(net, program)
+    stepwise.follow(listed(asked.get("steps")))
+    for _, kind, v, port in events_of("\n".join(stepwise.lines), "the steps"):
+        yield kind, v, port
+
+
+def listed(words):
+    return [word for word in str(words or "").split("_") if word]
+
+
+def shown(found):
+    """What is shown of a run."""
+    return {"table": found.table(), "last": found.last, "pulses": found.pulses, "cut": found.is_cut}
+
+
+def by_threads(asked, program):
+    if not OPENED["is_proved"]:
+        raise Wrong("threads run the proved programs, which aren't built yet: take a run by a seed")
+    name = "forestplan" if program is Colouring else "forestplay"
+    words = ["transcript"] if program is Colouring else ["run", "--transcript", *option(program)]
+    workers, capacity = int(asked.get("workers", 4)), int(asked.get("capacity", 4))
+    return text_from(name, [*words, f"--workers={workers}", f"--capacity={capacity}"], asked["network"])
+
+
+def run(asked, tell):
+    """A run: its transcript, the rows that the page follows, the judge's verdict, and whether its payloads are those of
+    the rounds."""
+    program = program_asked(asked)
+    network = network_asked(asked, MOST_RUN)
+    if asked.get("transcript"):
+        text, found = str(asked["transcript"]), None
+    elif asked.get("how") == "threads" and not is_own(program):
+        text, found = by_threads(asked, program), None
+    else:
+        text, found = played(asked, network, program, tell)
+    if found is None:
+        for pulses in ((0, 2), (0, 8), None) if text.count("\n") > 2 * PART else (None,):
+            with contextlib.suppress(Wrong) if pulses else contextlib.nullcontext():
+                found = Run("the run", network, steps_of_text("the run", network, text, pulses, program), pulses)
+                if pulses:
+                    tell(part=shown(found))
+    same, results = compared(found, network, program)
+    return shown(found) | {"text": text, "judge": judged(network, asked["network"], text, program), "same": same,
+                           "results": results}
+
+
+def compared(found, network, program):
+    """(pulses whose payloads are those of the rounds, pulses compared, payloads), and what the rounds find."""
+    there = rounds_of(network, network.identifiers, program)
+    if isinstance(there, ProgramRounds):
+        results = [there.pulses[-1].results[v] for v in network.vertices]
+    else:
+        results = [there.merged[-1][v] + 1 for v in network.vertices]
+    pulses = range(found.pulses[0], found.pulses[1] + 1)
+    sent = {p: sorted((v, w, f"{word} {what}") for v, w, word, what in there.pulses[p].puts) for p in pulses}
+    same = sum(sent[p] == found.payloads(p) for p in pulses)
+    return [same, len(pulses), sum(map(len, sent.values()))], results
+
+
+def replay(asked, _tell):
+    """What the judge says of the first entries of a run: it plays them, and says where each node is. Without stamps a
+    beginning of a run is no fault."""
+    network = network_asked(asked, MOST_RUN)
+    lines = str(asked["transcript"]).splitlines()
+    entries = [line.partition(" ")[2] for line in lines[1:]]
+    return {"entries": len(entries)} | beginning_judged(network, asked["network"], entries, program_asked(asked))
+
+
+def judge(asked, _tell):
+    """What is said of a transcript, whoever wrote it: in words by the definitions, and by the proved machine."""
+    program, network, text = program_asked(asked), network_asked(asked, MOST_DRAWN), str(asked["transcript"])
+    try:
+        _, words = whole_run(network_of(network), text.encode(), program)
+        told = {"ok": True, "words": words, "line": None}
+    except WrongEntry as fault:
+        told = {"ok": False, "words": str(fault), "line": fault.line}
+    proved = judged(network, asked["network"], text, program) if OPENED["is_proved"] else None
+    return told | {"proved": proved, "before": asked["network"].count("\n") + 1, "nodes": network.nodes}
+
+
+def steps(asked, _tell):
+    """A run that is made step by step: where it is after a list of events, and what can come next. `by` steps more are
+    left to chance, or up to all nodes' next pulse `in step`."""
+    network, program = network_asked(asked, MOST_RUN), program_asked(asked)
+    net = network_of(network)
+    player = Stepwise(net, program, rules_asked(asked, OF_SCHEDULES))
+    events = listed(asked.get("steps"))
+    if len(events) > MOST_STEPS:
+        raise Wrong(f"at most {MOST_STEPS:,} steps are made by hand; No clock plays the rest")
+    player.follow(events)
+    held = Held(None, *held_of(asked, net))
+    if asked.get("by"):
+        player.by_chance(min(int(asked["by"]), MOST_BY_CHANCE), str(asked.get("seed", "1")), held)
+    if asked.get("in_step"):
+        player.in_step(held)
+    wires = [[v, w, player.words_on(v, w)] for v in network.vertices for w in network.neighbours[v]]
+    told = {
+        "made": player.made, "steps": [] if player.is_over else player.possible(), "last": player.state.nodes[1].last,
+        "looks": [look_of(player.state, v) for v in network.vertices], "wires": [row for row in wires if row[2]],
+        "said": player.said, "fault": player.fault, "over": player.is_over, "list": player.lines,
+        "entries": len(player.rows)}
+    if asked.get("without") or player.is_over:
+        return told
+    rows = [line for _, _, line in player.rows]
+    return told | {"judge": beginning_judged(network, asked["network"], rows, program)}
