@@ -16,8 +16,8 @@ TOP = os.path.dirname(os.path.dirname(os.path.realpath(__file__)))
 # What is copied, each at the path that it has here.
 PROGRAMS = ("forestplan", "forestplay")
 SCRIPTS = (
-    "picture", "network", "channels", "explore", "check-transcript", "replay", "simulate", "sheet", "transcript-to",
-    "workshop",
+    "picture", "network", "channels", "explore", "check-transcript", "replay", "simulate", "sheet", "studio",
+    "transcript-to", "workshop",
 )
 FOLDERS = ("examples", "docs", "lab")
 FILES = ("README.md", "CHANGELOG.md", "LICENSE-MIT", "LICENSE-APACHE")
@@ -27,7 +27,7 @@ Copies forestplan and what belongs to it into a folder, so that it runs there
 without the toolchain and without this tree.
 
 The folder gets the layout of this tree: in bin/ the two programs and the scripts
-picture, network, channels, explore, check-transcript, replay, simulate, sheet,
+picture, network, channels, explore, check-transcript, replay, simulate, sheet, studio,
 transcript-to and workshop, and their modules, the examples, a README of what is there,
 the pages and lessons, the licences, and a manual page for each command. So the lessons' commands
 work in it as they do here; with its bin/ on the PATH they work anywhere without the

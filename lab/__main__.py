@@ -13,6 +13,7 @@ COMMANDS = {
     "picture": "lab.pictures.picture",
     "sheet": "lab.pictures.sheet",
     "simulate": "lab.schedules.simulate",
+    "studio": "lab.studio.studio",
     "transcript-to": "lab.transcripts.to",
     "workshop": "lab.workshop.workshop",
 }

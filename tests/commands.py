@@ -115,6 +115,8 @@ SCRIPTS = (
     Script("replay", ("FILE",), ENDED, r"node 1 pulse 12 channel 1\nnode 2 pulse 12 channel 1\n"),
     Script("simulate", ("FILE", "--policy", "oldest"), "", r"transcript 2 2\n(\d+ [12] pulse \d+\n){24}"),
     Script("sheet", ("--seed", "7", "--lesson", "2"), "", r"<!doctype html>[^\0]*</html>\n"),
+    # It doesn't end by itself; tests/programs/studio.py asks it more.
+    Script("studio", ("--help",), "", r"usage: studio [^\0]*"),
     Script("transcript-to", ("json",), "transcript 2 1|1 1 pulse 1|",
            r'{"edition": 2, "nodes": 1}\n{"line": 2, "stamp": 1, "node": 1, "kind": "pulse", "pulse": 1}\n'),
     Script("workshop", ("--help",), "", r"usage: workshop [^\0]*"),

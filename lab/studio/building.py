@@ -1,0 +1,94 @@
+"""The proof and the build of the programs, begun by a button of the page and never by itself. The server's own process
+starts them, so they go on when the page is closed, and end with the server."""
+import contextlib
+import os
+import shutil
+import signal
+import subprocess
+import time
+
+from lab.programs import TOP
+from lab.studio.asked import OPENED
+from lab.wrong import Wrong
+
+PROGRAMS = ("forestplan", "forestplay")
+# What a process that answers asks of the server's own.
+WANTED = signal.SIGUSR1
+WORDS = {"log": None}
+
+
+def is_installed():
+    """Whether this is an installed folder, in which the programs are built."""
+    return not os.path.exists(os.path.join(TOP, "forestplan"))
+
+
+def are_built():
+    """Whether both programs are built from the sources as they are now."""
+    return is_installed() or all(is_built(name) for name in PROGRAMS)
+
+
+def is_built(name):
+    program = os.path.join(TOP, "crates", name, "out", name)
+    try:
+        with open(program + ".made-from", encoding="ascii") as file:
+            noted = file.read().split("\n")
+    except OSError:
+        return False
+    done = subprocess.run([os.path.join(TOP, "bin", name)], env=dict(os.environ, FORESTPLAN_SOURCES="1"),
+                          stdout=subprocess.PIPE, stdin=subprocess.DEVNULL)
+    return os.access(program, os.X_OK) and noted[1:2] == [done.stdout.decode().strip()]
+
+
+class Building:
+    """The build in the server's own process: `log` is what it says, as a file."""
+
+    def __init__(self, folder):
+        self.log, self.process, self.is_wanted = os.path.join(folder, "build.log"), None, False
+        WORDS["log"] = self.log
+        signal.signal(WANTED, self.want)
+
+    def want(self, *_):
+        self.is_wanted = True
+
+    def look(self):
+        """Begins what is wanted, and takes note of what is done. Called again and again."""
+        if self.is_wanted and self.process is None and not OPENED["is_proved"]:
+            command = " && ".join(f"FORESTPLAN_BUILD_ONLY=1 bin/{name}" for name in PROGRAMS)
+            with open(self.log, "w", encoding="utf-8") as log:
+                self.process = subprocess.Popen(["bash", "-c", command], cwd=TOP, stdin=subprocess.DEVNULL, stdout=log,
+                                                stderr=log, start_new_session=True)
+        self.is_wanted = False
+        if self.process and self.process.poll() is not None:
+            OPENED["is_proved"] = self.process.returncode == 0 and are_built()
+            with open(self.log, "a", encoding="utf-8") as log:
+                log.write("the programs are proved and built\n" if OPENED["is_proved"] else "ended: it isn't built\n")
+            self.process = None
+
+    def end(self):
+        if self.process is None:
+            return
+        for number in (signal.SIGTERM, signal.SIGKILL):
+            with contextlib.suppress(ProcessLookupError):
+                os.killpg(self.process.pid, number)
+            with contextlib.suppress(subprocess.TimeoutExpired):
+                return self.process.wait(10)
+
+
+def begin(_asked, _tell):
+    """Asks for the build."""
+    if shutil.which("rt") is None:
+        raise Wrong("the toolchain's command rt is not on the PATH, and without it nothing can be proved")
+    os.kill(os.getppid(), WANTED)
+    time.sleep(0.7)
+    return so_far({}, None)
+
+
+def so_far(_asked, _tell):
+    """How far the build is, in its own words."""
+    try:
+        with open(WORDS["log"], encoding="utf-8", errors="replace") as log:
+            lines, begun = log.read().splitlines(), os.stat(log.fileno())
+    except (OSError, TypeError):
+        return {"proved": OPENED["is_proved"], "lines": [], "ended": False}
+    ended = lines[-1:] in (["the programs are proved and built"], ["ended: it isn't built"])
+    return {"proved": OPENED["is_proved"], "lines": lines[-12:], "ended": ended, "quiet": time.time() - begun.st_mtime}

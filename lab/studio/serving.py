@@ -1,0 +1,248 @@
+"""The studio's server. It answers 127.0.0.1 alone, and what isn't a file of the page only with the token, which no page
+of another origin knows.
+
+Each request is answered by a process of its own, forked from one that has loaded everything and has no thread. So a
+call has its own limits of time and memory, none disturbs another one, and nothing is kept between two calls. The
+process ends, with all that it has started, when the browser hangs up: that is how a page cancels a call. An answer is
+lines of JSON: how far it is, then what came out."""
+import contextlib
+import gc
+import hmac
+import http.server
+import json
+import os
+import resource
+import select
+import signal
+import socket
+import socketserver
+import sys
+import threading
+import time
+import traceback
+from urllib.parse import parse_qs
+
+from lab.studio import calls
+from lab.studio.building import Building
+from lab.studio.joined import hues
+from lab.wrong import Wrong
+
+HOST = "127.0.0.1"
+PAGE = os.path.join(os.path.dirname(os.path.abspath(__file__)), "page")
+KINDS = {".html": "text/html", ".css": "text/css", ".js": "text/javascript", ".svg": "image/svg+xml"}
+# In bytes, seconds of the clock, seconds of processor time, and bytes.
+MOST_ASKED, SECONDS, PROCESSOR_SECONDS, MEMORY = 8 << 20, 120, 110, 2 << 30
+# A browser opens connections on which it says nothing yet.
+SECONDS_TO_ASK, MOST_AT_ONCE = 10, 32
+# The page runs its own scripts alone, and a frame of an answer can reach nothing: it has no origin.
+OF_PAGE = ("default-src 'none'; script-src 'self'; style-src 'self' 'unsafe-inline'; img-src 'self' data: blob:; "
+           "connect-src 'self'; frame-src 'self'; form-action 'self'; frame-ancestors 'none'; base-uri 'none'")
+OF_FRAME = ("sandbox allow-scripts; default-src 'none'; script-src 'unsafe-inline'; style-src 'unsafe-inline'; "
+            "img-src data:; frame-ancestors 'self'; base-uri 'none'")
+
+
+class Server(socketserver.ForkingMixIn, http.server.HTTPServer):
+    """Listens at a port of this machine; `active_children` are the processes that answer."""
+
+    max_children, request_queue_size, block_on_close = MOST_AT_ONCE, 32, False
+
+    def __init__(self, port, token, folder):
+        self.token, self.building = token, Building(folder)
+        super().__init__((HOST, port), Handler)
+
+    def service_actions(self):
+        super().service_actions()
+        self.building.look()
+
+    def server_bind(self):
+        # The name of the machine isn't looked up.
+        socketserver.TCPServer.server_bind(self)
+        self.server_name, self.server_port = self.server_address[:2]
+
+    def address(self):
+        return f"http://{HOST}:{self.server_port}/?token={self.token}"
+
+    def end_all(self):
+        """Ends the processes that answer, each with what it has started."""
+        for process in list(self.active_children or ()):
+            with contextlib.suppress(ProcessLookupError, PermissionError, ChildProcessError):
+                os.killpg(process, signal.SIGKILL)
+                os.waitpid(process, 0)
+        self.building.end()
+        self.server_close()
+
+    def handle_error(self, request, client_address):
+        if not isinstance(sys.exc_info()[1], OSError):
+            traceback.print_exc()
+
+
+class Answer:
+    """Lines of JSON to the page; a thread of `Watch` may write the last one."""
+
+    def __init__(self, handler):
+        self.handler, self.lock, self.told = handler, threading.Lock(), 0.0
+
+    def line(self, **what):
+        text = json.dumps(what, separators=(",", ":"), ensure_ascii=False).encode() + b"\n"
+        with self.lock:
+            self.handler.wfile.write(text)
+
+    def tell(self, done=0, of=0, part=None):
+        """How far a call is, ten times a second at most; or a part of what will come out."""
+        if part is not None:
+            self.line(part=part)
+        elif time.monotonic() - self.told > 0.1:
+            self.told = time.monotonic()
+            self.line(done=done, of=of)
+
+
+class Handler(http.server.BaseHTTPRequestHandler):
+    """One request; then the connection ends."""
+
+    timeout, server_version, sys_version = SECONDS_TO_ASK, "studio", ""
+
+    def log_message(self, *_):
+        pass
+
+    def own_names(self):
+        return [f"{name}:{self.server.server_port}" for name in (HOST, "localhost")]
+
+    def is_from_page(self):
+        """Whether the request was sent to this server by its name, and by no page of another origin: a name that
+        another server's owner has pointed here isn't answered."""
+        own, origin, site = self.own_names(), self.headers.get("Origin"), self.headers.get("Sec-Fetch-Site")
+        return (self.headers.get("Host") in own and origin in [None, *(f"http://{name}" for name in own)]
+                and site in (None, "same-origin", "none"))
+
+    def headed(self, status, kind, policy, length=None):
+        self.send_response(status)
+        for name, value in (("Content-Type", f"{kind}; charset=utf-8"), ("Content-Length", length),
+                            ("Content-Security-Policy", policy), ("Cache-Control", "no-store"),
+                            ("X-Content-Type-Options", "nosniff"), ("Referrer-Policy", "same-origin"),
+                            ("Cross-Origin-Resource-Policy", "same-origin"),
+                            ("Cross-Origin-Opener-Policy", "same-origin")):
+            if value is not None:
+                self.send_header(name, str(value))
+        self.end_headers()
+
+    def refuse(self, status, why):
+        body = (why + "\n").encode()
+        self.headed(status, "text/plain", OF_PAGE, len(body))
+        self.wfile.write(body)
+
+    def do_GET(self):
+        """A file of the page: they are no secret, and have none in them. A link from elsewhere may open the page."""
+        if self.headers.get("Host") not in self.own_names():
+            return self.refuse(403, "This server answers to its own address alone.")
+        path = self.path.split("?")[0]
+        name = "page.html" if path == "/" else path[1:]
+        kind = KINDS.get(os.path.splitext(name)[1])
+        if name == "hues.js":
+            body = hues().encode()
+        elif kind and name in os.listdir(PAGE):
+            with open(os.path.join(PAGE, name), "rb") as file:
+                body = file.read()
+        else:
+            return self.refuse(404, "There is no such page.")
+        self.headed(200, kind, OF_PAGE, len(body))
+        return self.wfile.write(body)
+
+    def do_POST(self):
+        """A call, `/call/NAME` with JSON, or a form whose answer is a page for a frame, `/frame/NAME`."""
+        _, way, name = (self.path + "//").split("/")[:3]
+        if not self.is_from_page():
+            return self.refuse(403, "This call isn't from the studio's own page.")
+        length = self.headers.get("Content-Length", "")
+        if not (length.isascii() and length.isdigit() and len(length) < 10 and int(length) <= MOST_ASKED):
+            return self.refuse(413, f"A call has at most {MOST_ASKED:,} bytes.")
+        body = self.rfile.read(int(length))
+        if way == "frame":
+            asked = {key: values[-1] for key, values in parse_qs(body.decode("utf-8", "replace")).items()}
+            given = asked.pop("token", "")
+        else:
+            given = self.headers.get("X-Token", "")
+        if not hmac.compare_digest(given.encode(), self.server.token.encode()):
+            return self.refuse(403, "The token is missing or another: open the address that `studio` has printed.")
+        if way == "frame" and name in calls.FRAMES:
+            return self.answer_frame(calls.FRAMES[name], asked)
+        if way != "call" or name not in calls.CALLS:
+            return self.refuse(404, "There is no such call.")
+        try:
+            asked = json.loads(body)
+        except ValueError:
+            asked = None
+        if not isinstance(asked, dict):
+            return self.refuse(400, "A call is an object in JSON.")
+        return self.answer_call(calls.CALLS[name], asked)
+
+    def answer_call(self, call, asked):
+        self.headed(200, "application/x-ndjson", OF_PAGE)
+        answer, begun = Answer(self), time.monotonic()
+        with limited(self.connection, lambda why: answer.line(wrong=why)):
+            found = outcome(call, asked, answer.tell)
+        answer.line(**found, ms=round(1000 * (time.monotonic() - begun), 1))
+
+    def answer_frame(self, call, asked):
+        with limited(self.connection, lambda why: None):
+            found = outcome(call, asked, lambda *_, **_more: None)
+        body = (found.get("answer") or calls.page_of_words(found["wrong"])).encode()
+        self.headed(200, "text/html", OF_FRAME, len(body))
+        self.wfile.write(body)
+
+
+def outcome(call, asked, tell):
+    """What a call gives, or why it gives nothing."""
+    try:
+        return {"answer": call(asked, tell)}
+    except Wrong as why:
+        return {"wrong": str(why)}
+    except MemoryError:
+        return {"wrong": "it took too much memory, so it was ended"}
+    except (KeyError, TypeError, ValueError, AttributeError) as why:
+        at = traceback.extract_tb(why.__traceback__)[-1]
+        return {"wrong": f"a fault of the studio itself: {type(why).__name__}: {why} "
+                         f"({os.path.basename(at.filename)} line {at.lineno})"}
+
+
+@contextlib.contextmanager
+def limited(connection, say):
+    """This process gets its limits, and ends if the browser hangs up or time is up."""
+    os.setpgid(0, 0)
+    signal.signal(signal.SIGINT, signal.SIG_IGN)
+    signal.pthread_sigmask(signal.SIG_UNBLOCK, {signal.SIGINT})
+    gc.disable()
+    # What pictures note for a terminal is for nobody here; and files can't grow any more.
+    sys.stderr = open(os.devnull, "w", encoding="utf-8")
+    for what, most in ((resource.RLIMIT_AS, MEMORY), (resource.RLIMIT_CPU, PROCESSOR_SECONDS),
+                       (resource.RLIMIT_FSIZE, 0), (resource.RLIMIT_CORE, 0)):
+        resource.setrlimit(what, (most, most))
+    done = threading.Event()
+    threading.Thread(target=watch, args=(connection, done, say, os.getppid()), daemon=True).start()
+    try:
+        yield
+    finally:
+        done.set()
+
+
+def watch(connection, done, say, parent):
+    """Ends this process, and what it has started, when nobody waits for it any more."""
+    until = time.monotonic() + SECONDS
+    while not done.wait(0.1):
+        is_late = time.monotonic() > until
+        if is_late:
+            with contextlib.suppress(OSError):
+                say(f"it took more than {SECONDS} seconds, so it was ended")
+                connection.shutdown(socket.SHUT_RDWR)
+        if is_late or has_hung_up(connection) or os.getppid() != parent:
+            os.killpg(0, signal.SIGKILL)
+
+
+def has_hung_up(connection):
+    if not select.select([connection], [], [], 0)[0]:
+        return False
+    try:
+        return connection.recv(1, socket.MSG_PEEK | socket.MSG_DONTWAIT) == b""
+    except BlockingIOError:
+        return False
+    except OSError:
+        return True

@@ -1,0 +1,128 @@
+"""The door: `studio [NETWORK] [options]`. Serves the studio's page to this machine alone, until Ctrl-C."""
+import argparse
+import gc
+import os
+import secrets
+import sys
+import tempfile
+import webbrowser
+
+from lab.definitions.programs import PROGRAMS, program_at
+from lab.networks.reading import read_any
+from lab.schedules.reading import text_at
+from lab.studio.asked import OPENED
+from lab.studio.building import are_built
+from lab.studio.networks import shown
+from lab.studio.serving import Server
+from lab.wrong import Wrong
+
+PORT, NEXT_PORTS = 8321, 20
+HELP = """\
+Opens a page in the browser on which you draw a network and everything of it moves: its
+plan, its rounds, runs without a clock, and what goes wrong without a rule.
+
+The page comes from this command, which answers this machine alone and needs no other.
+Ctrl-C ends it, and all that it has started. If the proved programs aren't built yet, it
+begins at once with Python's definitions, says so on the page, and has a button there
+that proves and builds them.
+"""
+MORE_HELP = f"""\
+NETWORK is a file in any form that `network read` reads, or - for standard input.
+
+The address has a token, without which nothing is answered: give it to nobody. The page
+keeps it, so that a link to what it shows has none. Lessons and links are for port {PORT};
+if it is taken, one of the next {NEXT_PORTS - 1} is used, and printed. Through `ssh -L` the port has
+to be the same at both ends.
+
+With --own the nodes can run a program of your own, too (docs/learn/OWN_ALGORITHM.md):
+the page names no file, it has the choice between those given here. It is run as it is,
+with your rights.
+
+Status: 0 ended by Ctrl-C, 1 the network can't be read or the port is taken, 2 the command
+line is refused.
+
+Example:
+  bin/studio examples/petersen.col
+"""
+
+
+def command_line():
+    words = argparse.ArgumentParser(prog="studio", usage="studio [NETWORK] [options]", description=HELP,
+                                    epilog=MORE_HELP, formatter_class=argparse.RawDescriptionHelpFormatter)
+    words.add_argument("network", metavar="NETWORK", nargs="?", help="the network to begin with")
+    words.add_argument("--port", type=int, metavar="N", help=f"the port, and no other; else {PORT} or one of the next")
+    words.add_argument("--no-browser", action="store_true", help="only print the address")
+    words.add_argument("--own", action="append", default=[], metavar="FILE.py", help="a program of your own; may be "
+                       "given again")
+    return words
+
+
+def opened(given):
+    """The network to begin with, as the page gets it."""
+    return None if given.network is None else shown(*read_any(text_at(given.network).encode(), given.network))
+
+
+def own_programs(files):
+    found = {}
+    for file in files:
+        program = program_at(file)
+        if not file.endswith(".py") or program.name in found or program.name in PROGRAMS:
+            raise Wrong(f"{file}: a file of your own, as NAME.py, of another name than the others")
+        found[program.name] = file
+    return found
+
+
+def server_at(port, folder):
+    """The server at a port, or at the first free one from the usual one on."""
+    for at in [port] if port is not None else range(PORT, PORT + NEXT_PORTS):
+        try:
+            return Server(at, secrets.token_urlsafe(24), folder)
+        except OSError as why:
+            refused = Wrong(f"port {at}: {why.strerror}")
+        except OverflowError:
+            refused = Wrong(f"there is no port {at}")
+    raise refused
+
+
+def can_open():
+    """Whether there is a browser with a window: one of the terminal would take the terminal."""
+    return sys.platform == "darwin" or any(os.environ.get(name) for name in ("DISPLAY", "WAYLAND_DISPLAY"))
+
+
+def open_browser(address, folder):
+    """Opens the address by a file that only its owner can read, since all can see the words that a browser was called
+    with."""
+    path = os.path.join(folder, "studio.html")
+    with open(path, "x", encoding="ascii", opener=lambda name, how: os.open(name, how, 0o600)) as file:
+        file.write(f'<!doctype html><meta http-equiv="refresh" content="0;url={address}">')
+    webbrowser.open("file://" + path)
+
+
+def main(words):
+    given = command_line().parse_args(words)
+    with tempfile.TemporaryDirectory(prefix="forestplan-studio-") as folder:
+        try:
+            OPENED.update(network=opened(given), own=own_programs(given.own), is_proved=are_built())
+            server = server_at(given.port, folder)
+        except Wrong as why:
+            print(f"studio: {why}", file=sys.stderr)
+            return 1
+        moved = server.server_port != PORT and given.port is None
+        also = f"; port {PORT} is taken, so lessons' links don't lead here" if moved else ""
+        print(f"studio: {server.address()}\nstudio: Ctrl-C ends it{also}", file=sys.stderr, flush=True)
+        return serve(server, None if given.no_browser or not can_open() else folder)
+
+
+def serve(server, folder):
+    """Answers until Ctrl-C; a browser is opened by a file of the folder."""
+    if folder:
+        open_browser(server.address(), folder)
+    # Each call is answered by a process of its own, which begins with what is loaded here.
+    gc.collect()
+    gc.freeze()
+    try:
+        server.serve_forever(poll_interval=0.3)
+    except KeyboardInterrupt:
+        return 0
+    finally:
+        server.end_all()

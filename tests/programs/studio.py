@@ -1,0 +1,266 @@
+"""Tests of the server of the studio: whom it answers, what it refuses, what it answers, and that a call ends with its
+browser."""
+import http.client
+import json
+import os
+import re
+import shutil
+import signal
+import socket
+import subprocess
+import sys
+import tempfile
+import time
+
+from tests import TOP
+from tests.cases import Case
+
+TRIANGLE = "p edge 3 3\ne 1 2\ne 1 3\ne 2 3\n"
+SLOW = "p edge 4 6\n" + "".join(f"e {v} {w}\n" for v in range(1, 5) for w in range(v + 1, 5))
+HUNGRY = "def greet(node):\n    return bytearray(3 << 30)\n\n\ndef next(node, pulse, inbox):\n    return []\n\n\n" \
+         "def result(node):\n    return ''\n"
+
+
+def processes_of(parent):
+    """The processes that one has started."""
+    with open(f"/proc/{parent}/task/{parent}/children", encoding="ascii") as file:
+        return [int(number) for number in file.read().split()]
+
+
+def begin(*words, top=TOP):
+    """(process, address) of a studio, as a shell in the foreground would start it."""
+    process = subprocess.Popen(
+        [sys.executable, "-S", os.path.join(top, "lab"), "studio", "--no-browser", *words], stderr=subprocess.PIPE,
+        text=True, preexec_fn=lambda: signal.signal(signal.SIGINT, signal.default_int_handler))
+    return process, re.search(r"http\S+", process.stderr.readline()).group()
+
+
+class Server(Case):
+    """A studio at a free port, and what is asked of it."""
+
+    words, top = (), TOP
+
+    def setUp(self):
+        with socket.create_server(("127.0.0.1", 0)) as free:
+            self.port = free.getsockname()[1]
+        self.process, address = begin("--port", str(self.port), *self.words, top=self.top)
+        self.token = address.partition("token=")[2]
+
+    def tearDown(self):
+        self.process.kill()
+        self.process.wait()
+        self.process.stderr.close()
+
+    def ask(self, path, body="{}", method="POST", **headers):
+        """(status, text) of a request; a header is None to be left out."""
+        given = {"Content-Length": str(len(body.encode())), "Host": f"127.0.0.1:{self.port}", "X-Token": self.token}
+        given |= {name.replace("_", "-"): value for name, value in headers.items()}
+        end = http.client.HTTPConnection("127.0.0.1", self.port, timeout=60)
+        end.putrequest(method, path, skip_host=True, skip_accept_encoding=True)
+        for name, value in given.items():
+            if value is not None:
+                end.putheader(name, value)
+        end.endheaders()
+        end.send(body.encode())
+        got = end.getresponse()
+        text = got.read().decode()
+        end.close()
+        return got.status, text
+
+    def answer(self, call, /, **asked):
+        status, text = self.ask(f"/call/{call}", json.dumps(asked))
+        return json.loads(text.split("\n")[-2]) if status == 200 else {"status": status}
+
+
+class Refusals(Server):
+    def test_refused(self):
+        """Who isn't the page gets nothing."""
+        own = f"http://127.0.0.1:{self.port}"
+        rows = [
+            ("the page's own call", 200, {"Origin": own, "Sec_Fetch_Site": "same-origin"}),
+            ("no token", 403, {"X_Token": None}), ("another token", 403, {"X_Token": "x" * 32}),
+            ("a token that is no ASCII", 403, {"X_Token": "\xff"}),
+            ("another page", 403, {"Origin": "http://evil.example"}),
+            ("a page without origin", 403, {"Origin": "null"}),
+            ("the same host, another port", 403, {"Origin": "http://127.0.0.1:1"}),
+            ("another site, as a browser says", 403, {"Sec_Fetch_Site": "cross-site"}),
+            ("another port of the same site", 403, {"Sec_Fetch_Site": "same-site"}),
+            ("a name that points here", 403, {"Host": f"evil.example:{self.port}"}),
+            ("no host", 403, {"Host": None}), ("too long", 413, {"Content_Length": "99999999"}),
+            ("no length", 413, {"Content_Length": None}), ("a negative length", 413, {"Content_Length": "-1"}),
+        ]
+        for name, wanted, headers in rows:
+            status, text = self.ask("/call/hello", **headers)
+            self.note(name, status == wanted, (status, text[:200]))
+        for path in ("/call/nothing", "/call/__class__", "/frame/hello", "/call/", "/", "/x/y/z"):
+            self.note(f"no call {path}", self.ask(path)[0] in (403, 404), self.ask(path))
+        for path in ("/../asked.py", "/asked.py", "/page/../../asked.py", "/%2e%2e/asked.py", "//etc/passwd"):
+            self.note(f"no file {path}", self.ask(path, "", "GET")[0] == 404, self.ask(path, "", "GET"))
+        self.note("the page", self.ask("/", "", "GET", X_Token=None)[0] == 200)
+        self.note("the page by another name", self.ask("/", "", "GET", Host="evil.example")[0] == 403)
+        self.note("no token in what needs none", self.token not in self.ask("/", "", "GET")[1])
+
+    def test_no_files(self):
+        """No call reads a file that it names, or runs a program that the command line hasn't given."""
+        for name in ("../lab/door", "/etc/passwd", "petersen.col", "../examples/petersen"):
+            self.note(f"example {name}", "no example" in self.answer("example", name=name).get("wrong", ""))
+        for name in ("/x.py", "x.py", "examples/algorithms/independent_set.py", "?"):
+            for call in ("run", "steps", "rounds"):
+                got = self.answer(call, network=TRIANGLE, program=name, policy="random")
+                self.note(f"{call} of program {name}", "no program" in got.get("wrong", ""), got)
+        rows = [("run", {"policy": "random", "slow": [[1, 9]]}, "isn't in this network"),
+                ("plan", {"network": "p edge 2 1\ne 1 3\n"}, "(F5)"), ("broken", {"without": "x"}, "no such rule"),
+                ("steps", {"without": "x"}, "no such rule"), ("steps", {"steps": "1"}, "isn't possible there"),
+                *(("steps", {"steps": word}, "isn't possible there") for word in ("1-9", "x", "1-2-1", "9", "0"))]
+        for call, asked, words in rows:
+            got = self.answer(call, **{"network": TRIANGLE} | asked)
+            self.note(f"{call} {asked}", words in got.get("wrong", ""), got)
+        for asked in ({}, {"network": 7}, {"network": None}, {"network": TRIANGLE, "vertex": "x"}):
+            self.note(f"nonsense {asked}", "wrong" in self.answer("why", **asked), self.answer("why", **asked))
+        self.note("still there", self.answer("hello")["answer"]["examples"])
+
+    def test_silent(self):
+        """Connections that say nothing, or less than they announce, keep nobody waiting."""
+        silent = [socket.create_connection(("127.0.0.1", self.port)) for _ in range(33)]
+        for end in silent[:3]:
+            end.sendall(f"POST /call/hello HTTP/1.1\r\nHost: 127.0.0.1:{self.port}\r\nX-Token: {self.token}\r\n"
+                        "Content-Length: 500\r\n\r\n{".encode())
+        begun = time.monotonic()
+        self.note("33 of them", self.answer("hello").get("answer"))
+        self.note("within the time that they have", time.monotonic() - begun < 30, time.monotonic() - begun)
+        for end in silent:
+            end.close()
+
+    def test_port(self):
+        done = subprocess.run([sys.executable, "-S", os.path.join(TOP, "lab"), "studio", "--port", str(self.port),
+                               "--no-browser"], capture_output=True, text=True, timeout=60)
+        self.note("a port that is taken", done.returncode == 1 and f"port {self.port}: " in done.stderr, done)
+
+
+class Memory(Server):
+    def setUp(self):
+        self.folder = tempfile.TemporaryDirectory()
+        self.addCleanup(self.folder.cleanup)
+        for name in ("hungry", "more"):
+            with open(os.path.join(self.folder.name, name + ".py"), "w", encoding="ascii") as file:
+                file.write(HUNGRY)
+        self.words = [word for name in ("hungry", "more")
+                      for word in ("--own", os.path.join(self.folder.name, name + ".py"))]
+        super().setUp()
+
+    def test_memory(self):
+        self.note("both programs", self.answer("hello")["answer"]["programs"][-2:] == ["hungry", "more"])
+        got = self.answer("rounds", network=TRIANGLE, program="hungry")
+        self.note("3 GB are refused", "MemoryError" in got.get("wrong", ""), got)
+        self.note("still there", self.answer("hello").get("answer"))
+
+
+class Answers(Server):
+    def test_answers(self):
+        plan = self.answer("plan", network=TRIANGLE)["answer"]
+        self.note("plan", plan["plan"] == [2, 3, 1], plan)
+        self.note("rounds", self.answer("rounds", network=TRIANGLE)["answer"]["last"] == 30)
+        run = self.answer("run", network=TRIANGLE, how="seed", policy="random", seed="7")["answer"]
+        good = run["judge"]["ok"] and run["results"] == [2, 3, 1] and run["same"][0] == run["same"][1]
+        self.note("run", good, run["same"])
+        lines = run["text"].split("\n")
+        got = self.answer("replay", network=TRIANGLE, transcript="\n".join(lines[:101]))["answer"]
+        self.note("a beginning of it", got["ok"] and got["entries"] == 100 and len(got["pulses"]) == 3, got)
+        spoilt = "\n".join(lines[:50] + lines[51:])
+        self.note("a line less", not self.answer("judge", network=TRIANGLE, transcript=spoilt)["answer"]["ok"])
+        rows = [([2, 3, 1], "proper 3"), ([2, 2, 1], "C4 vertices 1 2"), ([2, 0, 1], "C1 vertex 2"),
+                ([2, 4, 1], "C5 vertex 2"), ([0, 4, 4], "C5 vertex 2")]
+        for given, said in rows:
+            got = self.answer("check", network=TRIANGLE, plan=given)["answer"]
+            self.note(f"check {given}", got["said"] == said, got)
+        got = self.answer("check", network=TRIANGLE + "b 1 2\n", plan=[2, 3, 1])["answer"]
+        self.note("a barred channel", (got["code"], got["at"]) == ("C8", [1]), got)
+
+    def test_steps(self):
+        """A run made by hand: what is possible, what goes wrong without a rule, and the rest of it by chance."""
+        two = "p edge 2 1\ne 1 2\n"
+        start = self.answer("steps", network=two)["answer"]
+        self.note("two greetings are on their way", start["steps"] == ["1-2", "2-1"] and not start["made"], start)
+        done = self.answer("steps", network=two, by=200, seed="3")["answer"]
+        found = [look["c"] for look in done["looks"]]
+        self.note("chance ends it", found == [1, 2] and done["judge"]["ok"], done)
+        held = self.answer("steps", network=TRIANGLE, slow=[[1, 2]], by=200)["answer"]
+        at = [look["p"] for look in held["looks"]]
+        self.note("a held link holds its nodes", at[0] == at[1] == 0 and "1-2" in held["steps"], held)
+        step = self.answer("steps", network=TRIANGLE, in_step=True)["answer"]
+        self.note("in step", [look["p"] for look in step["looks"]] == [1, 1, 1], step["looks"])
+        early = "3-1_1-3_1-2_2-1_1-2_2-1"
+        wrong = self.answer("steps", network=TRIANGLE, without="acks,safes", steps="1")["answer"]
+        self.note("without safes and acks", "without `hello 2` from 2" in wrong["fault"], wrong)
+        run = self.answer("run", network=TRIANGLE, policy="random", seed="1", steps=early)["answer"]
+        begins = [line.split()[1:3] for line in run["text"].split("\n")[1:]]
+        self.note("the rest by chance", run["judge"]["ok"] and ["3", "take"] in begins, run["judge"])
+
+    def test_broken(self):
+        got = self.answer("broken", network="p edge 2 1\ne 1 2\n", without="shift")["answer"]
+        self.note("without a shift", "<svg" in got["picture"] and got["words"], got["words"])
+
+
+class Ends(Server):
+    def test_ends(self):
+        """A call ends with its browser, and all with the server."""
+        def search():
+            end = socket.create_connection(("127.0.0.1", self.port))
+            form = f"token={self.token}&network={SLOW.replace(chr(10), '%0A').replace(' ', '+')}"
+            end.sendall(f"POST /frame/adversary HTTP/1.1\r\nHost: 127.0.0.1:{self.port}\r\nContent-Length: "
+                        f"{len(form)}\r\n\r\n{form}".encode())
+            time.sleep(0.7)
+            return end
+        end = search()
+        self.note("a call is under way", len(processes_of(self.process.pid)) == 1, processes_of(self.process.pid))
+        end.close()
+        self.note("it ends with its browser", self.waits(lambda: not processes_of(self.process.pid)))
+        end = search()
+        under_way = processes_of(self.process.pid)
+        self.process.send_signal(signal.SIGINT)
+        self.note("Ctrl-C ends the server", self.process.wait(5) == 0)
+        self.note("and its calls", self.waits(lambda: not any(os.path.exists(f"/proc/{one}") for one in under_way)))
+        end.close()
+
+    def waits(self, is_so, seconds=5):
+        until = time.monotonic() + seconds
+        while not is_so() and time.monotonic() < until:
+            time.sleep(0.05)
+        return is_so()
+
+
+class Unbuilt(Answers):
+    """The same answers on a tree without a build: they are those of the definitions. The button begins the build."""
+
+    def setUp(self):
+        folder = tempfile.TemporaryDirectory()
+        self.addCleanup(folder.cleanup)
+        self.top = folder.name
+        for name in ("lab", "examples", "bin"):
+            shutil.copytree(os.path.join(TOP, name), os.path.join(self.top, name), symlinks=True)
+        # In place of the script that proves: it says so, and builds nothing.
+        with open(os.path.join(self.top, "forestplan"), "w", encoding="ascii") as file:
+            file.write("#!/bin/sh\necho $FORESTPLAN_BUILD_ONLY: 3 of 9 crates proved >&2\nsleep 30\n")
+        for name in ("forestplan", "forestplay"):
+            shutil.copy(os.path.join(self.top, "forestplan"), os.path.join(self.top, "bin", name))
+            os.chmod(os.path.join(self.top, "bin", name), 0o755)
+        with open(os.path.join(self.top, "bin", "rt"), "w", encoding="ascii") as file:
+            os.fchmod(file.fileno(), 0o755)
+        path = os.environ["PATH"]
+        os.environ["PATH"] = os.path.join(self.top, "bin") + os.pathsep + path
+        self.addCleanup(os.environ.__setitem__, "PATH", path)
+        super().setUp()
+
+    def test_build(self):
+        self.note("it isn't said to be proved", self.answer("hello")["answer"]["proved"] is False)
+        got = self.answer("run", network=TRIANGLE, how="threads")
+        self.note("no threads", "aren't built" in got.get("wrong", ""), got)
+        self.note("no build by itself", self.answer("built")["answer"]["lines"] == [])
+        self.answer("build")
+        time.sleep(0.5)
+        got = self.answer("built")["answer"]
+        self.note("a build in its own words", got["lines"] == ["1: 3 of 9 crates proved"] and not got["ended"], got)
+        building = processes_of(self.process.pid)
+        self.process.send_signal(signal.SIGINT)
+        self.note("Ctrl-C ends the server", self.process.wait(5) == 0)
+        self.note("and the build", building and not any(os.path.exists(f"/proc/{one}") for one in building), building)
