@@ -4,11 +4,15 @@ import re
 
 from lab.networks.listed import Listed
 from lab.networks.network_text import IDENTIFIERS, MAX_BARS, MAX_CHANNEL, fields_of, name_of, place_of, shown, whole
+from lab.networks.fields import is_number
 from lab.wrong import wrong_line
 
 BEGINS = re.compile(
     r"^[ \t]*(p[ \t]+[a-z]+[ \t]+[0-9]+|p[ \t]+[0-9]+[ \t]+[0-9]+|e[ \t]+[0-9]+[ \t]+[0-9]+)\b", re.M
 )
+
+# The words after `p` that the programs read.
+WORDS = ("edge", "edges", "col")
 
 
 def begins(text: str) -> bool:
@@ -19,12 +23,14 @@ def read(text: str, name: str) -> Listed:
     """Edges are lines `e V W` or `a V W WEIGHT`, or `V W` after `p tw`. Without a `p` line the greatest number counts.
     A line `i V NUMBER` gives V an identifier, and `b V CHANNEL` bars a channel at V."""
     found = Listed("DIMACS")
+    # The word after `p` and the number of edges, if there is a `p` line.
+    head = None, None
     for line, raw in enumerate(text.split("\n"), 1):
         fields = [field for field in fields_of(raw) if field]
         if not fields or fields[0] in ("n", "d", "v", "x"):
             continue
         if fields[0] == "p":
-            read_head(found, name, line, fields)
+            head = read_head(found, name, line, fields)
         elif fields[0].startswith("c"):
             read_comment(found, raw, fields)
         elif fields[0] == "i":
@@ -33,21 +39,32 @@ def read(text: str, name: str) -> Listed:
             read_bar(found, name, line, fields)
         else:
             ends = fields[1:3] if fields[0] in ("e", "a") else fields[:2]
-            if len(ends) < 2 or None in map(whole, ends):
+            is_bare = ends == fields[:2]
+            if len(ends) < 2 or None in map(whole, ends) or is_bare and head[0] in (None, *WORDS):
                 raise wrong_line(name, line, f"no edge: `{shown(raw.strip())}`")
+            if len(fields) > 4 - is_bare or not all(map(is_number, fields[3 - is_bare:])):
+                raise wrong_line(name, line, f"more than an edge and a weight: `{shown(raw.strip())}`")
             found.edges.append((line, str(whole(ends[0])), str(whole(ends[1]))))
+    if found.nodes is None:
+        found.left_out.append("there is no `p` line, so nodes without an edge aren't known")
+    there = len({frozenset(ends) for _, *ends in found.edges})
+    if head[1] not in (None, there, 2 * there, len(found.edges)):
+        found.left_out.append(f"the `p` line says {head[1]:,} edges, and the text has {there:,}: is it cut?")
     return found
 
 
 def read_head(found, name, line, fields):
-    numbers = [whole(field) for field in fields[1:] if whole(field) is not None]
+    """Its word, if there is one, and its number of edges."""
+    numbers = fields[1:]
+    word = numbers.pop(0) if numbers and whole(numbers[0]) is None else None
     if found.nodes is not None:
         raise wrong_line(name, line, "a second `p` line")
-    if len(numbers) < 2:
+    if len(numbers) != 2 or None in map(whole, numbers):
         raise wrong_line(name, line, f"no number of nodes and of edges: `{shown(' '.join(fields))}`")
-    found.nodes = numbers[0]
-    if fields[1] not in ("edge", "edges", "col"):
+    found.nodes = whole(numbers[0])
+    if word not in WORDS:
         found.notes.append(f"`{shown(' '.join(fields[:2]))}` is read like `p edge`")
+    return word, whole(numbers[1])
 
 
 def read_identifier(found, name, line, fields):

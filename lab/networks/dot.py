@@ -3,152 +3,224 @@ subgraph in braces at an end of an edge means all its nodes."""
 import re
 
 from lab.networks.listed import Listed
-from lab.networks.network_text import shown
-from lab.wrong import wrong_line
+from lab.networks.network_text import MAX_EDGES, shown
+from lab.wrong import Wrong, wrong_line
 
-BEGINS = re.compile(r"\s*(strict\s+)?(di)?graph\b[^{;]*\{", re.I)
-COMMENT = re.compile(r"/\*.*?\*/|//[^\n]*|^#[^\n]*", re.S | re.M)
+# One pass over the text: whichever of these begins first at a place is there. A line that begins with # is a comment.
 TOKEN = re.compile(
-    r'\s*(?:(?P<mark>--|->|[{}\[\];,:=])|(?P<id>"(?:[^"\\]|\\.)*"|<|-?\.?[0-9][\w.]*|[^\W\d]\w*))', re.S
+    r"""(?P<space>[ \t\r\n\f\v\ufeff]+ | //[^\n]*)
+      | (?P<block>/\*)
+      | (?P<mark>--|->|[{}\[\];,:=])
+      | (?P<quoted>")
+      | (?P<html><)
+      | (?P<number>-?(?:\.[0-9]+|[0-9]+(?:\.[0-9]*)?)(?![\w.]))
+      | (?P<word>[^\W\d]\w*)
+      | (?P<strange>[^\s{}\[\];,:="<]+|.)""", re.X | re.S
 )
-WORDS = {"node", "edge", "graph"}
+QUOTED = re.compile(r'[^"\\]+|\\.', re.S)
+WORDS = {"node", "edge", "graph", "digraph", "subgraph", "strict"}
+# No file that a person or a program writes has as many braces in each other, or as many edges between two subgraphs.
+DEEPEST, MOST_EDGES = 100, 4 * MAX_EDGES
 
 
-class Graph:
-    """`edges` as (line, name, name), and `nodes` as (line, name), once and again."""
+def tokens_of(text, name):
+    """(line, kind, value) of each token: a mark, a word without quotes, or a text, which is never a keyword."""
+    at, line = 0, 1
+    while at < len(text):
+        if text[at] == "#" and (at == 0 or text[at - 1] == "\n"):
+            at = end_of(text, "\n", at + 1) or len(text)
+            continue
+        found = TOKEN.match(text, at)
+        kind, value, start, at = found.lastgroup, found.group(), line, found.end()
+        if kind == "block":
+            at = end_of(text, "*/", at)
+        elif kind == "quoted":
+            at = end_of_quoted(text, at)
+        elif kind == "html":
+            at = end_of_html(text, at)
+        elif kind == "strange":
+            raise wrong_line(name, line, f"DOT isn't read on from `{shown(value)}`; a name of other letters than these "
+                                         "and digits needs quotes")
+        if at is None:
+            raise wrong_line(name, start, "DOT ends before its last brace: is the text cut?")
+        line += text.count("\n", found.start(), at)
+        if kind == "quoted":
+            value = text[found.end():at - 1].replace("\\\n", "").replace('\\"', '"')
+        elif kind == "html":
+            value = text[found.start():at]
+        if kind not in ("space", "block"):
+            yield start, {"mark": "mark", "word": "word"}.get(kind, "text"), value
 
-    def __init__(self):
-        self.edges, self.nodes, self.is_directed = [], [], False
+
+def end_of(text, mark, at):
+    """The place after a mark, or None."""
+    found = text.find(mark, at)
+    return found + len(mark) if found >= 0 else None
 
 
-def without_comments(text):
-    """Comments are replaced by their line feeds; those in quotes stay."""
-    parts = re.split(r'("(?:[^"\\]|\\.)*")', text)
-    parts[::2] = [COMMENT.sub(lambda found: "\n" * found.group().count("\n"), part) for part in parts[::2]]
-    return "".join(parts)
-
-
-def begins(text):
-    return BEGINS.match(without_comments(text)) is not None
+def end_of_quoted(text, at):
+    """The place after the quote that closes a text, or None."""
+    while found := QUOTED.match(text, at):
+        at = found.end()
+    return at + 1 if text[at:at + 1] == '"' else None
 
 
 def end_of_html(text, at):
-    """The end of a text in angle brackets, which has more of them inside, from after the first one on."""
+    """The end of a text in angle brackets, which has more of them inside, from after the first one on; or None."""
     depth = 1
     for found in re.compile("[<>]").finditer(text, at):
         depth += 1 if found.group() == "<" else -1
         if depth == 0:
             return found.end()
-    return len(text)
+    return None
+
+
+def begins(text):
+    """Whether the first words are those of a graph, up to its brace."""
+    words = []
+    try:
+        for _, kind, value in tokens_of(text, ""):
+            if kind == "mark" or len(words) > 3:
+                return value == "{" and re.fullmatch(r"(strict )?(di)?graph( \S+)?", " ".join(words)) is not None
+            words.append(value.lower() if kind == "word" else "text")
+    except Wrong:
+        pass
+    return False
 
 
 class Reader:
-    """A place in the list of tokens, which are (line, mark, id): one of mark and id is None."""
+    """A place in the list of tokens, and what was read before it: `edges` as (line, name, name), `nodes` as
+    (line, name), once and again, and the attribute `name` of nodes that have one."""
 
     def __init__(self, text, name):
-        self.name, self.at, self.tokens, self.graph = name, 0, [], Graph()
-        start, line = 0, 1
-        text = text.rstrip()
-        while start < len(text):
-            found = TOKEN.match(text, start)
-            if not found:
-                rest = text[start:].lstrip()
-                raise self.wrong(1 + text[:len(text) - len(rest)].count("\n"), rest.split()[0])
-            line += found.group()[:found.start(found.lastgroup) - start].count("\n")
-            end = found.end() if found["id"] != "<" else end_of_html(text, found.end())
-            value = text[found.start(found.lastgroup):end]
-            self.tokens.append((line, found["mark"], None if found["mark"] else value))
-            line += value.count("\n")
-            start = end
+        self.name, self.at, self.tokens, self.depth = name, 0, list(tokens_of(text, name)), 0
+        self.edges, self.nodes, self.labels, self.is_directed = [], [], {}, False
 
-    def wrong(self, line, what):
-        return wrong_line(self.name, line, f"DOT isn't read on from `{shown(what)}`")
+    def next(self):
+        """The next token; beyond the last one it is refused."""
+        if self.at == len(self.tokens):
+            line = self.tokens[-1][0] if self.tokens else 1
+            raise wrong_line(self.name, line, "DOT ends before its last brace: is the text cut?")
+        return self.tokens[self.at]
 
-    def mark(self):
-        return self.tokens[self.at][1] if self.at < len(self.tokens) else None
+    def is_at(self, *marks):
+        return self.at < len(self.tokens) and self.tokens[self.at][1] == "mark" and self.tokens[self.at][2] in marks
+
+    def is_word(self, *words):
+        _, kind, value = self.next()
+        return kind == "word" and value.lower() in words
 
     def skip(self, *marks):
         """Whether one of the marks is next; it is passed."""
-        if self.at < len(self.tokens) and self.mark() in marks:
-            self.at += 1
-            return True
-        return False
-
-    def word(self):
-        """The next token, which has to be an id, in small letters; or None."""
-        if self.at < len(self.tokens) and self.tokens[self.at][2] is not None:
-            return self.tokens[self.at][2].lower()
-        return None
+        found = self.is_at(*marks)
+        self.at += found
+        return found
 
     def id(self):
         """The line and the name of the next token."""
-        if self.at >= len(self.tokens):
-            raise wrong_line(
-                self.name, self.tokens[-1][0] if self.tokens else 1, "DOT ends before its last brace: is the text cut?"
-            )
-        line, mark, name = self.tokens[self.at]
-        if name is None:
-            raise self.wrong(line, mark)
+        line, kind, value = self.next()
+        if kind == "mark" or kind == "word" and value.lower() in WORDS:
+            raise wrong_line(self.name, line, f"DOT isn't read on from `{shown(value)}`")
         self.at += 1
-        return line, re.sub(r"\\\n", "", name[1:-1]).replace('\\"', '"') if name.startswith('"') else name
+        return line, value
 
-    def attributes(self):
-        while self.skip("["):
-            while not self.skip("]"):
-                if not self.skip("=", ",", ";"):
-                    self.id()
+    def graph(self):
+        """The whole text, which is one graph."""
+        if self.is_word("strict"):
+            self.at += 1
+        if not self.is_word("graph", "digraph"):
+            raise wrong_line(self.name, self.next()[0], "no `graph {` or `digraph {`")
+        self.at += 1
+        if not self.is_at("{"):
+            self.id()
+        if not self.skip("{"):
+            raise wrong_line(self.name, self.next()[0], "no `graph {` or `digraph {`")
+        self.statements()
+        if self.at < len(self.tokens):
+            line, _, value = self.next()
+            raise wrong_line(self.name, line, f"after the graph's last brace comes `{shown(value)}`: one graph is read")
 
-    def list_of_statements(self):
+    def statements(self):
         """All up to the closing brace; returns the names of the nodes in it."""
-        names = []
+        self.depth += 1
+        if self.depth > DEEPEST:
+            raise wrong_line(self.name, self.next()[0], f"more than {DEEPEST} braces in each other")
+        names = {}
         while not self.skip("}"):
-            if not self.skip(";", ","):
-                names += self.statement()
-        return names
+            if not self.skip(";"):
+                names |= dict.fromkeys(self.statement())
+        self.depth -= 1
+        return list(names)
 
     def statement(self):
-        if self.word() in WORDS and self.tokens[self.at + 1: self.at + 2] and self.tokens[self.at + 1][1] == "[":
+        is_before = self.tokens[self.at + 1: self.at + 2]
+        if self.is_word("node", "edge", "graph") and is_before and is_before[0][1:] == ("mark", "["):
             self.at += 1
             self.attributes()
             return []
-        if self.word() and self.tokens[self.at + 1: self.at + 2] and self.tokens[self.at + 1][1] == "=":
-            self.at += 2
+        if is_before and is_before[0][1:] == ("mark", "="):
+            self.id()
+            self.at += 1
             self.id()
             return []
-        line, left = self.end()
-        names = list(left)
+        left = self.end()
+        names, is_node = list(left), True
         while self.skip("--", "->"):
-            self.graph.is_directed |= self.tokens[self.at - 1][1] == "->"
-            line, right = self.end()
-            self.graph.edges += [(line, one, other) for one in left for other in right]
+            is_node = False
+            line, _, mark = self.tokens[self.at - 1]
+            self.is_directed |= mark == "->"
+            right = self.end()
+            if len(self.edges) + len(left) * len(right) > MOST_EDGES:
+                raise wrong_line(self.name, line, f"more than {MOST_EDGES:,} edges")
+            self.edges += [(line, one, other) for one in left for other in right]
             names, left = names + right, right
-        self.attributes()
+        said = self.attributes()
+        if is_node and len(names) == 1 and "name" in said:
+            self.labels[names[0]] = said["name"]
         return names
 
+    def attributes(self):
+        """The attributes in brackets, by their names."""
+        said = {}
+        while self.skip("["):
+            while not self.skip("]"):
+                if not self.skip(",", ";"):
+                    _, key = self.id()
+                    if self.skip("="):
+                        _, said[key] = self.id()
+        return said
+
     def end(self):
-        """An end of an edge: a node, or the nodes of a subgraph."""
-        if self.word() == "subgraph":
+        """An end of an edge: nodes with commas between them, or the nodes of a subgraph."""
+        if self.is_word("subgraph"):
             self.at += 1
-            if self.word():
-                self.at += 1
-        line = self.tokens[self.at][0] if self.at < len(self.tokens) else 1
+            if not self.is_at("{"):
+                self.id()
+            if not self.is_at("{"):
+                raise wrong_line(self.name, self.next()[0], "a subgraph is read where its nodes are")
         if self.skip("{"):
-            return line, self.list_of_statements()
+            return self.statements()
+        names = [self.node()]
+        while self.skip(","):
+            names.append(self.node())
+        return names
+
+    def node(self):
         line, name = self.id()
-        while self.skip(":"):
-            self.id()
-        self.graph.nodes.append((line, name))
-        return line, [name]
+        for _ in range(2):
+            if self.skip(":"):
+                self.id()
+        self.nodes.append((line, name))
+        return name
 
 
 def read(text: str, name: str) -> Listed:
     """The nodes and edges of a text."""
-    reader = Reader(without_comments(text), name)
-    while reader.word():
-        reader.at += 1
-    if not reader.skip("{"):
-        raise wrong_line(name, 1, "no `graph {` or `digraph {`")
-    reader.list_of_statements()
-    graph = reader.graph
-    notes = ["directions aren't read"] if graph.is_directed else []
-    return Listed("DOT", graph.edges, graph.nodes, notes)
+    reader = Reader(text, name)
+    reader.graph()
+    if not reader.nodes:
+        raise Wrong(f"{name}: a graph in DOT without a node; if it is a list of pairs: --as pairs")
+    notes = ["directions aren't read"] if reader.is_directed else []
+    found = Listed("DOT", reader.edges, reader.nodes, notes, is_exact=True)
+    found.names_by(reader.labels, "name")
+    return found

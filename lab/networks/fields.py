@@ -36,3 +36,19 @@ def why_no_number(fields, names):
                 return "a carriage return is inside the line, and only a line feed ends one"
             return f"`{shown(fields[at])}` is no number"
     return None
+
+
+def value_of(field: str) -> float | None:
+    """A number with a point or a comma before its fraction, as spreadsheets of some countries write it, or with the
+    other of both between its thousands; or None."""
+    if re.fullmatch(r"[-+]?(\d+[.,]?\d*|[.,]\d+)([eE][-+]?\d+)?", field):
+        return float(field.replace(",", "."))
+    if re.fullmatch(r"[-+]?\d{1,3}(,\d{3})+(\.\d*)?", field):
+        return float(field.replace(",", ""))
+    if re.fullmatch(r"[-+]?\d{1,3}(\.\d{3})+(,\d*)?", field):
+        return float(field.replace(".", "").replace(",", "."))
+    return None
+
+
+def is_number(field: str) -> bool:
+    return value_of(field) is not None

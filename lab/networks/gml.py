@@ -2,14 +2,17 @@
 import html
 import re
 
-from lab.networks.listed import Listed, named_by_labels
+from lab.networks.listed import Listed
 from lab.networks.network_text import shown
 from lab.wrong import Wrong, wrong_line
 
 BEGINS = re.compile(
     r"\s*(#[^\n]*\n\s*)*((creator|version|comment|directed|label)\s+(\"[^\"]*\"|[0-9.]+)\s+)*graph\s*\[", re.I
 )
-TOKEN = re.compile(r'(?P<space>\s+|#[^\n]*)|(?P<mark>[\[\]])|"(?P<string>[^"]*)"|(?P<word>[^\s\[\]"]+)')
+TOKEN = re.compile(r'(?P<space>\s+|#[^\n]*)|(?P<mark>[\[\]])|"(?P<string>[^"]*)"|(?P<word>[^\s\[\]"#]+(?=[\s\[\]"]|$))')
+
+# What nodes are called: networkx and yEd write the first, igraph and Graphviz the second.
+LABELS = ("label", "name")
 
 
 def begins(text: str) -> bool:
@@ -48,6 +51,8 @@ def tree_of(text: str, name: str) -> list:
             inside = open_lists.pop()
         elif mark:
             raise wrong_line(name, line, f"GML isn't read on from `{shown(value or mark)}`")
+        elif key is None and not re.fullmatch("[A-Za-z][0-9A-Za-z_]*", value):
+            raise wrong_line(name, line, f"`{shown(value)}` is no key of GML")
         elif key is None:
             key = line, value.lower()
         else:
@@ -65,39 +70,64 @@ def value_of(entries: list, key: str):
 
 def read(text: str, name: str) -> Listed:
     """The nodes and edges of the one graph."""
-    graphs = [value for _, key, value in tree_of(text, name) if key == "graph" and isinstance(value, list)]
+    tree = tree_of(text, name)
+    graphs = [value for _, key, value in tree if key == "graph" and isinstance(value, list)]
     if len(graphs) != 1:
         raise Wrong(f"{name}: it has {len(graphs)} graphs, and one is read")
-    found, labels, lines = Listed("GML"), {}, {}
+    refuse_others(tree, graphs[0], name)
+    found, labels, lines = Listed("GML", is_exact=True), {word: {} for word in LABELS}, {}
     for line, key, entries in graphs[0]:
         if key == "node":
-            node = value_of(entries, "id") if isinstance(entries, list) else None
-            if not isinstance(node, str) or node in lines:
-                what = "a node without an id" if node is None else f"a second node {shown(str(node))}"
+            node = one_of(entries, "id", name, line)
+            if node is None or node in lines:
+                what = "a node without an id" if node is None else f"a second node {shown(node)}"
                 raise wrong_line(name, line, what)
             lines[node] = line
             found.alone.append((line, node))
             read_node(found, node, entries, labels)
         elif key == "edge":
-            ends = [value_of(entries, end) for end in ("source", "target")] if isinstance(entries, list) else [None]
-            if not all(isinstance(end, str) for end in ends):
+            ends = [one_of(entries, end, name, line) for end in ("source", "target")]
+            if None in ends:
                 raise wrong_line(name, line, "an edge without source or target")
             found.edges.append((line, *ends))
     for line, *ends in found.edges:
         for end in ends:
             if end not in lines:
                 raise wrong_line(name, line, f"an edge names {shown(end)}, which is no node")
-    named_by_labels(found, labels, "label")
+    for word in LABELS:
+        if found.names_by(labels[word], word):
+            break
     if value_of(graphs[0], "directed") == "1":
         found.notes.append("directions aren't read")
     return found
 
 
+def refuse_others(tree: list, graph: list, name: str) -> None:
+    """Refuses nodes and edges that are elsewhere than in the graph, where nobody reads them."""
+    below = [(tree, False)]
+    while below:
+        entries, is_graph = below.pop()
+        for line, key, value in entries:
+            if isinstance(value, list):
+                if key in ("node", "edge") and not is_graph:
+                    raise wrong_line(name, line, f"`{key} [` isn't inside `graph [`, or is inside another one")
+                below.append((value, value is graph))
+
+
+def one_of(entries, key: str, name: str, line: int) -> str | None:
+    """The one value of a key, or None."""
+    values = [value for _, known, value in entries if known == key] if isinstance(entries, list) else []
+    if len(values) > 1:
+        raise wrong_line(name, line, f"two values of `{key}`")
+    return values[0] if values and isinstance(values[0], str) else None
+
+
 def read_node(found: Listed, node: str, entries: list, labels: dict) -> None:
-    """The label of a node, and its place of `graphics [ x .. y .. ]`."""
-    label, drawn = value_of(entries, "label"), value_of(entries, "graphics")
-    if isinstance(label, str):
-        labels[node] = label
+    """What a node is called, and its place of `graphics [ x .. y .. ]`."""
+    drawn = value_of(entries, "graphics")
+    for word in LABELS:
+        if isinstance(said := value_of(entries, word), str):
+            labels[word][node] = said
     if isinstance(drawn, list):
         try:
             found.places[node] = float(value_of(drawn, "x")), float(value_of(drawn, "y"))

@@ -1,8 +1,7 @@
 """A network in GraphML, as networkx, yEd, Gephi and igraph write it."""
-import re
 from xml.etree import ElementTree
 
-from lab.networks.listed import Listed, named_by_labels
+from lab.networks.listed import Listed
 from lab.networks.network_text import shown
 from lab.wrong import Wrong
 
@@ -23,7 +22,8 @@ def plain(tag: str) -> str:
 
 def read(text: str, name: str) -> Listed:
     """Its nodes and edges; those of graphs inside nodes too."""
-    if re.search(r"<!ENTITY|<!DOCTYPE[^>]*\[", text):
+    doctype = text.find("<!DOCTYPE")
+    if "<!ENTITY" in text or doctype >= 0 and "[" in text[doctype:text.find(">", doctype)]:
         raise Wrong(f"{name}: GraphML with entities of its own isn't read")
     try:
         # The text is decoded already, whatever encoding its first line names.
@@ -33,7 +33,10 @@ def read(text: str, name: str) -> Listed:
     graphs = [child for child in root if plain(child.tag) == "graph"]
     if len(graphs) != 1:
         raise Wrong(f"{name}: it has {len(graphs)} graphs, and one is read")
-    found = Listed("GraphML")
+    parts = [sum(plain(element.tag) in ("node", "edge") for element in part.iter()) for part in (root, graphs[0])]
+    if parts[0] != parts[1]:
+        raise Wrong(f"{name}: a node or an edge is outside of the graph")
+    found = Listed("GraphML", is_exact=True)
     words = {key.get("id"): key.get("attr.name", "").lower() for key in root.iter() if plain(key.tag) == "key"}
     said = {word: {} for word in LABELS + ACROSS + DOWN}
     for at, element in enumerate(graphs[0].iter(), 1):
@@ -47,8 +50,7 @@ def read(text: str, name: str) -> Listed:
     leave_groups(found, graphs[0])
     read_places(found, said)
     for word in LABELS:
-        if said[word]:
-            named_by_labels(found, said[word], word)
+        if found.names_by(said[word], word):
             break
     if any(graph.get("edgedefault") == "directed" for graph in graphs):
         found.notes.append("directions aren't read")
@@ -94,7 +96,7 @@ def leave_groups(found: Listed, graph: ElementTree.Element) -> None:
               and any(plain(child.tag) == "graph" for child in element)}
     groups -= {end for _, *ends in found.edges for end in ends}
     if groups:
-        found.notes.append(f"groups of nodes, without an edge of their own, are no nodes: {len(groups)}")
+        found.left_out.append(f"groups of nodes, without an edge of their own, are no nodes: {len(groups)}")
         found.alone = [(at, node) for at, node in found.alone if node not in groups]
 
 

@@ -1,76 +1,138 @@
 """Whether the first row of pairs is a heading, and which columns name the ends of an edge."""
 import re
+from dataclasses import dataclass, field
 
 from lab.networks.network_text import shown, whole
-from lab.networks.unread import is_number
-from lab.wrong import Wrong
+from lab.networks.fields import is_number
+from lab.wrong import Wrong, wrong_line
 
 # Headings of the two columns that name an edge's ends, as Gephi, networkx, igraph and people write them.
 ENDS = {"source": "target", "from": "to", "src": "dst", "start": "end", "node": "neighbour", "from_id": "to_id",
         "source_id": "target_id", "from_site": "to_site", "from site": "to site", "transmitter": "receiver",
-        "victim": "interferer", "von": "nach", "quelle": "ziel", "sender": "empfänger"}
+        "victim": "interferer", "von": "nach", "quelle": "ziel", "sender": "empfänger", "fromnodeid": "tonodeid"}
 # And headings that differ in their last letter, as `site_a` and `site_b`, or `Site 1` and `Site 2`.
 NOUN = "(site|node|station|transmitter|mast|cell|vertex|id|standort|sender|knoten|zelle|anlage)"
 SECOND = {"a": "b", "1": "2"}
+# Words that make nobody think of a site, in a first row.
+TITLES = {*ENDS, *ENDS.values(), *NOUN[1:-1].split("|"), "name", "nodes", "sites", "edge", "other", "label"}
+# Words in place of a number that isn't known.
+MISSING = {"", "-", "?", "n/a", "na", "nan", "none", "null", "inf", "unknown", "unbekannt", "k.a.", "k. a."}
 # Parts of headings of tables that list channels.
 OF_CHANNELS = ("channel", "frequency", "kanal", "kanäl", "kanael", "frequenz")
 # And headings of tables of places.
 OF_PLACES = {"lat", "latitude", "easting", "breite", "breitengrad", "rechtswert", "ostwert"}
 
 
-def columns_of(rows: list, name: str, heading: bool | None) -> tuple[bool, tuple[int, int] | None]:
-    """Whether the first row is a heading, and the columns of both ends if it names them. `heading` is what the caller
-    knows of it; if it isn't known and the rows don't show it, they are refused."""
-    named = ends_named(rows)
-    if heading is not None:
-        return heading, named if heading else None
-    of_channels = next((word for word in rows[0][1] if any(part in word.lower() for part in OF_CHANNELS)), None)
-    if of_channels and not named:
+@dataclass
+class Heading:
+    """What is known of the first row: whether it `is_there` as a heading; the `columns` of both ends, if it names them;
+    the rows of the `body`; what of the rows is left out; and the refusal if it may be a heading or a pair."""
+
+    is_there: bool
+    columns: tuple[int, int] | None
+    body: list
+    left_out: list[str] = field(default_factory=list)
+    doubt: Wrong | None = None
+
+
+def heading_of(rows: list, name: str, heading: bool | None) -> Heading:
+    """The heading of rows. `heading` is what the caller knows of it; if it isn't known and the rows don't show it, they
+    are refused."""
+    line, first = rows[0]
+    again = [row for row in rows[1:] if folded(row[1]) == folded(first)]
+    body = [row for row in rows[1:] if folded(row[1]) != folded(first)]
+    columns, is_guess = None, False
+    if heading is None:
+        columns = columns_named(rows[0], body, name)
+        heading = columns is not None
+        if not heading:
+            refuse_tables(first, name)
+            heading = is_guess = shows_numbers(first, body, name, line)
+        if not heading and may_be_heading(first, body):
+            return Heading(False, None, body or rows, doubt=unsure(name, line, first))
+    elif heading:
+        columns = ends_named(first)
+    if not heading:
+        return Heading(False, None, rows)
+    found = Heading(True, columns, body)
+    if is_guess:
+        found.left_out.append(f"line {line} (`{shown(','.join(first))}`) is taken for a heading (else: --heading no)")
+    if again:
+        count = "1 line" if len(again) == 1 else f"{len(again):,} lines"
+        found.left_out.append(f"{count} with the heading again left out, first at line {again[0][0]}")
+    return found
+
+
+def folded(fields: list[str]) -> list[str]:
+    return [word.casefold() for word in fields]
+
+
+def unsure(name: str, line: int, fields: list[str]) -> Wrong:
+    return Wrong(f"{name}: line {line} (`{shown(','.join(fields))}`) may be a heading or a pair: say --heading yes or "
+                 "--heading no")
+
+
+def refuse_tables(first: list[str], name: str) -> None:
+    """Refuses a first row that is the heading of another table."""
+    of_channels = next((word for word in first if any(part in word.lower() for part in OF_CHANNELS)), None)
+    if of_channels:
         raise Wrong(f"{name}: the column `{shown(of_channels)}` is no end of an edge: --bars reads a table of site and "
                     "channel, and --licence one of channels (if these are pairs: --heading yes or --heading no)")
-    if not named and OF_PLACES & {word.lower() for word in rows[0][1]}:
+    if OF_PLACES & {word.lower() for word in first}:
         raise Wrong(f"{name}: these columns look like places, which --sites reads (if they are pairs: --heading yes)")
-    if named or shows_numbers(rows):
-        return True, named
-    if is_alone(rows):
-        raise Wrong(f"{name}: line {rows[0][0]} (`{shown(','.join(rows[0][1]))}`) may be a heading or a pair: say "
-                    "--heading yes or --heading no")
-    return False, None
 
 
-def ends_named(rows: list) -> tuple[int, int] | None:
-    """The columns that the first row names as ends, unless these words come again below them."""
-    words = [word.lower() for word in rows[0][1]]
+def ends_named(first: list[str]) -> tuple[int, int] | None:
+    """The columns that a row names as ends."""
+    words = [word.lower() for word in first]
     lettered = [re.fullmatch(NOUN + r"[ _.-]?[a1]", word) for word in words]
     pairs = {word: word[:-1] + SECOND[word[-1]] for word, found in zip(words, lettered) if found} | ENDS
-    for one, other in pairs.items():
-        if one in words and other in words:
-            columns = words.index(one), words.index(other)
-            below = {fields[at].lower() for _, fields in rows[1:] for at in columns if at < len(fields)}
-            # Nodes may be called `Site 1` and `Site 2`, too.
-            is_named = one not in ENDS and any(re.fullmatch(NOUN + r"[ _.-]?\w{1,4}", name) for name in below)
-            return None if below & {one, other} or is_named else columns
-    return None
+    return next(((words.index(one), words.index(other)) for one, other in pairs.items()
+                 if one in words and other in words), None)
 
 
-def shows_numbers(rows: list) -> bool:
-    """Whether a column has numbers, but for its first row: both ends, or one after them."""
-    first, body = rows[0][1], [fields for _, fields in rows[1:]]
+def columns_named(row: tuple[int, list[str]], body: list, name: str) -> tuple[int, int] | None:
+    """The columns that the first row names as ends, unless its words may be names of nodes, as `Site 1` and `Site 2`
+    are. Rows that have these words again are refused."""
+    line, first = row
+    columns = ends_named(first)
+    if columns is None:
+        return None
+    wanted = [first[at].lower() for at in columns]
+    below = [(number, [fields[at].lower() if at < len(fields) else "" for at in columns]) for number, fields in body]
+    if wanted[0] not in ENDS and any(re.fullmatch(NOUN + r"[ _.-]?\w{1,4}", end) for _, ends in below for end in ends):
+        return None
+    second = next((number for number, ends in below if ends == wanted), None)
+    if second:
+        raise wrong_line(name, second, "the heading of a second table: write both tables into one with the same columns")
+    if any(end in wanted for _, ends in below for end in ends):
+        raise unsure(name, line, first)
+    return columns
+
+
+def shows_numbers(first: list[str], body: list, name: str, line: int) -> bool:
+    """Whether a column has numbers, but for its first row: both ends, or one after them. If one end of the first row
+    is a number, or comes again, it may be a pair."""
     if not body or len(first) < 2:
         return False
-    ends = {field for fields in body for field in fields[:2]}
-    if all(whole(field) is not None for field in ends) and None in map(whole, first[:2]):
+    ends = {end for _, fields in body for end in fields[:2] if end}
+    if ends and all(whole(end) is not None for end in ends) and None in map(whole, first[:2]):
+        if any(whole(end) is not None for end in first[:2]):
+            raise unsure(name, line, first)
         return True
     for at in range(2, len(first)):
-        below = [fields[at] for fields in body if at < len(fields) and fields[at]]
-        if first[at] and not is_number(first[at]) and below and all(map(is_number, below)):
+        below = [fields[at] for _, fields in body if at < len(fields) and fields[at]]
+        if below and all(map(is_number, below)) and not is_number(first[at]) and first[at].lower() not in MISSING:
+            if ends & set(first[:2]):
+                raise unsure(name, line, first)
             return True
     return False
 
 
-def is_alone(rows: list) -> bool:
-    """Whether the words of the first row come in no other, though names of the others come again: it may be a
-    heading."""
-    first, body = set(rows[0][1][:2]), [field for _, fields in rows[1:] for field in fields[:2] if field]
-    return (len(rows) > 2 and len(rows[0][1]) > 1 and not any(map(is_number, first)) and not first & set(body)
-            and len(set(body)) < len(body))
+def may_be_heading(first: list[str], body: list) -> bool:
+    """Whether the words of the first row come in no other, though names of the others come again; or one of them is a
+    word that headings have."""
+    ends = [end for _, fields in body for end in fields[:2] if end]
+    if len(first) < 2 or any(map(is_number, first)) or set(first[:2]) & set(ends):
+        return False
+    return any(word in TITLES for word in folded(first[:2])) or len(body) > 1 and len(set(ends)) < len(ends)

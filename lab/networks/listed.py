@@ -1,8 +1,12 @@
 """A network as a text lists it, before its nodes have numbers: what each reader of a form returns."""
 import codecs
 import io
+import re
+import unicodedata
+from collections.abc import Callable
 from dataclasses import dataclass, field
 
+from lab.networks.fields import shown
 from lab.wrong import Wrong
 
 # More bytes than a network within the limits needs in any form.
@@ -19,7 +23,8 @@ class Listed:
     """`edges` has (line, name, name), and `alone` (line, name) of nodes that are named without a neighbour. If the text
     says how many nodes there are, that is `nodes`, and the names are numbers. `names` and `places` are by numbers then,
     and else `places`, `identifiers` and `bars` are by those names. `notes` says what was guessed or mended, `left_out`
-    what of the text isn't in the network, and `order` all nodes in the order of a table of sites, if there is one."""
+    what of the text isn't in the network, and `order` all nodes in the order of a table of sites, if there is one. If
+    the form says exactly which names are one node's, it `is_exact`."""
 
     form: str
     edges: list[tuple[int, str, str]] = field(default_factory=list)
@@ -32,11 +37,80 @@ class Listed:
     identifiers: dict[str, int] = field(default_factory=dict)
     bars: dict[str, set[int]] = field(default_factory=dict)
     order: list[str] | None = None
+    is_exact: bool = False
+
+    def rename(self, new: Callable[[str], str]) -> None:
+        """Gives each node another name."""
+        self.edges = [(line, new(one), new(other)) for line, one, other in self.edges]
+        self.alone = [(line, new(node)) for line, node in self.alone]
+        if self.nodes is None:
+            self.places = {new(node): place for node, place in self.places.items()}
+        self.identifiers = {new(node): number for node, number in self.identifiers.items()}
+        self.bars = {new(node): channels for node, channels in self.bars.items()}
+
+    def names_by(self, labels: dict[str, str], word: str) -> bool:
+        """Names the nodes by their labels, if each has one of its own; says whether."""
+        nodes = {name for _, name in self.alone}
+        cleaned = {node: clean(label) for node, label in labels.items() if node in nodes}
+        is_named = bool(nodes) and len(set(cleaned.values()) - {""}) == len(nodes)
+        if is_named and any(cleaned[node] != node for node in nodes):
+            self.rename(cleaned.__getitem__)
+            self.notes.append(f"nodes are named by their {word}")
+        return is_named
 
 
 def clean(name: str) -> str:
-    """A name as one line has it."""
+    """A name as one line has it: one blank in place of several, letters composed, and no invisible ones. So a name is
+    the same however it was typed."""
+    if not name.isascii():
+        composed = unicodedata.normalize("NFC", name)
+        name = "".join(letter for letter in composed if unicodedata.category(letter) != "Cf")
     return " ".join(name.split())
+
+
+def with_clean_names(found: Listed, name: str) -> None:
+    """Has all names as one line has them, and notes how many were mended. Two nodes of a form that tells them apart
+    don't become one so."""
+    lines: dict[str, int] = {}
+    for line, *ends in found.alone + found.edges:
+        for end in ends:
+            lines.setdefault(end, line)
+    cleaned = {raw: clean(raw) for raw in lines}
+    mended = [raw for raw in lines if raw != cleaned[raw]]
+    if mended:
+        if found.is_exact and len(set(cleaned.values())) < len(cleaned):
+            raise Wrong(f"{name}: two nodes have names that differ in blanks or in their kind of letters alone, as "
+                        f"{shown(twin_of(cleaned))}: rename one of them")
+        found.rename(lambda raw: cleaned.get(raw) or clean(raw))
+        count = "1 name" if len(mended) == 1 else f"{len(mended):,} names"
+        found.notes.append(f"{count} mended (blanks, invisible or composed letters), first at line {lines[mended[0]]}: "
+                           f"{shown(cleaned[mended[0]])}")
+    note_alike(found, sorted(set(cleaned.values()), key=lambda one: (one.casefold(), one)))
+
+
+def twin_of(cleaned: dict[str, str]) -> str:
+    """The first name that two others become."""
+    seen = set()
+    return next(one for one in cleaned.values() if one in seen or seen.add(one))
+
+
+def note_alike(found: Listed, names: list[str]) -> None:
+    """Notes names that a reader may take for one: they differ in capitals, in dashes, in kinds of letters or in the
+    zeros of a number alone."""
+    alike: dict[str, str] = {}
+    for one in names:
+        first = alike.setdefault(likeness(one), one)
+        if first != one:
+            found.notes.append(f"{shown(first)} and {shown(one)} are two nodes: are they meant to be one?")
+            return
+
+
+def likeness(name: str) -> str:
+    """What names have in common that look alike."""
+    if name.isascii() and re.fullmatch(r"[0-9]+(\.0*)?", name):
+        return name.partition(".")[0].lstrip("0") or "0"
+    letters = name if name.isascii() else unicodedata.normalize("NFKC", name)
+    return re.sub(r"[\u2010-\u2015\u2212]", "-", letters).casefold()
 
 
 def bytes_of(stream: io.BufferedIOBase, name: str) -> bytes:
@@ -81,15 +155,3 @@ def of_windows(data: bytes) -> tuple[str, str]:
         return data.decode("cp1252"), "Windows-1252"
     except UnicodeDecodeError:
         return data.decode("latin-1"), "Latin-1"
-
-
-def named_by_labels(found: Listed, labels: dict[str, str], word: str) -> None:
-    """Names the nodes by their labels, if each has one of its own."""
-    nodes = {name for _, name in found.alone}
-    cleaned = {node: clean(label) for node, label in labels.items() if node in nodes}
-    if not nodes or len(set(cleaned.values()) - {""}) != len(nodes) or all(cleaned[node] == node for node in nodes):
-        return
-    found.edges = [(line, cleaned[one], cleaned[other]) for line, one, other in found.edges]
-    found.alone = [(line, cleaned[node]) for line, node in found.alone]
-    found.places = {cleaned[node]: place for node, place in found.places.items()}
-    found.notes.append(f"nodes are named by their {word}")

@@ -5,6 +5,9 @@ from lab.networks.unread import unread
 from lab.wrong import Wrong, wrong_line
 
 HEAD = "%%matrixmarket"
+# How many fields a line has, by the kind of values; and which halves of the matrix are there.
+FIELDS = {"pattern": 2, "integer": 3, "real": 3, "complex": 4}
+SYMMETRIES = ("general", "symmetric", "skew-symmetric", "hermitian")
 
 
 def begins(text: str) -> bool:
@@ -13,10 +16,11 @@ def begins(text: str) -> bool:
 
 def read(text: str, name: str) -> Listed:
     """The entries that aren't zero as edges; a node for each row."""
-    found = Listed("Matrix Market")
     rows = [(line, raw.split()) for line, raw in enumerate(text.split("\n"), 1) if raw.strip()]
-    words = [word.lower() for word in rows[0][1]]
-    if words[1:3] != ["matrix", "coordinate"]:
+    words = [word.lower() for word in rows[0][1]] if rows else []
+    if words[:1] != [HEAD] or len(words) != 5 or words[4] not in SYMMETRIES:
+        raise Wrong(f"{name}: Matrix Market begins with a line as `%%MatrixMarket matrix coordinate pattern general`")
+    if words[1:3] != ["matrix", "coordinate"] or words[3] not in FIELDS:
         raise unread(name, f"Matrix Market of the kind `{shown(' '.join(words[1:3]))}`",
                      "G = nx.from_scipy_sparse_array(scipy.io.mmread(FILE))")
     rows = [(line, fields) for line, fields in rows[1:] if not fields[0].startswith("%")]
@@ -29,24 +33,25 @@ def read(text: str, name: str) -> Listed:
         raise Wrong(f"{name}: {sizes[0]} nodes, and a network has at most {MAX_NODES}")
     if len(rows) - 1 != sizes[2]:
         raise Wrong(f"{name}: it says {sizes[2]} entries and has {len(rows) - 1}: is it cut?")
-    found.nodes = sizes[0]
-    zeros = [line for line, fields in rows[1:] if is_zero(fields[2:])]
+    found, zeros = Listed("Matrix Market", nodes=sizes[0]), []
     for line, fields in rows[1:]:
-        ends = [whole(field) for field in fields[:2]]
-        if len(ends) < 2 or None in ends or not all(1 <= end <= sizes[0] for end in ends):
-            raise wrong_line(name, line, f"no row and column of 1 to {sizes[0]}: `{shown(' '.join(fields))}`")
-        if not is_zero(fields[2:]):
+        ends, values = [whole(field) for field in fields[:2]], [value_of(field) for field in fields[2:]]
+        if len(fields) != FIELDS[words[3]] or None in ends + values or not all(1 <= end <= sizes[0] for end in ends):
+            raise wrong_line(name, line, f"no row and column of 1 to {sizes[0]} with their values: "
+                                         f"`{shown(' '.join(fields))}`")
+        if values and not any(values):
+            zeros.append(line)
+        else:
             found.edges.append((line, str(ends[0]), str(ends[1])))
     if zeros:
         found.left_out.append(f"entries of value zero left out: {len(zeros)}, first at line {zeros[0]}")
-    if len(words) > 3 and words[3] != "pattern":
+    if words[3] != "pattern":
         found.notes.append("values, as weights are, aren't read")
     return found
 
 
-def is_zero(values: list[str]) -> bool:
-    """Whether an entry has values, all of them zero."""
+def value_of(field: str) -> float | None:
     try:
-        return bool(values) and not any(float(value) for value in values)
+        return float(field)
     except ValueError:
-        return False
+        return None

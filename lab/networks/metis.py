@@ -8,8 +8,7 @@ from lab.wrong import Wrong, wrong_line
 def read(text: str, name: str) -> Listed:
     """The edges, each of which has to be there at both its ends. Weights and sizes aren't read."""
     rows = [(line, raw.split()) for line, raw in enumerate(text.split("\n"), 1) if not raw.lstrip().startswith("%")]
-    while rows and not rows[0][1]:
-        rows.pop(0)
+    rows = rows[next((at for at, (_, fields) in enumerate(rows) if fields), len(rows)):]
     head = [whole(field) for field in rows[0][1]] if rows else []
     if not 2 <= len(head) <= 4 or None in head:
         raise wrong_line(name, rows[0][0] if rows else 1, "METIS begins with the numbers of nodes and edges")

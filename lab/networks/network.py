@@ -89,6 +89,7 @@ def was_read(given):
         found = listed_of(bytes_of(given.file), given.file, given.form, heading)
     name = given.file or given.sites
     if given.sites:
+        sites.by_names(found, name)
         sites.with_sites(found, sites.read_sites(bytes_of(given.sites), given.sites), given.sites, given.reach)
     if given.bars:
         sites.with_bars(found, bytes_of(given.bars), given.bars, licence)

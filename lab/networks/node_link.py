@@ -1,7 +1,7 @@
 """A network in JSON as nodes and links: networkx writes it (`node_link_data`), and D3 reads it."""
 import json
 
-from lab.networks.listed import Listed, named_by_labels
+from lab.networks.listed import Listed
 from lab.networks.network_text import shown
 from lab.networks.unread import unread
 from lab.wrong import Wrong
@@ -25,20 +25,38 @@ def word_of(value) -> str:
     return value if isinstance(value, str) else json.dumps(value)
 
 
+def object_of(entries: list) -> dict:
+    """An object, each of whose keys comes once: Python would keep the last one alone."""
+    found = dict(entries)
+    if len(found) < len(entries):
+        keys = [key for key, _ in entries]
+        raise ValueError(f"an object has `{next(key for key in keys if keys.count(key) > 1)}` twice")
+    return found
+
+
 def read(text: str, name: str) -> Listed:
     """The graph of an object with a list of nodes and a list of links."""
     try:
-        graph = json.loads(text)
+        graph = json.loads(text, object_pairs_hook=object_of)
+        # Half of a letter of two parts is none.
+        json.dumps(graph, ensure_ascii=False).encode()
+    except UnicodeEncodeError:
+        raise Wrong(f"{name}: a text has half of a letter, as \\ud800, which isn't one") from None
     except (ValueError, RecursionError) as why:
         raise Wrong(f"{name}: it begins like JSON, and isn't JSON: {shown(str(why))}") from None
-    links = next((graph[key] for key in LINKS if isinstance(graph.get(key), list)), None)
+    if not isinstance(graph, dict):
+        raise unread(name, "JSON, and no object with lists `nodes` and `links`")
+    lists = [graph[key] for key in LINKS if isinstance(graph.get(key), list)]
+    if len(lists) > 1:
+        raise Wrong(f"{name}: it has two lists of links, `links` and `edges`: which one is meant?")
+    links = lists[0] if lists else None
     nodes = graph.get("nodes")
     if links is None or not isinstance(nodes, list):
         known = next((reader for key, (kind, reader) in READERS.items() if isinstance(graph.get(key), kind)), None)
         if known is None and graph and all(isinstance(beside, list) for beside in graph.values()):
             known = OF_LISTS
         raise unread(name, "JSON, and no object with lists `nodes` and `links`", known)
-    found, labels = Listed("JSON of nodes and links"), {}
+    found, labels = Listed("JSON of nodes and links", is_exact=True), {}
     ids = [id_of(name, at, node) for at, node in enumerate(nodes)]
     by_place = all(one is None for one in ids)
     known = [str(at) if by_place else word_of(one) for at, one in enumerate(ids)]
@@ -47,9 +65,10 @@ def read(text: str, name: str) -> Listed:
     for at, (node, one) in enumerate(zip(nodes, known), 1):
         found.alone.append((at, one))
         read_node(found, node, one, labels)
+    names = set(known)
     for at, link in enumerate(links, 1 + len(nodes)):
-        found.edges.append((at, *ends_of(name, link, set(known))))
-    named_by_labels(found, labels, "label or name")
+        found.edges.append((at, *ends_of(name, link, names)))
+    found.names_by(labels, "label or name")
     if graph.get("directed") is True:
         found.notes.append("directions aren't read")
     return found

@@ -1,7 +1,7 @@
 """`bin/network read`: a network in one of the forms, as a text that the programs read, and what was guessed and left
 out."""
 from lab.networks.forms import listed
-from lab.networks.listed import clean, decoded
+from lab.networks.listed import decoded, with_clean_names
 from lab.networks.network_text import MAX_DEGREE, MAX_EDGES, MAX_NODES, read_network, shown, stem, two_alike, whole
 from lab.networks.texts import Made, text_of
 from lab.wrong import Wrong
@@ -61,6 +61,7 @@ def listed_of(data, name, form=None, heading=None):
     text, mended = decoded(data, name)
     found = listed(text, name, form, heading)
     found.notes[:0] = mended
+    with_clean_names(found, name)
     return found
 
 
@@ -91,8 +92,7 @@ def numbered(found):
     come."""
     names = dict.fromkeys(found.order or ())
     for line, *ends in sorted(found.edges + found.alone, key=lambda row: row[0]):
-        for end in ends:
-            names.setdefault(clean(end))
+        names |= dict.fromkeys(ends)
     numbers = {whole(name) for name in names}
     if None not in numbers and len(numbers) == len(names):
         ordered = sorted(names, key=whole)
@@ -135,9 +135,9 @@ def kept(found, number):
     edge is there in both directions is noted alone."""
     edges, both, again, loops = set(), 0, 0, []
     for line, one, other in found.edges:
-        v, w = number[clean(one)], number[clean(other)]
+        v, w = number[one], number[other]
         if v == w:
-            loops.append((line, clean(one)))
+            loops.append((line, one))
         elif (v, w) in edges:
             again += 1
         else:

@@ -3,26 +3,30 @@ import math
 import re
 from dataclasses import dataclass, field
 
+from lab.networks.lines import table_of
 from lab.networks.listed import Listed, clean, decoded
 from lab.networks.network_text import IDENTIFIERS, MAX_BARS, MAX_CHANNEL, MAX_EDGES, MAX_NODES, shown
-from lab.networks.reading import counted
-from lab.networks.rows import rows_of
+from lab.networks.reading import counted, numbered_by_text
 from lab.networks.spelling import named
 from lab.wrong import Wrong, wrong_line
 
 # Headings of the columns, in small letters without blanks, lines and points.
 NAMES = ("site", "name", "id", "siteid", "sitename", "node", "label", "transmitter", "station", "mast", "cell", "ap",
          "standort", "standortname", "bezeichnung", "kennung", "sender", "knoten", "zelle", "anlage")
-# Columns of a place, with what makes kilometres of them; latitude and longitude are in degrees.
-PLANES = (("x", "y", 1.0), ("xkm", "ykm", 1.0), ("xm", "ym", 0.001), ("easting", "northing", 0.001),
-          ("east", "north", 0.001), ("rechtswert", "hochwert", 0.001), ("ostwert", "nordwert", 0.001))
+# Columns of a place, with what makes kilometres of them, also with a unit after them; latitude and longitude are in
+# degrees.
+BARE = (("x", "y", 1.0), ("easting", "northing", 0.001), ("east", "north", 0.001), ("rechtswert", "hochwert", 0.001),
+        ("ostwert", "nordwert", 0.001))
+PLANES = BARE + tuple((f"{x}{unit}", f"{y}{unit}", factor) for x, y, _ in BARE
+                      for unit, factor in (("km", 1.0), ("m", 0.001)))
 GLOBES = (("lat", "lon"), ("lat", "lng"), ("lat", "long"), ("latitude", "longitude"), ("breite", "länge"),
           ("breitengrad", "längengrad"))
 IDENTIFIER = "identifier"
 CHANNELS = ("channel", "channels", "barredchannel", "barredchannels", "barred", "bar", "kanal", "kanäle",
             "gesperrterkanal", "gesperrtekanäle", "gesperrt")
-# The mean radius of the earth in kilometres.
+# The mean radius of the earth in kilometres, and half of its circumference.
 EARTH = 6371.0088
+WIDEST = math.pi * EARTH
 
 
 @dataclass
@@ -37,17 +41,31 @@ class Sites:
     points: list[tuple[float, float, float] | None] = field(default_factory=list)
     identifiers: list[int | None] = field(default_factory=list)
     notes: list[str] = field(default_factory=list)
+    is_globe: bool = False
 
 
 def table(data: bytes, name: str) -> tuple[list[str], list[tuple[int, list[str]]], list[str]]:
     """The headings of a table, as the words above, its rows, and what was mended."""
     text, mended = decoded(data, name)
-    rows, separator = rows_of(text)
-    if not rows or separator is None and len(rows[0][1]) > 1:
+    found = table_of(text, name, is_headed=True)
+    rows = found.rows
+    if not rows or found.separator is None and len(rows[0][1]) > 1:
         raise Wrong(f"{name}: no table with commas, semicolons or tabs between its columns in each line")
-    if separator is None:
+    if found.separator is None:
         rows = [(line, [" ".join(fields)]) for line, fields in rows]
-    return [re.sub(r"[\s_.\-]|\(.*\)", "", word.lower()) for word in rows[0][1]], rows[1:], mended
+    titles = rows[0][1]
+    for line, fields in rows[1:]:
+        if any(fields[len(titles):]):
+            raise wrong_line(name, line, f"more fields than the heading: `{shown(','.join(fields))}`")
+    return [heading_word(title) for title in titles], rows[1:], mended + found.notes
+
+
+def heading_word(title: str) -> str:
+    """A heading in small letters without blanks, lines and points. What is in brackets is dropped, unless it is the unit
+    of a place."""
+    title = re.sub(r"[\s_.\-]", "", title.lower())
+    word, unit = (re.fullmatch(r"([^(\[]*)[(\[](.*)[)\]]", title) or re.fullmatch("(.*)()", title)).groups()
+    return word + unit if any(word in places[:2] for places in BARE) else word
 
 
 def number_of(field: str) -> float | None:
@@ -77,7 +95,7 @@ def read_sites(data: bytes, name: str) -> Sites:
     plane = next((it for it in PLANES if it[0] in words and it[1] in words), None)
     globe = next((it for it in GLOBES if it[0] in words and it[1] in words), None)
     pair = globe or plane
-    found = Sites([words[at] for at in columns], [[] for _ in columns], notes=mended)
+    found = Sites([words[at] for at in columns], [[] for _ in columns], notes=mended, is_globe=globe is not None)
     for line, fields in rows:
         fields = fields + [""] * (len(words) - len(fields))
         found.lines.append(line)
@@ -92,6 +110,11 @@ def read_sites(data: bytes, name: str) -> Sites:
         if own and (number is None or number >= IDENTIFIERS):
             raise wrong_line(name, line, f"no identifier below 2^128: `{shown(own)}`")
         found.identifiers.append(number)
+    xs, ys = zip(*(point[:2] for point in found.points if point)) if any(found.points) else ((0,), (0,))
+    across = max(max(xs) - min(xs), max(ys) - min(ys))
+    if not globe and across > WIDEST:
+        found.notes.append(f"the sites of {name} are up to {across:,.0f} km apart, more than the earth is wide: "
+                           "columns in metres are called `x (m)` and `y (m)`")
     strips = {int(place[0] // 1000) for place in found.places if place}
     if not globe and plane and plane[0] == "rechtswert" and len(strips) > 1:
         raise Wrong(f"{name}: places in several strips of Gauss and Krüger have no common map; latitude and longitude "
@@ -123,7 +146,7 @@ def add_place(found: Sites, name: str, line: int, place: list[float] | None, uni
 def on_map(found: Sites) -> dict[int, tuple[float, float]]:
     """The places by row; of degrees a map with true lengths at their mean latitude, north on top."""
     rows = {at: place for at, place in enumerate(found.places) if place is not None}
-    if not any(point and point[2] for point in found.points):
+    if not found.is_globe or not rows:
         return rows
     middle = sum(latitude for _, latitude in rows.values()) / len(rows)
     degree = math.radians(1) * EARTH
@@ -143,10 +166,9 @@ def names_for(found: Sites, wanted: set[str], name: str) -> list[str]:
     return names
 
 
-def near(points: list[tuple[float, float, float] | None], reach: float):
+def near(points: list[tuple[float, float, float] | None], reach: float, is_globe: bool):
     """The pairs of rows that are less than the reach apart on the ground; those in neighbouring cells are looked at."""
     # On a globe the straight line is shorter than the way on the ground.
-    is_globe = any(point and point[2] for point in points)
     span = 2 * EARTH * math.sin(min(reach / (2 * EARTH), math.pi / 2)) if is_globe else reach
     cells = {}
     for at, point in enumerate(points):
@@ -161,31 +183,39 @@ def near(points: list[tuple[float, float, float] | None], reach: float):
                     yield at, other
 
 
-def by_names(found: Listed) -> None:
-    """Has a DIMACS text that names its vertices name its edges, identifiers and bars by them."""
-    names = {str(v): clean(name) for v, name in found.names.items()}
-    found.edges = [(line, *(names.get(end, end) for end in ends)) for line, *ends in found.edges]
-    found.identifiers = {names.get(v, v): number for v, number in found.identifiers.items()}
-    found.bars = {names.get(v, v): channels for v, channels in found.bars.items()}
-    found.names = {}
+def by_names(found: Listed, name: str) -> None:
+    """Has a text that numbers its vertices name them, those without an edge too, where it has names of them."""
+    if found.nodes is not None:
+        order, _ = numbered_by_text(found, name)
+        there = {end for _, *ends in found.edges for end in ends}
+        found.alone += [(1, vertex) for vertex in order.values() if vertex not in there]
+        names = {vertex: clean(found.names.get(v, vertex)) for v, vertex in order.items()}
+    else:
+        names = {str(v): clean(own) for v, own in found.names.items()}
+    ends = dict.fromkeys(end for _, *ends in found.alone + found.edges for end in ends)
+    if names and len({names.get(end, end) for end in ends}) < len(ends):
+        raise Wrong(f"{name}: two vertices have one name, so a table of sites can't tell them apart")
+    found.rename(lambda vertex: names.get(vertex, vertex))
+    found.nodes, found.names, found.places = None, {}, {}
 
 
 def with_sites(found: Listed, sites: Sites, name: str, reach: float | None) -> None:
-    """Gives a network the sites of a table: their order, places, identifiers, those without a neighbour, and the edges
-    of a reach. Pairs of a site that isn't in the table are left out."""
-    by_names(found)
-    pairs = {clean(end) for _, *ends in found.edges + found.alone for end in ends}
+    """Gives a network, whose nodes have names, the sites of a table: their order, places, identifiers, those without a
+    neighbour, and the edges of a reach. Pairs of a site that isn't in the table are left out."""
+    pairs = {end for _, *ends in found.edges + found.alone for end in ends}
     names = names_for(sites, pairs, name)
     known = set(names)
-    strange = [(line, end) for line, *ends in found.edges + found.alone for end in map(clean, ends) if end not in known]
+    rows = found.edges + found.alone
+    strange = [(line, end) for line, *ends in rows for end in ends if end not in known]
     if strange:
-        lines = {line for line, _ in strange}
         what = f"a site that isn't in {name}: {named(strange, known)}"
         if not pairs & known:
             raise Wrong(f"{name}: none of its names is in the pairs; each line has {what}")
-        found.left_out.append(f"{counted(len(lines), 'line')} left out, with {what}")
-        found.edges = [row for row in found.edges if row[0] not in lines]
-        found.alone = [row for row in found.alone if row[0] not in lines]
+        lost = sum(not known.issuperset(ends) for _, *ends in rows)
+        kind = "line" if found.form.startswith("pairs") else "edge or node"
+        found.left_out.append(f"{counted(lost, kind)} left out, with {what}")
+        found.edges = [row for row in found.edges if known.issuperset(row[1:])]
+        found.alone = [row for row in found.alone if row[1] in known]
     found.order = names
     found.notes += sites.notes
     found.places = {names[at]: place for at, place in on_map(sites).items()}
@@ -198,7 +228,7 @@ def with_sites(found: Listed, sites: Sites, name: str, reach: float | None) -> N
     if lost:
         found.left_out.append(f"{counted(len(lost), 'site')} without a place, joined to none by the reach, first: "
                               f"{shown(lost[0])}")
-    for count, (one, other) in enumerate(near(sites.points, reach)):
+    for count, (one, other) in enumerate(near(sites.points, reach, sites.is_globe)):
         if count > MAX_EDGES:
             raise Wrong(f"{name}: more than {MAX_EDGES} edges within {reach:g} km")
         found.edges.append((sites.lines[other], names[one], names[other]))
@@ -211,13 +241,18 @@ def with_bars(found: Listed, data: bytes, name: str, licence: list[int] | None) 
     channel = next((words.index(word) for word in CHANNELS if word in words), None)
     if site is None or channel is None:
         raise Wrong(f"{name}: the first line has to be a heading with site and channel")
-    known = {clean(end) for _, *ends in found.edges + found.alone for end in ends} | set(found.order or ())
+    known = {end for _, *ends in found.edges + found.alone for end in ends} | set(found.order or ())
+    if found.nodes is not None:
+        known |= set(numbered_by_text(found, name)[0].values())
     found.notes += mended
-    strange, outside = [], []
+    strange, outside, empty = [], [], []
     for line, fields in rows:
         fields = fields + [""] * (len(words) - len(fields))
         one = clean(fields[site])
-        for word in re.findall(r"[^\s,;]+", fields[channel]):
+        channels = re.findall(r"[^\s,;]+", fields[channel])
+        if not channels:
+            empty.append(line)
+        for word in channels:
             if not re.fullmatch(r"[0-9]{1,12}", word):
                 raise wrong_line(name, line, f"`{shown(word)}` is no channel")
             number = int(word) if licence is None else licence.index(int(word)) + 1 if int(word) in licence else None
@@ -231,9 +266,11 @@ def with_bars(found: Listed, data: bytes, name: str, licence: list[int] | None) 
                 found.bars.setdefault(one, set()).add(number)
         if len(found.bars.get(one, ())) > MAX_BARS:
             raise wrong_line(name, line, f"more than {MAX_BARS} channels are barred at {shown(one)}")
+    if empty:
+        found.left_out.append(f"{counted(len(empty), 'line')} of {name} without a channel left out, first: line {empty[0]}")
     if strange:
         found.left_out.append(f"{counted(len(strange), 'bar')} of {name} left out, of an unknown site: "
                               f"{named(strange, known)}")
     if outside:
         first = f"first at line {outside[0][0]} of {name}: {shown(outside[0][1])}"
-        found.left_out.append(f"{counted(len(outside), 'bar')} of a channel outside the licence left out, {first}")
+        found.notes.append(f"{counted(len(outside), 'bar')} of a channel outside the licence, which no plan takes: {first}")

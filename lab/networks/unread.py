@@ -3,8 +3,9 @@ read it as another network."""
 import re
 
 from lab.networks import metis
-from lab.networks.fields import shown, whole
-from lab.wrong import Wrong
+from lab.networks.fields import is_number, shown, value_of, whole
+from lab.networks.lines import DATA, without_inner_commas
+from lab.wrong import Wrong, wrong_line
 
 WRITE = "nx.write_graphml(G, FILE) writes what is read"
 # How texts begin, what they are, and how networkx reads them.
@@ -38,32 +39,53 @@ def unread(name: str, what: str, reader: str | None = None, otherwise: str = "")
     return Wrong(f"{name}: it looks like {what}, which isn't read{how}{otherwise}")
 
 
-def refuse_rows(rows: list[tuple[int, list[str]]], text: str, name: str) -> None:
+def refuse_rows(rows: list[tuple[int, list[str]]], separator: str | None, text: str, name: str) -> None:
     """Refuses rows of fields in a form that is known and not read."""
     fields = [row for _, row in rows]
     if is_graph6(fields):
         raise unread(name, "graph6", "G = nx.read_graph6(FILE)",
                      "; if each line is a node without a neighbour: --as pairs")
+    if all(row[0] in ("c", "p") for row in fields):
+        raise Wrong(f"{name}: it looks like DIMACS without an `e` line: is it cut? If these are pairs: --as pairs")
     mark = next((field for row in fields for field in row if field and not any(map(str.isalnum, field))), ":")
     if mark != ":":
         raise Wrong(f"{name}: `{shown(mark)}` is no name of a node; if it is: --as pairs, or --as adjacency")
+    if any(row[0].startswith("//") for row in fields):
+        raise Wrong(f"{name}: `//` begins no comment here, and no name: remove these lines; if they are pairs: --as pairs")
+    if have_counts(fields):
+        raise Wrong(f"{name}: these may be pairs and single nodes, or nodes with their neighbours in lines of their own: "
+                    "say --as pairs or --as multiline")
+    if any(are_cut(row) for row in fields):
+        raise Wrong(f"{name}: names in quotes with blanks can't be separated: write \"double quotes\", or commas between "
+                    "the fields")
     if any(field.count("(") != field.count(")") for row in fields for field in row):
         raise Wrong(f"{name}: names in brackets with blanks or commas can't be separated; "
                     "networkx: nx.convert_node_labels_to_integers(G), or nx.write_graphml(G, FILE)")
+    if any(field.startswith("{") or field.endswith("{}") or field.count("{") != field.count("}") or DATA.search(field)
+           for row in fields for field in row):
+        raise Wrong(f"{name}: braces that aren't data of networkx as it writes them; nx.write_edgelist(G, FILE, data=False) "
+                    "writes none (if these are names: --as pairs)")
+    inside = [(line, field) for line, row in rows for field in row if re.search("[,;]", without_inner_commas(field))]
+    if separator is None and inside:
+        raise wrong_line(name, inside[0][0], f"`{shown(inside[0][1])}` has a mark that separates fields in other tables, "
+                                             "and not each line has one (if these are names: --as pairs)")
     if is_trivial(text):
         raise unread(name, "TGF, nodes and then `#` and edges")
+    if has_counts(fields):
+        first = shown(" ".join(fields[0]))
+        raise Wrong(f"{name}: the first line (`{first}`) may be how many nodes and edges there are: remove it then; if "
+                    "it is a pair or a node: --as pairs, or --as adjacency")
     if is_matrix(fields) or is_labelled(fields):
         reader = "G = nx.from_numpy_array(numpy.loadtxt(FILE))"
         raise unread(name, "a matrix", reader, "; if these are pairs of nodes: --as pairs")
     if metis.is_like(text):
         raise Wrong(f"{name}: it looks like METIS, which is read if that is said: --as metis; if each line is a node "
                     "and its neighbours: --as adjacency")
-    if has_counts(fields):
-        first = shown(" ".join(fields[0]))
-        raise Wrong(f"{name}: the first line (`{first}`) may be how many nodes and edges there are: remove it then; if "
-                    "it is a pair or a node: --as pairs, or --as adjacency")
-    if ["0", "0"] in fields and all(row[1:] == ["0"] for row in fields):
+    if all(row[1:] == ["0"] for row in fields):
         raise Wrong(f"{name}: these may be pairs with 0, or nodes with no neighbours: say --as pairs or --as multiline")
+    if len(fields) > 1 and len(fields[0]) == 1 and all(len(row) > 1 for row in fields[1:]):
+        raise Wrong(f"{name}: the first line (`{shown(fields[0][0])}`) may be a title: remove it then; if it is a node: "
+                    "--as pairs, or --as adjacency")
     if all(len(row) < 2 or not any(row[1:]) for row in fields):
         if all("|" in row[0] for row in fields):
             raise Wrong(f"{name}: `|` isn't read between columns: write `;` or a comma in its place")
@@ -78,34 +100,23 @@ def is_trivial(text: str) -> bool:
     return bool(mark and after.strip()) and is_begun
 
 
-def value_of(field: str) -> float | None:
-    """A number with a point or a comma before its fraction, as spreadsheets of some countries write it, or with the
-    other of both between its thousands; or None."""
-    if re.fullmatch(r"[-+]?(\d+[.,]?\d*|[.,]\d+)([eE][-+]?\d+)?", field):
-        return float(field.replace(",", "."))
-    if re.fullmatch(r"[-+]?\d{1,3}(,\d{3})+(\.\d*)?", field):
-        return float(field.replace(",", ""))
-    if re.fullmatch(r"[-+]?\d{1,3}(\.\d{3})+(,\d*)?", field):
-        return float(field.replace(".", "").replace(",", "."))
-    return None
-
-
-def is_number(field: str) -> bool:
-    return value_of(field) is not None
-
-
 def is_matrix(fields: list[list[str]]) -> bool:
-    """Whether it is a square of numbers: of 0 and 1 alone, or with a diagonal of zeros that three pairs with weights
-    can't be taken for."""
+    """Whether it may be a square of numbers. Two lines of two whole numbers are pairs, unless all are 0 or 1 or it has
+    a diagonal of zeros; three of three, if weights alone have a point, are pairs with weights, and if each has all three
+    nodes, a triangle."""
     side = len(fields)
     if side < 2 or any(len(row) != side or not all(map(is_number, row)) for row in fields):
         return False
     numbers = [[value_of(field) for field in row] for row in fields]
-    if all(number in (0, 1) for row in numbers for number in row):
-        return True
-    if side < 3 or any(numbers[at][at] for at in range(side)):
-        return False
-    return side > 3 or all(numbers[i][j] == numbers[j][i] for i in range(side) for j in range(i))
+    are_zeros = not any(numbers[at][at] for at in range(side))
+    ends = [field for row in fields for field in row[:2]]
+    if side > 3 or None in map(whole, ends):
+        return side < 4 or are_zeros
+    if side == 3:
+        nodes = sorted(row[0] for row in fields)
+        is_triangle = len(set(nodes)) == 3 and all(sorted(row) == nodes for row in fields)
+        return not is_triangle and all(whole(row[2]) is not None for row in fields)
+    return all(number in (0, 1) for row in numbers for number in row) or are_zeros and numbers[0][1] == numbers[1][0]
 
 
 def is_labelled(fields: list[list[str]]) -> bool:
@@ -119,6 +130,28 @@ def is_labelled(fields: list[list[str]]) -> bool:
     is_square = len(names) > 1 and len(body) == len(names) and all(len(row) == len(names) + 1 for row in body)
     is_numbers = all(is_number(field) or not field for row in body for field in row[1:])
     return is_square and is_numbers and names == [row[0] for row in body]
+
+
+def have_counts(fields: list[list[str]]) -> bool:
+    """Whether each row of two has a number, and is followed by as many rows of one; some by one or more."""
+    left, most = 0, 0
+    for row in fields:
+        if left:
+            left -= 1
+            if len(row) != 1:
+                return False
+        else:
+            left = whole(row[1]) if len(row) == 2 else None
+            if left is None:
+                return False
+            most = max(most, left)
+    return left == 0 and most > 0
+
+
+def are_cut(row: list[str]) -> bool:
+    """Whether an apostrophe opens in one field and closes in a later one."""
+    opened = [at for at, field in enumerate(row) if field.startswith("'") and field.count("'") == 1]
+    return bool(opened) and any(field.endswith("'") and len(field) > 1 for field in row[opened[0] + 1:])
 
 
 def has_counts(fields: list[list[str]]) -> bool:
@@ -135,7 +168,7 @@ def has_counts(fields: list[list[str]]) -> bool:
             count not in ends and (count == len(body) or count > max(ends)) for count in counts
         )
     if len(first) == 3:
-        return first[0] == first[1] and first[2] == len(body)
+        return first[0] == first[1] and (first[2] == len(body) or max(ends) <= first[0])
     is_count = len(first) == 2 and first[1] == len(body) and max(ends) <= first[0]
     return is_count and (len(body[0]) == 3 or frozenset(fields[0]) not in {frozenset(row[:2]) for row in body})
 

@@ -1,0 +1,209 @@
+"""The lines of a text as rows of fields: what separates the fields, and which lines are comments. A line that may be a
+row or a comment is left out, and counted."""
+import re
+from dataclasses import dataclass, field
+
+from lab.networks.fields import shown
+from lab.networks.headings import ends_named
+from lab.wrong import Wrong, wrong_line
+
+Rows = list[tuple[int, list[str]]]
+MARKS = ("#", "%")
+# No line of a network within the limits has more letters.
+LONGEST = 1 << 20
+# What ends lines elsewhere, and is in no field.
+OTHER_ENDS = re.compile("[\x0b\x0c\x1c-\x1e\x85\u2028\u2029]")
+# Data of networkx at a line's end, a dictionary after a blank or a separator: keys, and values without blanks or in
+# quotes or brackets.
+KEY = r"""(?:'[^'{}]*'|"[^"{}]*"|[^\s'"{}:,]+)"""
+VALUE = r"""(?:'[^'{}]*'|"[^"{}]*"|[\w.]*[\[(][^\[\](){}]*[\])]|[^\s'"{}()\[\],]+)"""
+DATA = re.compile(rf"[ \t,;]\{{\s*(?:{KEY}\s*:\s*{VALUE}\s*(?:,\s*{KEY}\s*:\s*{VALUE}\s*)*)?\}}\s*$")
+
+# A field in quotes, or without, up to the separator or the end.
+QUOTED = {mark: re.compile(rf'[ {"" if mark == chr(9) else chr(9)}]*(?:"((?:[^"]|"")*)"[ ]*|([^{mark}"\s][^{mark}]*)?)({mark}|$)')
+          for mark in "\t;, "}
+
+
+@dataclass
+class Line:
+    """A line without its data of networkx, and these."""
+
+    number: int
+    text: str
+    data: str = ""
+
+    @property
+    def is_marked(self) -> bool:
+        return self.text.lstrip().startswith(MARKS)
+
+    @property
+    def is_apart(self) -> bool:
+        """Whether its mark stands by itself, so that no name begins with it."""
+        return re.match(r"\s*[#%]+(\s|$)", self.text) is not None
+
+    def end(self, separator: str | None) -> None:
+        """Takes what separates the data off the text; or the data are part of it, if nothing does."""
+        if self.data:
+            text = self.text.rstrip(" \t" if separator is None else " ")
+            is_apart = text != self.text if separator is None else text.endswith(separator)
+            self.text = text.removesuffix(separator or "\t") if is_apart else self.text + self.data
+            self.data = self.data if is_apart else ""
+
+
+@dataclass
+class Table:
+    """`rows` has (line, fields) of each line that is no comment and not empty. `separator` is None for blanks. If a
+    line has one field before its data of networkx, as only adjacency in several lines has, it `has_groups`; it
+    `is_even` if all lines have equally many fields."""
+
+    rows: Rows = field(default_factory=list)
+    separator: str | None = None
+    notes: list[str] = field(default_factory=list)
+    left_out: list[str] = field(default_factory=list)
+    has_groups: bool = False
+    by_networkx: bool = False
+    is_even: bool = True
+
+
+def table_of(text: str, name: str, is_headed: bool = False) -> Table:
+    """The rows of a text. If it `is_headed`, as a table of sites is, each line from its heading on is a row."""
+    lines = lines_of(text, name)
+    found = Table(by_networkx=is_by_networkx(lines))
+    comments = 3 if found.by_networkx else 0
+    lines = [line_of(line) for line in lines[comments:]]
+    found.separator = separator_of([line for line in lines if not line.is_apart])
+    found.separator = found.separator or separator_of([line for line in lines if not line.is_marked])
+    for line in lines:
+        line.end(found.separator)
+    kept, doubtful = [], []
+    have_marks = any(is_marked_name(part) for line in lines for part in parts_of(line, found.separator)[1:])
+    for line in lines:
+        is_first = not kept
+        if not line.is_marked or is_row(line, found.separator, is_first, is_headed, have_marks):
+            kept.append(line)
+        elif is_comment(line, found.separator, is_first, name) and not (have_marks and found.separator is None):
+            comments += 1
+        else:
+            doubtful.append(line)
+    doubtful = heading_taken(kept, doubtful, found.separator)
+    if doubtful:
+        marks = "a line that begins" if len(doubtful) == 1 else f"{len(doubtful):,} lines that begin"
+        found.left_out.append(f"{marks} with # or % left out, first at line {doubtful[0].number}: "
+                              f"{shown(doubtful[0].text.strip())} (names that begin so need quotes: \"#1\")")
+    if comments:
+        found.notes.append("1 line is a comment" if comments == 1 else f"{comments:,} lines are comments")
+    if any(line.data.strip("{ }") for line in kept):
+        found.notes.append("data in braces, as weights are, aren't read")
+    rows = [(line.number, fields_of(line, found.separator, name)) for line in kept]
+    found.is_even = len({len(row) for _, row in rows}) < 2
+    found.has_groups = any(line.data and len(parts_of(line, found.separator)) == 1 + line.is_apart for line in lines)
+    # Spreadsheets write empty rows, too.
+    found.rows = [(number, row) for number, row in rows if any(row)]
+    return found
+
+
+def lines_of(text: str, name: str) -> list[tuple[int, str]]:
+    """(line, text) of the lines that aren't blank."""
+    text = re.sub(r"\A\s*\"?sep=.\"?[ \t]*(?=\n)", "", text)
+    lines = [(number, line) for number, line in enumerate(text.split("\n"), 1) if line.strip()]
+    for number, line in lines:
+        if len(line) > LONGEST:
+            raise wrong_line(name, number, f"more than {LONGEST:,} letters, and no line of a network has as many")
+        if found := OTHER_ENDS.search(line):
+            raise wrong_line(name, number, f"`{shown(found.group())}` is inside the line; a line feed ends a line")
+    return lines
+
+
+def is_by_networkx(lines: list[tuple[int, str]]) -> bool:
+    """Whether the text has the head of networkx' adjacency lists: the command, the time and the graph's name."""
+    heads = [line for _, line in lines[:3]]
+    return len(heads) == 3 and all(head.startswith("#") for head in heads) and heads[1].startswith("# GMT")
+
+
+def line_of(row: tuple[int, str]) -> Line:
+    """A line apart from its data of networkx."""
+    number, text = row
+    found = DATA.search(text) if text.rstrip().endswith("}") else None
+    if not found or not text[:found.start()].strip():
+        return Line(number, text)
+    return Line(number, text[:found.start() + 1], text[found.start() + 1:])
+
+
+def separator_of(lines: list[Line]) -> str | None:
+    """The mark that separates the fields of each line, if there is one; the comma of numbers between blanks is none."""
+    for mark in ("\t", ";", ","):
+        if lines and all(mark in line.text for line in lines) and not (mark == "," and all(
+                len(line.text.split()) > 2 and not re.search(r"(?<!\d),|,(?!\d)", line.text) for line in lines)):
+            return mark
+    return None
+
+
+def parts_of(line: Line, separator: str | None) -> list[str]:
+    """The fields of a line, whatever quotes are in it."""
+    return [part.strip() for part in line.text.split(separator)]
+
+
+def is_marked_name(part: str) -> bool:
+    """Whether a field is a name that begins with the mark of a comment."""
+    return re.match(r"\"?[#%][^\s#%\"]", part) is not None
+
+
+def is_row(line: Line, separator: str | None, is_first: bool, is_headed: bool, have_marks: bool) -> bool:
+    """Whether a line that begins with a mark is a row for sure: other names begin so, or the table has no comments."""
+    has_more = len(parts_of(line, separator)) > 1
+    if is_headed:
+        return has_more and separator is not None or not is_first
+    return have_marks and has_more and not line.is_apart
+
+
+def is_comment(line: Line, separator: str | None, is_first: bool, name: str) -> bool:
+    """Whether a line that begins with a mark is a comment for sure."""
+    if "matrixmarket" in line.text.lower():
+        raise wrong_line(name, line.number, "Matrix Market begins with this line, as `%%MatrixMarket matrix coordinate "
+                                            "pattern general`: is the text damaged?")
+    return line.is_apart if separator is None else separator not in line.text and (is_first or line.is_apart)
+
+
+def heading_taken(kept: list[Line], doubtful: list[Line], separator: str | None) -> list[Line]:
+    """Takes the last doubtful line before the first row for its heading, if it names the ends of an edge; returns the
+    others."""
+    before = [line for line in doubtful if kept and line.number < kept[0].number]
+    if not before:
+        return doubtful
+    heading = Line(before[-1].number, before[-1].text.lstrip(" #%"))
+    if ends_named(parts_of(heading, separator)) is None:
+        return doubtful
+    kept.insert(0, heading)
+    return [line for line in doubtful if line is not before[-1]]
+
+
+def fields_of(line: Line, separator: str | None, name: str) -> list[str]:
+    """The fields of a line, without their quotes."""
+    if '"' not in line.text:
+        return parts_of(line, separator) if separator else [part for part in re.split("[ \t]+", line.text) if part]
+    text = line.text if separator else re.sub("[ \t]+", " ", line.text.strip())
+    fields, at, mark = [], 0, None
+    while mark != "":
+        found = QUOTED[separator or " "].match(text, at)
+        if not found:
+            raise wrong_line(name, line.number, f"its quotes aren't in pairs around a field: `{shown(text.strip())}`")
+        quoted, bare, mark = found.groups()
+        fields.append(quoted.replace('""', '"').strip() if quoted is not None else (bare or "").strip())
+        at = found.end()
+    return fields
+
+
+def uneven(text: str, name: str) -> tuple[int, str] | None:
+    """The first line without a mark that separates most other lines, and this mark; tabs alone are blanks as others
+    are, and commas inside of numbers and brackets separate nothing."""
+    lines = [(line.number, without_inner_commas(line.text)) for line in map(line_of, lines_of(text, name))
+             if not line.is_marked]
+    for mark in "\t;,":
+        without = [number for number, line in lines if mark not in line]
+        if without and 2 * len(without) < len(lines) and (mark != "\t" or re.search(r"\S \S", text)):
+            return without[0], {"\t": "tab"}.get(mark, f"`{mark}`")
+    return None
+
+
+def without_inner_commas(line: str) -> str:
+    return re.sub(r"\([^()]*\)|(?<=\d),(?=\d)", "", line)
