@@ -1,0 +1,463 @@
+"""A second reader of the forms that `network read` takes, slow, and apart from lab/networks: each function follows the
+description of its form, and is told which form a text has. What isn't in that form is `Unreadable`.
+
+A network is its edges as sets of two names, and the nodes without an edge."""
+import html
+import itertools
+import json
+import math
+import re
+import unicodedata
+from xml.dom import expatbuilder
+from xml.parsers.expat import ExpatError
+
+
+class Unreadable(ValueError):
+    """The text isn't in the form that it is said to have."""
+
+
+def want(good, what="another form"):
+    if not good:
+        raise Unreadable(what)
+
+
+def spelt(name):
+    """A name with one blank between its words, in composed letters, and without invisible ones."""
+    letters = [letter for letter in unicodedata.normalize("NFC", name) if unicodedata.category(letter) != "Cf"]
+    return " ".join("".join(letters).split())
+
+
+def network(pairs, nodes=()):
+    pairs = [(spelt(one), spelt(other)) for one, other in pairs]
+    nodes = {spelt(node) for node in nodes} | {end for pair in pairs for end in pair}
+    edges = frozenset(frozenset(pair) for pair in pairs if pair[0] != pair[1])
+    return edges, frozenset(nodes - set().union(*edges))
+
+
+def by_ids(pairs, nodes, labels=None):
+    """A network whose form lists its nodes, each once; they have their labels as names, if each has one of its own."""
+    want(len({spelt(node) for node in nodes}) == len(nodes), "two nodes of one name")
+    want({end for pair in pairs for end in pair} <= set(nodes), "an edge of no node")
+    names = {node: spelt((labels or {}).get(node, "")) for node in nodes}
+    if nodes and len(set(names.values()) - {""}) == len(nodes):
+        return network([(names[one], names[other]) for one, other in pairs], names.values())
+    return network(pairs, nodes)
+
+
+def lines(text):
+    """(its fields are still together) The lines that aren't blank, without a byte order mark."""
+    text = text.removeprefix("\ufeff").replace("\r\n", "\n").replace("\r", "\n")
+    return [line for line in text.split("\n") if line.strip()]
+
+
+def csv_row(line, mark):
+    """The fields of a line of CSV: those in double quotes may have the mark, and a quote twice is one."""
+    fields, at = [], 0
+    while True:
+        while line[at:at + 1] in (" ", "\t") and line[at] != mark:
+            at += 1
+        if line[at:at + 1] == '"':
+            field, at = "", at + 1
+            while True:
+                want(at < len(line), "a quote that isn't closed")
+                if line[at] == '"' and line[at + 1:at + 2] == '"':
+                    field, at = field + '"', at + 2
+                elif line[at] == '"':
+                    at += 1
+                    break
+                else:
+                    field, at = field + line[at], at + 1
+            at += len(re.match(" *", line[at:])[0])
+            want(at == len(line) or line[at] == mark, "something between a quote and the mark")
+        else:
+            end = line.find(mark, at)
+            end = len(line) if end < 0 else end
+            field, at = line[at:end], end
+        fields.append(field.strip())
+        if at == len(line):
+            return fields
+        at += 1
+
+
+def table(text, mark):
+    """The rows of CSV. A comment has no mark of a field; it comes before all rows, or has a blank after its mark."""
+    rows = lines(text)
+    while rows and mark not in rows[0] and rows[0].lstrip()[0] in "#%":
+        rows.pop(0)
+    rows = [line for line in rows if mark in line or not re.match(r"\s*[#%]+(\s|$)", line)]
+    return [row for row in (csv_row(line, mark) for line in rows) if any(row)]
+
+
+def csv_pairs(text, mark, heading=None):
+    """Pairs in the columns that the heading has, or in the first two if it isn't there."""
+    rows, columns = table(text, mark), (0, 1)
+    if rows:
+        rows[0][0] = re.sub("^[#%]+ *", "", rows[0][0]) if heading and set(heading[1:]) <= set(rows[0]) else rows[0][0]
+    if heading and rows and set(heading) <= set(rows[0]):
+        columns = [rows[0].index(word) for word in heading]
+        rows = rows[1:]
+    ends = [[row[at] if at < len(row) else "" for at in columns] for row in rows]
+    want(all(one for one, _ in ends), "no node")
+    return network([(one, other) for one, other in ends if other], [one for one, other in ends if not other])
+
+
+def words(line):
+    return [word for word in re.split("[ \t]+", line) if word]
+
+
+def quoted_words(line):
+    """The words of a line; one may be in double quotes, then it may have blanks."""
+    found = re.findall(r'"[^"]*"(?=[ \t]|$)|[^ \t]+', line)
+    return [word[1:-1] if word.startswith('"') and len(word) > 1 else word for word in found]
+
+
+def without_comments(text):
+    """The lines without those whose first word is the mark of a comment alone, and without networkx' head."""
+    rows = lines(text)
+    if [row[0] for row in rows[:3]] == ["#"] * 3 and rows[1].startswith("# GMT"):
+        rows = rows[3:]
+    return [line for line in rows if set(words(line)[0]) - set("#%")]
+
+
+def pairs(text):
+    """Two nodes in each line, and perhaps data of networkx or a weight; or one node alone."""
+    rows = [quoted_words(re.sub(r"[ \t]+\{([^{}]*:[^{}]*)?\}[ \t]*$", "", line)) for line in without_comments(text)]
+    want(all(len(row) < 4 for row in rows), "more than a pair and a weight")
+    return network([row[:2] for row in rows if len(row) > 1], [row[0] for row in rows if len(row) == 1])
+
+
+def adjacency(text):
+    """A node in each line, and its neighbours."""
+    rows = without_comments(text)
+    if all(re.search(r"^\S+[ \t]*:(\s|$)", line.strip()) for line in rows):
+        rows = [line.replace(":", " ", 1) for line in rows]
+    rows = [words(line) for line in rows]
+    return network([(row[0], other) for row in rows for other in row[1:]], [row[0] for row in rows])
+
+
+def multiline(text):
+    """A node and how many neighbours it has; then each of these in a line with data."""
+    rows, found, nodes = iter(without_comments(text)), [], []
+    for row in rows:
+        want(len(words(row)) == 2 and re.fullmatch("[0-9]+", words(row)[1]), "no node with a count")
+        node, count = words(row)
+        want(node not in nodes, "a node twice")
+        nodes.append(node)
+        for _ in range(int(count)):
+            fields = words(re.sub(r"[ \t]+\{.*", "", next(rows, "")))
+            want(len(fields) == 1, "no neighbour")
+            found.append((node, fields[0]))
+    return network(found, nodes)
+
+
+def dimacs(text):
+    """Lines `p edge N M` and `e V W`; vertices may count from 0."""
+    rows = [words(line) for line in lines(text)]
+    rows = [row for row in rows if row[0][0] != "c" and row[0] not in ("n", "d", "v", "x")]
+    heads = [row for row in rows if row[0] == "p"]
+    want(len(heads) == 1 and re.fullmatch("p ([^ ]*[^0-9 ][^ ]* )?[0-9]+ [0-9]+", " ".join(heads[0])), "no p line")
+    count, has_bare = int(heads[0][-2]), len(heads[0]) > 3 and heads[0][1] not in ("edge", "edges", "col")
+    edges = [row[row[0] in ("e", "a"):][:2] for row in rows if row[0] in ("e", "a") or has_bare and row[0] != "p"]
+    want(len(edges) + 1 == len(rows), "another line")
+    want(all(len(edge) == 2 and re.fullmatch("[0-9]+ [0-9]+", " ".join(edge)) for edge in edges), "no number")
+    ends = [tuple(map(int, edge)) for edge in edges]
+    least = 0 if any(0 in edge for edge in ends) else 1
+    want(all(least <= end < count + least for edge in ends for end in edge), "no vertex")
+    return network([tuple(map(str, edge)) for edge in ends], map(str, range(least, count + least)))
+
+
+def matrix_market(text):
+    """The head, comments, the sizes, and the entries, each of which joins its row and its column."""
+    rows = [words(line) for line in lines(text)]
+    want(rows and [word.lower() for word in rows[0][:3]] == ["%%matrixmarket", "matrix", "coordinate"], "no head")
+    want(len(rows[0]) == 5 and rows[0][4].lower() in ("general", "symmetric", "skew-symmetric", "hermitian"), "no kind")
+    length = {"pattern": 2, "real": 3, "integer": 3, "complex": 4}.get(rows[0][3].lower())
+    body = [row for row in rows[1:] if row[0][0] != "%"]
+    want(body and len(body[0]) == 3 and all(re.fullmatch("[0-9]+", word) for word in body[0]), "no sizes")
+    height, width, count = map(int, body[0])
+    want(height == width and count == len(body) - 1 and all(len(row) == length for row in body[1:]), "other sizes")
+    found = []
+    for row in body[1:]:
+        want(all(re.fullmatch("[0-9]+", word) and 1 <= int(word) <= height for word in row[:2]), "no place")
+        try:
+            values = [float(word) for word in row[2:]]
+        except ValueError:
+            raise Unreadable("no value") from None
+        if not values or any(values):
+            found.append((str(int(row[0])), str(int(row[1]))))
+    return network(found, map(str, range(1, height + 1)))
+
+
+def metis(text):
+    """How many nodes and edges there are, and a line of each node with its neighbours."""
+    rows = [words(line) for line in text.split("\n") if not line.lstrip().startswith("%")]
+    while rows and not rows[0]:
+        rows.pop(0)
+    want(rows and len(rows[0]) == 2 and all(re.fullmatch("[0-9]+", word) for row in rows for word in row), "no numbers")
+    nodes, edges = map(int, rows[0])
+    want(len(rows) > nodes and not any(rows[nodes + 1:]), "another number of lines")
+    found = [(v, int(word)) for v, row in enumerate(rows[1:nodes + 1], 1) for word in row]
+    want(len(found) == len(set(found)) == 2 * edges and {(w, v) for v, w in found} == set(found), "other ends")
+    want(all(1 <= w <= nodes for _, w in found), "no node")
+    return network([(str(v), str(w)) for v, w in found], map(str, range(1, nodes + 1)))
+
+
+def graphml(text):
+    """Elements `node` and `edge` of the one element `graph`, and data of a key that is called `label` or `name`."""
+    try:
+        root = expatbuilder.parseString(text.removeprefix("\ufeff").strip().encode(), namespaces=False).documentElement
+    except (ExpatError, ValueError, LookupError) as why:
+        raise Unreadable(str(why)) from None
+    graphs = [child for child in root.childNodes if child.nodeName == "graph"]
+    want(root.tagName == "graphml" and len(graphs) == 1, "not one graph")
+    for word in ("node", "edge"):
+        there = [element for element in root.getElementsByTagName(word)]
+        want(all(element.parentNode is graphs[0] for element in there), "a part elsewhere")
+    want(not root.getElementsByTagName("hyperedge"), "a hyperedge")
+    nodes = [element.getAttribute("id") for element in graphs[0].getElementsByTagName("node")]
+    found = [(element.getAttribute("source"), element.getAttribute("target"))
+             for element in graphs[0].getElementsByTagName("edge")]
+    want(all(nodes) and all(map(all, found)), "no id")
+    for word in ("label", "name"):
+        keys = {key.getAttribute("id") for key in root.getElementsByTagName("key")
+                if key.getAttribute("attr.name").lower() == word}
+        labels = {element.getAttribute("id"): "".join(part.data for part in data.childNodes)
+                  for element in graphs[0].getElementsByTagName("node")
+                  for data in element.getElementsByTagName("data") if data.getAttribute("key") in keys}
+        if len({spelt(label) for label in labels.values()} - {""}) == len(nodes) > 0:
+            return by_ids(found, nodes, labels)
+    return by_ids(found, nodes)
+
+
+def gml_list(tokens):
+    """(key, value) up to the closing bracket; a value is a word, a text in quotes or a list."""
+    found = []
+    for token in tokens:
+        if token == "]":
+            return found
+        want(token[0] not in '["', "no key")
+        value = next(tokens, "]")
+        want(value != "]", "no value")
+        found.append((token.lower(), gml_list(tokens) if value == "[" else html.unescape(value.strip('"')) if value[0] == '"' else value))
+    raise Unreadable("no last bracket")
+
+
+def gml(text):
+    text = re.sub(r'("[^"]*")|(?<!\S)#[^\n]*', lambda found: found[1] or "", text)
+    want("#" not in re.sub('"[^"]*"', "", text), "a comment inside of a word")
+    tokens = re.findall(r'"[^"]*"|[\[\]]|[^\s\[\]"]+|"', text)
+    want('"' not in tokens, "a quote that isn't closed")
+    top = gml_list(itertools.chain(tokens, ["]"]))
+    want(tokens.count("[") == tokens.count("]"), "a bracket too many")
+    graphs = [value for key, value in top if key == "graph" and isinstance(value, list)]
+    want(len(graphs) == 1, "not one graph")
+    nodes = [dict(value) for key, value in graphs[0] if key == "node" and isinstance(value, list)]
+    edges = [dict(value) for key, value in graphs[0] if key == "edge" and isinstance(value, list)]
+    there = [(key, value) for key, value in graphs[0] if key in ("node", "edge")]
+    want(len(there) == len(nodes) + len(edges), "no list")
+    inner = re.findall(r"(?i)(?<![^\s\]\[])(?:node|edge)\s*\[", re.sub(r'"[^"]*"', '""', text))
+    want(len(inner) == len(there), "a node or an edge elsewhere")
+    for one in nodes + edges:
+        want(all(isinstance(one.get(key, ""), str) for key in ("id", "source", "target")), "no id")
+    for key, value in there:
+        names = [known for known, _ in value if known in ("id", "source", "target")]
+        wanted = ["id"] if key == "node" else ["source", "target"]
+        want(sorted(name for name in names if name in wanted) == wanted, "not one id")
+    labels = [{node["id"]: node[word] for node in nodes if isinstance(node.get(word), str)}
+              for word in ("label", "name")]
+    ids = [node["id"] for node in nodes]
+    chosen = next((one for one in labels if ids and len({spelt(label) for label in one.values()} - {""}) == len(ids)),
+                  None)
+    want(len(set(ids)) == len(ids), "an id twice")
+    return by_ids([(edge["source"], edge["target"]) for edge in edges], ids, chosen)
+
+
+def node_link(text):
+    """An object with lists `nodes` and `links` (or `edges`)."""
+    def once(entries):
+        want(len({key for key, _ in entries}) == len(entries), "a key twice")
+        return dict(entries)
+
+    def word(value):
+        return value if isinstance(value, str) else json.dumps(value)
+    try:
+        graph = json.loads(text, object_pairs_hook=once)
+        want(isinstance(graph, dict) and isinstance(graph["nodes"], list), "no nodes")
+        links = [graph[key] for key in ("links", "edges") if isinstance(graph.get(key), list)]
+        want(len(links) == 1, "not one list of links")
+        nodes = [node.get("id", node.get("key")) for node in graph["nodes"]]
+        if all(node is None for node in nodes):
+            nodes = list(range(len(nodes)))
+        want(None not in nodes, "no id")
+        ends = [("source", "target") if "source" in link else ("from", "to") for link in links[0]]
+        found = [tuple(link[end] for end in both) for link, both in zip(links[0], ends)]
+        want(not any(end is None for pair in found for end in pair), "no end")
+        labels = {word(node): str(next((one[key] for key in ("label", "name") if isinstance(one.get(key), str)), ""))
+                  for node, one in zip(nodes, graph["nodes"])}
+        return by_ids([tuple(map(word, pair)) for pair in found], list(map(word, nodes)), labels)
+    except (ValueError, KeyError, AttributeError, TypeError, RecursionError) as why:
+        raise Unreadable(str(why)) from None
+
+
+class Dot:
+    """The grammar of Graphviz, letter by letter."""
+
+    MARKS = ("--", "->", "{", "}", "[", "]", ";", ",", ":", "=")
+
+    def __init__(self, text):
+        self.pairs, self.nodes, self.tokens = [], [], []
+        text = "\n".join("" if line.startswith("#") and not self.is_open(text, at) else line
+                         for at, line in self.with_places(text))
+        while text := text.lstrip(" \t\n\r\f\v\ufeff"):
+            text = text[self.token(text):]
+        self.tokens.reverse()
+
+    @staticmethod
+    def with_places(text):
+        at = 0
+        for line in text.split("\n"):
+            yield at, line
+            at += len(line) + 1
+
+    @staticmethod
+    def is_open(text, at):
+        """Whether a text in quotes or a comment goes on at a place."""
+        rest = re.sub(r'"(?:[^"\\]|\\.)*"|/\*.*?\*/|//[^\n]*|(?:\A|(?<=\n))#[^\n]*', "", text[:at], flags=re.S)
+        return '"' in rest or "/*" in rest
+
+    def token(self, text):
+        """How many letters the next token or comment has."""
+        if text.startswith("//"):
+            return (text + "\n").index("\n")
+        if text.startswith("/*"):
+            want("*/" in text[2:], "an open comment")
+            return text.index("*/", 2) + 2
+        mark = next((mark for mark in self.MARKS if text.startswith(mark)), None)
+        if mark:
+            self.tokens.append((mark, None))
+            return len(mark)
+        if text[0] == '"':
+            at = 1
+            while at < len(text) and text[at] != '"':
+                at += 2 if text[at] == "\\" else 1
+            want(at < len(text), "an open text")
+            self.tokens.append((None, text[1:at].replace("\\\n", "").replace('\\"', '"')))
+            return at + 1
+        name = re.match(r"[^\W\d]\w*|-?(\.\d+|\d+(\.\d*)?)(?![\w.])", text)
+        want(name, "no token")
+        self.tokens.append((name[0].lower() if name[0].lower() in ("graph", "digraph", "subgraph", "node", "edge",
+                                                                  "strict") else None, name[0]))
+        return name.end()
+
+    def next(self):
+        want(self.tokens, "the end")
+        return self.tokens[-1][0]
+
+    def pass_by(self, *marks):
+        return bool(self.tokens) and self.tokens[-1][0] in marks and bool(self.tokens.pop())
+
+    def name(self):
+        want(self.next() is None, "no name")
+        return self.tokens.pop()[1]
+
+    def graph(self):
+        self.pass_by("strict")
+        want(self.pass_by("graph", "digraph"), "no graph")
+        if self.next() is None:
+            self.name()
+        want(self.pass_by("{"), "no brace")
+        self.list()
+        want(not self.tokens and self.nodes, "more than a graph")
+        return network(self.pairs, self.nodes)
+
+    def list(self):
+        names = []
+        while not self.pass_by("}"):
+            if not self.pass_by(";"):
+                names += self.statement()
+        return names
+
+    def statement(self):
+        if self.next() in ("graph", "node", "edge"):
+            self.tokens.pop()
+            want(self.next() == "[", "no attributes")
+            self.attributes()
+            return []
+        if len(self.tokens) > 1 and self.tokens[-2][0] == "=":
+            self.name()
+            self.tokens.pop()
+            self.name()
+            return []
+        names = left = self.end()
+        while self.pass_by("--", "->"):
+            right = self.end()
+            self.pairs += itertools.product(left, right)
+            names, left = names + right, right
+        self.attributes()
+        return names
+
+    def attributes(self):
+        while self.pass_by("["):
+            while not self.pass_by("]"):
+                if not self.pass_by(",", ";"):
+                    self.name()
+                    if self.pass_by("="):
+                        self.name()
+
+    def end(self):
+        if self.pass_by("subgraph"):
+            if self.next() is None:
+                self.name()
+            want(self.next() == "{", "no body")
+        if self.pass_by("{"):
+            return self.list()
+        names = []
+        while not names or self.pass_by(","):
+            names.append(self.name())
+            for _ in range(2):
+                if self.pass_by(":"):
+                    self.name()
+        self.nodes += names
+        return names
+
+
+def dot(text):
+    found = Dot(text).graph
+    return found()
+
+
+def columns(text, wanted):
+    """The fields of each row of CSV in the columns of these names: blanks, points and lines in a name don't count."""
+    rows = [csv_row(line, ",") for line in lines(text)]
+    while rows and len(rows[0]) == 1 and rows[0][0][:1] in ("#", "%"):
+        rows.pop(0)
+    want(rows, "no heading")
+    names = ["".join(letter for letter in name.lower() if letter not in " \t_.-") for name in rows[0]]
+    want(set(wanted) <= set(names), "another heading")
+    want(all(not any(row[len(names):]) for row in rows), "more fields than the heading")
+    rows = [row + [""] * len(names) for row in rows[1:] if any(row)]
+    return [[row[names.index(word)] for word in wanted] for row in rows]
+
+
+def sites(text, reach):
+    """A table `site,x,y`: sites that are less than the reach apart are joined, each with each looked at."""
+    rows = columns(text, ("site", "x", "y"))
+    try:
+        places = {spelt(site): (float(x), float(y)) if x or y else None for site, x, y in rows}
+    except ValueError:
+        raise Unreadable("no place") from None
+    want(len(places) == len(rows) and all(places), "a site twice, or without a name")
+    want(all(math.isfinite(part) for place in places.values() for part in place or ()), "no place")
+    placed = [site for site, place in places.items() if place]
+    near = [(a, b) for a, b in itertools.combinations(placed, 2) if math.dist(places[a], places[b]) < reach]
+    return network(near, places)
+
+
+def bars(text, known):
+    """A table `site,channel`: the channels barred at each site, with blanks, commas or semicolons between them."""
+    found = {}
+    for site, channels in columns(text, ("site", "channel")):
+        for channel in re.split("[ \t,;]+", channels.strip(" \t,;")):
+            want(re.fullmatch("[0-9]{1,9}", channel) and 1 <= int(channel) <= 2048 and spelt(site) in known, "no bar")
+            found.setdefault(spelt(site), set()).add(int(channel))
+    return found
