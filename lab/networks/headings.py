@@ -104,7 +104,7 @@ def columns_named(row: tuple[int, list[str]], body: list, name: str) -> tuple[in
         return None
     second = next((number for number, ends in below if ends == wanted), None)
     if second:
-        raise wrong_line(name, second, "the heading of a second table: write both tables into one with the same columns")
+        raise wrong_line(name, second, "the heading of a second table: write both into one with the same columns")
     if any(end in wanted for _, ends in below for end in ends):
         raise unsure(name, line, first)
     return columns

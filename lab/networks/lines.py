@@ -20,8 +20,8 @@ VALUE = r"""(?:'[^'{}]*'|"[^"{}]*"|[\w.]*[\[(][^\[\](){}]*[\])]|[^\s'"{}()\[\],]
 DATA = re.compile(rf"[ \t,;]\{{\s*(?:{KEY}\s*:\s*{VALUE}\s*(?:,\s*{KEY}\s*:\s*{VALUE}\s*)*)?\}}\s*$")
 
 # A field in quotes, or without, up to the separator or the end.
-QUOTED = {mark: re.compile(rf'[ {"" if mark == chr(9) else chr(9)}]*(?:"((?:[^"]|"")*)"[ ]*|([^{mark}"\s][^{mark}]*)?)({mark}|$)')
-          for mark in "\t;, "}
+QUOTED = {mark: re.compile(rf'{blanks}*(?:"((?:[^"]|"")*)" *|([^{mark}"\s][^{mark}]*)?)({mark}|$)')
+          for mark, blanks in (("\t", " "), (";", r"[ \t]"), (",", r"[ \t]"), (" ", " "))}
 
 
 @dataclass

@@ -37,7 +37,7 @@ def read_table(table: Table, name: str, form: str | None, heading: bool | None) 
     if form == "adjacency" or not form and table.by_networkx:
         return read_adjacency(rows, name)
     if not form and is_adjacency(rows):
-        if may_be_weighted(rows) or table.separator:
+        if table.separator or may_be_weighted(rows):
             raise unsure(name, "these may be pairs with a weight, or nodes and their neighbours", PAIRS, NEIGHBOURS)
         return read_adjacency(rows, name)
     return read_pairs(table, name, heading, is_sure=form == "pairs")
@@ -55,6 +55,11 @@ def is_adjacency(rows: Rows) -> bool:
     taken for a pair, and so are three of which the last is a weight."""
     if not have_colons(rows) and all(len(fields) <= 2 or not any(fields[2:]) for _, fields in rows):
         return False
+    return is_closed(rows)
+
+
+def is_closed(rows: Rows) -> bool:
+    """Whether each line is a node of its own, and each other field one of these nodes."""
     nodes, others = zip(*(parts_of(fields, have_colons(rows)) for _, fields in rows))
     known = set(nodes)
     return len(known) == len(nodes) and all(other in known for ones in others for other in ones)
@@ -126,6 +131,8 @@ def refuse_others(body: Rows, name: str, table: Table) -> None:
             not all(map(is_number, ones))):
         raise Wrong(f"{name}: a name and two numbers in each line look like places, which --sites reads "
                     "(if they are pairs: --as pairs)")
+    if len(fields) > 1 and len(fields[0]) == 1 and all(len(row) > 1 for row in fields[1:]) and not is_closed(body):
+        raise unsure(name, f"the first line (`{shown(ones[0])}`) may be a title or a node", PAIRS, NEIGHBOURS)
     known = {field for row in fields for field in row[:2]}
     for line, row in body:
         parts = [part.strip() for field in row[:2] for part in field.split(",") if "," in field]

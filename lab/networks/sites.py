@@ -61,8 +61,8 @@ def table(data: bytes, name: str) -> tuple[list[str], list[tuple[int, list[str]]
 
 
 def heading_word(title: str) -> str:
-    """A heading in small letters without blanks, lines and points. What is in brackets is dropped, unless it is the unit
-    of a place."""
+    """A heading in small letters without blanks, lines and points. Of what is in brackets the unit of a place
+    alone stays."""
     title = re.sub(r"[\s_.\-]", "", title.lower())
     word, unit = (re.fullmatch(r"([^(\[]*)[(\[](.*)[)\]]", title) or re.fullmatch("(.*)()", title)).groups()
     return word + unit if any(word in places[:2] for places in BARE) else word
@@ -267,10 +267,12 @@ def with_bars(found: Listed, data: bytes, name: str, licence: list[int] | None) 
         if len(found.bars.get(one, ())) > MAX_BARS:
             raise wrong_line(name, line, f"more than {MAX_BARS} channels are barred at {shown(one)}")
     if empty:
-        found.left_out.append(f"{counted(len(empty), 'line')} of {name} without a channel left out, first: line {empty[0]}")
+        found.left_out.append(f"{counted(len(empty), 'line')} of {name} without a channel left out, first at line "
+                              f"{empty[0]}")
     if strange:
         found.left_out.append(f"{counted(len(strange), 'bar')} of {name} left out, of an unknown site: "
                               f"{named(strange, known)}")
     if outside:
         first = f"first at line {outside[0][0]} of {name}: {shown(outside[0][1])}"
-        found.notes.append(f"{counted(len(outside), 'bar')} of a channel outside the licence, which no plan takes: {first}")
+        bars = counted(len(outside), "bar")
+        found.notes.append(f"{bars} of a channel outside the licence, which no plan takes: {first}")

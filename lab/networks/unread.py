@@ -51,24 +51,25 @@ def refuse_rows(rows: list[tuple[int, list[str]]], separator: str | None, text: 
     if mark != ":":
         raise Wrong(f"{name}: `{shown(mark)}` is no name of a node; if it is: --as pairs, or --as adjacency")
     if any(row[0].startswith("//") for row in fields):
-        raise Wrong(f"{name}: `//` begins no comment here, and no name: remove these lines; if they are pairs: --as pairs")
+        raise Wrong(f"{name}: `//` begins neither a comment nor a name here: remove these lines; if these are pairs: "
+                    "--as pairs")
     if have_counts(fields):
-        raise Wrong(f"{name}: these may be pairs and single nodes, or nodes with their neighbours in lines of their own: "
-                    "say --as pairs or --as multiline")
+        raise Wrong(f"{name}: these may be pairs and single nodes, or nodes and a line for each neighbour: say --as "
+                    "pairs or --as multiline")
     if any(are_cut(row) for row in fields):
-        raise Wrong(f"{name}: names in quotes with blanks can't be separated: write \"double quotes\", or commas between "
-                    "the fields")
+        raise Wrong(f"{name}: names in quotes with blanks can't be separated: write \"double quotes\", or commas "
+                    "between the fields")
     if any(field.count("(") != field.count(")") for row in fields for field in row):
         raise Wrong(f"{name}: names in brackets with blanks or commas can't be separated; "
                     "networkx: nx.convert_node_labels_to_integers(G), or nx.write_graphml(G, FILE)")
     if any(field.startswith("{") or field.endswith("{}") or field.count("{") != field.count("}") or DATA.search(field)
            for row in fields for field in row):
-        raise Wrong(f"{name}: braces that aren't data of networkx as it writes them; nx.write_edgelist(G, FILE, data=False) "
-                    "writes none (if these are names: --as pairs)")
+        raise Wrong(f"{name}: braces that aren't data of networkx as it writes them; nx.write_edgelist(G, FILE, "
+                    "data=False) writes none (if these are names: --as pairs)")
     inside = [(line, field) for line, row in rows for field in row if re.search("[,;]", without_inner_commas(field))]
     if separator is None and inside:
-        raise wrong_line(name, inside[0][0], f"`{shown(inside[0][1])}` has a mark that separates fields in other tables, "
-                                             "and not each line has one (if these are names: --as pairs)")
+        raise wrong_line(name, inside[0][0], f"`{shown(inside[0][1])}` has a mark that separates fields elsewhere, and "
+                                             "not each line has one (if these are names: --as pairs)")
     if is_trivial(text):
         raise unread(name, "TGF, nodes and then `#` and edges")
     if has_counts(fields):
@@ -83,9 +84,6 @@ def refuse_rows(rows: list[tuple[int, list[str]]], separator: str | None, text: 
                     "and its neighbours: --as adjacency")
     if all(row[1:] == ["0"] for row in fields):
         raise Wrong(f"{name}: these may be pairs with 0, or nodes with no neighbours: say --as pairs or --as multiline")
-    if len(fields) > 1 and len(fields[0]) == 1 and all(len(row) > 1 for row in fields[1:]):
-        raise Wrong(f"{name}: the first line (`{shown(fields[0][0])}`) may be a title: remove it then; if it is a node: "
-                    "--as pairs, or --as adjacency")
     if all(len(row) < 2 or not any(row[1:]) for row in fields):
         if all("|" in row[0] for row in fields):
             raise Wrong(f"{name}: `|` isn't read between columns: write `;` or a comma in its place")
@@ -102,8 +100,8 @@ def is_trivial(text: str) -> bool:
 
 def is_matrix(fields: list[list[str]]) -> bool:
     """Whether it may be a square of numbers. Two lines of two whole numbers are pairs, unless all are 0 or 1 or it has
-    a diagonal of zeros; three of three, if weights alone have a point, are pairs with weights, and if each has all three
-    nodes, a triangle."""
+    a diagonal of zeros; three of three, if weights alone have a point, are pairs with weights, and three with the same
+    three nodes are a triangle."""
     side = len(fields)
     if side < 2 or any(len(row) != side or not all(map(is_number, row)) for row in fields):
         return False

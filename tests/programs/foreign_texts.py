@@ -1,5 +1,5 @@
 """Random graphs in each form that `network read` takes, and texts of them with a mistake, read by it and by
-second_reader.py: what it reads with nothing left out is that network to both. Nothing random differs from run to run."""
+second_reader.py: what it reads with nothing left out is that network to both."""
 import csv
 import io
 import json
@@ -16,7 +16,8 @@ from tests.programs import second_reader
 
 GRAPHS, MUTATED, SEED = 60, 3000, 20261128
 # Names of nodes, of forms that quote them, and of those that have blanks between fields.
-QUOTED = (("Ulm", "Aue", "Hof", "Köln", "Bad Tölz", "Mill, old", "#12", "B{2}"), ("#1", "#2", "#12", "%3", "#4", "#5"),
+QUOTED = (("Ulm", "Aue", "Hof", "Köln", "Bad Tölz", "Mill, old", "#12", "B{2}"),
+          ("#1", "#2", "#12", "%3", "#4", "#5"),
           ("a", "A", "node", "graph", "edge 1", "{}", "x;y", 'say "hi"'), tuple("0123456"), tuple("1234567"))
 BARE = (("Ulm", "Aue", "Hof", "Köln", "B{2}", "Ko\u0308ln2", "ulm"), tuple("0123456"), tuple("1234567"),
         ("10", "20", "21", "5", "7"), ("a", "b", "c", "d:", "e-f", "g.h"))
@@ -41,8 +42,8 @@ def beside(nodes, pairs, is_both=False):
 
 def as_gml(nodes, pairs):
     number = {node: at for at, node in enumerate(nodes)}
-    return ("graph [\n" + "".join(f'  node [\n    id {number[node]}\n    label "{node.replace(chr(34), "&quot;")}"\n  ]\n'
-                                  for node in nodes)
+    labels = {node: node.replace('"', "&quot;") for node in nodes}
+    return ("graph [\n" + "".join(f'  node [\n    id {number[a]}\n    label "{labels[a]}"\n  ]\n' for a in nodes)
             + "".join(f"  edge [\n    source {number[a]}\n    target {number[b]}\n  ]\n" for a, b in pairs) + "]\n")
 
 
@@ -71,9 +72,14 @@ def as_matrix_market(nodes, pairs):
             + "".join(f"{number[a]} {number[b]} 2.5\n" for a, b in pairs))
 
 
-def as_numbers(nodes, pairs, least=1):
+def as_dimacs(nodes, pairs, least=1):
     number = {node: at for at, node in enumerate(nodes, least)}
-    return [f"e {number[a]} {number[b]}\n" for a, b in pairs]
+    edges = [f"e {number[a]} {number[b]}\n" for a, b in pairs]
+    return f"c masts\np edge {len(nodes)} {len(pairs)}\n" + "".join(edges)
+
+
+def as_adjacency(nodes, pairs, is_both=True):
+    return "".join(" ".join([node, *others]) + "\n" for node, others in beside(nodes, pairs, is_both).items())
 
 
 def as_metis(nodes, pairs):
@@ -84,13 +90,14 @@ def as_metis(nodes, pairs):
 
 # (what it is, the names that it can have, its writer, its second reader, words for `read`).
 FORMS = (
-    ("CSV with a heading", QUOTED, lambda nodes, pairs: as_csv([("source", "target", "km"), *((a, b, 3) for a, b in pairs)]),
+    ("CSV with a heading", QUOTED,
+     lambda nodes, pairs: as_csv([("source", "target", "km"), *((a, b, 3) for a, b in pairs)]),
      lambda text: second_reader.csv_pairs(text, ",", ("source", "target")), {}),
     ("CSV with quotes", QUOTED, lambda nodes, pairs: as_csv(pairs, ",", csv.QUOTE_ALL),
      lambda text: second_reader.csv_pairs(text, ","), {}),
     ("CSV", QUOTED, lambda nodes, pairs: as_csv(pairs), lambda text: second_reader.csv_pairs(text, ","), {}),
-    ("semicolons", QUOTED, lambda nodes, pairs: as_csv([("Nr", "von", "nach"), *((at, *pair) for at, pair in enumerate(pairs))],
-                                                       ";"),
+    ("semicolons", QUOTED,
+     lambda nodes, pairs: as_csv([("Nr", "von", "nach"), *((at, *pair) for at, pair in enumerate(pairs))], ";"),
      lambda text: second_reader.csv_pairs(text, ";", ("von", "nach")), {}),
     ("tabs", QUOTED, lambda nodes, pairs: as_csv(pairs, "\t"), lambda text: second_reader.csv_pairs(text, "\t"), {}),
     ("pairs", BARE, lambda nodes, pairs: "".join(f"{a} {b}\n" for a, b in pairs), second_reader.pairs, {}),
@@ -98,18 +105,15 @@ FORMS = (
      second_reader.pairs, {}),
     ("pairs with weights", BARE, lambda nodes, pairs: "".join(f"{a} {b} 2.5\n" for a, b in pairs), second_reader.pairs,
      {}),
-    ("adjacency", BARE[:2], lambda nodes, pairs: "".join(
-        " ".join([node, *others]) + "\n" for node, others in beside(nodes, pairs, True).items()), second_reader.adjacency,
-     {}),
-    ("adjacency of networkx", BARE[:4], lambda nodes, pairs: "#x.py\n# GMT Sat Nov 28 11:00:00 2026\n# \n" + "".join(
-        " ".join([node, *others]) + "\n" for node, others in beside(nodes, pairs).items()), second_reader.adjacency, {}),
+    ("adjacency", BARE[:2], as_adjacency, second_reader.adjacency, {}),
+    ("adjacency of networkx", BARE[:4],
+     lambda nodes, pairs: "#x.py\n# GMT Sat Nov 28 11:00:00 2026\n# \n" + as_adjacency(nodes, pairs, False),
+     second_reader.adjacency, {}),
     ("several lines", BARE, lambda nodes, pairs: "".join(
         f"{node} {len(others)}\n" + "".join(f"{other} {{}}\n" for other in others)
         for node, others in beside(nodes, pairs).items()), second_reader.multiline, {}),
-    ("DIMACS", BARE, lambda nodes, pairs: f"c masts\np edge {len(nodes)} {len(pairs)}\n" + "".join(as_numbers(nodes, pairs)),
-     second_reader.dimacs, {}),
-    ("DIMACS from 0", BARE, lambda nodes, pairs: f"p edge {len(nodes)} {len(pairs)}\n" + "".join(
-        as_numbers(nodes, pairs, 0)), second_reader.dimacs, {}),
+    ("DIMACS", BARE, as_dimacs, second_reader.dimacs, {}),
+    ("DIMACS from 0", BARE, lambda nodes, pairs: as_dimacs(nodes, pairs, 0), second_reader.dimacs, {}),
     ("Matrix Market", BARE, as_matrix_market, second_reader.matrix_market, {}),
     ("METIS", BARE, as_metis, second_reader.metis, {"form": "metis"}),
     ("GML", QUOTED, as_gml, second_reader.gml, {}),
@@ -142,8 +146,8 @@ def second(reader, text, *more):
 
 
 def others(text):
-    """The networks of a text with a mistake that is whole in a form of rows: nobody can know that it was another one."""
-    lines = [line for line in second_reader.lines(text) if not re.match(r"\s*[#%]+(\s|$)", line)]
+    """The networks of a text with a mistake that is whole in a form of rows, whichever form it had before."""
+    lines = [line for line in second_reader.lines(text) if line.lstrip()[0] not in "#%"]
     found = [second(second_reader.csv_pairs, text, mark, heading) for mark in "\t;," for heading in HEADINGS
              if all(mark in line for line in lines)]
     if not re.search(r"(?m)^[ \t]*\S+[ \t]+\{", text):

@@ -238,7 +238,11 @@ def gml_list(tokens):
         want(token[0] not in '["', "no key")
         value = next(tokens, "]")
         want(value != "]", "no value")
-        found.append((token.lower(), gml_list(tokens) if value == "[" else html.unescape(value.strip('"')) if value[0] == '"' else value))
+        if value == "[":
+            value = gml_list(tokens)
+        elif value[0] == '"':
+            value = html.unescape(value[1:-1])
+        found.append((token.lower(), value))
     raise Unreadable("no last bracket")
 
 

@@ -151,7 +151,7 @@ class Sites(Case):
         for words, wanted, left_out in (
             ([], {1: [6, 11], 2: [1]}, b"left out, of an unknown site: Hof (line 5)\n"),
             (["--licence", "1 6 11"], {1: [2, 3], 2: [1]}, b"1 bar of "),
-            (["--licence", "6-11/5"], {1: [1, 2]}, b"1 bar of a channel outside the licence, which no plan takes: first at line 4"),
+            (["--licence", "6-11/5"], {1: [1, 2]}, b"1 bar of a channel outside the licence, which no plan takes"),
         ):
             status, wrote, told = call("read", pairs, "--bars", self.file("bars.csv", bars), *words)
             # The definition counts channels from 0.
