@@ -1,5 +1,6 @@
 """The programs that nodes can run, by their names, and programs of one's own, from a file."""
 import os
+import sys
 
 from lab.definitions.layers import Layers
 from lab.definitions.leader import Leader
@@ -19,6 +20,12 @@ def program_at(name: str, lots: str = "1") -> type:
         return own_program(name, lots)
     raise Wrong(f"there is no program {name}: there are {', '.join(PROGRAMS)}, and a file of your own, as {name}.py"
                 if os.sep not in name else f"{name} is no name of a program, and doesn't end in .py")
+
+
+def note_ignored_bars(command: str, bars: dict, program: type) -> None:
+    """Says on standard error that a program ignores the bars of a network, if it has any."""
+    if program is not Colouring and any(bars.values()):
+        print(f"{command}: {program.name} ignores the bars of the network, its lines `b`", file=sys.stderr)
 
 
 def add_program(words):

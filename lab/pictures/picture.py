@@ -12,7 +12,7 @@ from typing import NamedTuple
 from lab import programs
 from lab.definitions.colours import plan_text as plan_by_definition
 from lab.definitions.nodes import Colouring
-from lab.definitions.programs import add_program, program_at
+from lab.definitions.programs import add_program, note_ignored_bars, program_at
 from lab.networks.network_text import read_network, stem
 from lab.networks.plan_text import read_plan
 from lab.pictures import (
@@ -562,6 +562,7 @@ def drawn(given):
     texts = texts_of(given, network, data.encode(), options)
     if given.kind in PLACED and (said := unused_places(network)):
         note(said)
+    note_ignored_bars("picture", network.bars, options.program)
     return drawing(given.kind, network, options, texts)
 
 

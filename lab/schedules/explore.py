@@ -6,7 +6,7 @@ from collections import Counter
 
 from lab.definitions.nodes import Colouring
 from lab.definitions.own_program import AGAIN, check_repeats
-from lab.definitions.programs import add_program, program_at
+from lab.definitions.programs import add_program, note_ignored_bars, program_at
 from lab.schedules import ruled_rounds
 from lab.schedules.reading import network_at
 from lab.schedules.rules import ALL, OF_FORESTS, OF_ROUNDS, OF_SCHEDULES, table
@@ -187,6 +187,7 @@ def searched(given, net):
         sys.stderr.flush()
 
     program = program_at(given.program, given.lots)
+    note_ignored_bars("explore", net.barred, program)
     check_repeats(net, program)
     try:
         return Space(net, given.without, given.limit, given.puts, False, progress if show else None, given.reduce,

@@ -7,7 +7,7 @@ from collections import deque
 
 from lab.definitions.nodes import Colouring, NetState, Refused, missing_words, wire_words
 from lab.definitions.own_program import check_repeats
-from lab.definitions.programs import add_program, program_at
+from lab.definitions.programs import add_program, note_ignored_bars, program_at
 from lab.networks.fields import shown
 from lab.schedules.policies import POLICIES, Step, policy_of
 from lab.schedules.reading import network_at, text_at
@@ -245,6 +245,7 @@ def check_names(name, net, given):
 def rows_asked(net, given):
     """The rows of the run that the command line asks for; a list that ends early is said."""
     program = program_at(given.program, given.lots)
+    note_ignored_bars("simulate", net.barred, program)
     if not given.events:
         return played(net, given.policy, given.seed, given.slow, given.lazy, program=program)
     player = played_by_list(net, given.events, program)

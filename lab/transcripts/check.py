@@ -11,7 +11,7 @@ from collections import namedtuple
 
 from lab.definitions.colours import fields_of, network_of
 from lab.definitions.nodes import Colouring, named, wire_words
-from lab.definitions.programs import add_program, program_at
+from lab.definitions.programs import add_program, note_ignored_bars, program_at
 from lab.networks.network_text import read_network
 from lab.transcripts.reading import Wrong, read_to_fault, words
 from lab.transcripts.rules import Standing, rule_of, stuck_words
@@ -41,7 +41,8 @@ Of any other it prints on standard error one line with the line of the transcrip
 and what is wrong there, as
   line 6: LinkEmpty: node 1 takes payload 0 hello 3 from 3, which never puts it
 
-  X1            neither `transcript 1 N` or `transcript 2 N` (the first line) nor an entry
+  X1            neither `transcript 1 N` or `transcript 2 N` (the first line) nor an entry,
+                as one with a payload of another program: give its name, --program
   NoSuch        no such node, or it has no such neighbour
   NotReady      a pulse that the node cannot make there
   NothingToPut  the node has nothing for that neighbour
@@ -336,6 +337,7 @@ def main(words):
     except (OSError, WrongNetwork) as failed:
         print(f"check-transcript: {failed}", file=sys.stderr)
         return 2
+    note_ignored_bars("check-transcript", net.barred, program)
     try:
         made, said = whole_run(net, text, program)
     except Wrong as wrong:

@@ -71,8 +71,14 @@ def why_no_wire(fields, program):
     try:
         bound = bound_of(program, fields[2])
     except ValueError:
-        return f"{shown(fields[2])} is no payload{', '.join(payloads_words(program))}"
+        return f"{shown(fields[2])} is no payload{', '.join(payloads_words(program))}{forgotten(fields[2], program)}"
     return no_number(fields[3], fields[2].decode(), bound)
+
+
+def forgotten(word, program):
+    """Whose payload this may be in place of the program's."""
+    others = [name for name, words in PAYLOADS.items() if word in words and name != program]
+    return "".join(f"; --program {name} has it: is that option forgotten?" for name in others)
 
 
 def payloads_words(program):

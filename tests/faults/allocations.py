@@ -8,13 +8,14 @@ import tempfile
 
 from tests.cases import Case
 from tests.faults.refused_memory import build_front, count, count_and_bytes
-from tests.settings import CRATE_TESTS, PLAN
+from tests.settings import CRATE_TESTS, PLAN, PLAY
 
 # Six nodes, five edges and the degrees 1 and 5 each. With the greatest vertex in the middle there is one forest, and 30
 # rounds; with the least there are five, and 102 rounds.
 STAR_AT_6 = b"p edge 6 5\ne 1 6\ne 2 6\ne 3 6\ne 4 6\ne 5 6\n"
 STAR_AT_1 = b"p edge 6 5\ne 1 2\ne 1 3\ne 1 4\ne 1 5\ne 1 6\n"
-PLAN_WORDS = ["plan", "--workers", "1"]
+# The runs on worker threads that keep no transcript.
+RUNS = ([PLAN, "plan", "--workers", "1"], [PLAY, "run", "--workers", "1"])
 
 # Two directions of a link, and six.
 EDGE = b"p edge 2 1\ne 1 2\n"
@@ -29,10 +30,11 @@ def allocation_rows(program):
         if built is not None:
             return [("the counting allocator builds", False, built)]
         rounds = [count(front, folder, [program, "plain"], network) for network in (STAR_AT_6, STAR_AT_1)]
-        plans = [count(front, folder, [program] + PLAN_WORDS, network) for network in (STAR_AT_6, STAR_AT_1)]
-        rows = [row("plain allocates as often in 102 rounds as in 30", rounds),
-                row("plan with one worker allocates as often in 102 rounds as in 30", plans),
-                capacity_row(program, front, folder)]
+        rows = [row("plain allocates as often in 102 rounds as in 30", rounds)]
+        for words in RUNS:
+            counts = [count(front, folder, words, network) for network in (STAR_AT_6, STAR_AT_1)]
+            rows += [row(f"{words[1]} with one worker allocates as often in 102 rounds as in 30", counts),
+                     capacity_row(words, front, folder)]
         if not os.path.isfile(CRATE_TESTS):
             return rows + [("the tests of crates/checks are built", False, f"no file {CRATE_TESTS}")]
         links = [f"sync_rounds_checks::greatest_within_{links}" for links in ("1_link", "50_links")]
@@ -45,13 +47,12 @@ def allocation_rows(program):
         ]
 
 
-def capacity_row(program, front, folder):
+def capacity_row(words, front, folder):
     """Whether each direction of a link takes the same memory for each wire of the capacity. No node is looked at."""
-    name, places = "each wire of the capacity takes the same memory in each direction of a link", {}
+    name, places = f"{words[1]}: each wire of the capacity takes the same memory in each direction of a link", {}
     for directions, network in ((2, EDGE), (6, TRIANGLE)):
         asked = [
-            count_and_bytes(front, folder, [program] + PLAN_WORDS + ["--turns", "0", "--capacity", str(capacity)],
-                            network, status=3)
+            count_and_bytes(front, folder, [*words, "--turns", "0", "--capacity", str(capacity)], network, status=3)
             for capacity in CAPACITIES
         ]
         if None in asked or len({calls for calls, _ in asked}) != 1:

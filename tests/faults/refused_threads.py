@@ -12,7 +12,7 @@ from tests import TOP
 from tests.cases import Case
 from tests.faults.refused_memory import build_front, sweep
 from tests.programs.one_worker import Run
-from tests.settings import PLAN
+from tests.settings import PLAN, PLAY
 
 LIMIT = 60
 MOST_WORKERS = 64
@@ -33,6 +33,7 @@ def refused_thread_rows(program, queens):
             each_thread(counted, "triangle", TRIANGLE, range(1, MOST_WORKERS + 1)),
             each_thread(counted, "queen5_5", queens, (4,)),
             signed_number(counted),
+            threads_of_run(Counted(PLAY, [growths, threads], folder)),
             *growths_of_one_worker(program, growths),
             growths_of_workers(counted, "plan"),
             growths_of_workers(counted, "transcript"),
@@ -88,6 +89,17 @@ def each_thread(counted, title, data, numbers):
 def signed_number(counted):
     got = [counted.run(["plan", word], TRIANGLE)[2:] for word in ("--workers=+7", "--workers=007")]
     return "a number of workers with a sign or zeros before it", got == [(7, 7, 7)] * 2, got
+
+
+def threads_of_run(counted):
+    """`forestplay run` starts as many threads as `--workers` says, whatever the nodes run."""
+    wrong = []
+    for program in ("colouring", "leader", "layers"):
+        for workers in (1, 2, 5, MOST_WORKERS):
+            answer, _, *threads = counted.run(["run", "--program", program, "--workers", str(workers)], TRIANGLE)
+            if answer[0] != 0 or threads != [workers] * 3:
+                wrong.append((program, workers, answer, threads))
+    return f"run starts as many threads as --workers says, up to {MOST_WORKERS}", not wrong, wrong[:3]
 
 
 def growths_of_one_worker(program, growths):

@@ -84,6 +84,11 @@ ROWS = (
     ("1 1 put 2 ack|", "line 2: X1: not an entry: `ack` isn't a wire of 2 words, as every ack is"),
     ("1 1 put 2 payload 0 best 1|", "line 2: X1: not an entry: `best` is no payload, which are hello, label, colour, "
                                     "chosen"),
+    # A payload of another program.
+    ("1 1 put 2 payload 0 leader 1|", "line 2: X1: not an entry: `leader` is no payload, which are hello, label, colour, "
+                                      "chosen; --program leader has it: is that option forgotten?"),
+    ("1 1 put 2 payload 0 hops 0|", "line 2: X1: not an entry: `hops` is no payload, which are hello, label, colour, "
+                                    "chosen; --program layers has it: is that option forgotten?"),
     ("1 1 put 2 payload 1 label 65536|", "line 2: X1: not an entry: `65536` is no number of a label, which is below "
                                          "2^16"),
 )
@@ -123,6 +128,17 @@ class Transcripts(unittest.TestCase):
                          "line 2: X1: not an entry: `pay` is no wire, which are payload, ack, safe, close, and no "
                          "line feed after it "
                          "(is the text cut?)")
+
+    def test_bars_that_a_program_ignores(self):
+        """Each command that reads a network for another program says so once; the colouring minds bars."""
+        barred = "p edge 2 1\ne 1 2\nb 1 3\n"
+        for words in (["simulate"], ["explore", "--limit", "100000"], ["picture", "watch"]):
+            for program, noted in (("colouring", 0), ("leader", 1), ("layers", 1)):
+                with self.subTest(command=words[0], program=program):
+                    done = subprocess.run([os.path.join(TOP, "bin", words[0]), *words[1:], "-", "--program", program],
+                                          input=barred, capture_output=True, text=True, timeout=LIMIT)
+                    self.assertEqual(done.returncode, 0, done.stderr)
+                    self.assertEqual(done.stderr.count(f"{words[0]}: {program} ignores the bars of the network"), noted)
 
     def test_the_command_is_found_through_a_link(self):
         with tempfile.TemporaryDirectory() as folder:
