@@ -40,7 +40,7 @@ Status: 0 done, 1 the file can't be read as a network, 2 the command line is ref
 SIZES = {"path": ["nodes"], "ring": ["nodes"], "star": ["nodes"], "complete": ["nodes"], "grid": ["rows", "columns"],
          "queen": ["rows", "columns"], "tree": ["nodes"], "disk": ["nodes"], "random": ["nodes", "edges"]}
 CHANCE = ("tree", "disk", "random")
-USAGES = {"read": "network read [FILE] [options]", "tell": "network tell FILE\n       network tell CODE"}
+USAGES = {"read": "network read [FILE] [options]", "tell": "network tell FILE [--payloads]\n       network tell CODE"}
 # What each command does: a line of help, more of it, and its example.
 COMMANDS = {
     "path": ("A row: node 1 is joined to 2, 2 to 3, and so on.", "", "bin/network path 20 | bin/forestplan plain"),
@@ -120,7 +120,8 @@ COMMANDS = {
         "  barred      how many channels are barred, if any is\n"
         "  forests     the greatest number of neighbours of a node with a greater identifier\n"
         "  in turn     how long it would take if nodes chose in the order of their numbers\n"
-        "  payloads    the messages of the rounds: every run of `plan` has just these\n"
+        "  payloads    the messages of the rounds: every run of `plan` has just these. If they\n"
+        "              may be millions, a bound is printed, unless --payloads has them counted\n"
         "  wires       what all links of such a run carry: the payloads, as many\n"
         "              acknowledgements, a safe of each pulse and a closing mark\n"
         "  transcript  what `transcript` prints of it\n"
@@ -200,6 +201,8 @@ def add_words(command, name):
                              "file with a column `channel`: the first is channel 1 of the plan; bars are of these "
                              "numbers, and `bin/channels` puts them back")
         command.add_argument("--strict", action="store_true", help="refuses it if something would be left out")
+    if name == "tell":
+        command.add_argument("--payloads", action="store_true", help="counts the payloads, however many they are")
     if name == "number":
         command.add_argument("--by", choices=WAYS, required=True, help="the order of the new numbers")
         command.add_argument("--reverse", action="store_true", help="the other way round")

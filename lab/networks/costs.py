@@ -16,6 +16,8 @@ from lab.wrong import Wrong
 # `forestplay rounds` is asked; if it isn't built, they are worked out here up to the second number, in ten seconds or
 # so.
 MOST_AT_ONCE, MOST_HERE = 300_000, 5_000_000
+# The most wires for which it is asked though nobody wants the payloads counted: its text has a line of each payload.
+MOST_WIRES = 10_000_000
 # The last pulse before the merges.
 LAST_COLOUR = 12
 # The most wires of a run for which nobody waits.
@@ -28,14 +30,14 @@ class NotMeasured(Wrong):
 
 class Run:
     """What every whole run of a network comes to; `payloads` counts them, `how` says who counted, and `is_bound` that
-    it is the most that there can be."""
+    it is the most that there can be. If they are many, they are counted only if that `is_counted`."""
 
-    def __init__(self, network):
+    def __init__(self, network, is_counted=False):
         higher = {v: len(higher_of(network, v)) for v in network.vertices}
         self.network, self.forests = network, max(higher.values(), default=0)
         self.last = LAST_COLOUR + 3 * self.forests * network.channels
         self.is_bound = False
-        self.payloads, self.bytes, self.how = counted_payloads(self)
+        self.payloads, self.bytes, self.how = counted_payloads(self, is_counted)
         self.wires = 2 * self.payloads + 2 * len(network.edges) * (self.last + 1)
         self.entries = 2 * self.wires + network.nodes * self.last
         self.bytes += plain_bytes(self)
@@ -81,7 +83,7 @@ def rounds_here(network):
     return Rounds(network, network.identifiers)
 
 
-def counted_payloads(run):
+def counted_payloads(run, is_counted):
     """How many payloads a run has, the bytes of their entries, and who counted."""
     network, steps, program = run.network, run.network.nodes * run.last, built("forestplay")
     is_small = steps <= MOST_AT_ONCE or steps <= MOST_HERE and not program
@@ -92,12 +94,13 @@ def counted_payloads(run):
             for v, w, word, number in pulse.puts
         ]
         return len(puts), sum(puts), "counted by the definition of the rounds"
-    if program:
-        return *payloads_by(program, network), "counted by `forestplay rounds`"
     most = most_payloads(run)
+    if program and (is_counted or 2 * most + 2 * len(network.edges) * (run.last + 1) <= MOST_WIRES):
+        return *payloads_by(program, network), "counted by `forestplay rounds`"
     ends = sum(len(f"{v}{w}") for v, w in network.edges) / max(1, len(network.edges))
     run.is_bound = True
-    return most, round(most * (2 * (2 * ends + 13) + 2 * 20 + 2 * 7)), "forestplay isn't built, which counts them"
+    return most, round(most * (2 * (2 * ends + 13) + 2 * 20 + 2 * 7)), (
+        "--payloads counts them" if program else "forestplay isn't built, which counts them")
 
 
 def bytes_for(network):

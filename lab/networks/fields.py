@@ -41,7 +41,7 @@ def why_no_number(fields, names):
 def value_of(field: str) -> float | None:
     """A number with a point or a comma before its fraction, as spreadsheets of some countries write it, or with the
     other of both between its thousands; or None."""
-    if re.fullmatch(r"[-+]?(\d+[.,]?\d*|[.,]\d+)([eE][-+]?\d+)?", field):
+    if re.fullmatch(r"[-+]?(\d+([.,]\d*)?|[.,]\d+)([eE][-+]?\d+)?", field):
         return float(field.replace(",", "."))
     if re.fullmatch(r"[-+]?\d{1,3}(,\d{3})+(\.\d*)?", field):
         return float(field.replace(",", ""))

@@ -39,8 +39,9 @@ def heading_of(rows: list, name: str, heading: bool | None) -> Heading:
     """The heading of rows. `heading` is what the caller knows of it; if it isn't known and the rows don't show it, they
     are refused."""
     line, first = rows[0]
-    again = [row for row in rows[1:] if folded(row[1]) == folded(first)]
-    body = [row for row in rows[1:] if folded(row[1]) != folded(first)]
+    again = [row for row in rows[1:] if row[1][0].casefold() == first[0].casefold() and folded(row[1]) == folded(first)]
+    repeated = {number for number, _ in again}
+    body = [row for row in rows[1:] if row[0] not in repeated]
     columns, is_guess = None, False
     if heading is None:
         columns = columns_named(rows[0], body, name)

@@ -34,7 +34,7 @@ class Line:
 
     @property
     def is_marked(self) -> bool:
-        return self.text.lstrip().startswith(MARKS)
+        return self.text.startswith(MARKS) or self.text[:1].isspace() and self.text.lstrip().startswith(MARKS)
 
     @property
     def is_apart(self) -> bool:
@@ -71,21 +71,15 @@ def table_of(text: str, name: str, is_headed: bool = False) -> Table:
     found = Table(by_networkx=is_by_networkx(lines))
     comments = 3 if found.by_networkx else 0
     lines = [line_of(line) for line in lines[comments:]]
-    found.separator = separator_of([line for line in lines if not line.is_apart])
-    found.separator = found.separator or separator_of([line for line in lines if not line.is_marked])
+    bare = [line for line in lines if not line.is_marked]
+    found.separator = separator_of(bare if len(bare) == len(lines) else [line for line in lines if not line.is_apart])
+    found.separator = found.separator or separator_of(bare)
     for line in lines:
         line.end(found.separator)
-    kept, doubtful = [], []
-    have_marks = any(is_marked_name(part) for line in lines for part in parts_of(line, found.separator)[1:])
-    for line in lines:
-        is_first = not kept
-        if not line.is_marked or is_row(line, found.separator, is_first, is_headed, have_marks):
-            kept.append(line)
-        elif is_comment(line, found.separator, is_first, name) and not (have_marks and found.separator is None):
-            comments += 1
-        else:
-            doubtful.append(line)
-    doubtful = heading_taken(kept, doubtful, found.separator)
+    kept, doubtful = (lines, []) if len(bare) == len(lines) else ([], lines)
+    if doubtful:
+        kept, doubtful, more = rows_among(lines, found.separator, is_headed, name)
+        comments += more
     if doubtful:
         marks = "a line that begins" if len(doubtful) == 1 else f"{len(doubtful):,} lines that begin"
         found.left_out.append(f"{marks} with # or % left out, first at line {doubtful[0].number}: "
@@ -102,15 +96,32 @@ def table_of(text: str, name: str, is_headed: bool = False) -> Table:
     return found
 
 
+def rows_among(lines: list[Line], separator: str | None, is_headed: bool, name: str) -> tuple[list, list, int]:
+    """The rows, the lines that may be rows or comments, and how many are comments, of lines some of which begin with
+    a mark."""
+    kept, doubtful, comments = [], [], 0
+    have_marks = any(is_marked_name(part) for line in lines for part in parts_of(line, separator)[1:])
+    for line in lines:
+        is_first = not kept
+        if not line.is_marked or is_row(line, separator, is_first, is_headed, have_marks):
+            kept.append(line)
+        elif is_comment(line, separator, is_first, name) and not (have_marks and separator is None):
+            comments += 1
+        else:
+            doubtful.append(line)
+    return kept, heading_taken(kept, doubtful, separator), comments
+
+
 def lines_of(text: str, name: str) -> list[tuple[int, str]]:
     """(line, text) of the lines that aren't blank."""
     text = re.sub(r"\A\s*\"?sep=.\"?[ \t]*(?=\n)", "", text)
     lines = [(number, line) for number, line in enumerate(text.split("\n"), 1) if line.strip()]
-    for number, line in lines:
-        if len(line) > LONGEST:
-            raise wrong_line(name, number, f"more than {LONGEST:,} letters, and no line of a network has as many")
-        if found := OTHER_ENDS.search(line):
-            raise wrong_line(name, number, f"`{shown(found.group())}` is inside the line; a line feed ends a line")
+    longest = max(lines, key=lambda line: len(line[1]), default=(0, ""))
+    if len(longest[1]) > LONGEST:
+        raise wrong_line(name, longest[0], f"more than {LONGEST:,} letters, and no line of a network has as many")
+    if found := OTHER_ENDS.search(text):
+        raise wrong_line(name, 1 + text.count("\n", 0, found.start()),
+                         f"`{shown(found.group())}` is inside the line; a line feed ends a line")
     return lines
 
 

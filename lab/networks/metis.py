@@ -49,6 +49,9 @@ def weights_of(name: str, line: int, head: list[str]) -> tuple[int, int]:
 
 def is_like(text: str) -> bool:
     """Whether a text can be read so."""
+    first = next((line.split() for line in text.split("\n") if line.strip() and not line.lstrip().startswith("%")), [])
+    if not 2 <= len(first) <= 4 or None in map(whole, first):
+        return False
     try:
         read(text, "")
     except Wrong:

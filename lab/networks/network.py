@@ -115,13 +115,15 @@ def was_told(given):
             raise Wrong(f"{words} is neither a file nor a code of the programs: docs/claim/FORMATS.md has all codes")
     if len(given.file) > 1:
         given.refuse("one FILE, or a code and where it is, as `C8 vertex 1`")
-    return network_told(words)
+    return network_told(words, given.payloads)
 
 
-def network_told(path):
+def network_told(path, is_counted):
     data = bytes_of(path)
+    if is_counted and sys.stderr.isatty():
+        say("the payloads of a large network take some minutes to count")
     try:
-        lines, warned = tell(data.decode("utf-8", "replace"), path)
+        lines, warned = tell(data.decode("utf-8", "replace"), path, is_counted)
     except NotMeasured:
         raise
     except Wrong as why:

@@ -71,7 +71,7 @@ def place_of(fields):
 
 def name_of(line):
     """(vertex, name) of a comment line `c name V NAME`, or None; the name is the rest of the line."""
-    found = re.fullmatch(r"[ \t]*c[ \t]+name[ \t]+([0-9]+)[ \t]+(.*?)[ \t\r]*", line)
+    found = re.fullmatch(r"[ \t]*c[ \t]+name[ \t]+([0-9]+)[ \t]+([^ \t].*)", line.rstrip(" \t\r"))
     return (whole(found.group(1)), found.group(2)) if found and found.group(2) else None
 
 

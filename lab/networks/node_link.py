@@ -29,8 +29,9 @@ def object_of(entries: list) -> dict:
     """An object, each of whose keys comes once: Python would keep the last one alone."""
     found = dict(entries)
     if len(found) < len(entries):
-        keys = [key for key, _ in entries]
-        raise ValueError(f"an object has `{next(key for key in keys if keys.count(key) > 1)}` twice")
+        seen = set()
+        twice = next(key for key, _ in entries if key in seen or seen.add(key))
+        raise ValueError(f"an object has `{twice}` twice")
     return found
 
 

@@ -60,7 +60,10 @@ def is_adjacency(rows: Rows) -> bool:
 
 def is_closed(rows: Rows) -> bool:
     """Whether each line is a node of its own, and each other field one of these nodes."""
-    nodes, others = zip(*(parts_of(fields, have_colons(rows)) for _, fields in rows))
+    if len({fields[0] for _, fields in rows}) < len(rows):
+        return False
+    has_colons = have_colons(rows)
+    nodes, others = zip(*(parts_of(fields, has_colons) for _, fields in rows))
     known = set(nodes)
     return len(known) == len(nodes) and all(other in known for ones in others for other in ones)
 

@@ -3,8 +3,8 @@ import difflib
 
 from lab.networks.network_text import shown
 
-# So many are named, with the nearest that is known.
-MOST_NAMED = 4
+# So many are named, with the nearest that is known, unless they are longer than names are.
+MOST_NAMED, LONGEST = 4, 100
 
 
 def named(strange: list[tuple[int, str]], known: set[str]) -> str:
@@ -19,6 +19,8 @@ def named(strange: list[tuple[int, str]], known: set[str]) -> str:
 
 def nearest(name: str, known: set[str]) -> str:
     """`, is it NAME?` with the known name that is written most alike, or nothing if none is."""
-    by_letters = {one.casefold(): one for one in sorted(known)}
+    if len(name) > LONGEST:
+        return ""
+    by_letters = {one.casefold(): one for one in sorted(known) if len(one) <= LONGEST}
     found = difflib.get_close_matches(name.casefold(), by_letters, n=1, cutoff=0.7)
     return f", is it {shown(by_letters[found[0]])}?" if found else ""

@@ -12,10 +12,10 @@ def steps_in_turn(network):
     return max(step.values(), default=0)
 
 
-def facts(reading, path):
+def facts(reading, path, is_counted):
     """(name, what) of each line that `tell` prints; and warnings."""
     network = network_of_reading(reading, path)
-    run = Run(network)
+    run = Run(network, is_counted)
     degrees = [len(network.neighbours[v]) for v in network.vertices]
     edges = len(network.edges)
     again = reading.edge_lines - edges
@@ -83,7 +83,7 @@ def warnings(reading):
             yield f"a {what} is given for vertex {min(beyond)}, which there isn't"
 
 
-def tell(text, path):
+def tell(text, path, is_counted=False):
     """The lines of a network, and what a reader is warned of; or what is wrong."""
     reading = reading_of(text, path)
-    return [f"{name}: {what}" for name, what in facts(reading, path)], list(warnings(reading))
+    return [f"{name}: {what}" for name, what in facts(reading, path, is_counted)], list(warnings(reading))

@@ -56,18 +56,19 @@ def refuse_rows(rows: list[tuple[int, list[str]]], separator: str | None, text: 
     if have_counts(fields):
         raise Wrong(f"{name}: these may be pairs and single nodes, or nodes and a line for each neighbour: say --as "
                     "pairs or --as multiline")
-    if any(are_cut(row) for row in fields):
+    if "'" in text and any(are_cut(row) for row in fields):
         raise Wrong(f"{name}: names in quotes with blanks can't be separated: write \"double quotes\", or commas "
                     "between the fields")
-    if any(field.count("(") != field.count(")") for row in fields for field in row):
+    if re.search("[()]", text) and any(field.count("(") != field.count(")") for row in fields for field in row):
         raise Wrong(f"{name}: names in brackets with blanks or commas can't be separated; "
                     "networkx: nx.convert_node_labels_to_integers(G), or nx.write_graphml(G, FILE)")
-    if any(field.startswith("{") or field.endswith("{}") or field.count("{") != field.count("}") or DATA.search(field)
+    if re.search("[{}]", text) and any(field.startswith("{") or field.endswith("{}") or field.count("{") != field.count("}") or DATA.search(field)
            for row in fields for field in row):
         raise Wrong(f"{name}: braces that aren't data of networkx as it writes them; nx.write_edgelist(G, FILE, "
                     "data=False) writes none (if these are names: --as pairs)")
-    inside = [(line, field) for line, row in rows for field in row if re.search("[,;]", without_inner_commas(field))]
-    if separator is None and inside:
+    inside = [] if separator else [(line, field) for line, row in rows for field in row
+                                   if re.search("[,;]", without_inner_commas(field))]
+    if inside:
         raise wrong_line(name, inside[0][0], f"`{shown(inside[0][1])}` has a mark that separates fields elsewhere, and "
                                              "not each line has one (if these are names: --as pairs)")
     if is_trivial(text):

@@ -549,9 +549,9 @@ class OwnNetworks(Case):
         self.note("into a pipe that is closed", (done.returncode, done.stdout.count(b"\n"), done.stderr) == (0, 1, b""),
                   done)
 
-    def told_of(self, data):
+    def told_of(self, data, *words):
         """{name: what} of the lines of `network tell`."""
-        status, text, told = call("tell", "-", data=data)
+        status, text, told = call("tell", "-", *words, data=data)
         self.note("tell", status == 0, told)
         return dict(re.findall(r"^(.*?): (.*)$", text.decode(), re.M)), told
 
@@ -682,12 +682,16 @@ class OwnNetworks(Case):
     def test_large(self):
         """Of a large network `network tell` has the rounds counted by the program."""
         data = self.written("random", 3000, 9000)
-        told, _ = self.told_of(data)
+        bound, _ = self.told_of(data)
+        told, _ = self.told_of(data, "--payloads")
         done = run_program(PLAY, ["rounds"], data)
         payloads = len(re.findall(rb"^\d+ put ", done.stdout, re.M))
         plain = r"plain (less than a second|about \d+ seconds?), the same plan"
         long = r"(plan|transcript) (less than a second|about \d+ (second|minute|hour)s?)"
         shape = rf"{plain}; {long}, {long}; by a run of [\d,]+ wires, made just now"
         self.note("the time of a large network", re.fullmatch(shape, told["time"]), told)
+        most = bound["payloads"].removeprefix("at most ").partition(";")
+        good = bound["payloads"].startswith("at most ") and most[2] == " --payloads counts them"
+        self.note("a bound of the payloads", good and payloads <= int(most[0].replace(",", "")), bound)
         self.note("payloads of a large network", told["payloads"] == f"{payloads:,}; counted by `forestplay rounds`",
                   (told, payloads))
