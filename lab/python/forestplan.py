@@ -1,0 +1,194 @@
+"""Channel plans of interference graphs in Python, by the proved programs of forestplan.
+
+    import forestplan
+    plan = forestplan.plan(G)                                     # a dict {node: channel}; in a notebook its picture
+    forestplan.plan(G, bars={"Hof": {6}}, licence=[1, 6, 11])     # channels of the licence, and none that is barred
+    forestplan.check(G, {"Ulm": 1, "Hof": 2})                     # has anybody's plan judged: its greatest channel
+
+G is a graph of networkx, or a dict with the neighbours of each node. Nodes are anything that can be a key; directions,
+weights, edges that come again and edges from a node to itself don't count. Only the text that is written here, and what
+is read of the answer, is not proved."""
+import collections
+import os
+import shutil
+import site
+import subprocess
+import sys
+import tempfile
+
+Pulse = collections.namedtuple("Pulse", "number phase messages states")
+Message = collections.namedtuple("Message", "sender receiver word value")
+Entry = collections.namedtuple("Entry", "stamp node kind other wire")
+
+
+class Refused(ValueError):
+    """What a program refuses: `code`, as C4; `nodes`, those that it names; `words`, what it means and what to do."""
+
+    def __init__(self, said, order):
+        fault = said.partition(": ")[2] or said or "no words"
+        numbers = [int(word) for word in fault.split()[2:] if word.isdigit()] if " vert" in fault else []
+        self.code = fault.split()[0]
+        self.nodes = [order[v - 1] for v in numbers if 0 < v <= len(order)]
+        told = _lab(["network", "tell", fault]) if len(fault) < 200 else ""
+        self.words = told.strip() or fault
+        named = f" ({', '.join(map(str, self.nodes))})" if self.nodes else ""
+        super().__init__(f"{fault}{named}\n{self.words}")
+
+
+class Plan(dict):
+    """{node: channel}. `network` and `text` are what the program read and wrote, in which nodes have numbers and
+    channels count from 1."""
+
+    network = text = ""
+
+    def _repr_svg_(self):
+        return _picture("plan" if len(self) <= 400 else "matrix", self.network, "--plan", self.text)
+
+
+class Rounds(list):
+    """A `Pulse` for each pulse: `messages` has a `Message` each, and `states` (node, words) of what a node came to, its
+    colours counted from 0."""
+
+    network = text = ""
+
+    def _repr_svg_(self):
+        return _picture("rounds", self.network, "--rounds", self.text)
+
+
+class Transcript(list):
+    """An `Entry` for each event of a run: `kind` is pulse, put or take; `wire` has the words of what was put or taken,
+    and `other` is the neighbour, or for a pulse its number."""
+
+    network = text = ""
+
+    def _repr_svg_(self):
+        return _picture("run" if len(self.network) < 2000 else "overview", self.network, "--transcript", self.text)
+
+
+def plan(G, bars=None, licence=None, workers=None, identifiers=None, places=None):
+    """A plan, in which neighbours have different channels. `bars` has the channels barred at a node, `licence` the
+    channels that all may use, in order of preference; without it channels count from 1. With `workers` it is found by
+    that many threads without a clock, else on one thread: the plan is the same."""
+    network, order = text_of(G, bars, licence, identifiers, places)
+    words = ["plain"] if workers is None else ["plan", "--workers", str(workers)]
+    text = _called("forestplan", words, network, order)
+    numbers = [int(line.split()[1]) for line in text.splitlines()[1:]]
+    if licence is not None and max(numbers, default=0) > len(licence):
+        raise ValueError(f"the plan takes {max(numbers)} channels, and the licence has {len(licence)}")
+    found = Plan(zip(order, numbers if licence is None else (licence[k - 1] for k in numbers)))
+    found.network, found.text = network, text
+    return found
+
+
+def check(G, plan, bars=None, licence=None):
+    """Has a plan judged, whoever made it: returns how many channels it takes, counted from 1 to the greatest, or raises
+    `Refused`."""
+    network, order = text_of(G, bars, licence)
+    known = set(order)
+    strange = [node for node in plan if node not in known]
+    if strange:
+        raise ValueError(f"the plan has {strange[0]!r}, which is no node of the graph")
+    real = None if licence is None else {channel: k for k, channel in enumerate(licence, 1)}
+    outside = [node for node in plan if real is not None and plan[node] not in real]
+    if outside:
+        raise ValueError(f"{outside[0]!r} has channel {plan[outside[0]]!r}, which isn't in the licence")
+    rows = [f"{v} {plan[node] if real is None else real[plan[node]]}\n" for v, node in enumerate(order, 1)
+            if node in plan]
+    return int(_called("forestplan", ["check"], f"{network}plan\n{''.join(rows)}", order).split()[1])
+
+
+def rounds(G, bars=None, identifiers=None):
+    """The rounds of the algorithm, all nodes at once. Of a large graph they are a long list."""
+    network, order = text_of(G, bars, None, identifiers)
+    found = Rounds()
+    found.network, found.text = network, _called("forestplay", ["rounds"], network, order)
+    for line in found.text.splitlines()[1:]:
+        fields = line.split()
+        if fields[0] == "pulse":
+            found.append(Pulse(int(fields[1]), " ".join(fields[2:]), [], []))
+        elif fields[1] == "put":
+            sender, receiver = order[int(fields[0]) - 1], order[int(fields[2]) - 1]
+            found[-1].messages.append(Message(sender, receiver, fields[5], int(fields[6])))
+        else:
+            found[-1].states.append((order[int(fields[0]) - 1], " ".join(fields[1:])))
+    return found
+
+
+def transcript(G, bars=None, workers=2, identifiers=None):
+    """A run without a clock, by worker threads: all events, in an order in which they were possible. Two calls differ,
+    as runs do, unless there is one worker."""
+    network, order = text_of(G, bars, None, identifiers)
+    found = Transcript()
+    found.network = network
+    found.text = _called("forestplan", ["transcript", "--workers", str(workers)], network, order)
+    for line in found.text.splitlines()[1:]:
+        stamp, v, kind, other, *wire = line.split()
+        beside = order[int(other) - 1] if kind != "pulse" else int(other)
+        found.append(Entry(int(stamp), order[int(v) - 1], kind, beside, " ".join(wire)))
+    return found
+
+
+def text_of(G, bars=None, licence=None, identifiers=None, places=None):
+    """The graph as the programs read it, and its nodes in the order of their numbers."""
+    pairs = [(one, other) for one, other, *_ in G.edges()] if hasattr(G, "edges") else [
+        (one, other) for one in G for other in G[one]]
+    order = list(dict.fromkeys([*G, *(node for pair in pairs for node in pair)]))
+    number = {node: v for v, node in enumerate(order, 1)}
+    for said in (bars, identifiers, places):
+        strange = [node for node in said or () if node not in number]
+        if strange:
+            raise ValueError(f"{strange[0]!r} is no node of the graph")
+    real = None if licence is None else {channel: k for k, channel in enumerate(licence, 1)}
+    if real is not None and len(real) < len(licence):
+        raise ValueError("the licence names a channel twice")
+    edges = {(min(pair), max(pair)) for pair in ((number[one], number[other]) for one, other in pairs)}
+    edges = sorted(edge for edge in edges if edge[0] != edge[1])
+    lines = [f"c at {number[node]} {x:.3f} {y:.3f}" for node, (x, y) in (places or {}).items()]
+    lines += [f"c name {v} {' '.join(str(node).split())}" for v, node in enumerate(order, 1)]
+    lines.append(f"p edge {len(order)} {len(edges)}")
+    lines += [f"i {number[node]} {own}" for node, own in (identifiers or {}).items()]
+    lines += [f"b {number[node]} {channel if real is None else real[channel]}" for node, own in (bars or {}).items()
+              for channel in sorted(own) if real is None or channel in real]
+    lines += [f"e {v} {w}" for v, w in edges]
+    return "\n".join(lines) + "\n", order
+
+
+def home():
+    """The folder with the programs: FORESTPLAN_HOME, the one of this file, what pip installed, or the PATH's."""
+    on_path = shutil.which("forestplan")
+    here = os.path.dirname(os.path.dirname(os.path.dirname(os.path.realpath(__file__))))
+    for folder in (os.environ.get("FORESTPLAN_HOME"), here, os.path.join(sys.prefix, "share", "forestplan"),
+                   os.path.join(site.getuserbase(), "share", "forestplan"),
+                   on_path and os.path.dirname(os.path.dirname(os.path.realpath(on_path)))):
+        if folder and os.path.isfile(os.path.join(folder, "lab", "programs.py")):
+            return folder
+    raise FileNotFoundError("no folder of forestplan: FORESTPLAN_HOME has to name one that is installed or built")
+
+
+def _program(name):
+    places = (os.path.join(home(), *parts, name) for parts in (("crates", name, "out"), ("lib",)))
+    found = next((place for place in places if os.access(place, os.X_OK)), None)
+    if found is None:
+        raise FileNotFoundError(f"{name} isn't built in {home()}")
+    return found
+
+
+def _called(name, words, text, order):
+    done = subprocess.run([_program(name), *words], input=text.encode("utf-8", "replace"), capture_output=True)
+    if done.returncode:
+        raise Refused(done.stderr.decode("utf-8", "replace").strip(), order)
+    return done.stdout.decode()
+
+
+def _lab(words, text=""):
+    """What a command in Python writes, or nothing if it refuses."""
+    done = subprocess.run([sys.executable, "-S", os.path.join(home(), "lab"), *words],
+                          input=text.encode("utf-8", "replace"), capture_output=True)
+    return "" if done.returncode else done.stdout.decode()
+
+
+def _picture(kind, network, option, text):
+    with tempfile.NamedTemporaryFile("w", suffix=".txt") as file:
+        file.write(text)
+        file.flush()
+        return _lab(["picture", kind, "-", option, file.name, "--title", "graph"], network) or None

@@ -1,0 +1,162 @@
+"""Tests of the module `forestplan` of lab/python, and of the notebook examples/forestplan.ipynb that shows it."""
+import ast
+import contextlib
+import importlib.util
+import io
+import json
+import os
+import random
+import sys
+from xml.etree import ElementTree
+
+from lab.definitions.colours import network_of, plan_text
+from lab.definitions.rounds import rounds_text
+from tests import TOP
+from tests.cases import Case
+
+sys.path.append(os.path.join(TOP, "lab", "python"))
+import forestplan  # noqa: E402
+
+NOTEBOOK = os.path.join(TOP, "examples", "forestplan.ipynb")
+# Four nodes in a ring, one with an edge to itself and one in both directions.
+SQUARE = {"Ulm": ["Aue", "Bonn"], "Aue": ["Ulm", "Hof"], "Hof": [], "Bonn": ["Hof", "Bonn"]}
+
+
+class Graph:
+    """As networkx has it, as far as the module asks."""
+
+    def __init__(self, nodes, pairs):
+        self.nodes, self.pairs = nodes, pairs
+
+    def __iter__(self):
+        return iter(self.nodes)
+
+    def edges(self):
+        return [(*pair, {}) for pair in self.pairs]
+
+
+class InPython(Case):
+    def refused(self, name, kind, call):
+        """What a call raises, or None with a row that fails."""
+        try:
+            got = call()
+        except kind as why:
+            return why
+        self.note(name, False, got)
+
+    def test_plans(self):
+        """Plans of graphs by chance are those of the definition, whoever finds them; and `check` accepts them."""
+        source = random.Random(81)
+        for count in range(20):
+            nodes = source.sample([*"abcdefgh", 1, 2.5, (0, 1), "Bad Tölz", "a b", "", "#1"], source.randint(1, 9))
+            pairs = [(one, other) for one in nodes for other in nodes if source.random() < 0.3]
+            bars = {node: {source.randint(1, 3)} for node in nodes if source.random() < 0.3}
+            graph = Graph(nodes, pairs) if count % 2 else {
+                node: [other for one, other in pairs if one == node] for node in nodes}
+            got = forestplan.plan(graph, bars=bars, workers=2 if count % 4 == 0 else None)
+            text, order = forestplan.text_of(graph, bars)
+            wanted = [int(line.split()[1]) for line in plan_text(text.encode()).decode().split("\n")[1:-1]]
+            self.note(f"plan {count}", (order, list(got.items())) == (nodes, list(zip(nodes, wanted))), (got, wanted))
+            edges = {frozenset((order[v - 1], order[w - 1])) for v, w in network_of(text.encode()).number}
+            self.note(f"edges {count}", edges == {frozenset(pair) for pair in pairs if pair[0] != pair[1]}, edges)
+            self.note(f"check {count}", forestplan.check(graph, got, bars=bars) == max(wanted))
+
+    def test_licence(self):
+        plain = forestplan.plan(SQUARE)
+        triangle = forestplan.plan({"Ulm": ["Aue", "Hof"], "Aue": ["Hof"]})
+        self.note("a triangle, by hand", triangle == {"Ulm": 2, "Aue": 3, "Hof": 1}, triangle)
+        got = forestplan.plan(SQUARE, bars={"Ulm": {36, 99}}, licence=[36, 40, 44, 48])
+        self.note("real channels", set(got.values()) <= {36, 40, 44, 48} and got["Ulm"] != 36, got)
+        self.note("they are judged", forestplan.check(SQUARE, got, {"Ulm": {36}}, [36, 40, 44, 48]) <= 4)
+        for name, call in (("a short licence", lambda: forestplan.plan(SQUARE, licence=[36])),
+                           ("a licence with a channel twice", lambda: forestplan.plan(SQUARE, licence=[36, 36])),
+                           ("a bar of no node", lambda: forestplan.plan(SQUARE, bars={"Prag": {1}})),
+                           ("a plan of another node", lambda: forestplan.check(SQUARE, plain | {"Prag": 1})),
+                           ("a channel outside", lambda: forestplan.check(SQUARE, plain, licence=[7, 8, 9]))):
+            why = self.refused(name, ValueError, call)
+            self.note(f"{name}: not by the program", why and not isinstance(why, forestplan.Refused), why)
+
+    def test_refused(self):
+        plan = {"Ulm": 1, "Aue": 1, "Hof": 2, "Bonn": 3}
+        why = self.refused("a clash", forestplan.Refused, lambda: forestplan.check(SQUARE, plan))
+        self.note("its code and nodes", (why.code, why.nodes) == ("C4", ["Ulm", "Aue"]), vars(why))
+        self.note("its words", "and have the same channel" in why.words and "(Ulm, Aue)" in str(why), why)
+        del plan["Hof"]
+        why = self.refused("a missing channel", forestplan.Refused, lambda: forestplan.check(SQUARE, plan))
+        self.note("its code and node", (why.code, why.nodes) == ("C1", ["Hof"]), vars(why))
+        star = {0: range(1, 1025)}
+        why = self.refused("too many neighbours", forestplan.Refused, lambda: forestplan.plan(star))
+        self.note("its node", (why.code, why.nodes) == ("N1", [0]), vars(why))
+
+    def test_rounds(self):
+        text, order = forestplan.text_of(SQUARE)
+        wanted = rounds_text(network_of(text.encode())).decode().split("\n")
+        got = forestplan.rounds(SQUARE)
+        lines = [f"{order.index(one.sender) + 1} put {order.index(one.receiver) + 1} payload {pulse.number} {one.word} "
+                 f"{one.value}" for pulse in got for one in pulse.messages]
+        self.note("the messages of the rounds", lines == [line for line in wanted if " put " in line], lines)
+        self.note("its pulses", [pulse.number for pulse in got] == list(range(len(got))))
+        count = sum(line.split()[1:2] in (["colour"], ["chose"]) for line in wanted)
+        self.note("its states", sum(len(pulse.states) for pulse in got) == count, count)
+
+    def test_transcript(self):
+        got = forestplan.transcript(SQUARE, workers=1)
+        puts = [(entry.node, entry.other, entry.wire) for entry in got if entry.kind == "put"]
+        takes = [(entry.other, entry.node, entry.wire) for entry in got if entry.kind == "take"]
+        self.note("what is put is taken", sorted(puts) == sorted(takes) and len(puts) > 100, len(puts))
+        self.note("by stamps", [entry.stamp for entry in got] == sorted(entry.stamp for entry in got))
+        self.note("payloads of the rounds", sum("payload" in wire for _, _, wire in puts)
+                  == sum(len(pulse.messages) for pulse in forestplan.rounds(SQUARE)))
+
+    def test_pictures(self):
+        for one in (forestplan.plan(SQUARE), forestplan.rounds(SQUARE), forestplan.transcript(SQUARE)):
+            picture = ElementTree.fromstring(one._repr_svg_())
+            self.note(f"a picture of {type(one).__name__}", picture.tag.endswith("svg") and len(picture) > 3)
+
+    def test_networkx(self):
+        """A graph of networkx, if that is installed: its own plan is judged, and a plan of ours is proper to it."""
+        if importlib.util.find_spec("networkx") is None:
+            return
+        import networkx
+        for graph in (networkx.karate_club_graph(), networkx.MultiDiGraph([(1, 2), (2, 1), (2, 2), (2, 3)])):
+            got = forestplan.plan(graph)
+            self.note("proper", all(got[a] != got[b] for a, b in graph.edges() if a != b) and set(got) == set(graph))
+            simple = networkx.Graph(graph)
+            simple.remove_edges_from(list(networkx.selfloop_edges(simple)))
+            greedy = {node: colour + 1 for node, colour in networkx.greedy_color(simple).items()}
+            self.note("greedy", forestplan.check(graph, greedy) == max(greedy.values()))
+
+    def test_notebook(self):
+        """Each cell of the notebook writes what is stored below it; those with networkx only if that is installed."""
+        with open(NOTEBOOK, encoding="utf-8") as file:
+            cells = [cell for cell in json.load(file)["cells"] if cell["cell_type"] == "code"]
+        known = {"__name__": "notebook"}
+        for count, cell in enumerate(cells, 1):
+            code = "".join(cell["source"])
+            if "networkx" in code and importlib.util.find_spec("networkx") is None:
+                break
+            said, result = run_cell(code, known)
+            stored = "".join("".join(out.get("text", "")) for out in cell["outputs"] if out["output_type"] == "stream")
+            self.note(f"cell {count}: what it prints", said == stored, (said, stored))
+            shown = next((out["data"] for out in cell["outputs"] if out["output_type"] == "execute_result"), {})
+            words = repr(result) if result is not None else ""
+            self.note(f"cell {count}: its result", words == "".join(shown.get("text/plain", "")), (words, shown))
+            picture = result._repr_svg_() if hasattr(result, "_repr_svg_") else ""
+            self.note(f"cell {count}: its picture", picture == "".join(shown.get("image/svg+xml", "")), picture[:300])
+        self.note("cells", len(cells) > 6, len(cells))
+
+
+def run_cell(code, known):
+    """What a cell prints, and the value of its last line if that is an expression, as Jupyter has it."""
+    tree, result = ast.parse(code), None
+    last = tree.body.pop() if tree.body and isinstance(tree.body[-1], ast.Expr) else None
+    before, said = os.getcwd(), io.StringIO()
+    os.chdir(os.path.dirname(NOTEBOOK))
+    try:
+        with contextlib.redirect_stdout(said):
+            exec(compile(tree, "cell", "exec"), known)
+            if last:
+                result = eval(compile(ast.Expression(last.value), "cell", "eval"), known)
+    finally:
+        os.chdir(before)
+    return said.getvalue(), result
