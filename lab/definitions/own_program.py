@@ -146,8 +146,8 @@ class OwnNode:
         pair = called(self.file, self.of_file["drawn"], self.me)
         if not (isinstance(pair, tuple) and len(pair) == 2 and is_below(pair[0], COLOURS)
                 and is_below(pair[1], self.degree)):
-            raise Wrong(f"{self.file}: `drawn` returns {pair!r} at the node of identifier {self.me.id}: it must be a pair, "
-                        f"a colour below {COLOURS} or None, and a port or None")
+            raise Wrong(f"{self.file}: `drawn` returns {pair!r} at the node of identifier {self.me.id}: it must be a "
+                        f"pair, a colour below {COLOURS} or None, and a port or None")
         return pair
 
     def copied(self):
@@ -168,8 +168,8 @@ class OwnNode:
         except RecursionError:
             raise Wrong(f"{self.file}: `me.{name}` is too deep to be compared") from None
         except Exception:
-            raise Wrong(f"{self.file}: `me.{name}` has a {culprit(value)} in it, which can't be copied and compared, as "
-                        "each order of events needs it: keep plain values there") from None
+            raise Wrong(f"{self.file}: `me.{name}` has a {culprit(value)} in it, which can't be copied and compared, "
+                        "as each order of events needs it: keep plain values there") from None
 
 
 def culprit(value) -> str:
@@ -236,6 +236,6 @@ def what_is_wrong(net, program: type, found: dict[int, str], function: str = "ri
     if said is True:
         return ""
     if said is not False and (not isinstance(said, str) or not said.strip() or "\n" in said):
-        raise Wrong(f"{program.file}: `{function}` returns {said!r}: it must be True, False, or what isn't right in words "
-                    "on one line")
+        raise Wrong(f"{program.file}: `{function}` returns {said!r}: it must be True, False, or what isn't right in "
+                    "words on one line")
     return said or f"`{function}` says that it isn't right"

@@ -41,8 +41,8 @@ def next(me, pulse, inbox):
 def result(me):
     return f"best {me.best}"
 """
-SHARED = FLOOD.replace("def greet", "best = 0\ndef greet").replace("    heard =", "    global best\n    heard =").replace(
-    'me.best = heard', 'me.best = best = max(best, heard)').replace('("best", heard)', '("best", best)')
+SHARED = FLOOD.replace("def greet", "best = 0\ndef greet").replace("    heard =", "    global best\n    heard =")
+SHARED = SHARED.replace("me.best = heard", "me.best = best = max(best, heard)").replace('"best", heard', '"best", best')
 TREE = """\
 def greet(me):
     me.layer, me.by = (0, None) if me.id == 1 else (None, None)
@@ -174,7 +174,7 @@ class OwnAlgorithms(Case):
         for name, lines in (("an object", ("me.best = ", "me.table = Table()\n    me.table.best = ")),
                             ("unused chance", ("me.best = ", "me.chance = random.Random(1)\n    me.best = ")),
                             ("an iterator", ("me.best = ", "me.turns = iter([1, 2, 3])\n    me.best = ")),
-                            ("a list that has itself", ("me.best = ", "me.x = []\n    me.x.append(me.x)\n    me.best = "))):
+                            ("a list in itself", ("me.best = ", "me.x = []\n    me.x.append(me.x)\n    me.best = "))):
             text = "import random\nclass Table:\n    pass\n" + FLOOD.replace(*lines)
             text = text.replace("me.best", "me.table.best") if "Table()" in lines[1] else text
             text = text.replace("me.table.table.best", "me.table.best")
@@ -204,7 +204,8 @@ class OwnAlgorithms(Case):
         got = self.told(FLOOD.replace("def greet", "KEPT = {}\ndef greet").replace("me.best", "KEPT[me.id]"))
         self.note("a place for each node in one variable", got[0] == 1 and "the second time" in got[2], got)
         # The rounds, twice, have 12 calls, so they can't show this one.
-        late = FLOOD.replace("def greet", "CALLS = []\ndef greet").replace("    if heard", "    CALLS.append(pulse)\n    if heard")
+        late = FLOOD.replace("def greet", "CALLS = []\ndef greet")
+        late = late.replace("    if heard", "    CALLS.append(pulse)\n    if heard")
         got = self.told(late.replace('("best", heard)', '("best", heard + (len(CALLS) > 12))'))
         self.note("a late one", got[0] == 1 and "does something else in another order of events: " in got[2], got)
 
@@ -223,7 +224,8 @@ class OwnAlgorithms(Case):
             self.note(first, got[0] == 0 and got[1].startswith(first), got)
         for returned in ("None", "7", "''"):
             got = self.told(FLOOD + f"def right(results, neighbours):\n    return {returned}\n")
-            self.note(f"right returns {returned}", got[0] == 1 and "it must be True, False, or what isn't" in got[2], got)
+            said = "it must be True, False, or what isn't right in words"
+            self.note(f"right returns {returned}", got[0] == 1 and said in got[2], got)
 
     def test_what_it_prints(self):
         """It goes to standard error, and leaves what the command writes as it was."""
@@ -272,7 +274,8 @@ class OwnAlgorithms(Case):
                                             and b"layer 5 by .." in page), page[-2000:]
             _, picture, _ = script("picture", "rounds", example("chain6.col"), "--program", path)
             for text in (page, picture):
-                yield f"what isn't right, {right}", (b"right: no tree" in text or b"the end: no tree" in text) == said, text
+                is_said = b"right: no tree" in text or b"the end: no tree" in text
+                yield f"what isn't right, {right}", is_said == said, text
         for returned, why in (("1", "a pair"), ("(9, None)", "a colour below 8"), ("(1, 5)", "a port")):
             with open(path, "w", encoding="utf-8") as file:
                 file.write(TREE.replace("return (me.layer - 1 if me.layer else None), me.by", f"return {returned}"))
