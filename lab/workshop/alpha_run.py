@@ -1,19 +1,61 @@
 """A run without a clock: the workshop holds the links and delivers one wire at a time. What the nodes put, take and
 make is written down with Lamport's stamps, and `forestplay replay` judges it."""
+from bisect import bisect_left, insort
+from collections import deque
 from typing import NamedTuple
 
-from lab.schedules.policies import Policy
-from lab.workshop.answers import is_number, no_such_line, port_of, shown
+from lab.schedules.policies import Policy, Step
 from lab.workshop.findings import Fault
-from lab.workshop.first_message import own_data
 from lab.workshop.judge import Entry, verdict_on
-from lab.workshop.links import Links
 from lab.workshop.nodes import Nodes
-from lab.workshop.results import COLOURING, FORMS, result_of
+from lab.workshop.protocol import (COLOURING, FORMS, is_number, no_such_line, own_data, port_of, pulse_of, result_of,
+                                   shown, wire_of)
 from lab.workshop.right_rounds import RightRounds
-from lab.workshop.wires import pulse_of, wire_of
 
+OWN_DATA = "its own data"
 PATIENCE = 1.0              # seconds that programs have to end at the end of their input
+
+
+class Wire(NamedTuple):
+    """`words` as a transcript has them; `stamp` is its put's stamp; `count`, how many puts there were, up to it."""
+    words: str
+    stamp: int
+    count: int
+
+
+def link_of(step: Step) -> tuple[int, int]:
+    return step.link
+
+
+class Links:
+    """`steps` has a take for each link that holds a wire, by link, ascending; it takes the link's oldest wire."""
+
+    def __init__(self, network):
+        self.wires = {(v, w): deque() for v in network.vertices for w in network.neighbours[v]}
+        self.steps: list[Step] = []
+        self.count = 0
+
+    def put(self, v: int, w: int, words: str, stamp: int) -> None:
+        self.count += 1
+        self.wires[v, w].append(Wire(words, stamp, self.count))
+        if len(self.wires[v, w]) == 1:
+            insort(self.steps, Step("take", w, v), key=link_of)
+        self.renew(self.steps[bisect_left(self.steps, (v, w), key=link_of)])
+
+    def take(self, step: Step) -> Wire:
+        """The oldest wire of the step's link."""
+        wires = self.wires[step.link]
+        wire = wires.popleft()
+        if wires:
+            self.renew(step)
+        else:
+            del self.steps[bisect_left(self.steps, step.link, key=link_of)]
+        return wire
+
+    def renew(self, step: Step) -> None:
+        """Says of a step what its link holds now."""
+        wires = self.wires[step.link]
+        step.wire, step.since, step.latest = wires[0].words.split(" ", 1)[0], wires[0].count, wires[-1].count
 
 
 class Stop(NamedTuple):
@@ -39,7 +81,7 @@ class AlphaRun:
         one of them is wrong, for certain."""
         for v in self.network.vertices:
             data = own_data(self.network, v, "alpha", self.rounds.forests, self.rounds.last)
-            if not self.is_answered(nodes, v, data, "its own data"):
+            if not self.is_answered(nodes, v, data, OWN_DATA):
                 return
         while self.links.steps and len(self.entries) <= self.rounds.events:
             step = self.policy.choose(self.links.steps)

@@ -1,10 +1,10 @@
 """The verdict on a run without a clock, in words: the first wrong entry, a program that gave no answer, or a run
 that is stuck."""
 from lab.transcripts.rules import rule_of, rules_of_dues
-from lab.workshop.alpha_run import AlphaRun
+from lab.workshop.alpha_run import OWN_DATA, AlphaRun
 from lab.workshop.findings import Finding
 from lab.workshop.judge import Entry, Verdict, verdict_on
-from lab.workshop.results import FORMS
+from lab.workshop.protocol import FORMS
 from lab.workshop.why_alpha import At, at_node, hints, right_words, with_port
 from lab.workshop.why_rounds import why_of
 
@@ -42,7 +42,7 @@ def no_answer(run: AlphaRun, entries: list[Entry]) -> Finding:
     lines = [("where", f"node {v} at pulse {at.pulse}, after it got {asked}"), ("wrong", fault.words),
              ("right", right_words(at) + inbox), *hints(at, fault.kind == "ended"),
              ("judge", "all that was done before is right")]
-    return Finding(fault.kind, v, at.pulse, lines)
+    return Finding(fault.kind, v, at.pulse, lines, is_first=asked == OWN_DATA)
 
 
 def stuck(run: AlphaRun, entries: list[Entry], verdict: Verdict) -> Finding:

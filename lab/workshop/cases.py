@@ -1,17 +1,17 @@
 """The runs of an assignment: which network, identifiers, bars and policy each has, by seed."""
 import os
+import random
 import re
 from dataclasses import dataclass, field
-from typing import Any, Iterator
+from typing import Any, Iterator, Sequence
 
 from lab.networks import kinds
 from lab.networks.network_text import Network, read_network
 from lab.programs import TOP
 from lab.schedules.policies import POLICIES
-from lab.workshop.chance import Chance
 from lab.workshop.findings import Finding
 from lab.workshop.open_run import League
-from lab.workshop.results import COLOURING
+from lab.workshop.protocol import COLOURING
 from lab.wrong import Wrong
 
 # Each mistake of the colouring that can be caught shows on most4 or rest3, and each of the synchroniser on alone4.
@@ -20,14 +20,42 @@ EXAMPLES = [os.path.join(TOP, "examples", "workshop"), os.path.join(TOP, "exampl
 KINDS = {"path": kinds.path, "ring": kinds.ring, "star": kinds.star, "complete": kinds.complete}
 
 
+class Chance:
+    """Chance by a seed. Of a generator of Python only random() gives the same numbers in all versions, so all comes
+    from it."""
+
+    def __init__(self, seed: str):
+        self.source = random.Random(seed)
+
+    def happens(self, part: float) -> bool:
+        return self.source.random() < part
+
+    def below(self, bound: int) -> int:
+        return int(self.source.random() * bound)
+
+    def one_of(self, things: Sequence):
+        return things[self.below(len(things))]
+
+    def some_of(self, things: Sequence, count: int) -> list:
+        """So many different ones, in any order."""
+        left = list(things)
+        return [left.pop(self.below(len(left))) for _ in range(count)]
+
+    def long_number(self) -> int:
+        """Up to 128 binary digits."""
+        return sum(self.below(1 << 32) << 32 * k for k in range(4))
+
+
 @dataclass
 class Case:
-    """One run. `number` counts the runs of a seed; `finding` is None if it was right; `run` is what was played, and
-    `league` what a right run of an own algorithm took."""
+    """One run. `number` counts the runs of a seed; `owners`, by vertex from 1 on, the numbers of the commands that run
+    there; `finding` is None if it was right; `run` is what was played, and `league` what a right run of an own
+    algorithm took."""
     number: int
     network: Network
     policy: str
     seed: str
+    owners: list[int] = field(default_factory=list)
     finding: Finding | None = None
     run: Any = field(default=None, repr=False)
     league: League | None = None
@@ -104,21 +132,22 @@ def cases_of(networks: list[str], policies: list[str], runs: int, seed: str, onl
     return sorted(cases, key=lambda case: (case.network.nodes, len(case.network.edges), case.number))
 
 
-def smaller(network: Network) -> Iterator[Network]:
+def smaller(network: Network) -> Iterator[tuple[Network, list[int]]]:
     """The networks without one of the nodes, without one of the edges, or without the bars of one node; and that with
-    small identifiers in the same order."""
+    small identifiers in the same order. With each the vertices that its own were."""
+    same = list(network.vertices)
     for gone in network.vertices:
         left = [v for v in network.vertices if v != gone]
         new = {v: k for k, v in enumerate(left, 1)}
         edges = [(new[v], new[w]) for v, w in network.edges if gone not in (v, w)]
         yield Network(network.name, len(left), edges, {}, {}, {new[v]: network.identifiers[v] for v in left},
-                      {new[v]: network.barred(v) for v in left})
+                      {new[v]: network.barred(v) for v in left}), left
     for edge in network.edges:
         edges = [other for other in network.edges if other != edge]
-        yield Network(network.name, network.nodes, edges, {}, {}, network.identifiers, network.bars)
+        yield Network(network.name, network.nodes, edges, {}, {}, network.identifiers, network.bars), same
     for gone in network.bars:
         bars = {v: channels for v, channels in network.bars.items() if v != gone}
-        yield Network(network.name, network.nodes, network.edges, {}, {}, network.identifiers, bars)
+        yield Network(network.name, network.nodes, network.edges, {}, {}, network.identifiers, bars), same
     small = {v: k for k, v in enumerate(sorted(network.vertices, key=network.identifiers.get), 1)}
     if small != network.identifiers:
-        yield Network(network.name, network.nodes, network.edges, {}, {}, small, network.bars)
+        yield Network(network.name, network.nodes, network.edges, {}, {}, small, network.bars), same

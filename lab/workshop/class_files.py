@@ -17,7 +17,7 @@ COPIED = (
 # Of these folders, what stays with the teacher.
 LEFT_OUT = (
     "examples/workshop/python", "examples/workshop/c", "examples/workshop/java", "examples/workshop/mistakes.py",
-    "examples/workshop/points.py",
+    "examples/algorithms",
 )
 # Commands of which nothing is copied but a line that says so.
 WITHOUT = ("picture", "explore", "check-transcript", "replay", "simulate", "sheet", "transcript-to")

@@ -8,7 +8,7 @@ from lab.networks.network_text import Network
 from lab.networks.texts import Made, text_of
 from lab.programs import called
 from lab.workshop.findings import NoVerdict
-from lab.workshop.results import COLOURING
+from lab.workshop.protocol import COLOURING
 from lab.wrong import Wrong
 
 # No run has such a pulse, so an entry that names it is refused, and the judge says what would be possible.

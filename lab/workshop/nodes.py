@@ -3,37 +3,41 @@ import time
 from typing import Callable
 
 from lab.workshop.findings import Fault
+from lab.workshop.guard import Guard, Limits, end_all, is_reaper
 from lab.workshop.interrupts import INTERRUPTS
-from lab.workshop.limits import Limits
 from lab.workshop.processes import Process
 
 Answer = list[str] | Fault
 
 
 class Nodes:
-    """A program for each vertex; the vertices get the commands in turn. Used in `with`, so that all are stopped,
-    whatever happens."""
+    """A program for each vertex, by the number of its command. Used in `with`, so that all are stopped, whatever
+    happens."""
 
-    def __init__(self, vertices, commands: list[list[str]], limits: Limits, is_shared: bool = False):
-        self.vertices, self.commands, self.limits, self.is_shared = list(vertices), commands, limits, is_shared
+    def __init__(self, owners: list[int], commands: list[list[str]], limits: Limits, guard: Guard,
+                 is_shared: bool = False):
+        self.owners, self.commands, self.limits, self.guard = owners, commands, limits, guard
+        self.is_shared, self.tasks = is_shared, guard.tasks()
         self.processes: list[Process] = []
         self.of: dict[int, Process] = {}
 
     def __enter__(self):
         try:
-            for v in self.vertices:
-                self.start(v)
+            for v, owner in enumerate(self.owners, 1):
+                self.start(v, owner)
         except BaseException:
             self.stop()
             raise
         return self
 
-    def start(self, v: int) -> None:
-        at = (v - 1) % len(self.commands)
-        if not self.is_shared or at == len(self.processes):
-            with INTERRUPTS.held():
-                self.processes.append(Process(self.commands[at], self.limits))
-        self.of[v] = self.processes[at if self.is_shared else -1]
+    def start(self, v: int, owner: int) -> None:
+        same = self.owners.index(owner) + 1
+        if self.is_shared and same < v:
+            self.of[v] = self.of[same]
+            return
+        with INTERRUPTS.held():
+            self.processes.append(Process(self.commands[owner], self.limits, self.guard, self.tasks))
+        self.of[v] = self.processes[-1]
 
     def __exit__(self, *why):
         self.stop()
@@ -60,6 +64,8 @@ class Nodes:
                 process.end()
             while self.processes:
                 self.processes.pop().stop(until)
+            if is_reaper():
+                end_all()
 
 
 def attempt(do, *given):

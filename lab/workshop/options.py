@@ -4,8 +4,7 @@ import argparse
 from lab.schedules.policies import POLICIES
 from lab.transcripts.fields import PAYLOADS
 from lab.workshop.cases import NETWORKS
-from lab.workshop.open_run import MOST_PULSES
-from lab.workshop.results import COLOURING, program_of
+from lab.workshop.protocol import COLOURING, program_of
 
 HELP = """\
 Runs programs that students write as the nodes of a network, and has the proved
@@ -61,8 +60,10 @@ def command_line() -> argparse.ArgumentParser:
                        help="seconds that an answer may take; default: 10")
     words.add_argument("--memory", type=count, default=2048, metavar="MB",
                        help="megabytes that a program may use; default: 2048")
-    words.add_argument("--most-pulses", type=count, default=MOST_PULSES, metavar="N",
-                       help=f"of open: no run may take more; default: {MOST_PULSES}")
+    words.add_argument("--most-pulses", type=count, metavar="N",
+                       help="of open: no run may take more; default: 20 for each node and each pulse of the lessons")
+    words.add_argument("--no-guard", action="store_true",
+                       help="let programs reach other processes: for a container's command that needs more rights")
     words.add_argument("--one-process", action="store_true",
                        help="one process for all nodes of a command: each message begins with `to K`; not for grading")
     words.add_argument("--json", action="store_true", help="print the result for a program")

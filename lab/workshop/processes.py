@@ -10,14 +10,17 @@ import tempfile
 import time
 from typing import Callable
 
-from lab.workshop.answers import MOST_BYTES, end_of, lines_of, shown
 from lab.workshop.findings import Fault
-from lab.workshop.last_errors import LAST_BYTES, last_errors
-from lab.workshop.limits import Limits, limit
+from lab.workshop.guard import Guard, Limits
+from lab.workshop.protocol import MOST_BYTES, end_of, lines_of, shown
 
 SOON = 0.3                  # seconds after which an answer is late, and it is looked whether it still matters
 LOOK = 0.004                # seconds between two looks whether a program has ended
-# Why a program can't be started, in words that help.
+LOOK_AT_FILES = 1.0         # seconds between two looks at what a program that says nothing writes
+FIRST_HINT = " (does it flush standard output after `end`, and answer before it reads on after the line `end`?)"
+LAST_LINES, LAST_LETTERS, LAST_BYTES = 5, 600, 1 << 14
+MOST_CALLS = 2              # lines `at ..` that are kept of each list of calls, as Java and JavaScript print them
+MARKS = " \t^~"             # of these letters alone are the lines with which Python marks a place in the line above
 HINTS = {errno.EMFILE: "; three files are open for each program: raise `ulimit -n`, or use --one-process",
          errno.EACCES: "; `chmod +x FILE` lets a file be started",
          errno.ENOEXEC: "; the first line of a script says what runs it, as `#!/usr/bin/env python3`"}
@@ -26,19 +29,22 @@ HINTS = {errno.EMFILE: "; three files are open for each program: raise `ulimit -
 class Process:
     """A program that runs. `asked` counts the messages."""
 
-    def __init__(self, command: list[str], limits: Limits):
-        self.limits, self.asked, self.until, self.left = limits, 0, 0.0, b""
+    def __init__(self, command: list[str], limits: Limits, guard: Guard, tasks: int):
+        self.limits, self.guard, self.asked, self.until = limits, guard, 0, 0.0
         self.errors = None
+        workshop = os.getpid()
+        user = {} if guard.user is None else {"user": guard.user, "group": guard.user, "extra_groups": []}
         try:
             self.errors = tempfile.TemporaryFile()
             self.process = subprocess.Popen(command, stdin=subprocess.PIPE, stdout=subprocess.PIPE, stderr=self.errors,
-                                            bufsize=0, start_new_session=True, env=environment())
+                                            bufsize=0, start_new_session=True, env=guard.environment(),
+                                            cwd=guard.folder, **user,
+                                            preexec_fn=lambda: guard.enter(limits, tasks, workshop))
         except OSError as why:
             if self.errors:
                 self.errors.close()
-            words = f"`{' '.join(command)}` can't be started: {why.strerror}{HINTS.get(why.errno, '')}"
+            words = f"{shown(' '.join(command))} can't be started: {why.strerror}{hint(why.errno, command[0])}"
             raise Fault("start", words) from None
-        limit(self.process.pid, limits)
         self.input, self.output = self.process.stdin.fileno(), self.process.stdout.fileno()
         os.set_blocking(self.input, False)
         self.readable, self.writable = select.poll(), select.poll()
@@ -51,6 +57,7 @@ class Process:
 
     def send(self, lines: list[str]) -> None:
         """Sends a message; what the program wrote without being asked is garbage."""
+        self.guard.look()
         if self.asked and self.readable.poll(0):
             got = os.read(self.output, 1 << 16)
             raise after_its_end(got) if got else self.ended()
@@ -83,8 +90,13 @@ class Process:
         return lines_of(got[:ends[0]])
 
     def wait(self, poll, silent) -> None:
-        seconds = max(0.0, self.until - time.monotonic())
-        if not poll.poll(seconds * 1000):
+        until = min(self.until, self.limits.over)
+        while not poll.poll(1000 * max(0.0, min(LOOK_AT_FILES, until - time.monotonic()))):
+            self.guard.look()
+            if time.monotonic() < until:
+                continue
+            if until < self.until:
+                raise Fault("late", "the time for all runs is over")
             words = silent if isinstance(silent, str) else silent()
             factor = self.limits.first_factor if self.asked == 1 else 1
             raise Fault("silent", f"{words} within {factor * self.limits.timeout:g} seconds{self.last_errors()}")
@@ -92,7 +104,7 @@ class Process:
     def why_silent(self, got: bytearray) -> str:
         if got:
             return f"it wrote {shown(got)}, and no line `end`"
-        return "it wrote nothing" + (" (does it flush standard output after `end`?)" if self.asked == 1 else "")
+        return "it wrote nothing" + FIRST_HINT * (self.asked == 1)
 
     def ended(self, got: bytes | bytearray = b"") -> Fault:
         """How it ended in the middle."""
@@ -106,7 +118,8 @@ class Process:
         size = self.errors.seek(0, os.SEEK_END)
         self.errors.seek(max(0, size - LAST_BYTES))
         words = last_errors(self.errors.read())
-        return f"; on standard error: {words}" if words else ""
+        full = f"; standard error has {size >> 20} megabytes, the most that it may have" * (size >= self.limits.written)
+        return full + (f"; on standard error: {words}" if words else "")
 
     def end(self) -> None:
         """No more messages: a program that reads to the end of its input ends now."""
@@ -129,9 +142,11 @@ class Process:
         self.errors.close()
 
 
-def environment() -> dict[str, str]:
-    """Without the variable that has Python flush by itself: a program that is right here is right elsewhere."""
-    return {name: value for name, value in os.environ.items() if name != "PYTHONUNBUFFERED"}
+def hint(error: int, name: str) -> str:
+    """Why a program can't be started, in words that help."""
+    if error == errno.ENOENT and "/" not in name and os.path.isfile(name):
+        return f"; there is a file {name} here: `./{name}`, or with what runs it, as `python3 {name}`"
+    return HINTS.get(error, "")
 
 
 def after_its_end(got: bytes | bytearray) -> Fault:
@@ -159,3 +174,17 @@ def name_of(number: int) -> str:
         return signal.Signals(number).name + why.get(number, "")
     except ValueError:
         return str(number)
+
+
+def last_errors(text: bytes) -> str:
+    """What a program that ended wrote to standard error at last, so that the place of its mistake is among it: the last
+    lines in one, or nothing; without lines of marks, and with the innermost calls of a long list alone."""
+    lines, calls = [], 0
+    for line in text[-LAST_BYTES:].decode("utf-8", "replace").splitlines():
+        if not line.strip(MARKS):
+            continue
+        calls = calls + 1 if line.lstrip().startswith("at ") else 0
+        if calls <= MOST_CALLS:
+            lines.append(line.strip())
+    words = " | ".join(lines[-LAST_LINES:])
+    return shown(words[-LAST_LETTERS:], LAST_LETTERS) if words else ""

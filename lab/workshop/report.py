@@ -93,6 +93,7 @@ def as_json(options: Namespace, cases: list[Case], shown: Case | None, seconds: 
         row["verdict"] = found.kind if found else "right"
         if found:
             row |= {"node": found.node, "pulse": found.pulse}
+            row |= {} if found.owner is None else {"command": options.commands[found.owner]}
         elif case.league:
             row |= case.league._asdict()
         return row

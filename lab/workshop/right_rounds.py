@@ -3,7 +3,7 @@ plain`."""
 from lab.networks.network_text import Network
 from lab.workshop.findings import NoVerdict
 from lab.workshop.judge import ask, network_text
-from lab.workshop.results import COLOURING
+from lab.workshop.protocol import COLOURING
 
 
 class RightRounds:

@@ -2,11 +2,9 @@
 rounds, pulse by pulse."""
 from typing import Callable
 
-from lab.workshop.answers import is_number, no_such_line, port_of, shown
 from lab.workshop.findings import Fault, Finding, listed
-from lab.workshop.first_message import own_data
 from lab.workshop.nodes import Nodes
-from lab.workshop.results import COLOURING, FORMS, result_of
+from lab.workshop.protocol import COLOURING, FORMS, is_number, no_such_line, own_data, port_of, result_of, shown
 from lab.workshop.right_rounds import RightRounds
 from lab.workshop.why_rounds import Rule, Why, why_of
 
@@ -78,7 +76,7 @@ class RoundsRun:
             said = self.said[p][v] = Said(answer, len(self.rounds.ports[v]), self.rounds.program)
         except Fault as fault:
             lines = [where, self.came(p, v), ("wrong", fault.words), ("right", self.right_puts(p, v))]
-            return Finding(fault.kind, v, p, lines, way=phase)
+            return Finding(fault.kind, v, p, lines, way=phase, is_first=p == 0)
         found = self.difference(p, v, said)
         if found is None:
             return None

@@ -1,7 +1,7 @@
 """Why a node has to do something in a pulse: of the colouring the definition of the pulse's phase, with this node's
 numbers; every number is from the text of `forestplay rounds`, or the node knows it. Of another program a rule."""
 from lab.workshop.findings import listed
-from lab.workshop.results import COLOURING
+from lab.workshop.protocol import COLOURING
 from lab.workshop.right_rounds import RightRounds
 
 DROPPED = {8: 5, 10: 4, 12: 3}

@@ -2,15 +2,14 @@
 import json
 import os
 import sys
-import time
 import traceback
 
-from lab.workshop.cases import Case, cases_of
 from lab.workshop.findings import NoVerdict
+from lab.workshop.guard import Guard, shut
 from lab.workshop.interrupts import INTERRUPTS
 from lab.workshop.keeping import draw, keep
 from lab.workshop.options import parsed
-from lab.workshop.playing import Player
+from lab.workshop.playing import played
 from lab.workshop.report import Progress, as_json, report
 from lab.wrong import Wrong
 
@@ -21,6 +20,7 @@ def main(words: list[str]) -> int:
     try:
         options = parsed(words)
         INTERRUPTS.install()
+        shut()
         return run(options)
     except Wrong as why:
         return failed(why, REFUSED)
@@ -38,15 +38,7 @@ def failed(why, status: int) -> int:
 
 
 def run(options) -> int:
-    start = time.monotonic()
-    player = Player(options.assignment, options.commands, options.timeout, options.memory, options.one_process,
-                    options.most_pulses, options.program)
-    cases = cases_of(options.networks, options.policies, options.runs, options.seed, options.case, options.program)
-    cases = player.play_all(cases, options.first, Progress())
-    shown = min((case for case in cases if case.finding), key=Case.size, default=None)
-    if shown and len(cases) > 1:
-        shown = player.shrunk(shown)
-    seconds = time.monotonic() - start
+    cases, shown, seconds = played(options, Guard(is_open=options.no_guard), progress=Progress())
     if options.keep:
         keep(shown or cases[-1], options.keep)
     write(json.dumps(as_json(options, cases, shown, seconds)) if options.json else

@@ -7,10 +7,9 @@ import sys
 import tempfile
 
 from lab.networks.network_text import Network
-from lab.workshop.cases import Case, network_of
-from lab.workshop.chance import Chance
+from lab.workshop.cases import Case, Chance, network_of
 from lab.workshop.playing import Player
-from lab.workshop.results import COLOURING
+from lab.workshop.protocol import COLOURING
 from tests import TOP
 
 DOOR = os.path.join(TOP, "bin", "workshop")
@@ -40,8 +39,13 @@ def played(assignment: str, name: str | Network, *commands: list[str], policy: s
     return case
 
 
+def command_line(*words: str) -> list[str]:
+    """The command itself."""
+    return [DOOR, *words]
+
+
 def call(*words: str, **more) -> subprocess.CompletedProcess:
-    return subprocess.run([DOOR, *words], capture_output=True, text=True, timeout=LIMIT, **more)
+    return subprocess.run(command_line(*words), capture_output=True, text=True, timeout=LIMIT, **more)
 
 
 @functools.cache

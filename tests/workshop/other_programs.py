@@ -13,7 +13,7 @@ import unittest
 from lab.networks.network_text import Network
 from lab.schedules.policies import POLICIES
 from lab.workshop import cases
-from lab.workshop.first_message import own_data
+from lab.workshop.protocol import own_data
 from lab.workshop.options import parsed
 from lab.workshop.right_rounds import RightRounds
 from lab.workshop.workshop import main

@@ -1,19 +1,17 @@
 """The pages of the workshop: PROTOCOL is short enough, what they print is printed, and their numbers are those of
 the code. And what the folder of a class has, and what it hasn't."""
-import json
 import os
 import re
 import subprocess
-import sys
 import tempfile
 import unittest
 
 from build.install import install
 from lab.schedules.policies import POLICIES
 from lab.transcripts.fields import PAYLOADS
-from lab.workshop import answers, cases, class_files, last_errors, limits, options
+from lab.workshop import cases, class_files, guard, options, processes, protocol
 from tests import TOP
-from tests.workshop.base import EXAMPLES, LIMIT, call, python
+from tests.workshop.base import LIMIT, call, python
 from tests.workshop.mistakes import MISTAKES
 
 
@@ -53,30 +51,29 @@ class Pages(unittest.TestCase):
             self.assertTrue(line.startswith(wanted.removesuffix("..")), (line, wanted))
 
     def test_numbers(self):
-        workshop, protocol, teaching = page("WORKSHOP.md"), page("PROTOCOL.md"), page("TEACHING.md")
+        workshop, talking, teaching = page("WORKSHOP.md"), page("PROTOCOL.md"), page("TEACHING.md")
         defaults = options.parsed(["rounds", "two", "--", "x"])
         for text, number, words in (
             (workshop, defaults.timeout, r"An answer may take ([\d,]+) seconds"),
-            (protocol, defaults.timeout, r"no answer within ([\d,]+) seconds"),
+            (talking, defaults.timeout, r"no answer within ([\d,]+) seconds"),
             (workshop, defaults.memory, r"([\d,]+)\s+megabytes of\s+memory"),
-            (workshop, limits.PROCESSOR_SECONDS, r"([\d,]+) seconds of processor time"),
-            (workshop, limits.limits_of(1, 1, 16).written >> 20, r"may have ([\d,]+) megabytes"),
-            (workshop, limits.OPEN_FILES, r"It may open ([\d,]+) files"),
-            (protocol, answers.MOST_LETTERS, r"up to ([\d,]+) letters a line"),
-            (protocol, last_errors.LAST_LINES, r"shows the last (\w+) lines"),
+            (workshop, guard.PROCESSOR_SECONDS, r"([\d,]+) seconds of processor time"),
+            (workshop, guard.limits_of(1, 1, 16).written >> 20, r"may have ([\d,]+) megabytes"),
+            (workshop, guard.OPEN_FILES, r"It may open ([\d,]+) files"),
+            (talking, protocol.MOST_LETTERS, r"up to ([\d,]+) letters a line"),
+            (talking, processes.LAST_LINES, r"shows the last (\w+) lines"),
             (teaching, len(MISTAKES.MISTAKES), r"writes ([\d,]+)\s+wrong nodes"),
             (teaching, len(MISTAKES.MISTAKES) - 3, r"([\d,]+) of them show; three change nothing"),
             (workshop, len(cases.NETWORKS.split(",")), r"plays (\w+) networks under"),
             (workshop, len(POLICIES), r"networks under (\w+) policies"),
             (workshop, 10 * len(cases.NETWORKS.split(",")), r"workshop alpha --runs ([\d,]+) -- "),
-            (teaching, 10 * len(cases.NETWORKS.split(",")), r"workshop alpha --runs ([\d,]+) --seed S"),
             (teaching, len(POLICIES), r"each of the (\w+) policies of which"),
             (teaching, len(cases.NETWORKS.split(",")), r"of which all (\w+) runs are right"),
         ):
             with self.subTest(words):
                 found = re.search(words, text)[1].replace(",", "")
                 self.assertEqual(NUMBERS.get(found, found), f"{number:.0f}")
-        self.assertEqual(limits.limits_of(1, 1, 17).written < limits.limits_of(1, 1, 16).written, True)
+        self.assertEqual(guard.limits_of(1, 1, 17).written < guard.limits_of(1, 1, 16).written, True)
 
     def test_the_page_has_each_policy_and_each_payload(self):
         for name in POLICIES:
@@ -85,36 +82,6 @@ class Pages(unittest.TestCase):
         for name in map(bytes.decode, PAYLOADS["colouring"]):
             with self.subTest(name):
                 self.assertIn(f"`{name}`", page("PROTOCOL.md"))
-
-
-class Points(unittest.TestCase):
-    """By hand, of the table in TEACHING: 99 of 100 runs give 39, nine of ten policies 36, and all plans 10."""
-
-    def added(self, **cases_of):
-        with tempfile.TemporaryDirectory() as folder:
-            names = []
-            for assignment, rows in cases_of.items():
-                names.append(os.path.join(folder, assignment))
-                right = sum(row["verdict"] == "right" for row in rows)
-                with open(names[-1], "w", encoding="utf-8") as file:
-                    json.dump({"assignment": assignment, "runs": len(rows), "right": right, "cases": rows}, file)
-            done = subprocess.run([sys.executable, os.path.join(EXAMPLES, "points.py"), *names], capture_output=True,
-                                  text=True)
-        return done.stdout.splitlines()
-
-    def test_they_add_up(self):
-        right, wrong, silent = ({"verdict": verdict} for verdict in ("right", "stuck", "silent"))
-        alpha = [{"policy": policy, "verdict": "right"} for policy in POLICIES for _ in range(12)]
-        self.assertEqual(self.added(rounds=[right] * 100, alpha=alpha, open=[right] * 50)[-1], "in all: 90")
-        alpha[17]["verdict"] = "NotReady"
-        self.assertEqual(self.added(rounds=[right] * 99 + [silent], alpha=alpha, open=[right] * 49 + [wrong]), [
-            "rounds: 39 points, 99 of 100 runs right; 1 were silent: run it again",
-            "alpha: 36 points, 119 of 120 runs right", "open: 0 points, 49 of 50 runs right", "in all: 75"])
-
-    def test_the_parts_are_a_hundred(self):
-        table = page("TEACHING.md").partition("**Points.**")[2].partition("Run a submission")[0]
-        self.assertEqual(sum(map(int, re.findall(r"(?m)^\| \w+ \| (\d+) \|", table))), 100)
-        self.assertEqual(re.search(r"which have (\d+) at most", table)[1], "90")
 
 
 class ClassFolder(unittest.TestCase):

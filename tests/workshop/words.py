@@ -4,7 +4,7 @@ import unittest
 from lab.networks.network_text import Network
 from lab.transcripts.rules import rule_of, rules_of_dues
 from lab.workshop.judge import Entry
-from lab.workshop.last_errors import last_errors
+from lab.workshop.processes import last_errors
 from lab.workshop.right_rounds import RightRounds
 from lab.workshop.why_alpha import At, early
 from lab.workshop.why_rounds import Why

@@ -1,0 +1,250 @@
+"""What a student's program may use and touch: it runs on the workshop's machine with the workshop's rights, and mustn't
+reach the workshop, its judge, or what others have written.
+
+- The workshop can't be read by /proc (it isn't dumpable), and whatever a program leaves behind becomes its child
+  (it is a subreaper), so that all of it ends with the run.
+- Where the system has Landlock, which needs no rights (Linux 5.13), a program can't trace or read another process; from
+  Linux 6.12 on it can't signal one either, except what it has started itself.
+- In a folder of its own, as for grading, it also writes there alone, sees nothing below the paths that are hidden from
+  it and nothing of other processes, and has no connections (TCP, Linux 6.7)."""
+import contextlib
+import ctypes
+import os
+import resource
+import signal
+import struct
+import time
+from dataclasses import dataclass
+from typing import Iterator, Sequence
+
+from lab.workshop.findings import Fault
+
+PROCESSOR_SECONDS = 600     # so that an endless loop ends even if the workshop itself is killed
+OPEN_FILES = 256
+WRITTEN_IN_ALL = 256 << 20  # by all programs of a run
+CHILDREN, CHILDREN_EACH = 256, 64       # processes and threads of a run, and more for each program
+MEGABYTE = 1 << 20
+MOST_KEPT, MOST_FILES = 256 * MEGABYTE, 10_000      # in a folder of their own
+LOOK = 0.5                  # seconds between two looks at it
+NOBODY = 65534              # what programs are for grading if the workshop is root
+NAMES = ("HOME", "LANG", "PATH", "TMPDIR")
+
+# Numbers of Linux, the same on all machines.
+PDEATHSIG, DUMPABLE, DROP_CAPABILITY, SUBREAPER, IS_SUBREAPER, NO_NEW_PRIVS = 1, 4, 24, 36, 37, 38
+CAPABILITIES = 64           # more than there are
+CREATE_RULESET, ADD_RULE, RESTRICT_SELF = 444, 445, 446
+EXECUTE, WRITE, READ, LIST, MAKE_BLOCK, TRUNCATE = (1 << bit for bit in (0, 1, 2, 3, 11, 14))
+OF_FILES, LOOKS = EXECUTE | WRITE | READ | TRUNCATE, EXECUTE | READ | LIST
+TCP, SIGNALS_AND_SOCKETS = 3, 3
+SYSTEM = ctypes.CDLL(None, use_errno=True)
+
+
+@dataclass
+class Limits:
+    """`timeout`, in seconds, of an answer; the first may take three times as long, since the program starts
+    meanwhile. `memory` in bytes; `written`, the bytes of each file that it writes, its standard error too; `children`,
+    how many processes and threads all programs of a run may have. `over` is the time at which all runs end."""
+    timeout: float = 10.0
+    memory: int = 2048 * MEGABYTE
+    written: int = 16 * MEGABYTE
+    first_factor: int = 3
+    children: int = CHILDREN
+    over: float = float("inf")
+
+
+def limits_of(timeout: float, megabytes: int, programs: int, over: float = float("inf")) -> Limits:
+    """The limits of a number of programs, which share what may be written."""
+    written = max(MEGABYTE, min(16 * MEGABYTE, WRITTEN_IN_ALL // max(1, programs)))
+    return Limits(timeout, megabytes * MEGABYTE, written, children=CHILDREN + CHILDREN_EACH * programs, over=over)
+
+
+def limit(limits: Limits, tasks: int) -> None:
+    """Sets them for this process and what it starts. Memory is what it can write to, since some languages reserve far
+    more than they use. Processes are counted with those that the user has already, `tasks`; of root none is counted."""
+    rules = {resource.RLIMIT_FSIZE: limits.written, resource.RLIMIT_CPU: PROCESSOR_SECONDS,
+             resource.RLIMIT_DATA: limits.memory, resource.RLIMIT_NOFILE: OPEN_FILES, resource.RLIMIT_CORE: 0,
+             resource.RLIMIT_NPROC: tasks + limits.children}
+    for what, most in rules.items():
+        hard = resource.getrlimit(what)[1]
+        most = most if hard == resource.RLIM_INFINITY else min(most, hard)
+        resource.setrlimit(what, (most, most))
+
+
+def files_for(programs: int) -> None:
+    """Lets the workshop itself open three files for each program, if the system allows it."""
+    soft, hard = resource.getrlimit(resource.RLIMIT_NOFILE)
+    wanted = 3 * programs + 64
+    if soft < wanted:
+        most = wanted if hard == resource.RLIM_INFINITY else min(hard, wanted)
+        resource.setrlimit(resource.RLIMIT_NOFILE, (max(soft, most), hard))
+
+
+def shut() -> None:
+    """Nobody reads this process, and it gets what its programs leave behind."""
+    control(DUMPABLE, 0)
+    control(SUBREAPER, 1)
+
+
+class Guard:
+    """`folder` is the programs' own, or None if they run where the workshop does and may write anywhere. Below the
+    paths that are `hidden` they see nothing but those that are `needed`. `edition` is that of Landlock, 0 if there is
+    none. With `is_open` nothing is restricted: for a container, which guards by itself and whose command may need more
+    rights."""
+
+    def __init__(self, folder: str | None = None, hidden: Sequence[str] = (), needed: Sequence[str] = (),
+                 is_open: bool = False):
+        self.folder, self.is_open, self.rules, self.looked = folder, is_open, None, 0.0
+        self.user = NOBODY if folder and not is_open and os.geteuid() == 0 else None
+        self.edition = max(0, SYSTEM.syscall(CREATE_RULESET, None, ctypes.c_size_t(0), 1))
+        if is_open or not self.edition:
+            return
+        # Some rule on files has to be there; without a folder it is one that no program minds.
+        files = (1 << 12 + min(self.edition, 3)) - 1 if folder else MAKE_BLOCK
+        rules = struct.pack("3Q", files, TCP if folder and self.edition >= 4 else 0,
+                            SIGNALS_AND_SOCKETS if self.edition >= 6 else 0)
+        self.rules = checked(SYSTEM.syscall(CREATE_RULESET, rules, ctypes.c_size_t(len(rules)), 0))
+        if folder:
+            for path in [*beside([*hidden, "/proc"]), *needed]:
+                self.allow(path, LOOKS)
+            for path in (folder, "/dev/null", "/dev/zero", "/dev/full"):
+                self.allow(path, files)
+
+    def allow(self, path: str, rights: int) -> None:
+        """Rights to all below a path."""
+        try:
+            place = os.open(path, os.O_PATH | os.O_CLOEXEC)
+        except OSError:
+            return
+        try:
+            rights &= -1 if os.path.isdir(path) else OF_FILES
+            checked(SYSTEM.syscall(ADD_RULE, self.rules, 1, struct.pack("=Qi", rights, place), 0))
+        finally:
+            os.close(place)
+
+    def enter(self, limits: Limits, tasks: int, workshop: int) -> None:
+        """In a process that is about to become a program: it ends with the workshop, and even root's programs can do no
+        more than the owner of root's files."""
+        limit(limits, tasks)
+        control(PDEATHSIG, signal.SIGKILL)
+        if os.getppid() != workshop:
+            os._exit(1)
+        if not self.is_open:
+            for number in range(CAPABILITIES if os.geteuid() == 0 else 0):
+                SYSTEM.prctl(DROP_CAPABILITY, *map(ctypes.c_ulong, (number, 0, 0, 0)))
+            control(NO_NEW_PRIVS, 1)
+        if self.rules is not None:
+            checked(SYSTEM.syscall(RESTRICT_SELF, self.rules, 0))
+
+    def environment(self) -> dict[str, str]:
+        """Few names, so that a program that is right here is right elsewhere."""
+        if self.is_open:
+            return dict(os.environ)
+        own = dict.fromkeys(("HOME", "TMPDIR"), self.folder) if self.folder else {}
+        return {name: os.environ[name] for name in NAMES if name in os.environ} | own
+
+    def look(self) -> None:
+        """Raises a fault if the programs' folder is too full; looks now and then."""
+        if self.folder and time.monotonic() - self.looked > LOOK:
+            if kept_in(self.folder) > MOST_KEPT:
+                raise Fault("flood", f"it wrote more than {MOST_KEPT >> 20} megabytes or {MOST_FILES} files")
+            self.looked = time.monotonic()
+
+    def tasks(self) -> int:
+        """How many processes and threads the programs' user has now."""
+        user = os.geteuid() if self.user is None else self.user
+        return sum(process.threads for process in processes() if process.user == user) if user else 0
+
+
+def kept_in(folder: str) -> int:
+    """The bytes of all files below a folder; of too many files, too many bytes."""
+    size = files = 0
+    for at, folders, names in os.walk(folder):
+        files += len(folders) + len(names)
+        if files > MOST_FILES:
+            return MOST_KEPT + 1
+        for name in names:
+            with contextlib.suppress(OSError):
+                size += 512 * os.lstat(os.path.join(at, name)).st_blocks
+    return size
+
+
+def control(what: int, value: int) -> None:
+    checked(SYSTEM.prctl(what, *map(ctypes.c_ulong, (value, 0, 0, 0))))
+
+
+def checked(result: int) -> int:
+    if result < 0:
+        raise OSError(ctypes.get_errno(), os.strerror(ctypes.get_errno()))
+    return result
+
+
+def beside(hidden: Sequence[str]) -> Iterator[str]:
+    """All that there is but the hidden paths, as few paths: what lies beside them and beside the folders above."""
+    hidden = {os.path.realpath(path) for path in hidden}
+    hidden = {path for path in hidden if not hidden & folders_above(path)}
+    above = set().union(*map(folders_above, hidden))
+    for folder in above:
+        with contextlib.suppress(OSError):
+            for name in os.listdir(folder):
+                path = os.path.join(folder, name)
+                if path not in hidden and path not in above and not os.path.islink(path):
+                    yield path
+
+
+def folders_above(path: str) -> set[str]:
+    return {path[:at] or "/" for at in range(len(path)) if path[at] == "/"}
+
+
+# What programs leave behind.
+
+@dataclass
+class Running:
+    """A process of this machine."""
+    number: int
+    parent: int
+    user: int
+    threads: int
+    is_over: bool
+
+
+def processes() -> Iterator[Running]:
+    for name in filter(str.isdecimal, os.listdir("/proc")):
+        with contextlib.suppress(OSError):
+            with open(f"/proc/{name}/stat", "rb") as file:
+                fields = file.read().rpartition(b") ")[2].split()
+                yield Running(int(name), int(fields[1]), os.fstat(file.fileno()).st_uid, int(fields[17]),
+                              fields[0] in (b"Z", b"X"))
+
+
+def is_reaper() -> bool:
+    """Whether this process gets what its programs leave behind, and has something below it."""
+    said = ctypes.c_int(0)
+    control(IS_SUBREAPER, ctypes.addressof(said))
+    return bool(said) and any(process.parent == os.getpid() for process in processes())
+
+
+def left_behind(kept: Sequence[int] = ()) -> set[int]:
+    """All processes below this one, but those that are kept with what is below them; what has ended is collected."""
+    below: dict[int, list[Running]] = {}
+    for process in processes():
+        below.setdefault(process.parent, []).append(process)
+    found, more = set(), [process for process in below.get(os.getpid(), ()) if process.number not in kept]
+    for process in more:
+        if process.is_over and process.parent == os.getpid():
+            with contextlib.suppress(ChildProcessError):
+                os.waitpid(process.number, os.WNOHANG)
+        elif not process.is_over:
+            found.add(process.number)
+            more += below.get(process.number, ())
+    return found
+
+
+def end_all(kept: Sequence[int] = ()) -> None:
+    """Ends them. What is stopped starts no more, so all are stopped before one is killed."""
+    stopped: set[int] = set()
+    while found := left_behind(kept):
+        to_stop = found - stopped
+        for number in to_stop or found:
+            with contextlib.suppress(ProcessLookupError, PermissionError):
+                os.kill(number, signal.SIGSTOP if to_stop else signal.SIGKILL)
+        stopped |= to_stop

@@ -1,0 +1,125 @@
+"""What the workshop and a node say to each other (docs/learn/PROTOCOL.md): the first message, and the lines of an
+answer before its line `end`."""
+import re
+
+from lab.networks.network_text import Network
+from lab.transcripts.fields import PAYLOADS, bound_of, payloads_words
+from lab.workshop.findings import Fault
+from lab.wrong import Wrong
+
+EDITION = 1
+COLOURING = "colouring"
+# Of each program the lines in which a node says what it has found.
+FORMS = {COLOURING: ["`channel C`"], "leader": ["`leader IDENTIFIER`"],
+         "layers": ["`layer N by PORT`", "`layer 0`", "`layer none`"]}
+WIRES = "`payload P WORD NUMBER`, `ack P`, `safe P` and `close`"
+PULSES = 1 << 32
+MOST_BYTES = 1 << 20
+MOST_LINES = 20_000
+MOST_LETTERS = 1000         # of a line
+END = re.compile(rb"(?m)^[ \t\r]*end[ \t\r]*\n")
+
+
+def own_data(network: Network, v: int, assignment: str,
+             forests: int | None = None, last: int | None = None) -> list[str]:
+    """The lines before `end`. `forests` belongs to the colouring alone, and `last` is left out for an own algorithm."""
+    barred = network.barred(v)
+    lines = [f"workshop {EDITION} {assignment}", f"identifier {network.identifiers[v]}",
+             f"degree {len(network.neighbours[v])}", f"nodes {network.nodes}", f"delta {network.degree}",
+             f"bars {network.most_bars}"]
+    lines += [f"{word} {number}" for word, number in (("forests", forests), ("last", last)) if number is not None]
+    return [*lines, " ".join(map(str, ["barred", len(barred), *barred]))]
+
+
+def end_of(got: bytes | bytearray) -> tuple[int, int] | None:
+    """Where the first line `end` begins, and where the text goes on after it; None if there is none yet. As in all
+    lines, blanks around it count for nothing."""
+    found = END.search(got)
+    return found and found.span()
+
+
+def lines_of(text: bytes | bytearray) -> list[str]:
+    """The lines before `end`."""
+    lines = [line.rstrip("\r") for line in text.decode("utf-8", "replace").split("\n")[:-1]]
+    if len(lines) > MOST_LINES:
+        raise Fault("flood", f"it answered {len(lines)} lines, more than {MOST_LINES}")
+    return lines
+
+
+def shown(got: str | bytes | bytearray, most: int = 80) -> str:
+    """The first of what a program wrote, as it may be printed in one line."""
+    text = got if isinstance(got, str) else bytes(got[:most]).decode("utf-8", "replace")
+    text = text.replace("\r", "").replace("\n", " | ").strip(" |")[:most]
+    return f"`{''.join(c if c.isprintable() else '?' for c in text)}{' ..' if len(got) > most else ''}`"
+
+
+def is_number(field: str, below: int = 1 << 128) -> bool:
+    return field.isascii() and field.isdecimal() and len(field) <= 40 and int(field) < below
+
+
+def no_such_line(line: str, forms: str) -> Fault:
+    what = shown(line) if line.strip() else "an empty line"
+    return Fault("garbage", f"{what} is no line of an answer, which are {forms} and `end`; "
+                            "what a program prints to find mistakes goes to standard error")
+
+
+def port_of(line: str, number: str, degree: int) -> int:
+    """The port of a line, if the node has it."""
+    if int(number) < degree:
+        return int(number)
+    ports = "no port" if degree == 0 else "port 0 alone" if degree == 1 else f"ports 0 to {degree - 1}"
+    raise Fault("garbage", f"{shown(line)}: there is no port {number[:9]}; the node has {ports}")
+
+
+def program_of(name: str) -> str:
+    """A program's name, if a proved program judges it."""
+    if name in PAYLOADS:
+        return name
+    if name.endswith(".py"):
+        raise Wrong(f"{name}: no program of your own is taken here, since no proved program judges it")
+    raise Wrong(f"there is no program {name}, which are {', '.join(PAYLOADS)}")
+
+
+def result_of(program: str, fields: list[str]) -> str | None:
+    """The words of a result, without zeros before its numbers; None if the fields are none of the program."""
+    match program, fields:
+        case ("colouring", ["channel", number]) | ("leader", ["leader", number]) | ("layers", ["layer", number]) \
+                if is_number(number):
+            return f"{fields[0]} {int(number)}"
+        case "layers", ["layer", number, "by", port] if is_number(number) and is_number(port):
+            return f"layer {int(number)} by {int(port)}"
+        case "layers", ["layer", "none"]:
+            return "layer none"
+    return None
+
+
+def pulse_of(line: str, field: str) -> int:
+    return number_of(line, field, PULSES)
+
+
+def number_of(line: str, field: str, below: int) -> int:
+    if not is_number(field, below):
+        raise Fault("garbage", f"{shown(line)}: {shown(field)} is no number below {below}")
+    return int(field)
+
+
+def wire_of(line: str, fields: list[str], program: str) -> str:
+    """The words of the wire that a line names, without zeros before its numbers; a payload is one of the program."""
+    match fields:
+        case ["close"]:
+            return "close"
+        case ["ack" | "safe" as kind, pulse]:
+            return f"{kind} {pulse_of(line, pulse)}"
+        case ["payload", pulse, word, number]:
+            below = below_of(line, word, program)
+            return f"payload {pulse_of(line, pulse)} {word} {number_of(line, number, below)}"
+    raise Fault("garbage", f"{shown(line)}: {shown(' '.join(fields))} is no wire, which are {WIRES}")
+
+
+def below_of(line: str, word: str, program: str) -> int:
+    """What the number of a payload is below."""
+    try:
+        return bound_of(program, word.encode())
+    except ValueError:
+        which = ", ".join(payloads_words(program))
+        raise Fault("garbage", f"{shown(line)}: {shown(word)} is no payload{which}") from None

@@ -1,0 +1,177 @@
+"""Programs that attack the workshop: whatever they do, its verdict is its own, and nothing of them is left. Each tries
+things, and says on standard error what it got; the verdict shows that."""
+import json
+import os
+import re
+import signal
+import subprocess
+import sys
+import tempfile
+import time
+import unittest
+
+from lab.workshop.findings import Fault
+from lab.workshop.guard import NOBODY, Guard, beside, kept_in
+from tests.workshop.base import LIMIT, command_line, call
+from tests.workshop.misbehaving import MARK, left, left_at_last
+
+BEGIN = """\
+import ctypes, os, signal, socket, sys, time
+for line in sys.stdin:
+    if line == "end\\n":
+        break
+SYSTEM, WORKSHOP, said = ctypes.CDLL(None, use_errno=True), os.getppid(), []
+def tries(name, attack):
+    try:
+        said.append(f"{name}={attack()!r}")
+    except BaseException as why:
+        said.append(f"{name}={type(why).__name__}")
+def trace(pid):
+    if SYSTEM.ptrace(16, pid, None, None):
+        raise OSError(ctypes.get_errno(), "ptrace")
+def away(seconds):
+    if os.fork() == 0:
+        os.setsid()
+        if os.fork() == 0:
+            os.execvp("sleep", ["sleep", str(seconds)])
+        os._exit(0)
+"""
+END = "\nsys.stderr.write(' '.join(said))\nsys.stderr.flush()\nos._exit(7)\n"
+FORGED = json.dumps({"workshop": 1, "runs": 1, "right": 1, "cases": [{"verdict": "right"}]})
+# What reaches the workshop, as anybody: each has to be refused.
+REACHING = {
+    "writes": f"open(f'/proc/{{WORKSHOP}}/fd/1', 'w').write({FORGED!r})",
+    "memory": "open(f'/proc/{WORKSHOP}/mem', 'r+b')", "secrets": "open(f'/proc/{WORKSHOP}/environ').read()[:9]",
+    "traces": "trace(WORKSHOP)", "kills": "os.kill(WORKSHOP, signal.SIGKILL)",
+    "stops": "os.kill(WORKSHOP, signal.SIGSTOP)", "all": "os.killpg(os.getpgid(WORKSHOP), signal.SIGKILL)",
+}
+# What a program has no business with as it is graded.
+OUTSIDE = {
+    "others": "os.listdir({subs!r})", "another": "open({other!r}).read()", "right": "open({right!r}).read()",
+    "words": "open(f'/proc/{{WORKSHOP}}/cmdline').read()", "processes": "os.listdir('/proc')",
+    "writes": "open({loot!r}, 'w')", "moves": "os.rename('rounds_node.py', {loot!r})",
+    "links": "os.link('rounds_node.py', {loot!r})", "connects": "socket.create_connection(('127.0.0.1', {port}))",
+}
+
+
+def program(attacks: dict[str, str], more: str = "") -> str:
+    return BEGIN + more + "".join(f"tries({name!r}, lambda: {attack})\n" for name, attack in attacks.items()) + END
+
+
+def got(text: str) -> dict[str, str]:
+    """What each attack got, from a verdict."""
+    return dict(re.findall(r"(\w+)=([^ `]+)", text.partition("on standard error: ")[2]))
+
+
+class Forgers(unittest.TestCase):
+    def setUp(self):
+        if Guard().edition < 6:
+            self.skipTest("this system has no Landlock that keeps signals apart")
+
+    def tearDown(self):
+        self.assertEqual(left_at_last(), [])
+
+    def test_nothing_reaches_the_workshop(self):
+        done = call("rounds", "two", "--json", "--", sys.executable, "-S", "-c", program(REACHING))
+        self.assertEqual(done.returncode, 1, done)
+        result = json.loads(done.stdout)
+        self.assertEqual([case["verdict"] for case in result["cases"]], ["ended"])
+        found = got(" ".join(result["shown"]))
+        self.assertEqual(found.keys(), REACHING.keys())
+        for name, what in found.items():
+            with self.subTest(name):
+                self.assertIn(what, ("PermissionError", "OSError"))
+
+    def test_nor_anothers_node(self):
+        """Nodes of two people in one network: the second can't end, trace, or speak for the first."""
+        waits = [sys.executable, "-S", "-c", "import time; time.sleep(100)"]
+        find = "OTHER = next(int(p) for p in os.listdir('/proc') if p.isdigit() and int(p) < os.getpid() and " \
+               "open(f'/proc/{p}/stat').read().split()[3] == str(WORKSHOP))\n"
+        attacks = {"kills": "os.kill(OTHER, signal.SIGKILL)", "traces": "trace(OTHER)",
+                   "speaks": "open(f'/proc/{OTHER}/fd/1', 'w').write('end\\n')"}
+        forger = [sys.executable, "-S", "-c", program(attacks, find)]
+        done = call("rounds", "two", "--timeout", "2", "--", *waits, "--", *forger)
+        self.assertIn("whose  node 1: ", done.stdout)
+        self.assertIn("also   in the same pulse node 2", done.stdout)
+        forger[-1] = forger[-1].replace("int(p) < os", "int(p) > os")
+        done = call("rounds", "two", "--timeout", "2", "--", *forger, "--", *waits)
+        self.assertEqual(set(got(done.stdout).values()), {"PermissionError"}, done.stdout)
+
+    def test_nothing_stays(self):
+        """Children of sessions of their own, whose parents have ended; and many of them."""
+        for count in (1, 60):
+            with self.subTest(count):
+                more = f"for _ in range({count}):\n    away({MARK})\n"
+                done = call("rounds", "two", "--", sys.executable, "-S", "-c", program({}, more))
+                self.assertEqual(done.returncode, 1, done)
+                self.assertEqual(left_at_last(), [])
+
+    def test_nor_if_the_workshop_is_killed(self):
+        """The nodes themselves end with it."""
+        waits = [sys.executable, "-S", "-c", f"import time; time.sleep({MARK})", MARK]
+        workshop = subprocess.Popen(command_line("rounds", "two", "--", *waits), stdout=subprocess.PIPE)
+        until = time.monotonic() + LIMIT
+        while len(left()) < 3 and time.monotonic() < until:     # the workshop's own words have the mark, too
+            time.sleep(0.001)
+        workshop.send_signal(signal.SIGKILL)
+        workshop.communicate(timeout=LIMIT)
+        self.assertEqual(left_at_last(), [])
+
+    def test_how_many_there_may_be(self):
+        """Of an ordinary user; of root the system counts none. It forks until it may not, and no longer."""
+        more = ("n = 0\ntry:\n    while n < 4000:\n        if os.fork() == 0:\n            time.sleep(%s)\n"
+                "        n += 1\nexcept OSError:\n    pass\n") % MARK
+        words = command_line("rounds", "path1", "--timeout", "20", "--", "python3", "-S", "-c",
+                             program({"started": "n < 1000"}, more))
+        user = {"user": NOBODY, "group": NOBODY, "extra_groups": []} if os.geteuid() == 0 else {}
+        done = subprocess.run(words, capture_output=True, text=True, timeout=LIMIT, cwd="/", **user)
+        self.assertEqual((done.returncode, got(done.stdout)), (1, {"started": "True"}), done)
+
+    def test_what_it_prints_is_harmless(self):
+        """No letter that a terminal obeys, and no line of its own."""
+        code = BEGIN + "print('\\x1b[2J\\x1b]0;x\\x07right\\u202e\\r\\nright')\nsys.stderr.write('\\x1b[31m')\n"
+        done = call("rounds", "two", "--", sys.executable, "-S", "-c", code)
+        self.assertEqual(done.returncode, 1)
+        self.assertNotRegex(done.stdout, "[\x00-\x09\x0b-\x1f\x7f\u202e]")
+        self.assertNotRegex(done.stdout, r"(?m)^right$")
+
+    def test_the_environment_is_small(self):
+        more = "said.append('names=' + '+'.join(sorted(os.environ)))\n"
+        done = call("rounds", "two", "--", sys.executable, "-S", "-c", program({}, more),
+                    env={**os.environ, "SECRET": "x", "PYTHONUNBUFFERED": "1", "HOME": "/", "LANG": "C.UTF-8"})
+        names = set(got(done.stdout)["names"].split("+"))
+        self.assertLessEqual(names, {"HOME", "LANG", "PATH", "TMPDIR", "LC_CTYPE"})
+        self.assertLessEqual({"HOME", "LANG", "PATH"}, names)
+
+
+class Guards(unittest.TestCase):
+    def test_what_lies_beside(self):
+        """By hand: a hidden path, one below another hidden one, and one that isn't there."""
+        with tempfile.TemporaryDirectory() as top:
+            top = os.path.realpath(top)
+            for path in ("a/b/c", "a/d", "e"):
+                os.makedirs(os.path.join(top, path))
+            for name in ("f", "a/g"):
+                open(os.path.join(top, name), "w", encoding="ascii").close()
+            os.symlink("a", os.path.join(top, "h"))
+            for hidden, seen in ((["a/b"], ["a/d", "a/g", "e", "f"]), (["a", "a/b/c"], ["e", "f"]),
+                                 (["e", "a/b/c"], ["a/d", "a/g", "f"]), (["x/y"], ["a", "e", "f"])):
+                with self.subTest(hidden):
+                    found = beside([os.path.join(top, path) for path in hidden])
+                    below = sorted(os.path.relpath(path, top) for path in found if path.startswith(top + "/"))
+                    self.assertEqual(below, seen)
+
+    def test_a_full_folder(self):
+        with tempfile.TemporaryDirectory() as folder:
+            guard = Guard(folder)
+            guard.look()
+            with open(os.path.join(folder, "big"), "wb") as file:
+                file.truncate(1 << 40)
+            guard.looked = 0
+            guard.look()                # a file of holes takes no room
+            for number in range(10_001):
+                open(os.path.join(folder, str(number)), "wb").close()
+            guard.looked = 0
+            self.assertGreater(kept_in(folder), 1 << 28)
+            with self.assertRaisesRegex(Fault, "it wrote more than 256 megabytes or 10000 files"):
+                guard.look()
