@@ -4,6 +4,7 @@ import os
 import sys
 import traceback
 
+from lab.workshop import grade
 from lab.workshop.findings import NoVerdict
 from lab.workshop.guard import Guard, shut
 from lab.workshop.interrupts import INTERRUPTS
@@ -18,6 +19,8 @@ REFUSED, NO_VERDICT = 2, 3
 
 def main(words: list[str]) -> int:
     try:
+        if words[:1] == ["grade"]:
+            return grade.main(words[1:])
         options = parsed(words)
         INTERRUPTS.install()
         shut()

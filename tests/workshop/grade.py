@@ -1,0 +1,155 @@
+"""Grading: a folder of right and wrong submissions gets the table that is worked by hand, and those that attack get
+nothing."""
+import contextlib
+import io
+import json
+import os
+import re
+import shutil
+import socket
+import tempfile
+import unittest
+from unittest import mock
+
+from lab.schedules.policies import POLICIES
+from lab.workshop import grade
+from lab.workshop.cases import NETWORKS
+from lab.workshop.guard import Guard
+from tests import TOP
+from tests.workshop.base import EXAMPLES, call
+from tests.workshop.forgers import OUTSIDE, got, program
+from tests.workshop.misbehaving import MARK, left_at_last
+
+RIGHT = os.path.join(EXAMPLES, "python")
+ZERO = "import sys\nfor line in sys.stdin:\n    if line == 'end\\n':\n        print('channel 0\\nend ', flush=True)\n"
+MUTE = "import sys\nfor line in sys.stdin:\n    if line == 'end\\n':\n        print('end')\n"
+
+
+class Grades(unittest.TestCase):
+    def setUp(self):
+        self.folder = os.path.realpath(self.enterContext(tempfile.TemporaryDirectory()))
+        os.chmod(self.folder, 0o755)
+        self.subs = os.path.join(self.folder, "submissions")
+
+    def tearDown(self):
+        self.assertEqual(left_at_last(), [])
+
+    def submit(self, student: str, **files: str) -> str:
+        """A submission: files by name, with `_py` for `.py`."""
+        folder = os.path.join(self.subs, student)
+        os.makedirs(folder, exist_ok=True)
+        for name, text in files.items():
+            with open(os.path.join(folder, re.sub("_(py|js|c)$", r".\1", name)), "w", encoding="utf-8") as file:
+                file.write(text)
+        return folder
+
+    def graded(self, *words: str, runs: str = "2") -> dict:
+        """By student, of `grade --json` with few runs."""
+        done = call("grade", self.subs, "--seed", "7", "--json", "--timeout", "1", "--runs", runs, *words)
+        self.assertIn(done.returncode, (0, 1), done)
+        return {one["student"]: one for one in json.loads(done.stdout)["submissions"]}
+
+    def test_right_and_wrong(self):
+        shutil.copytree(RIGHT, os.path.join(self.subs, "anna"))
+        self.submit("anna", commands="rounds: python3 rounds_node.py\nopen : python3 'greedy_node.py'\n"
+                                     "alpha: python3 alpha_node.py\n")
+        self.submit("ben", open_node_py=ZERO, rounds_node_c="int main;")
+        self.submit("cleo", rounds_node_py=MUTE, rounds_node_js="x", open_node_py=MUTE)
+        found = self.graded()
+        table = {student: [*(one[part]["points"] for part in grade.RUNS), one["in_all"]]
+                 for student, one in found.items()}
+        self.assertEqual(table, {"anna": [40, 40, 10, "90"], "ben": [None, None, 0, "0"], "cleo": [None, None, 0, "0"]})
+        self.assertEqual([case["verdict"] for case in found["ben"]["open"]["cases"]], ["garbage"] * 2)
+        self.assertEqual(found["ben"]["rounds"]["why"],
+                         "rounds_node.c can't be run: it has to be compiled, or `chmod +x rounds_node.c`")
+        self.assertEqual(found["cleo"]["rounds"]["why"], "rounds_node.js and rounds_node.py: which one?")
+        self.assertEqual({case["verdict"] for case in found["cleo"]["open"]["cases"]}, {"silent"})
+
+    def test_nothing_outside_is_reached(self):
+        if Guard().edition < 6:
+            self.skipTest("this system has no Landlock that keeps signals apart")
+        server = socket.create_server(("127.0.0.1", 0))
+        self.addCleanup(server.close)
+        names = {"subs": self.subs, "other": os.path.join(self.subs, "ben", "rounds_node.py"),
+                 "right": os.path.join(RIGHT, "rounds_node.py"), "loot": os.path.join(self.folder, "loot"),
+                 "port": server.getsockname()[1]}
+        attacks = {name: attack.format(WORKSHOP="WORKSHOP", **names).replace("{WORKSHOP}", "{WORKSHOP}")
+                   for name, attack in OUTSIDE.items()}
+        own = {"own": "open('kept', 'w').write('x')",
+               "home": "os.environ['HOME'] == os.getcwd() == os.environ['TMPDIR']"}
+        self.submit("anna", rounds_node_py=program(attacks | own, f"away({MARK})\n"))
+        self.submit("ben", rounds_node_py=MUTE)
+        done = call("grade", self.subs, "--runs", "1", "--timeout", "1", "--reports", os.path.join(self.folder, "to"))
+        self.assertEqual(done.returncode, 0, done)
+        with open(os.path.join(self.folder, "to", "anna.txt"), encoding="utf-8") as text:
+            found = got(text.read())
+        self.assertEqual({name: found.pop(name) for name in own}, {"own": "1", "home": "True"}, found)
+        self.assertEqual(found.keys(), attacks.keys())
+        self.assertEqual(set(found.values()), {"PermissionError"}, found)
+        self.assertFalse(os.path.exists(names["loot"]))
+        self.assertEqual(sorted(os.listdir(os.path.join(self.subs, "anna"))), ["rounds_node.py"])
+
+    def test_a_result_is_only_what_the_workshop_says_itself(self):
+        """A process that plays a part is ended, ends otherwise, or says what it shouldn't: that is no result."""
+        given = mock.Mock(seconds=1)
+        for code, why in (("os._exit(3)", "status 3"), ("os.kill(os.getpid(), 9)", "signal SIGKILL"),
+                          ("1 / 0", "status 2")):
+            with self.subTest(code):
+                part = grade.Part("anna", "", "rounds", ["x"])
+                with mock.patch.object(grade, "play", lambda *_, code=code: exec(code)), \
+                        contextlib.redirect_stderr(io.StringIO()):
+                    grade.play_all([part], given, 1, "")
+                self.assertEqual((part.result, part.why), (None, f"no result: its process ended with {why}"))
+
+    def test_a_limit(self):
+        """Whatever a program does with its time, a part ends, and says so."""
+        slow = "import sys, time\nfor line in sys.stdin:\n    if line == 'end\\n':\n        time.sleep(0.7)\n" \
+               "        print('put 0 x' if 0 else 'end', flush=True)\n"
+        self.submit("anna", open_node_py=slow)
+        found = self.graded("--seconds", "3")
+        self.assertLessEqual({case["verdict"] for case in found["anna"]["open"]["cases"]}, {"late"})
+
+    def test_statuses(self):
+        for words, status, said in ((["nowhere"], 2, "nowhere: No such file or directory"),
+                                    ([self.folder, "--jobs", "0"], 2, "0 is no number"), ([], 2, "required: FOLDER")):
+            done = call("grade", *words)
+            self.assertEqual((done.returncode, done.stdout), (status, ""), done)
+            self.assertIn(said, done.stderr)
+        os.makedirs(self.subs)
+        self.assertIn("has no folder of a submission in it", call("grade", self.subs).stderr)
+
+    def test_names_are_printed_harmlessly(self):
+        self.submit("\x1b[2Janna\u202e", rounds_node_py=MUTE)
+        done = call("grade", self.subs, "--runs", "1", "--timeout", "0.2")
+        self.assertNotRegex(done.stdout + done.stderr, "[\x00-\x09\x0b-\x1f\x7f\u202e]")
+        self.assertIn("?[2Janna?", done.stdout)
+
+    def test_words_before_a_command(self):
+        """As those of a container, with the folder of the copy."""
+        shutil.copytree(RIGHT, os.path.join(self.subs, "anna"))
+        found = self.graded("--", "env", "-C", "{}", "SAID=yes", runs="1")
+        self.assertEqual(found["anna"]["in_all"], "80")
+
+
+class Points(unittest.TestCase):
+    """By hand, of the table in TEACHING: 99 of 100 runs give 39, nine of ten policies 36, and all plans 10."""
+
+    def test_they_add_up(self):
+        def of(assignment, rows):
+            return grade.points({"assignment": assignment, "cases": rows})
+        right, wrong = {"verdict": "right"}, {"verdict": "stuck"}
+        alpha = [{"policy": policy, "verdict": "right"} for policy in POLICIES for _ in range(12)]
+        self.assertEqual([of("rounds", [right] * 100), of("alpha", alpha), of("open", [right] * 50)], [40, 40, 10])
+        alpha[17] = alpha[17] | wrong
+        self.assertEqual([of("rounds", [right] * 99 + [wrong]), of("alpha", alpha), of("open", [right] * 49 + [wrong])],
+                         [39, 36, 0])
+
+    def test_the_parts_are_a_hundred(self):
+        with open(os.path.join(TOP, "docs", "learn", "TEACHING.md"), encoding="utf-8") as text:
+            table = text.read().partition("**Points.**")[2].partition("\n\n**")[0]
+        found = {name: int(number) for name, number in re.findall(r"(?m)^\| (\w+) \| (\d+) \|", table)}
+        self.assertEqual(sum(found.values()), 100)
+        self.assertEqual({name: found[name] for name in grade.POINTS}, grade.POINTS)
+
+    def test_each_policy_meets_each_network(self):
+        self.assertEqual(grade.RUNS["alpha"], len(POLICIES) * len(NETWORKS.split(",")))
