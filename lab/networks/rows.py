@@ -34,6 +34,9 @@ def read_table(table: Table, name: str, form: str | None, heading: bool | None) 
     rows = table.rows
     if form == "multiline" or not form and table.has_groups:
         return read_multiline(rows, name)
+    if not form and table.by_networkx and not is_closed(rows):
+        raise Wrong(f"{name}: networkx writes a line for each node of an adjacency list, and some node has none, or two: "
+                    "is it cut, or have names blanks? nx.write_graphml(G, FILE) writes what is read")
     if form == "adjacency" or not form and table.by_networkx:
         return read_adjacency(rows, name)
     if not form and is_adjacency(rows):

@@ -10,14 +10,10 @@ from lab.wrong import Wrong, wrong_line
 WRITE = "nx.write_graphml(G, FILE) writes what is read"
 # How texts begin, what they are, and how networkx reads them.
 HEADS = [
-    (r"<\?xml.*?<gexf\b|<gexf\b", "GEXF", "G = nx.read_gexf(FILE)"),
     (r"<!doctype html|<html\b", "an HTML page", None),
     (r"<", "XML and no GraphML", None),
-    (r"\*(vertices|network|partition|arcs|edges)\b", "Pajek", "G = nx.Graph(nx.read_pajek(FILE))"),
-    (r">>graph6<<", "graph6", "G = nx.read_graph6(FILE)"),
-    (r">>sparse6<<|^:[?-~]+$", "sparse6", "G = nx.Graph(nx.read_sparse6(FILE))"),
+    (r"\*(partition|arcs|edges|matrix)\b", "Pajek without vertices", None),
     (r">>digraph6<<|&[?-~]+$", "digraph6", None),
-    (r"leda\.graph", "LEDA", "G = nx.read_leda(FILE)"),
     (r"dl\s+n\s*=", "DL of UCINET", None),
     (r"nodedef\s*>", "GDF", None),
     (r"\\documentclass|\\begin\b", "TeX", None),
@@ -43,8 +39,8 @@ def refuse_rows(rows: list[tuple[int, list[str]]], separator: str | None, text: 
     """Refuses rows of fields in a form that is known and not read."""
     fields = [row for _, row in rows]
     if is_graph6(fields):
-        raise unread(name, "graph6", "G = nx.read_graph6(FILE)",
-                     "; if each line is a node without a neighbour: --as pairs")
+        raise Wrong(f"{name}: it looks like graph6, which --as graph6 reads by networkx; if each line is a node "
+                    "without a neighbour: --as pairs")
     if all(row[0] in ("c", "p") for row in fields):
         raise Wrong(f"{name}: it looks like DIMACS without an `e` line: is it cut? If these are pairs: --as pairs")
     mark = next((field for row in fields for field in row if field and not any(map(str.isalnum, field))), ":")
@@ -62,8 +58,7 @@ def refuse_rows(rows: list[tuple[int, list[str]]], separator: str | None, text: 
     if re.search("[()]", text) and any(field.count("(") != field.count(")") for row in fields for field in row):
         raise Wrong(f"{name}: names in brackets with blanks or commas can't be separated; "
                     "networkx: nx.convert_node_labels_to_integers(G), or nx.write_graphml(G, FILE)")
-    if re.search("[{}]", text) and any(field.startswith("{") or field.endswith("{}") or field.count("{") != field.count("}") or DATA.search(field)
-           for row in fields for field in row):
+    if re.search("[{}]", text) and any(map(is_broken_data, (field for row in fields for field in row))):
         raise Wrong(f"{name}: braces that aren't data of networkx as it writes them; nx.write_edgelist(G, FILE, "
                     "data=False) writes none (if these are names: --as pairs)")
     inside = [] if separator else [(line, field) for line, row in rows for field in row
@@ -145,6 +140,12 @@ def have_counts(fields: list[list[str]]) -> bool:
                 return False
             most = max(most, left)
     return left == 0 and most > 0
+
+
+def is_broken_data(field: str) -> bool:
+    """Whether a field has braces as no name has them."""
+    return (field.startswith("{") or field.endswith("{}") or field.count("{") != field.count("}")
+            or DATA.search(field) is not None)
 
 
 def are_cut(row: list[str]) -> bool:

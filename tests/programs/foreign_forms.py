@@ -92,8 +92,9 @@ REFUSED = [
     ("Pajek after a comment", "% x\n*Network a net\n*Vertices 1\n1 \"Ulm\"\n", "Pajek"),
     ("Pajek", "*vertices 2\n1 Ulm 0.0 0.0 ellipse\n2 Aue 0.0 0.0 ellipse\n*edges\n1 2 1.0\n", "Pajek"),
     ("graph6", ">>graph6<<IheA@GUAo\n", "graph6"),
-    ("graph6 without a head", "IheA@GUAo\n", "nx.read_graph6(FILE)"),
-    ("graph6 of 64 nodes", "~?@?" + "?" * 336 + "\n", "nx.read_graph6(FILE)"),
+    ("graph6 without a head", "IheA@GUAo\n", "--as graph6"),
+    ("graph6 of 64 nodes", "~?@?" + "?" * 336 + "\n", "--as graph6"),
+    ("LEDA", "LEDA.GRAPH\nstring\nint\n-2\n0\n0\n", "it is read where networkx is installed"),
     ("a list of names", "Ulm\nAue\n", "a list of names"),
     ("sparse6", ">>sparse6<<:I`ES@obGkqegW~\n", "sparse6"),
     ("sparse6 without a head", ":I`ES@obGkqegW~\n", "sparse6"),
@@ -223,6 +224,7 @@ class ForeignForms(Case):
 
     def test_refused(self):
         """A line that names the form, with status 1; and `network tell` doesn't name `read` then."""
+        self.enterContext(mock.patch("lab.networks.by_networkx.networkx", lambda: None))
         for name, text, said in REFUSED:
             data = text.encode("latin-1")
             status, wrote, told = call("read", "-", data=data)

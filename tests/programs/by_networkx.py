@@ -1,0 +1,149 @@
+"""What networkx writes, read by `network read`, where networkx is installed: it is the same graph, or refused."""
+import importlib.util
+import io
+import json
+import random
+import unittest
+
+from lab.networks import by_networkx
+from lab.networks.reading import listed_of, made_of
+from lab.wrong import Wrong
+from tests.cases import Case
+from tests.programs.foreign_texts import named, spoilt
+
+GRAPHS, MUTATED, SEED = 60, 1500, 20261129
+NAMES = (range(8), range(1, 9), ("Ulm", "Aue", "Hof", "Köln", "g.h", "e-f", "B{2}", "n"),
+         ("Bad Tölz", "a b", "x,y", "#1", "say", "z;1", "node", "graph"))
+LEDA = "LEDA.GRAPH\nstring\nint\n-2\n{nodes}\n{edges}\n"
+
+
+def graphs(networkx, source, kinds=NAMES):
+    for _ in range(GRAPHS):
+        names = list(source.choice(kinds))[:source.randint(1, 8)]
+        graph = source.choice((networkx.Graph, networkx.Graph, networkx.DiGraph, networkx.MultiGraph))()
+        graph.add_nodes_from(names)
+        graph.add_edges_from((a, b) for a in names for b in names if source.random() < 0.25)
+        yield graph
+
+
+def wanted(graph):
+    """The network of a graph: names as texts, without directions and edges from a node to itself."""
+    edges = frozenset(frozenset((str(a), str(b))) for a, b in graph.edges() if a != b)
+    return edges, frozenset(map(str, graph)) - frozenset().union(*edges)
+
+
+def ours(text, words):
+    """The network of a text, or None if it is refused."""
+    try:
+        return named(made_of(listed_of(text.encode(), "net", **words), "net")[0])
+    except Wrong:
+        return None
+
+
+def written(write):
+    """What a writer of networkx writes into a file."""
+    def text(graph):
+        file = io.BytesIO()
+        write(graph, file)
+        return file.getvalue().decode()
+    return text
+
+
+def leda(graph):
+    number = {node: at for at, node in enumerate(graph, 1)}
+    nodes = "".join(f"|{{{node}}}|\n" for node in graph)
+    edges = "".join(f"{number[a]} {number[b]} 0 |{{1}}|\n" for a, b in graph.edges())
+    return f"LEDA.GRAPH\nstring\nint\n-2\n{len(graph)}\n{nodes}{graph.number_of_edges()}\n{edges}"
+
+
+def forms(nx):
+    """(the form, its writer, words for `read`, whether nodes without an edge are in it, whether it is read always)."""
+    def numbered(graph):
+        plain = nx.Graph(nx.convert_node_labels_to_integers(graph))
+        plain.remove_edges_from(list(nx.selfloop_edges(plain)))
+        return plain
+    return (
+        ("GraphML", written(nx.write_graphml_xml), {}, True, True),
+        ("GML", lambda graph: "\n".join(nx.generate_gml(graph, str)), {}, True, True),
+        ("JSON", lambda graph: json.dumps(nx.node_link_data(graph, edges="links")), {}, True, True),
+        ("GEXF", written(nx.write_gexf), {}, True, True),
+        ("Pajek", lambda graph: "\n".join(nx.generate_pajek(graph)), {}, True, True),
+        ("LEDA", leda, {}, True, True),
+        ("graph6", lambda graph: nx.to_graph6_bytes(numbered(graph)).decode(), {}, None, True),
+        ("graph6 without a head", lambda graph: nx.to_graph6_bytes(numbered(graph), header=False).decode(),
+         {"form": "graph6"}, None, True),
+        ("sparse6", lambda graph: nx.to_sparse6_bytes(numbered(graph)).decode(), {}, None, True),
+        ("edges", written(nx.write_edgelist), {}, False, False),
+        ("edges with tabs", written(lambda graph, file: nx.write_edgelist(graph, file, delimiter="\t", data=False)), {},
+         False, False),
+        ("adjacency", written(nx.write_adjlist), {}, True, False),
+        ("several lines", written(nx.write_multiline_adjlist), {}, True, False),
+    )
+
+
+@unittest.skipUnless(importlib.util.find_spec("networkx"), "networkx isn't installed")
+class ByNetworkx(Case):
+    needs_programs = False
+
+    def test_written(self):
+        import networkx
+        for form, writer, words, has_alone, is_always in forms(networkx):
+            wrong, same = [], 0
+            # With blanks between fields no name can have blanks, and LEDA's can't have braces.
+            kinds = NAMES[:3] if not is_always else NAMES[:2] if form == "LEDA" else NAMES
+            for graph in graphs(networkx, random.Random(SEED), kinds):
+                text = writer(graph)
+                if has_alone is None:
+                    graph = networkx.convert_node_labels_to_integers(graph)
+                edges, alone = wanted(graph)
+                got = ours(text, words)
+                good = got is not None and got[0] == edges and (got[1] == alone or has_alone is False)
+                same += good
+                if not good and (got is not None or is_always):
+                    wrong.append((text, got, (edges, alone)))
+            self.note(f"{form}: the same network, or refused", not wrong, (len(wrong), wrong[:1]))
+            self.note(f"{form}: many are read", same >= GRAPHS // 4, same)
+
+    def test_mutated(self):
+        """A text with a mistake that both read is the same network to both, in the forms that tell nodes exactly."""
+        import networkx
+        source = random.Random(SEED)
+        readers = {"GraphML": lambda text: networkx.parse_graphml(text, force_multigraph=True),
+                   "GML": lambda text: networkx.parse_gml(text, label="id"),
+                   "JSON": lambda text: networkx.node_link_graph(json.loads(text), edges="links")}
+        chosen = [row for row in forms(networkx) if row[0] in readers]
+        wrong, both = [], 0
+        while both < MUTATED // 5:
+            form, writer, words, _, _ = source.choice(chosen)
+            graph = source.choice(list(graphs(networkx, random.Random(source.randrange(10)))))
+            text = spoilt(source, writer(networkx.convert_node_labels_to_integers(graph)), "")
+            got = ours(text, words)
+            try:
+                theirs = wanted(readers[form](text)) if got is not None else None
+            except Exception:
+                theirs = None
+            both += theirs is not None
+            if theirs is not None and [len(part) for part in got] != [len(part) for part in theirs]:
+                wrong.append((form, text, got, theirs))
+        self.note("the same network to both", not wrong, (len(wrong), wrong[:1]))
+
+    def test_dropped(self):
+        """A node or an edge that networkx drops is a refusal."""
+        for form, text in (
+            ("pajek", '*vertices 3\n1 "Ulm"\n2 "Ulm"\n3 "Aue"\n*edges\n1 3\n2 3\n'),
+            ("pajek", '*vertices 2\n1 "Ulm"\n*edges\n1 1\n'),
+            ("pajek", '*vertices 2\n1 "Ulm"\n2 "Aue"\n*arcslist\n1 2\n'),
+            ("leda", LEDA.format(nodes="2\n|{Ulm}|\n|{Ulm}|", edges="1\n1 2 0 |{1}|")),
+            ("gexf", '<gexf><graph><nodes><node id="a"/><node id="a"/></nodes><edges/></graph></gexf>'),
+            ("sparse6", ":An\n:An\n"),
+            ("sparse6", ":~~?A????_\n"),
+        ):
+            self.note(f"{form}: {text!r}", ours(text, {"form": form}) is None, ours(text, {"form": form}))
+
+    def test_without_packages(self):
+        """Commands start without the packages of the system: they are looked for when they are needed."""
+        from tests.programs.own_networks import by_script
+        got = by_script("read", "-", data=b"*vertices 2\n1 \"Ulm\"\n2 \"Aue\"\n*edges\n1 2\n")
+        self.note("Pajek by the command", got[0] == 0 and b"c name 1 Ulm\nc name 2 Aue\np edge 2 1\n" in got[1], got)
+        self.note("it says so", b"read by networkx, and counted again" in got[2], got)
+        self.note("no packages without need", by_networkx.form_of("1 2\n2 3\n") is None)
