@@ -12,6 +12,7 @@ MODULES = {
     "pack": "pack",
     "paths": "paths",
     "promises": "promises",
+    "schedule": "schedule",
     "vendor": "vendor",
     "wrong-bodies": "wrong_bodies",
 }

@@ -31,17 +31,12 @@ import sys
 import time
 
 from build import kit, shared
+from build.order import WAY, Order
 from build.paths import TOP, listed, with_below
-from build.reckoning import jobs_with_room, measured_seconds, processors, seconds_of
+from build.reckoning import jobs_with_room, measured_seconds, processors, seconds_of, seconds_used
 from build.shown import Shown
 
 LOGS = os.path.join(TOP, "out", "build")
-# A crate lowers its priority by WAY steps if the chain of crates that wait for it is shorter than NEAR of the longest.
-WAY, NEAR = 19, 0.8
-# To prove these is mostly to read the crates below, and to compile, which more processes don't shorten.
-PROGRAMS = ("forestplan", "forestplay")
-# A crate of fewer seconds isn't worth a second process.
-SMALL = 40
 
 
 class Proving:
@@ -51,17 +46,8 @@ class Proving:
         self.below, self.jobs, self.shown, self.words = below, jobs, shown, words
         self.left, self.done, self.running = list(crates), set(), {}
         measured = measured_seconds()
-        self.seconds = {crate: seconds_of(crate, measured) for crate in crates}
-        self.behind = self.seconds_behind(crates)
-
-    def seconds_behind(self, crates):
-        """For each crate the longest chain that waits for it: the longest is begun first."""
-        behind = dict.fromkeys(crates, 0)
-        for crate in reversed(crates):
-            behind[crate] += self.seconds[crate]
-            for lower in self.below[crate]:
-                behind[lower] = max(behind[lower], behind[crate])
-        return behind
+        seconds = {crate: seconds_of(crate, measured) for crate in crates}
+        self.order = Order(crates, below, seconds, processors(), jobs)
 
     def pass_over(self, is_done):
         """Takes what needs no proof off the list of what is left."""
@@ -69,45 +55,27 @@ class Proving:
         self.left = [crate for crate in self.left if crate not in self.done]
 
     def begin_what_can(self):
-        ready = [crate for crate in self.left if all(lower in self.done for lower in self.below[crate])]
-        ready.sort(key=lambda crate: -self.behind[crate])
-        for crate in ready[: self.jobs - len(self.running)]:
+        for crate in self.order.ready(self.left, self.done)[: self.jobs - len(self.running)]:
             self.begin(crate)
-
-    def share_behind(self, crate):
-        """The length of the chain of crates that wait for a crate, as a share of the longest."""
-        return self.behind[crate] / max(self.behind[other] for other in [*self.left, *self.running])
-
-    def processes_for(self, crate):
-        """How many processes prove a crate. Each one loads what lies below anew, so one more costs 12 to 40 seconds.
-        The crate with the longest chain gets three, and one that begins while at most one other runs two.
-        Small crates and programs get one.
-        """
-        if self.seconds[crate] < SMALL or crate in PROGRAMS:
-            return 1
-        most = 3 if self.share_behind(crate) == 1 else 2 if len(self.running) < 2 else 1
-        return min(processors(), most)
 
     def begin(self, crate):
         """Begins a crate, which gives way to others if its chain is much shorter than the longest."""
-        way = [] if self.share_behind(crate) >= NEAR else ["nice", "-n", str(WAY)]
-        words = [
-            sys.executable,
-            os.path.join(TOP, "build"),
-            "prove-crate",
-            *self.words(crate, self.processes_for(crate)),
-        ]
+        used = {name: (count, seconds_used(process.pid)) for name, (process, count) in self.running.items()}
+        count = self.order.processes(crate, self.left, self.done, used)
+        way = ["nice", "-n", str(WAY)] if self.order.gives_way(crate, self.left, used) else []
+        words = [sys.executable, os.path.join(TOP, "build"), "prove-crate", *self.words(crate, count)]
         with open(os.path.join(LOGS, f"{crate}.log"), "w", encoding="utf-8") as log:
             # In a group of its own Ctrl-C doesn't reach it; in a session of its own its priority would count for
             # nothing.
-            self.running[crate] = subprocess.Popen(
+            process = subprocess.Popen(
                 [*way, *words], stdin=subprocess.PIPE, stdout=log, stderr=subprocess.STDOUT, preexec_fn=os.setpgrp
             )
+        self.running[crate] = (process, count)
         self.left.remove(crate)
 
     def failed(self):
         """Takes what has ended off the list of what runs; returns a crate that isn't proved, if there is one."""
-        for crate, process in list(self.running.items()):
+        for crate, (process, _) in list(self.running.items()):
             if process.poll() is None:
                 continue
             del self.running[crate]
@@ -135,10 +103,10 @@ class Proving:
 
     def end(self):
         """Ends what still runs, and all that it has started."""
-        for process in self.running.values():
+        for process, _ in self.running.values():
             process.stdin.close()
             process.kill()
-        for process in self.running.values():
+        for process, _ in self.running.values():
             process.wait()
 
 
