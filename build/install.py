@@ -7,9 +7,9 @@ import subprocess
 import sys
 import tempfile
 
-from build import kit, manuals, readme, sums
-from lab import version
-from lab.workshop.class_files import README, class_files, page_for_a_class, stubs
+from build import kit, manuals, readme
+from lab import sums, version
+from lab.workshop.class_files import IS_CLASS, class_files, finish_class
 
 TOP = os.path.dirname(os.path.dirname(os.path.realpath(__file__)))
 
@@ -92,9 +92,9 @@ def files_to_copy(is_class):
                 yield source, os.path.relpath(source, TOP)
 
 
-def version_text():
+def version_text(is_class):
     """What the file VERSION says; of the kit, which one is here if it isn't the one that the sources name."""
-    text = version.text()
+    text = version.text() + f"{IS_CLASS}\n" * is_class
     if kit.command() and kit.found() not in (None, kit.wanted()):
         text += f"built where rt is of {kit.found()}\n"
     return text
@@ -119,22 +119,8 @@ def make(room, is_class=False):
         write(page, manuals.page_of(path, os.path.join(room, "bin", path)))
     if is_class:
         finish_class(room)
-    write(os.path.join(room, "VERSION"), version_text())
+    write(os.path.join(room, "VERSION"), version_text(is_class))
     write(os.path.join(room, sums.NAME), sums.text_of(room))
-
-
-def finish_class(room):
-    """Takes the links to pages that a class doesn't get from its pages, and adds a first page and the commands that
-    only say that they aren't there."""
-    paths = set(class_files(TOP)) | set(stubs())
-    for path in filter(lambda path: path.endswith(".md"), paths):
-        with open(os.path.join(room, path), encoding="utf-8") as file:
-            text = file.read()
-        write(os.path.join(room, path), page_for_a_class(text, path, paths))
-    write(os.path.join(room, "README.md"), README)
-    for path, text in stubs().items():
-        write(os.path.join(room, path), text)
-        os.chmod(os.path.join(room, path), 0o755)
 
 
 def put(room, folder):

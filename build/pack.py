@@ -1,19 +1,22 @@
 #!/usr/bin/env python3
 """Packs an installed folder into one archive with its sum, so that a class needs no build."""
 import argparse
+import filecmp
 import gzip
 import os
 import platform
 import sys
 import tarfile
 
-from build import sums
+from lab import sums
+from lab.workshop.class_files import IS_CLASS
 
 HELP = """\
 Packs a folder that bin/install made into one archive, and its sum into a file beside it.
 
 The archive has what SHA256SUMS of the folder lists, and no file besides; a file that
-has changed since it was installed is refused. The same folder makes the same archive.
+has changed since it was installed is refused. The same folder makes the same archive,
+and another one isn't replaced; that of a class has `-class` in its name.
 Unpacked, it is such a folder again, and needs no build:
   tar xf forestplan-0.4.0-linux-x86_64.tar.gz
   forestplan-0.4.0-linux-x86_64/bin/forestplan plain < net.col
@@ -31,10 +34,12 @@ Example:
 def name_of(folder):
     """The name of the archive without its ending, by the folder's VERSION and this machine."""
     with open(os.path.join(folder, "VERSION"), encoding="utf-8") as file:
-        words = file.readline().split()
+        first, *others = file.read().splitlines()
+    words = first.split()
     if len(words) != 2:
         raise OSError(f"{folder}/VERSION has no name and version in its first line")
-    return f"{words[0]}-{words[1]}-{platform.system().lower()}-{platform.machine()}"
+    what = f"{words[0]}-class" if IS_CLASS in others else words[0]
+    return f"{what}-{words[1]}-{platform.system().lower()}-{platform.machine()}"
 
 
 def entry(folder, path, name):
@@ -46,7 +51,7 @@ def entry(folder, path, name):
 
 
 def write(folder, name, to):
-    """Writes the archive apart, and then renames it."""
+    """Writes the archive apart, and then renames it. One that is there already, with another content, stays."""
     new = f"{to}.new"
     try:
         with open(new, "wb") as file, gzip.GzipFile("", "wb", fileobj=file, mtime=0) as packed, \
@@ -54,6 +59,8 @@ def write(folder, name, to):
             for path in sorted([*sums.read(folder), sums.NAME]):
                 with open(os.path.join(folder, path), "rb") as content:
                     archive.addfile(entry(folder, path, name), content)
+        if os.path.exists(to) and not filecmp.cmp(new, to, shallow=False):
+            raise OSError(f"{to} is there already, with another content: remove it first")
         os.replace(new, to)
     finally:
         if os.path.exists(new):

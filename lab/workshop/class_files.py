@@ -1,8 +1,15 @@
-"""What `bin/install --class DIR` copies: what students may see. The slow definitions, and all that is written with
-them, are solutions of the assignment; so are the right nodes."""
+"""The folder of a class: what students may see. The slow definitions, and all that is written with them, are solutions
+of the assignment; so are the right nodes. `workshop class DIR` makes it from an installed folder or a built tree."""
+import argparse
 import os
 import re
+import shutil
+import tempfile
 from typing import Iterator
+
+from lab import sums, version
+from lab.programs import TOP, program_file
+from lab.wrong import Wrong
 
 # Files and whole folders, each at the path that it has here; a folder means all files below it.
 COPIED = (
@@ -10,7 +17,7 @@ COPIED = (
     "docs/learn/TUTORIAL.md", "docs/learn/GALLERY.md", "docs/learn/OWN_NETWORK.md", "docs/learn/PROTOCOL.md",
     "docs/learn/WORKSHOP.md", "docs/pictures",
     "examples", "lab/__init__.py", "lab/__main__.py", "lab/door.py", "lab/door.sh", "lab/programs.py",
-    "lab/version.py", "lab/watch.py", "lab/wrong.py", "lab/networks", "lab/workshop",
+    "lab/sums.py", "lab/version.py", "lab/watch.py", "lab/wrong.py", "lab/networks", "lab/workshop",
     "lab/schedules/__init__.py", "lab/schedules/policies.py",
     "lab/transcripts/__init__.py", "lab/transcripts/fields.py", "lab/transcripts/rules.py",
 )
@@ -19,6 +26,8 @@ LEFT_OUT = (
     "examples/workshop/python", "examples/workshop/c", "examples/workshop/java", "examples/workshop/mistakes.py",
     "examples/algorithms",
 )
+# The line of its VERSION by which it is known.
+IS_CLASS = "for a class"
 # Commands of which nothing is copied but a line that says so.
 WITHOUT = ("picture", "explore", "check-transcript", "replay", "simulate", "sheet", "transcript-to")
 STUB = """\
@@ -73,3 +82,68 @@ def page_for_a_class(text: str, path: str, paths: set[str]) -> str:
         is_there = ":" in target or found in paths or any(other.startswith(found + "/") for other in paths)
         return link[0] if is_there else words
     return LINK.sub(kept, text)
+
+
+def finish_class(room: str, top: str = TOP) -> None:
+    """Takes the links to pages that a class doesn't get from its pages, and adds a first page and the commands that
+    only say that they aren't there."""
+    paths = set(class_files(top)) | set(stubs())
+    for path in filter(lambda path: path.endswith(".md"), paths):
+        with open(os.path.join(room, path), encoding="utf-8") as file:
+            text = file.read()
+        write(os.path.join(room, path), page_for_a_class(text, path, paths))
+    write(os.path.join(room, "README.md"), README)
+    for path, text in stubs().items():
+        write(os.path.join(room, path), text)
+        os.chmod(os.path.join(room, path), 0o755)
+
+
+def write(path: str, text: str) -> None:
+    os.makedirs(os.path.dirname(path), exist_ok=True)
+    with open(path, "w", encoding="utf-8") as file:
+        file.write(text)
+
+
+HELP = """\
+Makes the folder of a class: the programs, the workshop, the pages and examples for
+students, without the right nodes, the definitions, the commands that are written with
+them, and the answers.
+
+DIR is a folder that isn't there yet, or is empty. Pack it as you like, as by
+tar czf class.tar.gz DIR.
+"""
+
+
+def main(words: list[str]) -> int:
+    line = argparse.ArgumentParser(prog="workshop class", usage="workshop class DIR", description=HELP,
+                                   formatter_class=argparse.RawDescriptionHelpFormatter)
+    line.add_argument("dir", metavar="DIR", help="the folder that is made")
+    folder = os.path.abspath(line.parse_args(words).dir)
+    if os.path.exists(folder) and not (os.path.isdir(folder) and not os.listdir(folder)):
+        raise Wrong(f"{folder} is there already")
+    os.makedirs(os.path.dirname(folder), exist_ok=True)
+    with tempfile.TemporaryDirectory(prefix=".class-", dir=os.path.dirname(folder)) as room:
+        made = os.path.join(room, "made")
+        copy_class(made)
+        if os.path.isdir(folder):
+            os.rmdir(folder)
+        os.rename(made, folder)
+    print(f"{folder} is for students")
+    return 0
+
+
+def copy_class(room: str) -> None:
+    """Makes the folder from this one; manual pages are copied if there are any."""
+    pages = os.path.join("share", "man", "man1")
+    found = {os.path.join("bin", name): program_file(name) for name in ("forestplan", "forestplay")}
+    found |= {path: os.path.join(TOP, path) for path in class_files(TOP)}
+    names = [os.path.basename(path) for path in (*found, *stubs()) if path.startswith("bin/")]
+    found |= {path: os.path.join(TOP, path) for name in names
+              if os.path.exists(os.path.join(TOP, path := os.path.join(pages, f"{name}.1")))}
+    for path, source in found.items():
+        os.makedirs(os.path.join(room, os.path.dirname(path)), exist_ok=True)
+        shutil.copy(source, os.path.join(room, path))
+    finish_class(room)
+    text = version.text()
+    write(os.path.join(room, "VERSION"), text if IS_CLASS in text.splitlines() else f"{text}{IS_CLASS}\n")
+    write(os.path.join(room, sums.NAME), sums.text_of(room))

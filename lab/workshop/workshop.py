@@ -4,7 +4,7 @@ import os
 import sys
 import traceback
 
-from lab.workshop import grade
+from lab.workshop import class_files, grade
 from lab.workshop.findings import NoVerdict
 from lab.workshop.guard import Guard, shut
 from lab.workshop.interrupts import INTERRUPTS
@@ -15,12 +15,13 @@ from lab.workshop.report import Progress, as_json, report
 from lab.wrong import Wrong
 
 REFUSED, NO_VERDICT = 2, 3
+OTHERS = {"grade": grade.main, "class": class_files.main}
 
 
 def main(words: list[str]) -> int:
     try:
-        if words[:1] == ["grade"]:
-            return grade.main(words[1:])
+        if words[:1] and words[0] in OTHERS:
+            return OTHERS[words[0]](words[1:])
         options = parsed(words)
         INTERRUPTS.install()
         shut()

@@ -7,6 +7,7 @@ import tempfile
 import unittest
 
 from build.install import install
+from build.pack import name_of, write
 from lab.schedules.policies import POLICIES
 from lab.transcripts.fields import PAYLOADS
 from lab.workshop import cases, class_files, guard, options, processes, protocol
@@ -129,6 +130,29 @@ class ClassFolder(unittest.TestCase):
                 self.assertFalse([name for name in self.found if name.startswith(path)])
         for path in (path for path in self.found if path.endswith(".py")):
             self.assertNotRegex(self.text(path), r"def (bit_step|merge|recolour|settle)\(self, t|def bit_step")
+
+    def test_any_folder_makes_it(self):
+        """The command makes the same without what builds, here and from the folder of a class itself; of manual pages
+        it copies those that there are."""
+        made, again = (os.path.join(self.enterContext(tempfile.TemporaryDirectory()), name) for name in ("a b", "c"))
+        for door, to, like, sums in ((TOP, made, self.folder, True), (self.folder, again, self.folder, False)):
+            done = subprocess.run([os.path.join(door, "bin", "workshop"), "class", to], capture_output=True, text=True)
+            self.assertEqual((done.returncode, done.stderr), (0, ""))
+            self.assertEqual(subprocess.run(["sha256sum", "-c", "--quiet", "SHA256SUMS"], cwd=to).returncode, 0)
+            differ = subprocess.run(["diff", "-rq", like, to], capture_output=True, text=True).stdout
+            self.assertEqual([line for line in differ.splitlines() if not (
+                sums and line.endswith(("share", "SHA256SUMS differ")) or ".pyc" in line or "__pycache__" in line)], [])
+        done = subprocess.run([os.path.join(TOP, "bin", "workshop"), "class", made], capture_output=True, text=True)
+        self.assertEqual((done.returncode, done.stderr), (2, f"workshop: {made} is there already\n"))
+
+    def test_its_archive_has_a_name_of_its_own(self):
+        self.assertIn("forestplan-class-0", name_of(self.folder))
+        to = os.path.join(self.enterContext(tempfile.TemporaryDirectory()), "a.tar.gz")
+        write(self.folder, "a", to)
+        write(self.folder, "a", to)
+        with self.assertRaisesRegex(OSError, "is there already, with another content"):
+            write(self.folder, "b", to)
+        self.assertEqual(os.listdir(os.path.dirname(to)), ["a.tar.gz"])
 
     def test_it_works(self):
         self.assertLessEqual({"README.md", "LICENSE-MIT", "LICENSE-APACHE"}, self.found)
