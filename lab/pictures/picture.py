@@ -21,7 +21,6 @@ from lab.pictures import (
     schedules_space, tally_picture, timing_picture, watch_page, why_picture, wrong_run,
 )
 from lab.pictures.places import unused_places
-from lab.pictures.program_player import ProgramFilm
 from lab.pictures.program_rounds import is_own, read_program_rounds, rounds_of
 from lab.pictures.rounds import read_rounds
 from lab.pictures.sizes import MANY_WIRES, check_run, check_size, last_pulse, least_wires
@@ -147,9 +146,8 @@ KINDS = {
     ),
     "player": (
         "A page with a slider and a play button: the network at each pulse.",
-        "At most 40 nodes. Of more than 200 frames, only merges in which some node chooses.\n"
-        "Add #pulse-P to the page's address for a link to pulse P, and #pulse-P-forest-F for\n"
-        "one of its forests. With --frame N, frame N alone as SVG.",
+        "At most 40 nodes. Add #pulse-P to the page's address for a link to pulse P, and\n"
+        "#pulse-P-forest-F for one of its forests.",
         "bin/picture player examples/petersen.col > petersen.html",
     ),
     "watch": (
@@ -291,8 +289,6 @@ def add_options(kind, name):
             action="store_true",
             help="draw a text of edition 2 up to its first entry that isn't possible, and that one in red",
         )
-    if name == "player":
-        kind.add_argument("--frame", type=int, metavar="N", help="frame N alone, counted from 0")
 
 
 def add_space_options(kind, name):
@@ -314,7 +310,6 @@ class Options:
     vertex: int | None = None
     only: list[str] | None = None
     wrong: bool = False
-    frame: int | None = None
     in_words: bool = False
     without: tuple[str, ...] = ()
     events: tuple[int, int] | None = None
@@ -369,7 +364,7 @@ def draw_rounds(kind, network, options, texts):
         return why_picture.text(cone) if options.in_words else why_picture.draw(cone)
     if kind == "bits":
         return bits_picture.draw(rounds, options.forest or 0, options.vertex)
-    return player_page.draw(rounds) if options.frame is None else player_page.draw_frame(rounds, options.frame)
+    return player_page.draw(rounds)
 
 
 def rounds_in(network, options, texts):
@@ -388,9 +383,7 @@ def draw_program(kind, options, rounds):
         if options.forests:
             raise Wrong(f"{options.program.name} has no forests")
         return program_picture.draw(rounds, options.pulses)
-    if options.frame is None:
-        return player_page.draw(rounds, ProgramFilm)
-    return player_page.draw_frame(rounds, options.frame, ProgramFilm)
+    return player_page.draw(rounds)
 
 
 def draw_run(kind, network, options, texts):

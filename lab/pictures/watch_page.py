@@ -2,27 +2,19 @@
 waits for, what it keeps, and its channel. One run, or two of one network side by side.
 
 The page has no algorithm in it: what a node is after each entry is worked out here, by the slow definitions
-(lab/definitions/nodes.py), and written into the page as rows. The page itself is watch_page.html."""
+(lab/definitions/nodes.py), and written into the page as rows. page/watch.js draws it."""
 import functools
 import json
-import os
-import re
 
 from lab.definitions.nodes import Colouring, NetState, Refused, entry_words, make, wire_words
-from lab.pictures.marks import label_boxes, label_margin, label_of
-from lab.pictures.palette import WIRES, channel_hue, is_ring, text_on
-from lab.pictures.places import bends, label_places, middle, moved, places_of, spaced
-from lab.pictures.svg import escaped, shown
+from lab.pictures.pages import net_of, page
 from lab.schedules.reading import network_of
 from lab.transcripts.check import find_order
 from lab.transcripts.reading import Wrong as WrongEntry, read, words
 from lab.transcripts.stamps import Clock
 from lab.wrong import Wrong, wrong_line
 
-PAGE = os.path.join(os.path.dirname(os.path.abspath(__file__)), "watch_page.html")
 MOST_ENTRIES = 20_000
-# In pixels; two nodes are at least APART radii from each other, so that there is room for a message between them.
-SIZE, MARGIN, RADIUS, LEAST, LABEL, APART = 680, 60, 24, 9, 12, 6
 ORDER = ("The order is one of those that are possible, not that of real time: a stamp is Lamport’s clock, "
          "and it only says that a node’s own steps, and a take after its put, come one after the other.")
 
@@ -263,28 +255,11 @@ def draw(runs, title=None):
     pulses = max(run.pulses[0] for run in runs), min(run.pulses[1] for run in runs)
     title = title or (f"{network.name}: a run without a clock" if len(runs) == 1
                       else f"{network.name}: two orders of events, the same rounds")
-    names = {
-        "TITLE": escaped(title),
-        "ABOUT": escaped(about(runs, pulses)),
-        "ORDER": escaped(ORDER),
-        "COUNT": "one" if len(runs) == 1 else "two",
-        "DATA": compact({
-            "last": first.last,
-            "pulses": pulses,
-            "map": map_of(network),
-            "runs": [run.table() for run in runs],
-            "same": [all(run.payloads(p) == first.payloads(p) for run in runs) for p in range(pulses[0], pulses[1] + 1)]
-            if len(runs) == 2 else [],
-            "sent": [[[v, w, said] for v, w, said in first.payloads(p)] for p in range(pulses[0], pulses[1] + 1)]
-            if len(runs) == 2 else [],
-        }),
-    }
-    with open(PAGE, encoding="utf-8") as file:
-        return re.sub(r"@([A-Z]+)@", lambda found: names[found.group(1)], file.read())
-
-
-def compact(value):
-    return json.dumps(value, separators=(",", ":"), ensure_ascii=False).replace("</", "<\\/")
+    each = range(pulses[0], pulses[1] + 1) if len(runs) == 2 else ()
+    data = {"net": net_of(network), "last": first.last, "pulses": pulses, "runs": [run.table() for run in runs],
+            "same": [all(run.payloads(p) == first.payloads(p) for run in runs) for p in each],
+            "sent": [[[v, w, said] for v, w, said in first.payloads(p)] for p in each]}
+    return page("alone.html", "watch", data, title=title, about=f"{about(runs, pulses)} {ORDER}")
 
 
 def about(runs, pulses):
@@ -297,29 +272,3 @@ def about(runs, pulses):
                  "pulse; its other nodes may be ahead.")
     cut = [one for one in runs if not one.is_whole and not one.is_cut]
     return said + (f" {cut[0].name} ends before the nodes are through." if cut else "")
-
-
-def map_of(network):
-    """Where nodes, edges and labels are, and the hues."""
-    beside = label_margin(network, LABEL)
-    places, radius = spaced(places_of(network), SIZE - 2 * beside, SIZE, MARGIN, RADIUS, LEAST, APART)
-    places = moved(places, beside, 0)
-    bend = bends(places, network.edges, radius + 1)
-    labels = label_places(places, network.edges, bend, radius + 15, label_boxes(network, LABEL), radius * 1.3)
-    xs, ys = [x for x, _ in places.values()], [y for _, y in places.values()]
-    low, high = min(ys) - MARGIN, max(ys) + MARGIN
-    return {
-        "radius": tidy(radius),
-        "box": [*map(tidy, (min(xs) - MARGIN - beside, low, max(xs) - min(xs) + 2 * (MARGIN + beside), high - low))],
-        "nodes": [{"x": tidy(places[v][0]), "y": tidy(places[v][1]), "lx": tidy(labels[v][0]), "ly": tidy(labels[v][1]),
-                   "label": label_of(network, v), "near": network.neighbours[v]} for v in network.vertices],
-        "edges": [[v, w, *map(tidy, middle(places, bend, v, w))] for v, w in network.edges],
-        "hues": {channel: [channel_hue(channel), text_on(channel_hue(channel)), int(is_ring(channel))]
-                 for channel in range(1, network.channels + 1)},
-        "wires": WIRES,
-    }
-
-
-def tidy(number):
-    """A number as SVG text has it, with one decimal place at most."""
-    return float(shown(number))

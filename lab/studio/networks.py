@@ -9,7 +9,8 @@ from lab.networks.network_text import read_network, stem
 from lab.networks.reading import read_any
 from lab.networks.texts import text_of
 from lab.pictures.layout import laid_out
-from lab.pictures.places import LARGEST_CIRCLE, circle, fit, places_of
+from lab.pictures.pages import net_of
+from lab.pictures.places import LARGEST_CIRCLE, circle
 from lab.programs import TOP
 from lab.schedules.rules import OF_ROUNDS, OF_SCHEDULES
 from lab.schedules.simulate import HABITS
@@ -22,13 +23,11 @@ EXAMPLES = os.path.join(TOP, "examples")
 
 
 def shown(network, said=()):
-    """A network as the page has it. Identifiers are texts: they may have 39 digits."""
+    """A network as the page has it, and how it was read."""
     if network.nodes > MOST_DRAWN:
         raise Wrong(f"{network.name}: the studio draws at most {MOST_DRAWN} nodes, and here are {network.nodes}")
-    places = fit(places_of(network), 1000, 700, 70) if network.nodes else {}
-    nodes = [{"x": round(places[v][0], 1), "y": round(places[v][1], 1), "id": str(network.said.get(v, "")),
-              "name": network.names.get(v, ""), "bars": network.barred(v)} for v in network.vertices]
-    return {"name": network.name, "nodes": nodes, "edges": network.edges, "said": list(said)}
+    return net_of(network) | {"said": list(said)}
+
 
 
 def hello(_asked, _tell):

@@ -5,10 +5,10 @@ import re
 from lab.definitions.nodes import Colouring
 from lab.networks.codes import code_of
 from lab.networks.plan_text import read_plan
-from lab.pictures import broken_picture, player_page, program_player, why_picture
+from lab.pictures import broken_picture, why_picture
 from lab.pictures.colouring import Rounds
 from lab.pictures.picture import OF_PLAN, OF_RUN, Options, Text, drawing
-from lab.pictures.program_picture import is_new
+from lab.pictures.player_page import film_of
 from lab.pictures.program_rounds import ProgramRounds
 from lab.pictures.sizes import last_pulse, least_wires
 from lab.schedules.reading import network_of
@@ -48,11 +48,6 @@ def check(asked, _tell):
             "words": code.what.format(at=where or code.at), "do": code.do}
 
 
-def number(value):
-    """A number that JavaScript can hold, or its digits."""
-    return value if value < 2 ** 53 else str(value)
-
-
 def rounds(asked, _tell):
     """The rounds, pulse by pulse."""
     network = network_asked(asked, MOST_ROUNDS)
@@ -60,25 +55,6 @@ def rounds(asked, _tell):
     if program is not Colouring:
         return film_of(ProgramRounds(network, network.identifiers, program))
     return film_of(rounds_of(network, asked["network"]))
-
-
-def film_of(found):
-    """The rounds as the page plays them; of another program than the colouring each node's result in words."""
-    vertices, pulses, is_colouring = found.network.vertices, [], isinstance(found, Rounds)
-    of = player_page if is_colouring else program_player
-    for pulse in found.pulses:
-        caption, said = of.caption(found, pulse.number)
-        row = {"caption": caption, "said": said, "step": pulse.step, "chosen": pulse.chosen, "colours": None,
-               "puts": [[v, w, word, number(sent)] for v, w, word, sent in pulse.puts]}
-        if pulse.colours:
-            row["colours"] = [[number(pulse.colours[v, f]) for f in range(found.forests)] for v in vertices]
-        if not is_colouring:
-            row["results"] = [pulse.results[v] for v in vertices]
-            row["new"] = [v for v in vertices if pulse.number and is_new(found, pulse, v)]
-        pulses.append(row)
-    parents = sorted(found.parents.items()) if is_colouring else []
-    return {"last": found.last, "forests": found.forests, "pulses": pulses, "first": list(found.first.values()),
-            "parents": [[v, f, w] for (v, f), w in parents]}
 
 
 def why(asked, _tell):

@@ -22,13 +22,14 @@ import time
 import traceback
 from urllib.parse import parse_qs
 
+from lab.pictures import pages
 from lab.studio import calls
 from lab.studio.building import Building
-from lab.studio.joined import hues
 from lab.wrong import Wrong
 
 HOST = "127.0.0.1"
-PAGE = os.path.join(os.path.dirname(os.path.abspath(__file__)), "page")
+FOLDERS = os.path.join(os.path.dirname(os.path.abspath(__file__)), "page"), pages.FOLDER
+FILES = {name: os.path.join(folder, name) for folder in FOLDERS for name in os.listdir(folder)}
 KINDS = {".html": "text/html", ".css": "text/css", ".js": "text/javascript", ".svg": "image/svg+xml"}
 # In bytes, seconds of the clock, seconds of processor time, and bytes.
 MOST_ASKED, SECONDS, PROCESSOR_SECONDS, MEMORY = 8 << 20, 120, 110, 2 << 30
@@ -138,9 +139,9 @@ class Handler(http.server.BaseHTTPRequestHandler):
         name = "page.html" if path == "/" else path[1:]
         kind = KINDS.get(os.path.splitext(name)[1])
         if name == "hues.js":
-            body = hues().encode()
-        elif kind and name in os.listdir(PAGE):
-            with open(os.path.join(PAGE, name), "rb") as file:
+            body = pages.hues().encode()
+        elif kind and name in FILES:
+            with open(FILES[name], "rb") as file:
                 body = file.read()
         else:
             return self.refuse(404, "There is no such page.")

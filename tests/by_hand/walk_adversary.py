@@ -123,7 +123,9 @@ class Browser:
 
 EVENTS = "run.length - 1"
 FREE_TOKEN, READY_DISC = ("document.querySelector('.token:not(.behind):not(.held)')",
-                          "document.querySelector('.disc:not(.dim)')")
+                          "(Array.from(document.querySelectorAll('#net .node')).find(e => isReady(e)) || null)")
+WAITING = "Array.from(document.querySelectorAll('#net .node')).filter(e => !isReady(e))"
+IS_READY = "function isReady(e) { return possible().some(one => !one.take && one.v === +e.dataset.node); }"
 
 
 def look_rows(browser, name, width, height):
@@ -135,8 +137,8 @@ def look_rows(browser, name, width, height):
              browser.value("document.documentElement.scrollWidth") <= width,
              browser.value("document.documentElement.scrollWidth"))
         cut = browser.value(
-            """Array.from(document.querySelectorAll('#map text, #map rect')).filter(function (e) { var b = e.getBBox(),
-            v = map.viewBox.baseVal;
+            """Array.from(document.querySelectorAll('#net text, #net rect')).filter(function (e) { var b = e.getBBox(),
+            v = document.getElementById('net').viewBox.baseVal;
             return b.x < -1 || b.y < -1 || b.x + b.width > v.width + 1 || b.y + b.height > v.height + 1; })
             .map(function (e) { return e.textContent || e.outerHTML; })""")
         note(f"{name}: the map's texts and messages are in it after {events} events", not cut, cut)
@@ -157,11 +159,10 @@ def mouse_rows(browser, name):
     note(f"{name}: a message that is clicked comes", browser.value(EVENTS) == 1 and browser.value("now().step.take"))
     browser.click("document.getElementById('undo')")
     note(f"{name}: undo", browser.value(EVENTS) == 0)
-    browser.click("document.querySelector('.disc.dim')")
+    browser.value(IS_READY)
+    browser.click(WAITING + "[0]")
     note(f"{name}: a grey node does nothing", browser.value(EVENTS) == 0)
-    grey = browser.value(
-        "Array.from(document.querySelectorAll('.disc.dim')).map(function (e) { return e.textContent; })"
-    )
+    grey = browser.value(WAITING + ".map(e => e.textContent)")
     note(f"{name}: grey nodes say what they wait for", grey and all("waits for " in words for words in grey), grey)
     while not browser.value(f"{READY_DISC} !== null"):
         browser.click(FREE_TOKEN)
@@ -241,10 +242,10 @@ def list_rows(browser, name, network, net, play):
                 note(f"{name}: forestplay replays the list's transcript",
                      (again.returncode, again.stdout) == (0, done.stdout), again)
     said, won = browser.value("by('said').textContent"), browser.value(
-        "P.dares.map(function (dare) { return judged(dare)[0]; })"
+        "D.dares.map(function (dare) { return judged(dare)[0]; })"
     )
     note(f"{name}: the end", re.search(r"All have halted, with channels \d+(, \d+)*\.$", said), said)
-    kinds = browser.value("P.dares.map(function (dare) { return dare.kind; })")
+    kinds = browser.value("D.dares.map(function (dare) { return dare.kind; })")
     never = [got for got, kind in zip(won, kinds) if kind in ("wrong", "plan")]
     note(f"{name}: what can't be won isn't", not any(never), list(zip(kinds, won)))
 
@@ -270,7 +271,7 @@ def broken_rows(browser, name, network, play):
         browser.click(f"document.querySelector('[data-key=\"{key}\"]')")
     said = browser.value("by('said').className + ': ' + by('said').textContent")
     note(f"{name}: what goes wrong is said", said.startswith("wrong: ") and browser.value(EVENTS) == len(path), said)
-    note(f"{name}: the dare is won", browser.value("judged(P.dares[0])[0]") is True)
+    note(f"{name}: the dare is won", browser.value("judged(D.dares[0])[0]") is True)
     if play:
         done = played(browser, network, play)
         if name.startswith("two without early"):

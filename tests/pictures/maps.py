@@ -1,4 +1,5 @@
 """Pictures of plans and rounds, counted: marks, places, hues and numbers beside lab/definitions/colours.py."""
+import json
 import re
 from collections import Counter
 
@@ -74,56 +75,24 @@ def strip_mark(column, colour, is_in_forest):
     return "colour", f"#{level:02X}{level:02X}{level:02X}", str(colour) if colour < 1000 else f"{digits}d"
 
 
-def frame_faults(net, text, pulse, root, merged, words):
-    """What is wrong in a frame: its panels, and in each its tokens, its vertices' colours or channels, and its
-    arrows."""
-    forests = (
-        [None]
-        if pulse < 2
-        else list(range(net.forest_count))
-        if pulse <= 12
-        else [(pulse - 13) // (3 * (net.span + 1))]
-    )
-    panels, wrong = marks(root, "panel"), []
-    if [title(panel) if len(panel) and panel.find(TITLE) is not None else None for panel in panels] != (
-            [None if f is None else f"forest {f}" for f in forests] or [None]):
-        wrong.append((pulse, "panels", len(panels)))
-    if pulse > 12:
-        k, j = divmod((pulse - 13) % (3 * (net.span + 1)), net.span + 1)
-        if f"colour {k} in forest {forests[0]}, colour {j} (channel {j + 1}) so far" not in words[1]:
-            wrong.append((pulse, words))
-    puts = [line.split() for line in text.decode().split("\n") if f" payload {pulse} " in line]
-    for forest, panel in zip(forests or [None], panels):
-        sent = [f for f in puts if f[5] != "colour" or net.number[frozenset((int(f[0]), int(f[2])))] == forest]
-        numbers = Counter(str(int(f[6]) + (f[5] == "chosen")) for f in sent)
-        tokens = Counter(row[2] for row in numbered(panel, "token"))
-        if tokens != numbers:
-            wrong.append((pulse, forest, "tokens", tokens, numbers))
-        coloured = colour_table(net, forest)[pulse - 2] if 2 <= pulse <= 12 and forest is not None else {}
-        shown = [row[2] for row in numbered(panel, "colour")]
-        if shown != [str(coloured[v]) for v in sorted(coloured)]:
-            wrong.append((pulse, forest, "colours", shown))
-        decided = merged if net.forest_count else first_colours(net) if pulse == 12 else {}
-        if pulse > 12 or not net.forest_count:
-            if [row[2] for row in numbered(panel, "channel")] != [str(c + 1) for _, c in sorted(decided.items())]:
-                wrong.append((pulse, forest, "channels", numbered(panel, "channel")))
-        blanks = 0 if coloured else len(net.neighbours) - (len(decided) if pulse > 12 or not net.forest_count else 0)
-        if len(marks(panel, "blank")) != blanks:
-            wrong.append((pulse, forest, "blanks", len(marks(panel, "blank")), blanks))
-        used = [element.get("href") for element in panel.iter() if element.tag.endswith("use")]
-        seen = (
-            range(net.forest_count)
-            if pulse == 1
-            else range(forest + 1)
-            if pulse > 12
-            else []
-            if forest is None
-            else [forest]
-        )
-        if used != ["#edges"] + [f"#forest-{f}" for f in seen]:
-            wrong.append((pulse, forest, "arrows", used))
-        if len(marks(panel, "chooses")) != sum(f" chose " in line for line in pulse_text(text, pulse)):
-            wrong.append((pulse, forest, "who chooses"))
+def pulse_faults(net, text, number, pulse):
+    """What is wrong in a pulse of the player's page: its messages, colours, choices and words."""
+    lines, wrong = [line.split() for line in pulse_text(text, number) if line[:1].isdigit()], []
+    puts = [[f[0], f[2], f[5], f[6]] for f in lines if f[1] == "put"]
+    if [list(map(str, put)) for put in pulse["puts"]] != puts:
+        wrong.append((number, "messages", pulse["puts"], puts))
+    found = {(f[0], f[2]): f[3] for f in lines if f[1] == "colour"}
+    shown = {(str(v), str(f)): str(c) for v, row in enumerate(pulse["colours"] or [], 1) for f, c in enumerate(row)}
+    if shown != found:
+        wrong.append((number, "colours", shown, found))
+    if {v: str(c) for v, c in pulse["chosen"].items()} != {f[0]: f[2] for f in lines if f[1] == "chose"}:
+        wrong.append((number, "choices", pulse["chosen"]))
+    if number > 12:
+        forest, at = divmod(number - 13, 3 * (net.span + 1))
+        k, j = divmod(at, net.span + 1)
+        if (pulse["step"] != [forest, k, j]
+                or f"colour {k} in forest {forest}, colour {j} (channel {j + 1}) so far" not in pulse["said"]):
+            wrong.append((number, pulse["step"], pulse["said"]))
     return wrong
 
 
@@ -226,15 +195,11 @@ class Maps(PictureCase):
         net = network_of(network)
         root = parsed(self.draw("plan", network, plan_text(network)))
         self.apart_row(f"plan of {name}", [(number(mark, "r"), *centre(mark)) for mark in marks(root, "channel")])
-        for kind, frames in (("forests", [()]), ("player", [("--frame", p) for p in (0, 5, last_pulse(net))])):
-            for words in frames:
-                root = parsed(self.draw(kind, network, rounds_text(net), *words))
-                panel = marks(root, "forest" if kind == "forests" else "panel")[0]
-                squares = [(number(mark, "width") / 2, *centre(mark)) for mark in marks(panel, "colour")]
-                circles = [
-                    (number(mark, "r"), *centre(mark)) for mark in marks(panel, "channel") + marks(panel, "blank")
-                ]
-                (self.squares_row if squares else self.apart_row)(f"{kind} {words} of {name}", squares or circles)
+        panel = marks(parsed(self.draw("forests", network, rounds_text(net))), "forest")[0]
+        self.squares_row(f"forests of {name}", [(number(mark, "width") / 2, *centre(mark))
+                                                for mark in marks(panel, "colour")])
+        data = json.loads(re.search(r"^var D = (.*);$", self.draw("player", network, rounds_text(net)), re.M).group(1))
+        self.apart_row(f"player of {name}", [(9, node["x"], node["y"]) for node in data["net"]["nodes"]])
 
     def grid_rows(self, wide, high):
         """A grid without places is drawn as one: edges about equally long, and all other pairs farther apart."""
@@ -497,44 +462,18 @@ class Maps(PictureCase):
         self.note(f"bits of {name}: the next numbers", shown == wanted, shown)
 
     def player_rows(self, name, network):
-        """A frame for each pulse, ascending; in a pulse of the colours a panel for each forest."""
+        """What the page plays is what the rounds' text says, pulse by pulse."""
         net = network_of(network)
         text, last = rounds_text(net), last_pulse(net)
-        page = self.draw("player", network, text)
-        frames = re.findall(
-            r'<figure class="frame" data-pulse="(\d+)"( hidden)?><figcaption><b>([^<]*)</b><br>([^<]*)</figcaption>\s*'
-            r'(<svg.*?</svg>)',
-            page,
-            re.S,
-        )
-        chosen_at = choices_of(text)
-        wanted = [p for p in range(last + 1) if last < 200 or p <= 12 or p in chosen_at]
-        shown = [int(frame[0]) for frame in frames]
-        self.note(f"player of {name}: a frame for each pulse, none before an earlier one", shown == wanted, shown)
-        self.note(f"player of {name}: the first is seen",
-                  [bool(frame[1]) for frame in frames] == [False] + [True] * (len(wanted) - 1))
-        self.note(f"player of {name}: the slider's end", f'max="{len(wanted) - 1}"' in page)
-        options = re.findall(r'<option value="(\d+)">', page)
-        self.note(f"player of {name}: a choice of forests",
-                  options == [str(f) for f in range(net.forest_count)] * (net.forest_count > 1), options)
-        self.shared_rows(f"player of {name}", net,
-                         parsed(re.search(r"<svg[^>]*>(<defs>.*?</defs>)</svg>", page, re.S).group(1)))
-        wrong, merged = [], {}
-        for pulse, (_, _, caption, said, drawn) in zip(shown, frames):
-            root = parsed(drawn)
-            merged |= chosen_at.get(pulse, {})
-            wrong += frame_faults(net, text, pulse, root, merged, (caption, said))
-        self.note(f"player of {name}: tokens, vertices, channels and arrows of each frame", not wrong, wrong[:3])
-        plan = [str(c + 1) for _, c in sorted(colours(net).items())]
-        shown = [row[2] for row in numbered(parsed(frames[-1][4]), "channel")]
-        self.note(f"player of {name}: it ends with the plan", shown == plan and f" of {last}" in frames[-1][2], shown)
-        one = self.draw("player", network, text, "--frame", len(wanted) - 1)
-        self.note(f"player of {name}: one frame",
-                  frames[-1][4].split("\n", 1)[1].rsplit("\n", 1)[0] in one and "<defs>" in one)
-
-    def shared_rows(self, name, net, shared):
-        """What the frames refer to: the edges once, and for each forest its arrows."""
-        self.note(f"{name}: the edges", len(marks(marks(shared, "edges")[0], "edge")) == len(net.number))
-        arrows = {group.get("id"): len(marks(group, "arrow")) for group in marks(shared, "arrows")}
-        wanted = {f"forest-{f}": sum(bool(net.parent(f, v)) for v in net.neighbours) for f in range(net.forest_count)}
-        self.note(f"{name}: each forest's arrows", arrows == wanted, arrows)
+        data = json.loads(re.search(r"^var D = (.*);$", self.draw("player", network, text), re.M).group(1))
+        film = data["film"]
+        self.note(f"player of {name}: its pulses", [film["last"], len(film["pulses"])] == [last, last + 1], last)
+        wrong = [fault for p, pulse in enumerate(film["pulses"]) for fault in pulse_faults(net, text, p, pulse)]
+        self.note(f"player of {name}: messages, colours, choices and words of each pulse", not wrong, wrong[:3])
+        wanted = [[v, f, net.parent(f, v)] for v in sorted(net.neighbours) for f in range(net.forest_count)
+                  if net.parent(f, v)]
+        self.note(f"player of {name}: parents", film["parents"] == wanted, film["parents"])
+        first = [colour for _, colour in sorted(first_colours(net).items())]
+        self.note(f"player of {name}: the first colours", film["first"] == first, film["first"])
+        edges = sorted(tuple(sorted(edge)) for edge in net.number)
+        self.note(f"player of {name}: its edges", sorted(map(tuple, data["net"]["edges"])) == edges)

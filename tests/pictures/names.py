@@ -5,7 +5,7 @@ from itertools import combinations
 from lab.definitions.colours import network_of, plan_text
 from lab.definitions.rounds import rounds_text
 from tests.pictures.base import PictureCase, transcript
-from tests.pictures.marks import centre, marks, number, parsed, texts
+from tests.pictures.marks import centre, marks, number, parsed
 
 NAMED = ("c name 1 Ulm\nc name 2 Frankfurt am Main\nc name 3 Köln & <Bonn>\nc name 5 a\x1bb\nc name 9 nobody\n"
          "p edge 5 5\ne 1 2\ne 2 3\ne 3 4\ne 4 5\ne 1 3\n").encode()
@@ -67,12 +67,9 @@ class Names(PictureCase):
         shown = [label.text for label in marks(parsed(picture), "number")]
         self.note("names in a plan", shown == LABELS, shown)
         self.label_rows("a plan with names", picture, 0.5)
-        for frame in ("0", "5", "13"):
-            shown = texts(parsed(self.draw("player", NAMED, rounds, "--frame", frame)))
-            self.note(f"names in frame {frame} of a player", all(label in shown for label in LABELS), shown)
         page = self.draw("player", NAMED, rounds)
         self.note("names in a player are escaped",
-                  "3 Köln &amp; &lt;Bon…<" in page and "<Bon" not in page and "\x1b" not in page)
+                  "Köln & \\u003cBon" in page and "<Bon" not in page and "\x1b" not in page, page[-900:])
         for kind, names, times in (("run", ["Ulm", "Frankfu…", "Köln &…", "a\ufffdb"], 2),
                                    ("overview", ["Ulm", "Frankfurt a…", "Köln & <Bon…", "a\ufffdb"], 1)):
             root = parsed(self.draw(kind, NAMED, run))

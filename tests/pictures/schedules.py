@@ -267,14 +267,15 @@ class Schedules(PictureCase):
     def page_rows(self, name, network):
         """The page has the table that --text writes, and needs nothing from elsewhere."""
         page = drawn(self.painter, "adversary", network)
+        data = json.loads(re.search(r"^var D = (.*);$", page, re.M).group(1))
         self.note(f"page of {name}: its table",
-                  f"var T = {drawn(self.painter, 'adversary', network, '--text').strip()};" in page)
+                  data["table"] == json.loads(drawn(self.painter, "adversary", network, "--text")))
         self.note(
             f"page of {name}: nothing from elsewhere",
             not re.search(r"(src|href)=|@import|url\(|fetch\(|XMLHttp", page)
             and set(re.findall(r"https?://[^\"' ]+", page)) == {"http://www.w3.org/2000/svg"},
         )
-        return json.loads(re.search(r"^var P = (.*);$", page, re.M).group(1))
+        return data
 
     def dare_rows(self, name, network, table, plan, answers):
         """What the page says of its dares, counted in the table; `answers` are the numbers that it has to say."""

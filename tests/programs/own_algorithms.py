@@ -4,8 +4,10 @@
 What nodes find is worked out here from the network (independent sets, trees, greatest identifiers, distances), not by
 the definitions of the programs."""
 import glob
+import json
 import os
 import random
+import re
 import tempfile
 
 from lab.definitions.colours import Network
@@ -267,11 +269,11 @@ class OwnAlgorithms(Case):
             with open(path, "w", encoding="utf-8") as file:
                 file.write(TREE.replace("RIGHT", right))
             _, page, fault = script("picture", "player", example("chain6.col"), "--program", path)
-            last = page.decode().rpartition('class="panel"')[2].partition("</svg>")[0]
-            marks = [last.count(f'class="{mark}"') for mark in ("found-edge", "found-colour", "blank")]
-            yield f"a tree, {right}", (marks, fault) == ([5, 5, 1], b""), (marks, fault)
-            yield f"words of it, {right}", (b"<title>layer 5 by the port 0</title>" in page
-                                            and b"layer 5 by .." in page), page[-2000:]
+            data = json.loads(re.search(rb"^var D = (.*);$", page, re.M).group(1))
+            last = data["film"]["pulses"][-1]
+            wanted = {"1": [None, None]} | {str(v): [v - 2, v - 1] for v in range(2, 7)}
+            yield f"a tree, {right}", (last["drawn"], fault) == (wanted, b""), (last["drawn"], fault)
+            yield f"words of it, {right}", last["results"][5] == "layer 5 by the port 0", last["results"]
             _, picture, _ = script("picture", "rounds", example("chain6.col"), "--program", path)
             for text in (page, picture):
                 is_said = b"right: no tree" in text or b"the end: no tree" in text

@@ -20,12 +20,13 @@ function ask() {
   });
 }
 function showPlan() {
-  const is = check.verdict, at = is && !is.ok ? is.at.filter(v => v >= 1 && v <= net.nodes.length) : [], above = [];
+  const is = check.verdict, at = is && !is.ok ? is.at.filter(v => v >= 1 && v <= net.nodes.length) : [];
   const {plan} = check, isWrong = (v, w) => at.length === 2 && at.includes(v) && at.includes(w);
-  if (at.length) {
+  const above = () => {
+    if (!at.length) return [];
     const spot = at.length === 2 ? stage.middle(...at) : [stage.X(at[0]), stage.Y(at[0]) - stage.radius - 18];
-    above.push(...note(...spot, SAID[is.code] || is.code));
-  }
+    return note(...spot, SAID[is.code] || is.code);
+  };
   stage.draw({above, ring: v => at.includes(v) ? "var(--wrong)" : null,
     node: (v, x, y, r) => plan[v - 1] ? channelCircle(x, y, r, plan[v - 1]) : blank(x, y, r),
     edge: (v, w) => isWrong(v, w) ? {stroke: "var(--wrong)", "stroke-width": 5}

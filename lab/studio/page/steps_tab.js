@@ -55,7 +55,7 @@ function showAt() {
   stage.draw({node: (v, x, y, r) => alphaMarks(stage, is.looks[v - 1], v, x, y, r), bars: false, apart: 4.6,
     below: isWord, ring: v => isFree(String(v)) ? "var(--good)" : v === seen.node ? "var(--edge)" : null,
     label: v => nameOf(net, v) + (seen.lazy.includes(v) ? " (held)" : ""),
-    edge: (v, w) => slow.has(v + "-" + w) ? SLOW : {}, above: is.wires.flatMap(queue)});
+    edge: (v, w) => slow.has(v + "-" + w) ? SLOW : {}, above: () => is.wires.flatMap(queue)});
   sayWhere(is);
   listSteps(is);
   by("list").value = is.list.join("\n") + "\n";

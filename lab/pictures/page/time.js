@@ -1,3 +1,5 @@
+import {element} from "./marks.js";
+
 // A slider with a play button. `show` is called with each new place; `speed` says how much of it passes in a second.
 export class Time {
   constructor({slider, play, back, next, speed}, {show, step, rate, ended}) {
@@ -43,4 +45,30 @@ export class Time {
     event.preventDefault();
     return true;
   }
+}
+// A page that stands alone: its slider, keys, clicks on nodes, and its address. `show(at)` returns the fragment.
+export function openPage(stages, {show, follow, step, rate, click}) {
+  const [slider, play, back, next, speed] = ["slider", "play", "back", "next", "speed"].map(element);
+  let linked = "";
+  const link = place => {
+    if (time.timer || location.hash === place) return;
+    linked = place;
+    try { history.replaceState(null, "", place); } catch (refused) { location.hash = place; }
+  };
+  const see = at => link(show(at));
+  const time = new Time({slider, play, back, next, speed}, {show: see, step, rate, ended: () => see(time.at)});
+  stages.forEach(stage => {
+    stage.svg.onclick = event => {
+      const v = stage.nodeAt(event);
+      if (v) { click(v); see(time.at); }
+    };
+  });
+  document.onkeydown = event => {
+    const node = event.target.dataset && +event.target.dataset.node;
+    if (event.ctrlKey || event.altKey || event.metaKey || event.target.tagName === "SELECT") return;
+    if (node && event.key === "Enter") { click(node); see(time.at); } else time.key(event);
+  };
+  window.onhashchange = () => { if (location.hash !== linked) follow(); };
+  new ResizeObserver(() => { stages.forEach(stage => stage.fit()); see(time.at); }).observe(element("stage"));
+  return time;
 }

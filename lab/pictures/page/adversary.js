@@ -1,74 +1,10 @@
-<!doctype html>
-<html lang="en"><head><meta charset="utf-8"><meta name="viewport" content="width=device-width,initial-scale=1">
-<meta name="color-scheme" content="only light">
-<title>@NAME@: you are the network</title>
-<style>
-:root{color-scheme:only light;background:#FFFFFF}
-*{box-sizing:border-box}
-body{font:14px/1.4 DejaVu Sans,Verdana,Arial,sans-serif;color:#1B1B1B;background:#FFFFFF;max-width:1010px;
-  margin:0 auto;padding:10px 12px}
-h1{font-size:17px;margin:0}h2{font-size:14px;margin:10px 0 4px}p{margin:0}
-.soft,#said,.legend{color:#6B6B6B;font-size:12px}
-#said{min-height:40px;padding:3px 0;color:#1B1B1B}#said.wrong{color:#CC0000;font-weight:bold}
-.legend b{display:inline-block;padding:0 7px;border-radius:9px;border:1.5px solid;color:#1B1B1B;font-weight:normal;
-  margin-right:4px}
-svg{display:block;width:100%;height:auto;max-height:400px;border:1px solid #D4D4D4;border-radius:6px;margin-top:6px}
-button{font:inherit;font-size:13px;min-height:32px;padding:2px 8px;margin:2px 4px 2px 0;
-  border:1.5px solid #6B6B6B;border-radius:9px;background:#FFFFFF;color:#1B1B1B;cursor:pointer}
-button:disabled{color:#6B6B6B;border-color:#D4D4D4;background:#F6F6F6;cursor:default}
-button[aria-pressed=true]{background:#1B1B1B;color:#FFFFFF}
-button:focus-visible,textarea:focus-visible,summary:focus-visible{outline:3px solid #1B1B1B;outline-offset:1px}
-.payload{border-color:#0072B2!important;background:#E3F0F8}.ack{border-color:#9A9A9A!important;background:#F4F4F4}
-.safe{border-color:#D55E00!important;background:#FBE8DC}.close{border-color:#111111!important;background:#E4E4E4}
-.pulse{border-color:#7A6A45!important;background:#F3EFE4;font-weight:bold;margin-left:6px}
-button.behind,button.held{border-style:dashed;opacity:.75}
-kbd{font:bold 11px DejaVu Sans Mono,monospace;border:1px solid #6B6B6B;border-radius:3px;padding:0 3px;
-  margin-right:5px;background:#FFFFFF}
-.node{border-top:1px solid #D4D4D4;padding:3px 0}.node .waits,.node .holds{color:#6B6B6B;font-size:12.5px}
-.node .holds{color:#1B1B1B}
-.node.dim b{color:#6B6B6B}
-#dares{list-style:none;margin:0;padding:0;font-size:12.5px}#dares li{padding:2px 0}#dares .won{font-weight:bold}
-#dares details{display:inline}#dares summary{display:inline;cursor:pointer;text-decoration:underline;color:#6B6B6B}
-textarea{width:100%;height:92px;font:12px/1.35 DejaVu Sans Mono,monospace;border:1px solid #D4D4D4}
-pre{font:12px/1.35 DejaVu Sans Mono,monospace;margin:4px 0;white-space:pre-wrap}
-.token,.disc{cursor:pointer}.token.behind,.token.held,.disc.dim{cursor:default}.token.behind,.token.held{opacity:.6}
-.edge{cursor:pointer}.token:not(.behind):not(.held):hover rect,.disc:not(.dim):hover circle{stroke-width:3.5}
-@media(min-width:700px){main{display:grid;grid-template-columns:minmax(0,1fr) minmax(300px,395px);gap:0 16px}}
-@media(max-height:480px) and (orientation:landscape){body{padding:2px 8px}h1{font-size:14px}svg{max-height:70vh}}
-@media print{button,textarea,#tools,#nodes button,.screen{display:none}main{display:block}svg{width:62%}}
-</style></head><body>
-<h1>@TITLE@</h1>
-<p class="soft">@ABOUT@</p>
-<main><section aria-label="the network">
-<svg id="map" viewBox="0 0 @WIDTH@ @HEIGHT@" font-family="DejaVu Sans,Verdana,Arial,sans-serif" role="img"
- aria-label="the network"></svg>
-<p class="legend"><b class="payload">payload</b><b class="ack">ack</b><b class="safe">safe</b><b class="close">close</b>
-Click: a message comes, a node pulses, a line freezes.</p>
-<p id="said" role="status" aria-live="polite"></p>
-<div id="tools">
-<button id="undo">undo</button><button id="random">random</button><button id="step">in step</button><button
- id="rest">to the end</button><button id="anew">start again</button>
-<span class="soft">freeze</span> <span id="freeze"></span></div>
-</section><section aria-label="what can happen">
-<h2>What can happen now</h2><div id="nodes"></div>
-<div class="screen"><h2>Dares</h2><ul id="dares"></ul></div>
-</section></main>
-<div class="screen"><h2>Events so far</h2>
-<textarea id="list" aria-label="the events so far, as forestplay reads them"></textarea>
-<button id="copy">copy</button><button id="paste">play this list</button>
-<span class="soft">Change the list, or paste another one, and play it. The address of the page names the place: copy it
-to link to what you see.</span>
-<details><summary class="soft">What <code>bin/forestplay events</code> shows of them</summary>
-<p class="soft">@PLAY@</p><pre id="state"></pre></details>
-<details><summary class="soft">The same run as a transcript</summary><p class="soft">@TRANSCRIPT@</p></details>
-<p class="soft">Keys: the numbers beside what can happen, <kbd>u</kbd>undo <kbd>r</kbd>random <kbd>s</kbd>in step; Tab
-and Enter for everything. This page has no algorithm in it: it follows a table of @STATES@ states and @STEPS@ steps. The
-table comes from slow definitions that are tested, and not proved; <code>forestplay</code>, which judges the list,
-is.</p></div>
-<script>
-"use strict";
-var T = @TABLE@;
-var P = @PLAN@;
+// The adversary's page: whoever looks is the network, and chooses which message comes next. It follows a table of all
+// states, D.table; it has no algorithm in it.
+import {HALO, blank, channelCircle, words} from "./marks.js";
+import {SLOW, wireMark} from "./run.js";
+import {Stage} from "./stage.js";
+
+const T = D.table, stage = new Stage(document.getElementById("net"), D.net);
 
 // The table: columns of numbers, each written in digits of base 64.
 var digit = {};
@@ -98,7 +34,7 @@ function nodeAt(v, s) { var node = T.nodes[v - 1]; return node.values[node.colum
 function held(link, s) { return link.contents[link.column[s]]; }
 function linkTo(v, port) { return T.links.find(function (link) { return link.to === v && link.take === port; }); }
 function kind(words) { return words.split(" ")[0]; }
-function short(words) { return words.replace(/^payload \d+ /, ""); }
+function bare(words) { return words.replace(/^payload \d+ /, ""); }
 
 // A run: the states it went through, and the step to each of them.
 var run = [{state: 0, step: null}], frozen = {};
@@ -207,70 +143,44 @@ function judged(dare) {
 }
 
 // What is shown.
-var SVG = "http://www.w3.org/2000/svg", map = document.getElementById("map");
 function by(id) { return document.getElementById(id); }
-function draw(name, attributes, text, parent) {
-  var element = document.createElementNS(SVG, name);
-  Object.keys(attributes).forEach(function (key) { element.setAttribute(key, attributes[key]); });
-  if (text !== null && text !== undefined) element.textContent = text;
-  (parent || map).appendChild(element);
-  return element;
-}
-function label(group, x, y, words, size, fill, weight) {
-  var look = {x: x, y: y, "text-anchor": "middle", "font-size": size, fill: fill, "font-weight": weight || "normal"};
-  draw("text", look, words, group);
-}
 function play(step) { if (step && !isHeld(step) && !isOver()) { make(step); show(); } }
 function edgeButton(name) { frozen[name] = !frozen[name]; show(); }
 
 function showMap(steps) {
-  map.textContent = "";
-  // A ground of its own: a browser that darkens pages leaves what is drawn as it is.
-  draw("rect", {width: "100%", height: "100%", fill: "#FFFFFF"});
-  P.edges.forEach(function (edge) {
-    var name = edge.v + "–" + edge.w, cold = frozen[name] === true;
-    var line = {x1: edge.x1, y1: edge.y1, x2: edge.x2, y2: edge.y2};
-    var look = cold ? {stroke: "#56B4E9", "stroke-width": 3, "stroke-dasharray": "2 5"}
-      : {stroke: "#6B6B6B", "stroke-width": 1.4};
-    draw("line", Object.assign(look, line));
-    var wide = draw("line", Object.assign({stroke: "transparent", "stroke-width": 16, "class": "edge"}, line));
-    wide.onclick = function () { edgeButton(name); };
-  });
-  T.nodes.forEach(function (node, a) { showDisc(a + 1, steps); });
-  T.links.forEach(function (link) { showTokens(link); });
+  const pulse = new Map(steps.filter(one => !one.take).map(one => [one.v, one]));
+  stage.draw({apart: 4.6, bars: false, below: true, label: v => String(v),
+    node: (v, x, y, r) => discOf(nodeAt(v, now().state), pulse.has(v), x, y, r),
+    ring: v => pulse.has(v) ? "var(--good)" : null, edge: (v, w) => frozen[v + "–" + w] ? SLOW : {},
+    above: () => T.links.flatMap(tokensOf)});
 }
-function showDisc(v, steps) {
-  var row = nodeAt(v, now().state), at = P.nodes[v];
-  var step = steps.find(function (one) { return !one.take && one.v === v; });
-  var group = draw("g", {"class": "disc" + (step ? "" : " dim"), "data-node": v});
-  var hue = row[2] ? P.hues[row[2]] : null;
-  draw("circle", {cx: at.x, cy: at.y, r: P.radius, fill: hue ? hue[0] : step ? "#F3EFE4" : "#EEEEEE",
-    stroke: row[3] ? "#CC0000" : step ? "#7A6A45" : "#9A9A9A", "stroke-width": step || row[3] ? 2.6 : 1.4},
-    null, group);
-  label(group, at.x, at.y - 8, hue ? "channel" : "pulse", 8, hue ? hue[1] : "#6B6B6B");
-  label(group, at.x, at.y + 9, hue ? row[2] : row[0], 17, hue ? hue[1] : step ? "#1B1B1B" : "#6B6B6B", "bold");
-  if (row[2] && !hue) { label(group, at.x, at.y + 18, row[2], 7, "#1B1B1B"); }
-  label(group, at.x, at.label, "node " + v, 11, "#1B1B1B", "bold");
-  label(group, at.x, at.label + 12, row[1], 9.5, row[3] ? "#CC0000" : "#6B6B6B");
-  if (step) group.onclick = function () { play(step); };
+// A node: its pulse, or its channel once it has halted, and below it what it waits for.
+function discOf(node, isReady, x, y, r) {
+  const [pulse, waits, found, isWrong] = node, fill = isWrong ? "var(--wrong)" : "var(--soft)";
+  const disc = typeof found === "number" && found ? channelCircle(x, y, r, found) : blank(x, y, r, pulse);
+  return [...disc, typeof found === "string" ? words(x, y + 0.75 * r, 7, "var(--ink)", found, HALO) : null,
+    words(x, y + r + 12, 10, fill, waits, HALO)];
 }
-function showTokens(link) {
-  var wires = held(link, now().state), slots = P.slots[link.from + " " + link.to], name = link.from + " " + link.to;
-  wires.slice(0, slots.length).forEach(function (wire, place) {
-    var words = T.wires[wire], more = wires.length - slots.length, slot = slots[place], hues = P.wires[kind(words)];
-    var step = takeOf(link, place), free = step && !isOver() && !isHeld(step);
-    var mark = free ? "" : step ? "held" : "behind";
-    var group = draw("g", {"class": "token " + mark, "data-link": name, "data-place": place});
-    draw("title", {}, words + ", from " + link.from + " to " + link.to, group);
-    draw("path", {d: slot.tip, fill: hues[0]}, null, group);
-    draw("rect", {x: slot.x - P.token[0], y: slot.y - P.token[1], width: 2 * P.token[0], height: 2 * P.token[1], rx: 8,
-      fill: hues[1], stroke: hues[0], "stroke-width": free ? 2 : 1.2, "stroke-dasharray": free ? "none" : "3 2"},
-      null, group);
-    var said = place === slots.length - 1 && more > 0 ? "and " + more + " more" : short(words);
-    label(group, slot.x, slot.y + 3.4, said, 9.5, "#1B1B1B");
-    if (free) group.onclick = function () { play(step); };
-  });
+// The wires of a link, the next one nearest to its taker.
+function tokensOf(link) {
+  const wires = held(link, now().state), name = link.from + " " + link.to;
+  const length = Math.hypot(stage.X(link.from) - stage.X(link.to), stage.Y(link.from) - stage.Y(link.to));
+  const wide = 70 / Math.max(1, length - 2 * stage.radius), apart = Math.min(1 / Math.max(1, wires.length - 1), wide);
+  return wires.map((wire, place) => {
+    const step = takeOf(link, place), free = step && !isOver() && !isHeld(step);
+    return wireMark(stage, link.from, link.to, 1 - place * apart, T.wires[wire], true,
+      {"data-link": name, "data-place": place, class: "token " + (free ? "" : step ? "held" : "behind"),
+        opacity: free ? null : 0.6}, {"stroke-dasharray": free ? null : "3 2", "stroke-width": free ? 2 : 1.2});
+  }).reverse();
 }
+stage.svg.onclick = event => {
+  const token = event.target.closest("[data-link]"), v = stage.nodeAt(event), edge = stage.edgeAt(event);
+  if (token) {
+    const link = T.links.find(one => one.from + " " + one.to === token.dataset.link);
+    play(takeOf(link, +token.dataset.place));
+  } else if (v) play(possible().find(one => !one.take && one.v === v));
+  else if (edge) edgeButton(edge.join("–"));
+};
 
 function button(parent, words, mark, key, step, enabled) {
   var made = document.createElement("button");
@@ -293,7 +203,7 @@ function showNodes(steps) {
   T.nodes.forEach(function (node, a) {
     var v = a + 1, row = nodeAt(v, now().state), box = document.createElement("div");
     var step = steps.find(function (one) { return !one.take && one.v === v; });
-    box.className = "node" + (step ? "" : " dim");
+    box.className = "possible";
     var head = document.createElement("b");
     head.textContent = "node " + v + " ";
     var where = document.createElement("span");
@@ -314,7 +224,7 @@ function showNodes(steps) {
         var words = T.wires[wire], mine = takeOf(link, at), free = mine && !isOver() && !isHeld(mine);
         var mark = kind(words) + (free ? "" : mine ? " held" : " behind");
         var key = "take " + v + " " + link.take + " " + at;
-        var made = button(line, short(words) + " from " + link.from, mark, key, mine, free);
+        var made = button(line, bare(words) + " from " + link.from, mark, key, mine, free);
         if (!free) made.title = mine ? "frozen" : "behind another message";
       });
     });
@@ -330,10 +240,10 @@ function showNodes(steps) {
   if (focus && free.length) (free.find(function (made) { return made.dataset.key === focus; }) || free[0]).focus();
 }
 function showSaid(steps) {
-  var said = by("said"), step = now().step, count = run.length - 1, of = P.events ? " of " + P.events : "";
-  var words = count === 0 ? "Nothing has happened yet: choose what comes first." : count + of + ": ";
+  var said = by("said"), step = now().step, count = run.length - 1, of = D.events ? " of " + D.events : "";
+  let words = count === 0 ? "Nothing has happened yet: choose what comes first." : count + of + ": ";
   if (step !== null) words += (step.fault || "node " + step.v
-    + (step.take ? " takes " + short(takenWire(count)) + " from " + linkTo(step.v, step.port).from
+    + (step.take ? " takes " + bare(takenWire(count)) + " from " + linkTo(step.v, step.port).from
       : " makes pulse " + nodeAt(step.v, now().state)[0])) + ".";
   var stuck = (T.faults[now().state] || {})[-1];
   if (isOver()) words += " Its program refuses it, so the run ends here: undo.";
@@ -352,7 +262,7 @@ function showDares() {
   var place = by("dares");
   var open = Array.from(place.querySelectorAll("details")).map(function (one) { return one.open; });
   place.textContent = "";
-  P.dares.forEach(function (dare, k) {
+  D.dares.forEach(function (dare, k) {
     var line = document.createElement("li"), got = judged(dare);
     var more = document.createElement("details"), ask = document.createElement("summary");
     line.className = got[0] ? "won" : "";
@@ -367,8 +277,8 @@ function showDares() {
 function showFreeze() {
   var place = by("freeze"), focus = focused("edge");
   place.textContent = "";
-  P.edges.forEach(function (edge) {
-    var name = edge.v + "–" + edge.w, made = document.createElement("button");
+  D.net.edges.forEach(function (edge) {
+    var name = edge.join("–"), made = document.createElement("button");
     made.textContent = name;
     made.setAttribute("aria-label", "freeze " + name);
     made.setAttribute("aria-pressed", frozen[name] === true);
@@ -460,5 +370,6 @@ document.onkeydown = function (pressed) {
   else if (pressed.key === "s") by("step").click();
 };
 window.onhashchange = fromLink;
+stage.fit();
 if (location.hash) { linked = null; fromLink(); } else show();
-</script></body></html>
+new ResizeObserver(() => { stage.fit(); showMap(possible()); }).observe(by("stage"));

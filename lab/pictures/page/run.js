@@ -127,7 +127,7 @@ export class RunFilm {
     const last = this.last(at), waits = new Set(slow.map(e => e.join("-")));
     const isWord = typeof this.table.start[0].c === "string";
     stage.draw({node: (v, x, y, r) => alphaMarks(stage, this.look(v, at), v, x, y, r), bars: false, apart: 4.6,
-      above: this.wires(stage, stamp, at, {node, only}), below: isWord,
+      above: () => this.wires(stage, stamp, at, {node, only}), below: isWord,
       ring: v => last && last[1] === v ? "var(--glow)" : node === v ? "var(--edge)" : null,
       label: v => nameOf(this.net, v) + (lazy.includes(v) ? " (waits)" : ""),
       edge: (v, w) => waits.has(v + "-" + w) ? SLOW : {}});

@@ -1,8 +1,17 @@
 // The rounds of a network, pulse by pulse, by what lab/ has worked out.
-import {HALO, blank, channelCircle, colourSquare, html, mark, pill, pillWidth, short, words} from "./marks.js";
+import {HALO, blank, channelCircle, colourSquare, html, hue, inkOn, mark, pill, pillWidth, short, words}
+  from "./marks.js";
 import {nameOf} from "./stage.js";
 
-const ORIENT = 1, SEED = 2, LAST_COLOUR = 12;
+const ORIENT = 1, SEED = 2, LAST_COLOUR = 12, MOST_LETTERS = 13;
+// What the marks mean.
+export function roundsLegend(place, film) {
+  place.textContent = film.forests
+    ? "A square is a node’s colour in the forest, grey while it is still a name; a circle is its channel, a colour plus"
+      + " one. Arrows go to parents; a number in a pill is a message on its way. Below a node whose turn is to come is"
+      + " its pair: its colour in the forest, and its old colour. Yellow: it chooses now."
+    : "A number in a pill is a message on its way. Below a node is what it has found; yellow: something new.";
+}
 
 export class RoundsFilm {
   constructor(found, net) {
@@ -28,10 +37,7 @@ export class RoundsFilm {
   node(p, forest, v, x, y, r) {
     const pulse = this.found.pulses[p], parts = [], lit = mark("circle", {cx: x, cy: y, r: 1.4 * r,
       fill: "var(--chosen)", stroke: "var(--glow)", "stroke-width": 1.5});
-    if (pulse.results) {
-      return [pulse.new.includes(v) && lit, ...blank(x, y, r, v),
-        words(x, y + r + 12, Math.min(11.5, r), "var(--ink)", pulse.results[v - 1], HALO)];
-    }
+    if (pulse.results) return [pulse.new.includes(v) && lit, ...this.resultMarks(pulse, v, x, y, r)];
     if (pulse.colours && forest !== null) {
       const colour = pulse.colours[v - 1][forest];
       parts.push(...colourSquare(x, y, r, colour, p > SEED && colour <= 5));
@@ -40,6 +46,14 @@ export class RoundsFilm {
     } else parts.push(...blank(x, y, r));
     if (pulse.step && !this.hasChosen(v, p)) parts.push(...this.turnMark(p, forest, v, x, y, r));
     return parts;
+  }
+  // What a node of another program has found: in words, and by its colour.
+  resultMarks(pulse, v, x, y, r) {
+    const said = pulse.results[v - 1], [colour] = pulse.drawn[v] || [null], fits = said.length <= MOST_LETTERS;
+    const disc = colour === null ? blank(x, y, r, v) : [mark("circle", {cx: x, cy: y, r, fill: hue(colour + 1),
+      stroke: "var(--ink)", class: "found-colour"}), words(x, y, r * 0.9, inkOn(hue(colour + 1)), v)];
+    return [...disc, fits ? null : mark("title", {}, said), words(x, y + r + 12, Math.min(11.5, r), "var(--ink)",
+      fits ? said : said.slice(0, MOST_LETTERS - 2) + "..", HALO)];
   }
   // When it is a node's turn in a merge: its colour in the forest, and its old colour.
   turnMark(p, forest, v, x, y, r) {
@@ -57,6 +71,9 @@ export class RoundsFilm {
       const mine = f === forest || p === ORIENT;
       links.push(...stage.arrow(v, w, mine ? "var(--strong)" : "var(--edge)", mine ? 2 : 1.4));
     });
+    for (const v in pulse.drawn || {}) {
+      if (pulse.drawn[v][1]) links.push(...stage.arrow(+v, pulse.drawn[v][1], "var(--ink)", 3.2));
+    }
     return links;
   }
   // The messages of a pulse, `part` of the way. `why` fades those that didn't decide the chosen node's channel.
@@ -76,8 +93,9 @@ export class RoundsFilm {
   draw(stage, at, {forest = 0, node = null, why = null, quiet = false} = {}) {
     const p = Math.min(this.last, Math.floor(at)), pulse = this.found.pulses[p], shown = this.forestAt(p, forest);
     const names = new Set(why ? why.identifiers : []);
-    stage.draw({node: (v, x, y, r) => this.node(p, shown, v, x, y, r), links: this.arrows(stage, p, shown),
-      above: quiet ? [] : this.messages(stage, p, at - p, forest, why), below: Boolean(pulse.results || pulse.step),
+    stage.draw({node: (v, x, y, r) => this.node(p, shown, v, x, y, r), links: () => this.arrows(stage, p, shown),
+      above: () => quiet ? [] : this.messages(stage, p, at - p, forest, why),
+      below: Boolean(pulse.results || pulse.step),
       label: pulse.results ? v => nameOf(this.net, v).slice(String(v).length).trim() : quiet ? v => String(v) : null,
       ring: v => v === node ? "var(--glow)" : names.has(v) ? "var(--edge)" : null,
       edge: () => ({stroke: p === 0 ? "var(--edge)" : "var(--hair)"})});

@@ -18,8 +18,9 @@ export class Stage {
     this.wide = box.width || 1;
     this.high = box.height || 1;
     this.isZoomed = false;
-    const margin = Math.min(64, 12 + this.wide / 14), least = list => Math.min(...list);
-    const most = list => Math.max(...list);
+    const names = Math.max(0, ...this.net.nodes.map(n => Math.min(12, n.name.length) + Math.min(8, n.id.length)));
+    const margin = Math.min(64, 12 + this.wide / 14) + Math.min(6 * names, this.wide / 8);
+    const least = list => Math.min(...list), most = list => Math.max(...list);
     if (xs.length < 2) {
       this.to = {scale: 1, x: this.wide / 2 - (xs[0] || 0), y: this.high / 2 - (ys[0] || 0)};
       if (!xs.length) this.to = {scale: 1, x: 0, y: 0};
@@ -156,17 +157,17 @@ export class Stage {
   }
 
   // Draws all. `edge(v, w)` gives an edge's attributes, `node(v, x, y, r)` the marks of a node, `label(v)` its words;
-  // `links` and `above` are marks; `ring(v)` is the colour of a ring around it, or nothing. `below` says that something
-  // is written below each node, `grip(v)` what a node is said to be for.
-  draw({edge, node, label, ring, links = [], above = [], bars = true, apart = 2.9, below = false}) {
+  // `links()` and `above()` are marks; `ring(v)` is the colour of a ring around it, or nothing. `below` says that
+  // something is written below each node.
+  draw({edge, node, label, ring, links = () => [], above = () => [], bars = true, apart = 2.9, below = false}) {
     this.apart = apart;
     this.measure();
     this.svg.setAttribute("viewBox", `0 0 ${this.wide} ${this.high}`);
     patch(this.edges, this.net.edges.map(([v, w]) => this.line(v, w, {stroke: "var(--edge)", "stroke-width": 1.6,
       ...(edge ? edge(v, w) : {}), "data-edge": v + "-" + w})));
-    patch(this.arrows, links);
+    patch(this.arrows, links());
     patch(this.nodes, this.net.nodes.map((_, k) => this.group(k + 1, {node, label, ring, bars, below})));
-    patch(this.over, above);
+    patch(this.over, above());
   }
   group(v, {node, label, ring, bars, below}) {
     const x = this.X(v), y = this.Y(v), r = this.radius, size = Math.max(10, Math.min(13, r * 0.75));

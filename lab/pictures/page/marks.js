@@ -37,6 +37,7 @@ function update(element, wanted) {
   else if (element.words !== wanted.inside) element.textContent = element.words = wanted.inside;
 }
 
+export function element(id) { return document.getElementById(id); }
 export function html(name, words, attributes = {}) {
   const element = document.createElement(name);
   if (words !== undefined && words !== null) element.textContent = words;
@@ -49,8 +50,8 @@ export function row(name, cells) {
   cells.forEach(words => line.append(html(name, words)));
   return line;
 }
-function inkOn(fill) { return DARK.includes(fill) ? WHITE : INK; }
-function hue(channel) { return CHANNELS[(channel - 1) % 8]; }
+export function inkOn(fill) { return DARK.includes(fill) ? WHITE : INK; }
+export function hue(channel) { return CHANNELS[(channel - 1) % 8]; }
 function isRing(channel) { return Math.floor((channel - 1) / 8) % 2 === 1; }
 function digitsOf(number) { return BigInt(number).toString(2).length; }
 // A number as a mark has room for: 128d is one of 128 binary digits.

@@ -1,0 +1,26 @@
+// A page that plays the rounds: D is {net, film}.
+import {RoundsFilm, roundsLegend} from "./rounds.js";
+import {Stage} from "./stage.js";
+import {element, html} from "./marks.js";
+import {openPage} from "./time.js";
+
+const film = new RoundsFilm(D.film, D.net), stage = new Stage(element("net"), D.net);
+let forest = 0, chosen = null;
+
+function show(at) {
+  const p = film.draw(stage, at, {forest, node: chosen}), [caption, said] = film.said(p);
+  element("when").textContent = `pulse ${p} of ${film.last}`;
+  element("said").replaceChildren(html("b", `pulse ${p} of ${film.last} · ${caption}`), html("br"), said);
+  element("forests").replaceChildren(...film.chips(p, forest, f => { forest = f; time.set(time.at); }));
+  return `#pulse-${p}` + (forest ? `-forest-${forest}` : "");
+}
+function follow() {
+  const words = /^#pulse-(\d+)(?:-forest-(\d+))?$/.exec(location.hash);
+  if (words) forest = Math.min(+words[2] || 0, Math.max(0, film.forests - 1));
+  time.set(words ? +words[1] : 0);
+}
+const time = openPage([stage], {show, follow, rate: () => 0.8, click(v) { chosen = v === chosen ? null : v; },
+  step: way => time.set(way > 0 ? Math.floor(time.at + 1) : Math.ceil(time.at - 1))});
+time.range(0, film.last);
+roundsLegend(element("legend"), film);
+follow();

@@ -1,0 +1,55 @@
+"""Pages that stand alone: the modules of page/, which the studio has too, joined into one script, and the data beside
+it. Nothing in them comes from elsewhere, and they have no algorithm."""
+import json
+import os
+import re
+
+from lab.pictures.palette import CHANNEL_HUES, DARK_FILLS, FOREST_COLOURS, INK, PALE, PAPER, WIRES, WRONG
+from lab.pictures.places import places_of, spaced
+from lab.pictures.svg import escaped
+
+FOLDER = os.path.join(os.path.dirname(os.path.abspath(__file__)), "page")
+# Each imports only those before it.
+MODULES = ("marks", "stage", "time", "rounds", "run")
+# In pixels of a large screen; the radius of a node at most and at least, and how many radii two are apart.
+WIDE, HIGH, MARGIN, RADIUS, LEAST, APART = 1000, 700, 70, 22, 9, 3
+
+
+def hues():
+    """The colours of all pictures, as the module hues.js."""
+    given = {"INK": INK, "WHITE": PAPER, "WRONG": WRONG, "CHANNELS": CHANNEL_HUES, "FORESTS": FOREST_COLOURS,
+             "DARK": sorted(DARK_FILLS), "WIRES": WIRES, "PALE": PALE}
+    return "".join(f"export const {name} = {json.dumps(value)};\n" for name, value in given.items())
+
+
+def net_of(network):
+    """A network as the modules have it. Identifiers are texts: they may have 39 digits."""
+    places = spaced(places_of(network), WIDE, HIGH, MARGIN, RADIUS, LEAST, APART)[0] if network.nodes else {}
+    nodes = [{"x": round(places[v][0], 1), "y": round(places[v][1], 1), "id": str(network.said.get(v, "")),
+              "name": network.names.get(v, ""), "bars": network.barred(v)} for v in network.vertices]
+    return {"name": network.name, "nodes": nodes, "edges": network.edges}
+
+
+def text_of(name):
+    with open(os.path.join(FOLDER, name), encoding="utf-8") as file:
+        return file.read()
+
+
+def joined(main):
+    """The modules that a page needs as one script, on one line: imports and exports go, since all names are in one
+    place, and comments, each of which is a line of its own."""
+    text = "".join([hues(), *(text_of(f"{name}.js") for name in (*MODULES, main))])
+    text = re.sub(r"(?ms)^import .*?;$", "", re.sub(r"(?m)^export |^ *//.*$", "", text))
+    return " ".join(line.strip() for line in text.split("\n") if line.strip())
+
+
+def page(template, main, data, **words):
+    """A page of a template of page/, whose script is the module `main` and those before it; `words` are escaped."""
+    given = {name.upper(): escaped(text) for name, text in words.items()}
+    given |= {"STYLE": text_of("page.css").replace("\n", ""), "DATA": compact(data), "SCRIPT": joined(main)}
+    return re.sub(r"@([A-Z]+)@", lambda found: given[found.group(1)], text_of(template))
+
+
+def compact(value):
+    """JSON that can stand in a script."""
+    return json.dumps(value, separators=(",", ":"), ensure_ascii=False).replace("<", "\\u003c")
