@@ -10,7 +10,6 @@ MODULES = {
     "install": "install",
     "new-program": "new_program",
     "pack": "pack",
-    "paths": "paths",
     "promises": "promises",
     "schedule": "schedule",
     "vendor": "vendor",

@@ -13,7 +13,7 @@ import os
 import shutil
 import sys
 
-from build.paths import TOP, listed, with_below
+from build.crate_lists import TOP, listed, with_below
 
 PARTS = ("src", "specs", "proofs")
 # So many states of a crate stay in the store.

@@ -5,7 +5,7 @@ import re
 import shutil
 import sys
 
-from build.paths import TOP
+from build.crate_lists import TOP
 
 MODEL, MODEL_TYPE, GROUP = "silent", "Silent", "# programs beside the colouring"
 PARTS = ("src", "specs", "proofs")

@@ -31,8 +31,8 @@ import sys
 import time
 
 from build import kit, shared
+from build.crate_lists import TOP, listed, with_below
 from build.order import WAY, Order
-from build.paths import TOP, listed, with_below
 from build.reckoning import jobs_with_room, measured_seconds, processors, seconds_of, seconds_used
 from build.shown import Shown
 

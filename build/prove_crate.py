@@ -21,7 +21,7 @@ import tempfile
 import threading
 
 from build import kit
-from build.paths import TOP
+from build.crate_lists import TOP
 
 
 def end_with_input():

@@ -2,7 +2,7 @@
 import os
 
 from build import kit
-from build.paths import TOP
+from build.crate_lists import TOP
 
 # Memory that a crate takes at most, in the mean.
 ROOM = 4 << 30

@@ -15,7 +15,7 @@ import shutil
 import sys
 
 from build import kit
-from build.paths import TOP
+from build.crate_lists import TOP
 
 
 def folder_of(name: str) -> str:

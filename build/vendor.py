@@ -6,7 +6,7 @@ import shutil
 import sys
 
 from build import kit
-from build.paths import TOP, listed, with_below
+from build.crate_lists import TOP, listed, with_below
 
 # What of a crate is copied: what it is proved from, and what shows that its contracts refuse wrong bodies.
 PARTS = ("src", "specs", "proofs", "must-fail")

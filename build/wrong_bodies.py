@@ -29,7 +29,7 @@ import time
 from concurrent.futures import ThreadPoolExecutor, as_completed
 
 from build import kit, prove
-from build.paths import listed
+from build.crate_lists import listed
 
 TOP = os.path.dirname(os.path.dirname(os.path.abspath(__file__)))
 

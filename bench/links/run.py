@@ -22,7 +22,7 @@ import tempfile
 
 HERE = os.path.dirname(os.path.abspath(__file__))
 TOP = os.path.dirname(os.path.dirname(HERE))
-LIBRARIES = "alpha_core interference link_queue link_rule alpha_laws node_api sync_rounds crossbeam_queue"
+LIBRARIES = "alpha_core interference link_queue link_rule alpha_laws node_api run_options sync_rounds crossbeam_queue"
 WAYS = ["crossbeam", "bare", "link"]
 CAPACITIES = [1, 4, 64]
 TURNS, HELD = 15, 50_000

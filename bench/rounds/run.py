@@ -17,8 +17,8 @@ import tempfile
 HERE = os.path.dirname(os.path.abspath(__file__))
 TOP = os.path.dirname(os.path.dirname(HERE))
 CRATES = {
-    "dimacs_col": "thiserror",
-    "interference": "dimacs_col",
+    "graph_limits": "",
+    "interference": "graph_limits",
     "node_api": "interference",
     "sync_rounds": "node_api interference",
 }

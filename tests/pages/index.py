@@ -7,7 +7,7 @@ import os
 import re
 
 from build import promises
-from build.paths import listed, with_below
+from build.crate_lists import listed, with_below
 from tests import TOP
 from tests.cases import Case
 
@@ -122,7 +122,7 @@ class Index(Case):
 
     def test_limits(self):
         """The pages have the numbers of the constants."""
-        files = ("dimacs_col/src/limits.rt", "interference/src/limits.rt", "run_options/src/lib.rt")
+        files = ("graph_limits/src/limits.rt", "interference/src/limits.rt", "run_options/src/lib.rt")
         limits = {
             name: int(number.replace("_", ""))
             for file in files

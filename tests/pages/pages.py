@@ -8,7 +8,6 @@
 - These definitions fit together: on small networks the rounds, and any order of events, end with the colours.
 - Each excerpt of code, a fence whose first line names its file, has its lines in that file, in this order; a comment
   `..` means lines that are left out.
-- No crate is reached along more paths through crates.txt than build/paths.py allows.
 - README.md or docs/work/LAYERS.md names each crate. No line of a page is wider than 150 columns.
 - Each file named in backquotes exists, each link leads to a page and a heading, and each function and clause that
   docs/claim/PROMISES.md names is in the code. It names each public law.
@@ -18,7 +17,6 @@ import os
 import random
 import re
 
-from build.paths import MOST, paths
 from lab.definitions.colours import Network, colours, merge, three
 from lab.definitions.nodes import NetState, synchronous_run, text_of_wire
 from tests import TOP
@@ -321,8 +319,3 @@ class Pages(Case):
             f"{page}:{number}" for page in PAGES for number, line in enumerate(lines_of(page), 1) if len(line) > WIDEST
         ]
         self.note(f"lines of pages wider than {WIDEST} columns", not wide, wide[:5])
-
-    def test_paths(self):
-        """No crate has more paths through crates.txt than build/paths.py allows."""
-        found = paths()
-        self.note("paths in crates.txt", max(found.values()) <= MOST, max(found, key=found.get))

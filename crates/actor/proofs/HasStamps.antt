@@ -5,20 +5,21 @@ use Rattle.std.proofs.Common.{ap₂, ◌∙◌, subst, arith, ⊎_elim, Some, No
 use Rattle.std.specs.Prelude.{All, Bool, Option, Result, IsTrue, MatchResult, max}
 use Rattle.std.proofs.lemmas.Bool.{cases_Bool, cases_eq, eqb-true}
 use Rattle.std.proofs.lemmas.List.{length-map}
-use Rattle.alpha_laws.specs.interference.Net.{Net, IsNetwork, IsVertex, degree_of, neighbour_of, port_to}
-use Rattle.alpha_laws.specs.node_api.Program.{Program, last_pulse_on}
-use Rattle.alpha_laws.specs.alpha_core.Stamped.{Stamped}
-use Rattle.alpha_laws.specs.alpha_core.StampedWires.{last_stamp, stamped, wires_of}
-use Rattle.alpha_laws.specs.alpha_core.Wire.{Wire}
-use Rattle.alpha_laws.specs.alpha_core.View.{Node}
-use Rattle.alpha_laws.specs.alpha_core.Alpha.{pulse, put_done, reaction}
-use Rattle.alpha_laws.specs.alpha_core.Program.{start_node}
-use Rattle.alpha_laws.proofs.alpha_core.StampedWires.{last_more}
-use Rattle.stamps.specs.entries.Entry.{Entry}
-use Rattle.stamps.specs.entries.Entry.TheVariants.{Pulse, Put, Take}
-use Rattle.stamps.specs.entries.Rows.{stamped_entry}
+use Rattle.interference.specs.Net.{Net, IsNetwork, IsVertex, degree_of, neighbour_of, port_to}
+use Rattle.node_api.specs.Program.{Program, last_pulse_on}
+use Rattle.alpha_core.specs.declared.stamped.Stamped.{Stamped}
+use Rattle.alpha_core.specs.StampedWires.{last_stamp, stamped, wires_of}
+use Rattle.alpha_core.specs.declared.wire.Wire.{Wire}
+use Rattle.alpha_core.specs.View.{Node}
+use Rattle.alpha_core.specs.Alpha.{pulse, put_done, reaction}
+use Rattle.alpha_core.specs.Program.{start_node}
+use Rattle.alpha_core.proofs.StampedWires.{last_more}
+use Rattle.entries.specs.declared.entry.Entry.{Entry}
+use Rattle.entries.specs.declared.entry.Entry.TheVariants.{Pulse, Put, Take}
+use Rattle.entries.specs.Rows.{stamped_entry, bare_of}
 use Rattle.stamps.specs.Keeps.{HasTaken, KeepsStamps, TakesAreByPorts}
-use Rattle.stamps.specs.Stamps.{StampedEntry, bare_of, taken_in}
+use Rattle.entries.specs.declared.rows.StampedEntry.{StampedEntry}
+use Rattle.stamps.specs.Stamps.{taken_in}
 use Rattle.stamps.proofs.Keeps.{keeps}
 use Rattle.actor.specs.declared.aside.Aside.{Aside}
 use Rattle.actor.specs.declared.aside.WhyAside.TheVariants.{StampFull}

@@ -3,23 +3,23 @@ use Rattle.std.proofs.Common.{◌≡◌, ℕ, ◌+◌, ◌^◌, ◌<◌, ◌≤�
 use Rattle.std.proofs.Common.{subst, slice_get}
 use Rattle.std.proofs.lemmas.List.{map-append}
 use Rattle.std.specs.Prelude.{Option, IsTrue, max}
-use Rattle.alpha_laws.specs.interference.Net.{degree_of, neighbour_of, back_port_of}
-use Rattle.alpha_laws.specs.node_api.Program.{Program, last_pulse_on}
-use Rattle.alpha_laws.specs.node_api.Laws.{IsProgram}
-use Rattle.alpha_laws.specs.alpha_core.Alpha.{pulse, put_done, reaction}
-use Rattle.alpha_laws.specs.alpha_core.AlphaRefused.{AlphaRefused}
-use Rattle.alpha_laws.specs.alpha_core.StampedWires.{last_stamp, stamped, wires_of}
-use Rattle.alpha_laws.specs.alpha_core.Stamped.{Stamped}
-use Rattle.alpha_laws.specs.alpha_core.View.{Node, can_pulse, port_at}
-use Rattle.alpha_laws.specs.alpha_core.Wire.{Wire}
+use Rattle.interference.specs.Net.{degree_of, neighbour_of, back_port_of}
+use Rattle.node_api.specs.Program.{Program, last_pulse_on}
+use Rattle.node_api.specs.Laws.{IsProgram}
+use Rattle.alpha_core.specs.Alpha.{pulse, put_done, reaction}
+use Rattle.alpha_core.specs.declared.refused.AlphaRefused.{AlphaRefused}
+use Rattle.alpha_core.specs.StampedWires.{last_stamp, stamped, wires_of}
+use Rattle.alpha_core.specs.declared.stamped.Stamped.{Stamped}
+use Rattle.alpha_core.specs.View.{Node, can_pulse, port_at}
+use Rattle.alpha_core.specs.declared.wire.Wire.{Wire}
 use Rattle.link_queue.specs.Ends.{put_list, put_stamped, take_name, taken_list, taken_stamped}
 use Rattle.link_queue.specs.Queued.{stamped_of}
 use Rattle.link_queue.specs.declared.queued.Queued.{Queued}
-use Rattle.link_queue.specs.link_rule.Legal.{IsLegalOn, LegalFor}
-use Rattle.stamps.specs.entries.Recorded.{HasSame, HasWritten, entries_by, is_on}
-use Rattle.stamps.specs.entries.Recorder.{Recorder}
-use Rattle.stamps.specs.entries.Entry.TheVariants.{Pulse, Put, Take}
-use Rattle.stamps.specs.Stamps.{bare_of}
+use Rattle.link_rule.specs.Legal.{IsLegalOn, LegalFor}
+use Rattle.entries.specs.Recorded.{HasSame, HasWritten, entries_by, is_on}
+use Rattle.entries.specs.declared.recorder.Recorder.{Recorder}
+use Rattle.entries.specs.declared.entry.Entry.TheVariants.{Pulse, Put, Take}
+use Rattle.entries.specs.Rows.{bare_of}
 use Rattle.actor.specs.Kept.{IsKept}
 use Rattle.alpha_laws.specs.Kept.{NodeKept}
 use Rattle.actor.specs.HasStamps.{HasStamps}

@@ -3,21 +3,21 @@ use Rattle.std.proofs.Common.{◌≡◌, ℕ, ◌<◌, false, List, [], ◌∷�
 use Rattle.std.proofs.Common.{Some, None, Err, slice_get}
 use Rattle.std.specs.Prelude.{Option}
 use Rattle.std.proofs.lemmas.Bool.{cases_Bool}
-use Rattle.alpha_laws.specs.interference.Net.{Net, IsNetwork, IsVertex, degree_of, neighbour_of, back_port_of}
-use Rattle.alpha_laws.proofs.interference.Neighbours.{at-back_port}
-use Rattle.alpha_laws.specs.node_api.Program.{Program, last_pulse_on}
-use Rattle.alpha_laws.specs.alpha_core.Wire.{Wire}
-use Rattle.alpha_laws.specs.alpha_core.AlphaRefused.{AlphaRefused}
-use Rattle.alpha_laws.specs.alpha_core.View.{View, Node, port_at}
-use Rattle.alpha_laws.specs.alpha_core.Table.{is_due, refusal_of}
-use Rattle.alpha_laws.specs.alpha_core.Alpha.{reaction, reacts, unless_refused}
-use Rattle.alpha_laws.specs.alpha_core.Program.{IsLegal, sends}
-use Rattle.alpha_laws.proofs.alpha_core.Due.{due-taken}
-use Rattle.alpha_laws.proofs.alpha_core.Wires.{legal-front}
+use Rattle.interference.specs.Net.{Net, IsNetwork, IsVertex, degree_of, neighbour_of, back_port_of}
+use Rattle.interference.proofs.Neighbours.{at-back_port}
+use Rattle.node_api.specs.Program.{Program, last_pulse_on}
+use Rattle.alpha_core.specs.declared.wire.Wire.{Wire}
+use Rattle.alpha_core.specs.declared.refused.AlphaRefused.{AlphaRefused}
+use Rattle.alpha_core.specs.View.{View, Node, port_at}
+use Rattle.alpha_core.specs.Table.{is_due, refusal_of}
+use Rattle.alpha_core.specs.Alpha.{reaction, reacts, unless_refused}
+use Rattle.alpha_core.specs.Program.{IsLegal, sends}
+use Rattle.alpha_core.proofs.Due.{due-taken}
+use Rattle.alpha_core.proofs.Wires.{legal-front}
 use Rattle.alpha_laws.specs.Kept.{KeptAt, NodeKept}
 use Rattle.alpha_laws.proofs.Lawful.{legal_emitted}
-use Rattle.link_queue.specs.link_rule.LinkName.{LinkName}
-use Rattle.link_queue.specs.link_rule.Legal.{IsLegalOn, LegalFor, name_of}
+use Rattle.link_rule.specs.declared.name.LinkName.{LinkName}
+use Rattle.link_rule.specs.Legal.{IsLegalOn, LegalFor, name_of}
 use Rattle.actor.proofs.Lists.{first_is}
 
 -- a wire that a node refuses isn't due

@@ -8,10 +8,7 @@ pub mod Refusals
 pub mod Unmoved
 pub mod Stepping
 pub mod Rows
-pub mod alpha_core
 pub mod StampedEntries
 pub mod HasStamps
 mod Recorded
 pub mod Keeping
-pub mod stamps
-pub mod worker_deques

@@ -3,16 +3,16 @@ use Rattle.std.proofs.Common.{◌≡◌, ℕ, true, false, if◌then◌else◌, 
 use Rattle.std.proofs.Math.Path.{transport}
 use Rattle.std.specs.Prelude.{Bool}
 use Rattle.std.proofs.lemmas.List.{map-append}
-use Rattle.alpha_laws.specs.interference.Net.{Net}
-use Rattle.alpha_laws.specs.node_api.Program.{Program}
-use Rattle.alpha_laws.specs.alpha_core.Stamped.{Stamped}
-use Rattle.alpha_laws.specs.alpha_core.View.{Node}
-use Rattle.alpha_laws.specs.alpha_core.Wire.{Wire}
-use Rattle.stamps.specs.entries.Recorded.{HasSame, HasWritten, entries_by, is_on}
-use Rattle.stamps.specs.entries.Entry.{Entry}
-use Rattle.stamps.specs.entries.Recorder.{Recorder}
-use Rattle.stamps.specs.entries.Rows.{stamped_entry}
-use Rattle.stamps.specs.Stamps.{StampedEntry, bare_of}
+use Rattle.interference.specs.Net.{Net}
+use Rattle.node_api.specs.Program.{Program}
+use Rattle.alpha_core.specs.declared.stamped.Stamped.{Stamped}
+use Rattle.alpha_core.specs.View.{Node}
+use Rattle.alpha_core.specs.declared.wire.Wire.{Wire}
+use Rattle.entries.specs.Recorded.{HasSame, HasWritten, entries_by, is_on}
+use Rattle.entries.specs.declared.entry.Entry.{Entry}
+use Rattle.entries.specs.declared.recorder.Recorder.{Recorder}
+use Rattle.entries.specs.Rows.{stamped_entry, bare_of}
+use Rattle.entries.specs.declared.rows.StampedEntry.{StampedEntry}
 use Rattle.actor.specs.HasStamps.{HasStamps}
 use Rattle.actor.specs.Written.{IsTranscript}
 

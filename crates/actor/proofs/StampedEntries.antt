@@ -1,11 +1,13 @@
 -- What stamped entries put and took, without stamps.
 use Rattle.std.proofs.Common.{◌≡◌, ℕ, ◌==◌, List, [], ◌∷◌, ◌++◌, refl, ap, ⊎_elim}
 use Rattle.std.proofs.lemmas.Bool.{cases_Bool}
-use Rattle.stamps.specs.entries.Entry.{Entry}
-use Rattle.stamps.specs.entries.Entry.TheVariants.{Pulse, Put, Take}
+use Rattle.entries.specs.declared.entry.Entry.{Entry}
+use Rattle.entries.specs.declared.entry.Entry.TheVariants.{Pulse, Put, Take}
 use Rattle.actor.specs.Written.{puts_in, takes_in}
-use Rattle.alpha_laws.specs.alpha_core.StampedWires.{wires_of}
-use Rattle.stamps.specs.Stamps.{StampedEntry, bare_of, put_if, put_in, taken_if, taken_in}
+use Rattle.alpha_core.specs.StampedWires.{wires_of}
+use Rattle.entries.specs.declared.rows.StampedEntry.{StampedEntry}
+use Rattle.entries.specs.Rows.{bare_of}
+use Rattle.stamps.specs.Stamps.{put_if, put_in, taken_if, taken_in}
 
 module _ {M : Type 0} where
   pub wires_put : (entries : List (StampedEntry M)) (w : ℕ) → wires_of (put_in entries w) ≡ puts_in (bare_of entries) w

@@ -3,9 +3,9 @@ use Rattle.std.proofs.Common.{◌≡◌, ◌≤◌, ◌+◌, ◌^◌, ℕ, List,
 use Rattle.std.specs.Prelude.{Bool, Result, IsErrAnd, IsTrue, max}
 use Rattle.std.specs.declared.cmp.PartialEq as equality
 use Rattle.atomic_table.specs.Seated.{TableId}
-use Rattle.alpha_laws.specs.alpha_core.Wire.{Wire}
-use Rattle.alpha_laws.specs.declared.NodeProgram as program
-use Rattle.alpha_laws.specs.declared.PayloadText as text
+use Rattle.alpha_core.specs.declared.wire.Wire.{Wire}
+use Rattle.node_api.specs.declared.program.NodeProgram as program
+use Rattle.node_api.specs.declared.payload.PayloadText as text
 use Rattle.actor.specs.Blocked.{IsUnmoved}
 use Rattle.actor.specs.HasStamps.{aside_stamp}
 use Rattle.actor.specs.Stepped.{Stepped}

@@ -3,15 +3,15 @@ use Rattle.std.proofs.Common.{◌≡◌, ℕ, ◌<◌, false, List, [], ◌∷�
 use Rattle.std.proofs.Common.{Some, None, Ok, Err, slice_get}
 use Rattle.std.specs.Prelude.{Option, Result, IsTrue, MatchResult}
 use Rattle.std.proofs.lemmas.List.{length-map, length-set}
-use Rattle.alpha_laws.specs.interference.Net.{Net, IsNetwork, IsVertex, degree_of, neighbour_of}
-use Rattle.alpha_laws.specs.node_api.Program.{Program, last_pulse_on}
-use Rattle.alpha_laws.specs.node_api.Laws.{IsProgram}
-use Rattle.alpha_laws.specs.alpha_core.Wire.{Wire}
-use Rattle.alpha_laws.specs.alpha_core.AlphaRefused.{AlphaRefused}
-use Rattle.alpha_laws.specs.alpha_core.View.{Node, port_at, can_pulse}
-use Rattle.alpha_laws.specs.alpha_core.Table.{is_due}
-use Rattle.alpha_laws.specs.alpha_core.Alpha.{reaction, pulse, put_done}
-use Rattle.alpha_laws.specs.alpha_core.Program.{IsLegal}
+use Rattle.interference.specs.Net.{Net, IsNetwork, IsVertex, degree_of, neighbour_of}
+use Rattle.node_api.specs.Program.{Program, last_pulse_on}
+use Rattle.node_api.specs.Laws.{IsProgram}
+use Rattle.alpha_core.specs.declared.wire.Wire.{Wire}
+use Rattle.alpha_core.specs.declared.refused.AlphaRefused.{AlphaRefused}
+use Rattle.alpha_core.specs.View.{Node, port_at, can_pulse}
+use Rattle.alpha_core.specs.Table.{is_due}
+use Rattle.alpha_core.specs.Alpha.{reaction, pulse, put_done}
+use Rattle.alpha_core.specs.Program.{IsLegal}
 use Rattle.alpha_laws.specs.Kept.{NodeKept}
 use Rattle.alpha_laws.proofs.NodeLaws.{puts_keep, takes_keep, pulses_keep}
 use Rattle.alpha_laws.proofs.Runs.{runs}

@@ -1,9 +1,9 @@
 -- A node that did nothing, and then nothing again.
 use Rattle.std.proofs.Common.{◌≡◌, ◌⊎◌, ◌∙◌, ℕ, None, map, slice_get, subst, sym}
 use Rattle.std.specs.declared.cmp.PartialEq as equality
-use Rattle.alpha_laws.specs.declared.NodeProgram as program
-use Rattle.alpha_laws.specs.declared.PayloadText as text
-use Rattle.alpha_laws.specs.alpha_core.View.{port_at}
+use Rattle.node_api.specs.declared.program.NodeProgram as program
+use Rattle.node_api.specs.declared.payload.PayloadText as text
+use Rattle.alpha_core.specs.View.{port_at}
 use Rattle.link_queue.specs.Ends.{put_list}
 use Rattle.actor.specs.Node.{by_port}
 use Rattle.actor.specs.Tables.{LinkWasFull}

@@ -5,17 +5,17 @@ use Rattle.std.specs.Prelude.{Bool, IsTrue, Result, MatchResult}
 use Rattle.std.specs.List.{range_with_len}
 use Rattle.std.proofs.lemmas.Bool.{cases_eq, cases_Bool, eq-eqb, ne_eqb}
 use Rattle.std.proofs.lemmas.List.{append-nil}
-use Rattle.alpha_laws.specs.interference.Net.{Net, IsNetwork, IsVertex, degree_of, neighbour_of, port_to}
-use Rattle.alpha_laws.proofs.interference.Neighbours.{port_to-is}
-use Rattle.alpha_laws.specs.node_api.Program.{Program, last_pulse_on}
-use Rattle.alpha_laws.specs.alpha_core.Wire.{Wire}
-use Rattle.alpha_laws.specs.alpha_core.View.{View, Node, can_pulse, port_at}
-use Rattle.alpha_laws.specs.alpha_core.Alpha.{pulse, put_done, reaction, reacts}
-use Rattle.alpha_laws.specs.alpha_core.Program.{start_node}
+use Rattle.interference.specs.Net.{Net, IsNetwork, IsVertex, degree_of, neighbour_of, port_to}
+use Rattle.interference.proofs.Neighbours.{port_to-is}
+use Rattle.node_api.specs.Program.{Program, last_pulse_on}
+use Rattle.alpha_core.specs.declared.wire.Wire.{Wire}
+use Rattle.alpha_core.specs.View.{View, Node, can_pulse, port_at}
+use Rattle.alpha_core.specs.Alpha.{pulse, put_done, reaction, reacts}
+use Rattle.alpha_core.specs.Program.{start_node}
 use Rattle.alpha_laws.specs.Laws.{OneMore}
 use Rattle.alpha_laws.proofs.PulseAfter.{pulsed_pulse, reaction_pulse, start_pulse}
-use Rattle.stamps.specs.entries.Entry.{Entry}
-use Rattle.stamps.specs.entries.Entry.TheVariants.{Pulse, Put, Take}
+use Rattle.entries.specs.declared.entry.Entry.{Entry}
+use Rattle.entries.specs.declared.entry.Entry.TheVariants.{Pulse, Put, Take}
 use Rattle.actor.specs.Written.{Leads, IsWritten, IsTranscript, puts_in, takes_in, pulses_in}
 
 -- ---- a list that is read off the entries gets what the last entry has

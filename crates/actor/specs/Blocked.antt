@@ -1,11 +1,11 @@
 -- A node before and after a turn in which it did nothing, and why no wire of it is put.
 use Rattle.std.specs.Prelude.{◌≡◌, ◌⊎◌, ℕ, None, map, slice_get}
 use Rattle.std.specs.declared.cmp.PartialEq as equality
-use Rattle.alpha_laws.specs.alpha_core.View.{port_at}
-use Rattle.alpha_laws.specs.declared.NodeProgram as program
-use Rattle.alpha_laws.specs.declared.PayloadText as text
+use Rattle.alpha_core.specs.View.{port_at}
+use Rattle.node_api.specs.declared.program.NodeProgram as program
+use Rattle.node_api.specs.declared.payload.PayloadText as text
 use Rattle.link_queue.specs.Ends.{put_list, taken_list}
-use Rattle.stamps.specs.entries.Recorded.{entries_by}
+use Rattle.entries.specs.Recorded.{entries_by}
 use Rattle.actor.specs.Node.{by_port}
 use Rattle.actor.specs.Tables.{LinkWasFull}
 use Rattle.actor.specs.declared.wiring.Wiring as wiring

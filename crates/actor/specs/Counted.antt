@@ -1,9 +1,9 @@
 -- How the counter of a node counts its events, with a transcript or without.
 use Rattle.std.specs.Prelude.{◌≡◌, ◌+◌, ℕ, List, map, max, None}
 use Rattle.std.specs.declared.cmp.PartialEq as equality
-use Rattle.alpha_laws.specs.alpha_core.StampedWires.{last_stamp}
-use Rattle.alpha_laws.specs.declared.NodeProgram as program
-use Rattle.alpha_laws.specs.declared.PayloadText as text
+use Rattle.alpha_core.specs.StampedWires.{last_stamp}
+use Rattle.node_api.specs.declared.program.NodeProgram as program
+use Rattle.node_api.specs.declared.payload.PayloadText as text
 use Rattle.link_queue.specs.Ends.{put_stamped, taken_stamped}
 use Rattle.actor.specs.Node.{by_port}
 use Rattle.actor.specs.declared.wired.WiredPut.{WiredPut}

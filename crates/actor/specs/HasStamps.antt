@@ -1,10 +1,10 @@
 -- What a node with its ends keeps of its stamps.
 use Rattle.std.specs.Prelude.{◌≡◌, ℕ, ◌≤◌, ◌+◌, ◌^◌, max, Bool, IsTrue, List, Option, Some, None}
-use Rattle.alpha_laws.specs.interference.Net.{Net}
-use Rattle.alpha_laws.specs.alpha_core.Stamped.{Stamped}
-use Rattle.alpha_laws.specs.alpha_core.StampedWires.{last_stamp}
+use Rattle.interference.specs.Net.{Net}
+use Rattle.alpha_core.specs.declared.stamped.Stamped.{Stamped}
+use Rattle.alpha_core.specs.StampedWires.{last_stamp}
 use Rattle.stamps.specs.Keeps.{KeepsStamps}
-use Rattle.stamps.specs.Stamps.{StampedEntry}
+use Rattle.entries.specs.declared.rows.StampedEntry.{StampedEntry}
 use Rattle.actor.specs.declared.aside.Aside.{Aside}
 use Rattle.actor.specs.declared.aside.WhyAside.{WhyAside}
 use Rattle.actor.specs.declared.aside.WhyAside.TheVariants.{Refused, StampFull}

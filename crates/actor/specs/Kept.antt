@@ -1,13 +1,13 @@
 -- What a node with its ends keeps, in whatever thread it is.
 use Rattle.std.specs.Prelude.{◌≡◌, ℕ, List, map, Option, Some}
-use Rattle.alpha_laws.specs.interference.Net.{IsNetwork, IsVertex, degree_of}
-use Rattle.alpha_laws.specs.node_api.Program.{Program, last_pulse_on}
-use Rattle.alpha_laws.specs.alpha_core.View.{Node}
+use Rattle.interference.specs.Net.{IsNetwork, IsVertex, degree_of}
+use Rattle.node_api.specs.Program.{Program, last_pulse_on}
+use Rattle.alpha_core.specs.View.{Node}
 use Rattle.alpha_laws.specs.Kept.{NodeKept}
 use Rattle.link_queue.specs.Ends.{put_list, put_stamped, taken_list, taken_stamped}
-use Rattle.stamps.specs.entries.Recorded.{entries_by, is_on}
-use Rattle.stamps.specs.entries.Recorder.{Recorder}
-use Rattle.stamps.specs.Stamps.{bare_of}
+use Rattle.entries.specs.Recorded.{entries_by, is_on}
+use Rattle.entries.specs.declared.recorder.Recorder.{Recorder}
+use Rattle.entries.specs.Rows.{bare_of}
 use Rattle.actor.specs.declared.aside.Aside.{Aside}
 use Rattle.actor.specs.declared.wired.WiredPut.{WiredPut}
 use Rattle.actor.specs.declared.wired.WiredTake.{WiredTake}

@@ -7,9 +7,3 @@ pub mod Kept
 pub mod Props
 pub mod Node
 pub mod Tables
-pub mod interference
-pub mod alpha_core
-pub mod link_rule
-pub mod entries
-pub mod link_queue
-pub mod stamps

@@ -2,10 +2,10 @@
 use Rattle.std.specs.Prelude.{◌≡◌, ℕ, ◌-◌, ◌<◌, List, [], ◌∷◌, ◌++◌, map, length, take, Option, Some, None}
 use Rattle.std.specs.Prelude.{false, slice_index_or, slice_set}
 use Rattle.std.specs.List.{range_with_len}
-use Rattle.alpha_laws.specs.interference.Net.{Net, degree_of, neighbour_of, back_port_of}
-use Rattle.alpha_laws.specs.alpha_core.Wire.{Wire}
-use Rattle.alpha_laws.specs.alpha_core.View.{View, port_at}
-use Rattle.alpha_laws.specs.alpha_core.Table.{is_due}
+use Rattle.interference.specs.Net.{Net, degree_of, neighbour_of, back_port_of}
+use Rattle.alpha_core.specs.declared.wire.Wire.{Wire}
+use Rattle.alpha_core.specs.View.{View, port_at}
+use Rattle.alpha_core.specs.Table.{is_due}
 use Rattle.actor.specs.declared.aside.Aside.{Aside}
 use Rattle.actor.specs.declared.aside.WhyAside.TheVariants.{Refused}
 

@@ -2,9 +2,9 @@
 use Rattle.std.specs.Prelude.{◌≡◌, ◌<◌, ◌≤◌, ◌+◌, ◌^◌, ℕ, max, Bool, false, IsTrue}
 use Rattle.std.specs.Prelude.{Option, Some, None, Result, Ok, Err, IfErr, IfOk}
 use Rattle.std.specs.declared.cmp.PartialEq as equality
-use Rattle.alpha_laws.specs.declared.NodeProgram as program
-use Rattle.alpha_laws.specs.declared.PayloadText as text
-use Rattle.alpha_laws.specs.alpha_core.View.{can_pulse}
+use Rattle.node_api.specs.declared.program.NodeProgram as program
+use Rattle.node_api.specs.declared.payload.PayloadText as text
+use Rattle.alpha_core.specs.View.{can_pulse}
 use Rattle.actor.specs.Blocked.{IsUnmoved, PutBlocked}
 use Rattle.actor.specs.HasStamps.{aside_stamp}
 use Rattle.actor.specs.declared.wiring.Wiring as wiring

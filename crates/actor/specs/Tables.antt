@@ -1,10 +1,10 @@
 -- Which link of a run an end is of.
 use Rattle.std.specs.Prelude.{◌≡◌, ℕ, ◌-◌, ◌≤◌, List, [], Option, Some, slice_get, slice_index_or}
 use Rattle.atomic_table.specs.Seated.{TableId}
-use Rattle.alpha_laws.specs.interference.Net.{Net}
-use Rattle.link_queue.specs.link_rule.LinkName.{LinkName}
-use Rattle.link_queue.specs.link_rule.Legal.{name_of}
-use Rattle.alpha_laws.specs.alpha_core.Wire.{Wire}
+use Rattle.interference.specs.Net.{Net}
+use Rattle.link_rule.specs.declared.name.LinkName.{LinkName}
+use Rattle.link_rule.specs.Legal.{name_of}
+use Rattle.alpha_core.specs.declared.wire.Wire.{Wire}
 use Rattle.link_queue.specs.declared.link.Link.{Link}
 use Rattle.link_queue.specs.Ends.{WasFull}
 

@@ -2,14 +2,14 @@
 use Rattle.std.specs.Prelude.{◌≡◌, ℕ, suc, ◌<◌, ◌==◌, Bool, IsTrue, false, if◌then◌else◌, MatchResult, Some}
 use Rattle.std.specs.Prelude.{List, [], ◌∷◌, slice_get}
 use Rattle.std.specs.List.{range_with_len}
-use Rattle.alpha_laws.specs.interference.Net.{Net, degree_of, neighbour_of, port_to}
-use Rattle.alpha_laws.specs.node_api.Program.{Program, last_pulse_on}
-use Rattle.alpha_laws.specs.alpha_core.Wire.{Wire}
-use Rattle.alpha_laws.specs.alpha_core.View.{Node, can_pulse, port_at}
-use Rattle.alpha_laws.specs.alpha_core.Alpha.{pulse, put_done, reaction}
-use Rattle.alpha_laws.specs.alpha_core.Program.{start_node}
-use Rattle.stamps.specs.entries.Entry.{Entry}
-use Rattle.stamps.specs.entries.Entry.TheVariants.{Pulse, Put, Take}
+use Rattle.interference.specs.Net.{Net, degree_of, neighbour_of, port_to}
+use Rattle.node_api.specs.Program.{Program, last_pulse_on}
+use Rattle.alpha_core.specs.declared.wire.Wire.{Wire}
+use Rattle.alpha_core.specs.View.{Node, can_pulse, port_at}
+use Rattle.alpha_core.specs.Alpha.{pulse, put_done, reaction}
+use Rattle.alpha_core.specs.Program.{start_node}
+use Rattle.entries.specs.declared.entry.Entry.{Entry}
+use Rattle.entries.specs.declared.entry.Entry.TheVariants.{Pulse, Put, Take}
 
 -- The entries lead a node of v from one state to another: one after the other, the event of each is possible, and what
 -- it says is what the event does. A pulse makes the next one; a put takes the oldest wire off the out-list of the port

@@ -44,8 +44,3 @@ pub use node::Node;
 pub use refused::TurnRefused;
 pub use wired::{WiredPut, WiredTake};
 pub use wiring::Wiring;
-
-// What crates above name of lower ones.
-pub use alpha_laws::{AlphaNode, Memory, NodeProgram};
-pub use link_queue::{Link, Met, PutEnd, TakeEnd};
-pub use stamps::{Counter, Entries, Recorder};

@@ -2,8 +2,8 @@
 
 ghost use Rattle.std.specs.Prelude.{◌≡◌, ◌<◌, ◌≤◌, ◌++◌, ◌∷◌, [], ℕ, All, Some, IsSome, length, map};
 ghost use Rattle.std.specs.Prelude.{IfOk, IfErr, IfSome, IfNone, slice_get};
-ghost use Rattle.link_queue.specs.link_rule.Legal.{IsLegalOn, LegalFor};
-ghost use Rattle.alpha_laws.specs.alpha_core.StampedWires.{StampsRise, last_stamp};
+ghost use Rattle.link_rule.specs.Legal.{IsLegalOn, LegalFor};
+ghost use Rattle.alpha_core.specs.StampedWires.{StampsRise, last_stamp};
 ghost use Rattle.link_queue.specs.Ends.{WasEmpty, put_list, put_name, put_stamped, take_name, taken_list};
 ghost use Rattle.link_queue.specs.Ends.{HasMet, held_stamped, link_capacity, taken_stamped};
 ghost use Rattle.link_queue.specs.Queued.{stamped_of};
@@ -11,8 +11,10 @@ ghost use Rattle.actor.specs.Tables.{LinkWasFull, table_of};
 
 use crate::wired::{WiredPut, WiredTake};
 use crate::wiring::Wiring;
-use alpha_laws::{Memory, NodeProgram, Stamped};
+use alpha_core::Stamped;
+use interference::Memory;
 use link_queue::{Full, Link, Met, Queued};
+use node_api::NodeProgram;
 use std::alloc::Global;
 use std::marker::PhantomData;
 use std::sync::Wait;

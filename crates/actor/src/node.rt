@@ -2,8 +2,8 @@
 
 ghost use Rattle.std.specs.Prelude.{◌≡◌, ◌<◌, [], All, IfOk, None, map};
 ghost use Rattle.std.proofs.Props.{props};
-ghost use Rattle.alpha_laws.specs.interference.Net.{IsVertex};
-ghost use Rattle.alpha_laws.specs.alpha_core.Program.{start_node};
+ghost use Rattle.interference.specs.Net.{IsVertex};
+ghost use Rattle.alpha_core.specs.Program.{start_node};
 ghost use Rattle.link_queue.specs.Ends.{put_list, taken_list};
 ghost use Rattle.actor.specs.Kept.{IsKept};
 ghost use Rattle.actor.specs.Node.{links_in, links_out};
@@ -13,8 +13,10 @@ use crate::aside::Aside;
 use crate::refused::TurnRefused;
 use crate::wired::{WiredPut, WiredTake};
 use crate::wiring::Wiring;
-use alpha_laws::{AlphaNode, Memory, Network, NodeProgram};
-use stamps::{Counter, Recorder};
+use alpha_core::{AlphaNode, Counter};
+use entries::Recorder;
+use interference::{Memory, Network};
+use node_api::NodeProgram;
 use std::alloc::Global;
 
 /// A node of a run, with the ends of its links by port. A node that has set a wire aside does nothing in a turn.

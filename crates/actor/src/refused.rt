@@ -2,8 +2,8 @@
 
 ghost use Rattle.std.specs.Prelude.{◌≡◌};
 
-use alpha_laws::Memory;
-use stamps::StampFull;
+use alpha_core::StampFull;
+use interference::Memory;
 
 /// Why a turn of a node ended early.
 #[derive(Debug, Clone, Copy, PartialEq, Eq)]

@@ -2,8 +2,8 @@
 
 use crate::node::Node;
 use crate::wiring::Wiring;
-use alpha_laws::NodeProgram;
-use worker_deques::Task;
+use deque_rule::Task;
+use node_api::NodeProgram;
 
 /// A node's number is its vertex less one.
 impl<J: Wiring, P: NodeProgram> Task for Node<J, P> {

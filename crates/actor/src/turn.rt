@@ -1,7 +1,7 @@
 //! What a node does in a turn.
 
 ghost use Rattle.std.specs.Prelude.{◌≡◌, ◌<◌, ◌≤◌, ◌+◌, ◌^◌, ℕ, max, IfErr, IfOk, IsSome, IsTrue, None, false, true};
-ghost use Rattle.alpha_laws.specs.alpha_core.View.{can_pulse, can_take};
+ghost use Rattle.alpha_core.specs.View.{can_pulse, can_take};
 ghost use Rattle.link_queue.specs.Queued.{stamped_of};
 ghost use Rattle.actor.specs.Blocked.{IsUnmoved, PutBlocked};
 ghost use Rattle.actor.specs.Counted.{CountsPut, CountsTake};
@@ -14,9 +14,10 @@ use crate::links::Links;
 use crate::node::Node;
 use crate::refused::TurnRefused;
 use crate::wiring::Wiring;
-use alpha_laws::{NodeProgram, PayloadText, Stamped, Wire};
+use alpha_core::{Stamped, Wire};
+use entries::Entry;
 use link_queue::Queued;
-use stamps::Entry;
+use node_api::{NodeProgram, PayloadText};
 use std::sync::Wait;
 
 // How many wires a node takes by one port in a turn, at most.

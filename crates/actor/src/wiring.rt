@@ -6,7 +6,7 @@ use std::marker::Brand;
 pub trait Wiring {
     ghost use Rattle.std.specs.Prelude.{Bool, List};
     ghost use Rattle.atomic_table.specs.Seated.{TableId};
-    ghost use Rattle.alpha_laws.specs.interference.Net.{Net};
+    ghost use Rattle.interference.specs.Net.{Net};
 
     /// The network.
     ghost net: { Net };

@@ -6,7 +6,7 @@ use Rattle.std.specs.List.{zip}
 use Rattle.std.proofs.lemmas.List.{map-set, length-map, length-set, length-append}
 use Rattle.std.proofs.lemmas.Bool.{le-ltb}
 use Rattle.std.proofs.lemmas.List.Folds.{sum_by-replicate}
-use Rattle.node_api.proofs.interference.Sums.{sum_by-map}
+use Rattle.interference.proofs.Sums.{sum_by-map}
 use Rattle.std.proofs.lemmas.List.Elements.{All-set, All-get_or}
 use Rattle.std.proofs.lemmas.Slice.Zip.{firsts-zip, get_or-zip}
 use Rattle.alpha_core.specs.declared.wire.Wire.{Wire}

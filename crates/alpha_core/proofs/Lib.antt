@@ -22,5 +22,3 @@ mod Followed
 mod Settled
 mod Entered
 pub mod StampedWires
-pub mod interference
-pub mod node_api

@@ -1,7 +1,7 @@
 -- Rows that are made, and rows that are advanced, have one length, which is a degree.
 use Rattle.std.proofs.Common.{◌≡◌, ℕ, suc, ◌+◌, ◌≤◌, Bool, false, not, None, List, [], map, length, replicate, sym, ap, ◌∙◌, arith}
 use Rattle.std.proofs.lemmas.List.{length-map, length-replicate}
-use Rattle.node_api.below.interference.specs.declared.limits.TheConstants.{MAX_DEGREE}
+use Rattle.interference.specs.declared.limits.TheConstants.{MAX_DEGREE}
 use Rattle.node_api.specs.Boxes.{nothing}
 use Rattle.alpha_core.specs.declared.marks.Marks.{Marks}
 use Rattle.alpha_core.specs.declared.wire.Wire.{Wire}

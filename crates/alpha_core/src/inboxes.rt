@@ -1,13 +1,14 @@
 //! The payloads that a node took: of this pulse, and of the next.
 
 ghost use Rattle.std.specs.Prelude.{◌≡◌, ◌<◌, ◌≤◌, ◌↔◌, IfOk, IsTrue, OnErr, Option, false, length, not, slice_set};
-ghost use Rattle.node_api.below.interference.specs.declared.limits.TheConstants.{MAX_DEGREE};
+ghost use Rattle.interference.specs.declared.limits.TheConstants.{MAX_DEGREE};
 ghost use Rattle.node_api.specs.Boxes.{at_port, nothing};
 ghost use Rattle.node_api.specs.Program.{Matches};
 ghost use Rattle.alpha_core.specs.When.{slots_of, with_slots};
 
 use crate::when::When;
-use node_api::{Inbox, Memory, NodeProgram, Outbox, Refused};
+use interference::Memory;
+use node_api::{Inbox, NodeProgram, Outbox, Refused};
 use std::alloc::Global;
 use std::marker::Model;
 

@@ -8,7 +8,7 @@
 //! `specs/Table.antt`. What the synchronous run sends over a link is `stream` of `specs/Streams.antt`, and
 //! `Legal` lists of wires are those that begin it.
 //!
-//! `alpha_laws` proves what such nodes keep of their links, `net_core` plays a network of them event by
+//! `alpha_laws` proves what such nodes keep of their links, `event_machine` plays a network of them event by
 //! event, and `link_rule` and `link_queue` carry their wires.
 //!
 //! ```text
@@ -50,9 +50,3 @@ pub use node::AlphaNode;
 pub use refused::AlphaRefused;
 pub use stamped::Stamped;
 pub use wire::Wire;
-
-// What crates above name of lower ones.
-pub use node_api::{
-    Inbox, MAX_DEGREE, Memory, NetFault, Network, NodeProgram, Outbox, PayloadText, Refused, Sent,
-    bars_fit, edges_fit,
-};

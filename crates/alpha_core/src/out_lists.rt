@@ -10,7 +10,7 @@ use crate::bare::{BareWire, bare_of};
 use crate::payloads::Payloads;
 use crate::wire::Wire;
 use arrayvec::ArrayVec;
-use node_api::Memory;
+use interference::Memory;
 use std::alloc::Global;
 use std::marker::Model;
 

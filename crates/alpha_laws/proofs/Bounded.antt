@@ -7,12 +7,12 @@ use Rattle.std.proofs.lemmas.Bool.{and_parts, cases_eq, eq-eqb}
 use Rattle.std.proofs.lemmas.List.{length-append}
 use Rattle.std.proofs.lemmas.List.FromFn.{length-range_with_len, get_or-range_with_len}
 use Rattle.std.proofs.lemmas.List.Sums.{sum_by-le}
-use Rattle.alpha_core.specs.interference.Net.{Net, IsNetwork, IsVertex, count_of, vertices, degree_of, neighbour_of, back_port_of}
-use Rattle.alpha_core.specs.interference.Counts.{sum_over_ports}
-use Rattle.alpha_core.proofs.interference.PortSums.{at_vertices, ports-same, ports-add, ports-const}
-use Rattle.alpha_core.proofs.interference.Sums.{sum_by-same, sum_by-const}
-use Rattle.alpha_core.proofs.interference.TwoEnds.{ports-swapped, degrees-are_twice_edges}
-use Rattle.alpha_core.specs.node_api.Program.{Program, last_pulse_on}
+use Rattle.interference.specs.Net.{Net, IsNetwork, IsVertex, count_of, vertices, degree_of, neighbour_of, back_port_of}
+use Rattle.interference.specs.Counts.{sum_over_ports}
+use Rattle.interference.proofs.PortSums.{at_vertices, ports-same, ports-add, ports-const}
+use Rattle.interference.proofs.Sums.{sum_by-same, sum_by-const}
+use Rattle.interference.proofs.TwoEnds.{ports-swapped, degrees-are_twice_edges}
+use Rattle.node_api.specs.Program.{Program, last_pulse_on}
 use Rattle.alpha_core.specs.declared.wire.Wire.{Wire}
 use Rattle.alpha_core.specs.Streams.{sent_pulses}
 use Rattle.alpha_core.specs.View.{Node, is_halted, port_at}

@@ -4,10 +4,10 @@ use Rattle.std.specs.Prelude.{Contains}
 use Rattle.std.specs.List.{range_with_len}
 use Rattle.std.proofs.lemmas.List.{length-append, length-map, get_or-map, same_lists}
 use Rattle.std.proofs.lemmas.List.FromFn.{length-range_with_len, get_or-range_with_len}
-use Rattle.alpha_core.specs.interference.Net.{Net, IsNetwork, IsVertex, degree_of, neighbours, neighbour_of, port_to}
-use Rattle.alpha_core.specs.node_api.Boxes.{at_port}
-use Rattle.alpha_core.specs.node_api.Program.{Program, last_pulse_on}
-use Rattle.alpha_core.specs.node_api.Run.{outbox_at}
+use Rattle.interference.specs.Net.{Net, IsNetwork, IsVertex, degree_of, neighbours, neighbour_of, port_to}
+use Rattle.node_api.specs.Boxes.{at_port}
+use Rattle.node_api.specs.Program.{Program, last_pulse_on}
+use Rattle.node_api.specs.Run.{outbox_at, inbox_at}
 use Rattle.alpha_core.specs.declared.wire.Wire.{Wire}
 use Rattle.alpha_core.specs.Wires.{payload_at}
 use Rattle.alpha_core.specs.Streams.{Legal}
@@ -21,9 +21,7 @@ use Rattle.alpha_laws.proofs.Runs.{Runs}
 use Rattle.alpha_laws.proofs.Across.{mine, theirs, whole', near_at, two_in_flight}
 use Rattle.alpha_laws.specs.Position.{start_at}
 use Rattle.alpha_laws.specs.Kept.{AllKept}
-use Rattle.alpha_core.specs.interference.Net.{IsVertex}
 use Rattle.std.specs.Prelude.{IsOk}
-use Rattle.alpha_core.specs.node_api.Run.{inbox_at}
 use Rattle.alpha_core.specs.declared.wire.Wire.TheVariants.{Close}
 use Rattle.alpha_core.proofs.Wires.{begins_from}
 use Rattle.alpha_laws.specs.Simulates.{heard_at, IsCompleteOn}

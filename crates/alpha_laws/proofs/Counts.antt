@@ -2,11 +2,11 @@
 -- Plan: each list has its payloads, the acknowledgements of those of the other direction, and R + 1 wires more; summed over all
 -- ports the acknowledgements are as many as the payloads, from the other end of each edge.
 use Rattle.std.proofs.Common.{◌≡◌, ℕ, ◌+◌, ◌*◌, ◌<◌, List, length, ap, arith}
-use Rattle.alpha_core.specs.interference.Net.{Net, IsNetwork, IsVertex, degree_of, neighbour_of}
-use Rattle.alpha_core.specs.interference.Counts.{sum_over_ports, degree_sum_of, edge_count_of}
-use Rattle.alpha_core.proofs.interference.PortSums.{ports-same, ports-add, ports-const}
-use Rattle.alpha_core.proofs.interference.TwoEnds.{ports-swapped, degrees-are_twice_edges}
-use Rattle.alpha_core.specs.node_api.Program.{Program, last_pulse_on}
+use Rattle.interference.specs.Net.{Net, IsNetwork, IsVertex, degree_of, neighbour_of}
+use Rattle.interference.specs.Counts.{sum_over_ports, degree_sum_of, edge_count_of}
+use Rattle.interference.proofs.PortSums.{ports-same, ports-add, ports-const}
+use Rattle.interference.proofs.TwoEnds.{ports-swapped, degrees-are_twice_edges}
+use Rattle.node_api.specs.Program.{Program, last_pulse_on}
 use Rattle.alpha_core.specs.declared.wire.Wire.{Wire}
 use Rattle.alpha_core.specs.Streams.{sent_pulses}
 use Rattle.alpha_core.specs.Program.{sends}

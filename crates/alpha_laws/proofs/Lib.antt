@@ -36,5 +36,3 @@ pub mod Short
 pub mod Sums
 pub mod Bounded
 pub mod PulseAfter
-pub mod interference
-pub mod alpha_core

@@ -1,15 +1,13 @@
 -- No node refuses the next wire of a link, nor its program the next pulse.
 use Rattle.std.proofs.Common.{◌≡◌, ℕ, suc, ◌<◌, true, List, ◌∷◌, ◌++◌, Ok, map, sym, ap, ◌∙◌}
-use Rattle.alpha_core.specs.interference.Net.{Net, IsNetwork, IsVertex, degree_of, neighbour_of}
-use Rattle.alpha_core.specs.node_api.Program.{Program, last_pulse_on}
-use Rattle.alpha_core.specs.node_api.Run.{outbox_at}
+use Rattle.interference.specs.Net.{Net, IsNetwork, IsVertex, degree_of, neighbour_of, back_port_of}
+use Rattle.node_api.specs.Program.{Program, last_pulse_on}
+use Rattle.node_api.specs.Run.{outbox_at, state_at}
 use Rattle.alpha_core.specs.declared.wire.Wire.{Wire}
 use Rattle.alpha_core.specs.View.{Node, port_at}
 use Rattle.alpha_laws.proofs.Runs.{Runs}
 use Rattle.alpha_laws.specs.Kept.{AllKept}
 use Rattle.std.proofs.lemmas.List.{append_cancel_left}
-use Rattle.alpha_core.specs.interference.Net.{IsVertex, back_port_of}
-use Rattle.alpha_core.specs.node_api.Run.{state_at}
 use Rattle.alpha_core.specs.View.{can_pulse, inbox_of}
 use Rattle.alpha_core.specs.Alpha.{reaction, reacts, unless_refused, pulse, pulsed, entering, advances}
 use Rattle.alpha_core.proofs.Due.{due-taken}

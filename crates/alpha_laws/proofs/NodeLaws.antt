@@ -1,8 +1,8 @@
 -- The laws on one node, from the lemmas.
 use Rattle.std.proofs.Common.{◌≡◌, suc, Option, Some, None, Ok, refl, ap, ◌∙◌, subst}
-use Rattle.alpha_core.specs.interference.Net.{Net}
-use Rattle.alpha_core.specs.node_api.Program.{Program, last_pulse_on}
-use Rattle.alpha_core.specs.node_api.Run.{state_at}
+use Rattle.interference.specs.Net.{Net}
+use Rattle.node_api.specs.Program.{Program, last_pulse_on}
+use Rattle.node_api.specs.Run.{state_at}
 use Rattle.alpha_core.specs.declared.refused.AlphaRefused.{AlphaRefused}
 use Rattle.alpha_core.specs.View.{port_at, inbox_of}
 use Rattle.alpha_core.specs.Table.{refusal_of}

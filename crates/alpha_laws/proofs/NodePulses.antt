@@ -30,11 +30,11 @@ use Rattle.std.proofs.Common.{
 use Rattle.std.specs.Prelude.{nat_eq}
 use Rattle.std.proofs.lemmas.Bool.{cases_eq, and_parts}
 use Rattle.std.proofs.lemmas.List.{get_or-map, length-map, same_lists, get_or-replicate, length-replicate}
-use Rattle.alpha_core.specs.interference.Net.{Net, IsVertex, degree_of, neighbours, neighbour_of, port_to}
-use Rattle.alpha_core.specs.node_api.Boxes.{at_port}
-use Rattle.alpha_core.specs.node_api.Run.{node_at, inbox_at, state_at, outbox_at}
-use Rattle.alpha_core.proofs.node_api.Runs.{node_at-none}
-use Rattle.alpha_core.specs.node_api.Program.{own_of, Program, last_pulse_on}
+use Rattle.interference.specs.Net.{Net, IsVertex, degree_of, neighbours, neighbour_of, port_to}
+use Rattle.node_api.specs.Boxes.{at_port}
+use Rattle.node_api.specs.Run.{node_at, inbox_at, state_at, outbox_at}
+use Rattle.node_api.proofs.Runs.{node_at-none}
+use Rattle.node_api.specs.Program.{own_of, Program, last_pulse_on}
 use Rattle.alpha_core.specs.declared.wire.Wire.{Wire}
 use Rattle.alpha_core.specs.View.{Port, Node, all_safe, new_port, can_pulse, port_at, inbox_of}
 use Rattle.alpha_core.specs.Alpha.{advances, entry, enters, enter_all, entering, started}

@@ -2,9 +2,9 @@
 use Rattle.std.proofs.Common.{◌≡◌, ℕ, ◌<◌, true, false, not, ◌&&◌, List, [], ◌∷◌, ◌++◌, drop, refl, sym, ap, ◌∙◌, append_assoc, subst, ⊎_elim}
 use Rattle.std.specs.Prelude.{nat_eq}
 use Rattle.std.proofs.lemmas.Bool.{cases_Bool, and_parts}
-use Rattle.alpha_core.specs.interference.Net.{Net, degree_of, neighbour_of}
-use Rattle.alpha_core.specs.node_api.Program.{Program, last_pulse_on}
-use Rattle.alpha_core.specs.node_api.Run.{state_at}
+use Rattle.interference.specs.Net.{Net, degree_of, neighbour_of}
+use Rattle.node_api.specs.Program.{Program, last_pulse_on}
+use Rattle.node_api.specs.Run.{state_at}
 use Rattle.alpha_core.specs.declared.wire.Wire.{Wire}
 use Rattle.alpha_core.specs.declared.wire.Wire.TheVariants.{Payload, Ack, Safe, Close}
 use Rattle.alpha_core.specs.View.{Port, Node, new_port, port_at, set_port}

@@ -2,8 +2,8 @@
 use Rattle.std.proofs.Common.{◌≡◌, ℕ, suc, List, Result, Ok, Err, Option, Some, None, map, refl, sym, ap, ◌∙◌, ⊎_elim}
 use Rattle.std.specs.Prelude.{nat_lt, ◌&&◌, replicate, false}
 use Rattle.std.proofs.lemmas.Bool.{cases_Bool}
-use Rattle.alpha_core.specs.interference.Net.{Net, degree_of}
-use Rattle.alpha_core.specs.node_api.Program.{Program, last_pulse_on, own_of}
+use Rattle.interference.specs.Net.{Net, degree_of}
+use Rattle.node_api.specs.Program.{Program, last_pulse_on, own_of}
 use Rattle.alpha_core.specs.declared.wire.Wire.{Wire}
 use Rattle.alpha_core.specs.declared.wire.Wire.TheVariants as wire
 use Rattle.alpha_core.specs.declared.refused.AlphaRefused.{AlphaRefused}

@@ -1,12 +1,12 @@
 -- What the laws of a program say of its synchronous run, port by port.
 use Rattle.std.proofs.Common.{◌≡◌, ℕ, zero, suc, ◌<◌, List, refl, sym, ap, ◌∙◌, get_or, replicate}
 use Rattle.std.specs.Prelude.{Option, None, Result, Ok, Err, IsOk, slice_index_or}
-use Rattle.alpha_core.specs.interference.Net.{Net, IsNetwork, IsVertex, degree_of, neighbour_of, port_to}
-use Rattle.alpha_core.proofs.interference.Neighbours.{port_to-is}
-use Rattle.alpha_core.specs.node_api.Program.{Program, last_pulse_on}
-use Rattle.alpha_core.specs.node_api.Run.{node_at, state_at, outbox_at, inbox_at, after}
-use Rattle.alpha_core.specs.node_api.Laws.{IsProgram}
-use Rattle.alpha_core.proofs.node_api.Runs.{node_at-more}
+use Rattle.interference.specs.Net.{Net, IsNetwork, IsVertex, degree_of, neighbour_of, port_to}
+use Rattle.interference.proofs.Neighbours.{port_to-is}
+use Rattle.node_api.specs.Program.{Program, last_pulse_on}
+use Rattle.node_api.specs.Run.{node_at, state_at, outbox_at, inbox_at, after}
+use Rattle.node_api.specs.Laws.{IsProgram}
+use Rattle.node_api.proofs.Runs.{node_at-more}
 use Rattle.alpha_core.specs.Program.{sends}
 
 -- A program's run: its outboxes are what goes to the neighbours by port, nothing is sent at the last

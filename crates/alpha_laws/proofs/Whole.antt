@@ -6,10 +6,10 @@ use Rattle.std.proofs.Common.{Option, Some, None, length, replicate, refl, sym, 
 use Rattle.std.specs.Prelude.{is_some}
 use Rattle.std.proofs.lemmas.Bool.{and_parts, cases_Bool, eqb-true}
 use Rattle.std.proofs.lemmas.List.{get_or-replicate, get_or_default, length-replicate, same_lists}
-use Rattle.alpha_core.specs.interference.Net.{Net, IsNetwork, IsVertex, degree_of, neighbour_of, back_port_of}
-use Rattle.alpha_core.proofs.interference.Neighbours.{at-back_port}
-use Rattle.alpha_core.specs.node_api.Program.{Program, last_pulse_on}
-use Rattle.alpha_core.specs.node_api.Run.{state_at, last_state}
+use Rattle.interference.specs.Net.{Net, IsNetwork, IsVertex, degree_of, neighbour_of, back_port_of}
+use Rattle.interference.proofs.Neighbours.{at-back_port}
+use Rattle.node_api.specs.Program.{Program, last_pulse_on}
+use Rattle.node_api.specs.Run.{state_at, last_state}
 use Rattle.alpha_core.specs.declared.wire.Wire.{Wire}
 use Rattle.alpha_core.specs.Wires.{safes_of}
 use Rattle.alpha_core.specs.View.{Node, Port, bit, new_port, port_at}

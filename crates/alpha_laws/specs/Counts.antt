@@ -1,8 +1,8 @@
 -- How many wires the links of a whole run carry, and how many events it has.
 use Rattle.std.specs.Prelude.{◌≡◌, ℕ, ◌+◌, ◌*◌, ◌<◌, ◌≤◌, List, length, sum_by}
-use Rattle.alpha_core.specs.interference.Net.{Net, IsVertex, count_of, vertices, degree_of, neighbour_of}
-use Rattle.alpha_core.specs.interference.Counts.{sum_over_ports, edge_count_of}
-use Rattle.alpha_core.specs.node_api.Program.{Program, last_pulse_on}
+use Rattle.interference.specs.Net.{Net, IsVertex, count_of, vertices, degree_of, neighbour_of}
+use Rattle.interference.specs.Counts.{sum_over_ports, edge_count_of}
+use Rattle.node_api.specs.Program.{Program, last_pulse_on}
 use Rattle.alpha_core.specs.declared.wire.Wire.{Wire}
 use Rattle.alpha_core.specs.Wires.{payloads_of}
 use Rattle.alpha_core.specs.Streams.{sent_pulses}

@@ -1,9 +1,9 @@
 -- When a node fits its links: the lists put on each, and the lists taken from each.
 use Rattle.std.specs.Prelude.{◌≡◌, ◌↔◌, ℕ, suc, ◌<◌, Bool, IsTrue, nat_eq, if◌then◌else◌}
 use Rattle.std.specs.Prelude.{List, [], ◌∷◌, ◌++◌, length, Contains, Option, IsSome}
-use Rattle.alpha_core.specs.interference.Net.{Net, degree_of, neighbour_of}
-use Rattle.alpha_core.specs.node_api.Program.{Program, last_pulse_on}
-use Rattle.alpha_core.specs.node_api.Run.{state_at}
+use Rattle.interference.specs.Net.{Net, degree_of, neighbour_of}
+use Rattle.node_api.specs.Program.{Program, last_pulse_on}
+use Rattle.node_api.specs.Run.{state_at}
 use Rattle.alpha_core.specs.declared.wire.Wire.{Wire}
 use Rattle.alpha_core.specs.declared.wire.Wire.TheVariants.{Safe, Close}
 use Rattle.alpha_core.specs.Wires.{data_of, acks_of, payloads_of, payload_at, safes_of}

@@ -3,9 +3,9 @@
 -- once the lists of both ends of each link meet, is `Simulates`.
 use Rattle.std.specs.Prelude.{◌≡◌, ℕ, suc, ◌+◌, ◌<◌, ◌≤◌, Bool, true, false, nat_eq, if◌then◌else◌}
 use Rattle.std.specs.Prelude.{List, [], ◌++◌, length, Option, is_some}
-use Rattle.alpha_core.specs.interference.Net.{Net, IsVertex, degree_of, neighbour_of}
-use Rattle.alpha_core.specs.node_api.Program.{Program, last_pulse_on}
-use Rattle.alpha_core.specs.node_api.Run.{state_at}
+use Rattle.interference.specs.Net.{Net, IsVertex, degree_of, neighbour_of}
+use Rattle.node_api.specs.Program.{Program, last_pulse_on}
+use Rattle.node_api.specs.Run.{state_at}
 use Rattle.alpha_core.specs.declared.wire.Wire.{Wire}
 use Rattle.alpha_core.specs.Wires.{acks_of, payloads_of, payload_at}
 use Rattle.alpha_core.specs.Streams.{sent_pulse, sent_pulses}

@@ -1,8 +1,8 @@
 -- The laws: what each event of a node by itself does to what it keeps of its links, and what nodes that keep them are.
 use Rattle.std.specs.Prelude.{◌≡◌, ℕ, ◌<◌, IsTrue, List, [], ◌∷◌, ◌++◌, Ok}
-use Rattle.alpha_core.specs.interference.Net.{Net, IsNetwork, IsVertex, degree_of, neighbour_of}
-use Rattle.alpha_core.specs.node_api.Program.{Program, last_pulse_on}
-use Rattle.alpha_core.specs.node_api.Laws.{IsProgram}
+use Rattle.interference.specs.Net.{Net, IsNetwork, IsVertex, degree_of, neighbour_of}
+use Rattle.node_api.specs.Program.{Program, last_pulse_on}
+use Rattle.node_api.specs.Laws.{IsProgram}
 use Rattle.alpha_core.specs.declared.wire.Wire.{Wire}
 use Rattle.alpha_core.specs.View.{View, Node, port_at, can_pulse}
 use Rattle.alpha_core.specs.Alpha.{reaction, pulse, put_done}

@@ -5,6 +5,3 @@ pub mod Kept
 pub mod Laws
 pub mod Counts
 pub mod Progress
-pub mod interference
-pub mod node_api
-pub mod alpha_core

@@ -1,9 +1,9 @@
 -- What nodes that simulate the synchronous run can still do, and what they are once nothing is left to be done.
 use Rattle.std.specs.Prelude.{◌≡◌, ◌⊎◌, ◌↔◌, ℕ, ◌<◌, ◌≤◌, true, false, IsTrue, None}
 use Rattle.std.specs.Prelude.{List, [], ◌++◌, length, replicate}
-use Rattle.alpha_core.specs.interference.Net.{Net, IsVertex, degree_of, neighbour_of, back_port_of}
-use Rattle.alpha_core.specs.node_api.Program.{Program, last_pulse_on}
-use Rattle.alpha_core.specs.node_api.Run.{last_state}
+use Rattle.interference.specs.Net.{Net, IsVertex, degree_of, neighbour_of, back_port_of}
+use Rattle.node_api.specs.Program.{Program, last_pulse_on}
+use Rattle.node_api.specs.Run.{last_state}
 use Rattle.alpha_core.specs.declared.wire.Wire.{Wire}
 use Rattle.alpha_core.specs.View.{Port, Node, port_at, can_take, can_pulse, is_drained}
 use Rattle.alpha_laws.specs.Simulates.{Simulates, IsCompleteOn, taken_over}

@@ -2,9 +2,9 @@
 use Rattle.std.specs.Prelude.{◌≡◌, ℕ, suc, ◌+◌, ◌<◌, ◌≤◌, IsTrue, Option, IsOk}
 use Rattle.std.specs.Prelude.{List, [], ◌∷◌, ◌++◌, map, length, Contains}
 use Rattle.std.specs.List.{range_with_len}
-use Rattle.alpha_core.specs.interference.Net.{Net, IsVertex, degree_of, neighbour_of, back_port_of}
-use Rattle.alpha_core.specs.node_api.Program.{Program, last_pulse_on}
-use Rattle.alpha_core.specs.node_api.Run.{inbox_at}
+use Rattle.interference.specs.Net.{Net, IsVertex, degree_of, neighbour_of, back_port_of}
+use Rattle.node_api.specs.Program.{Program, last_pulse_on}
+use Rattle.node_api.specs.Run.{inbox_at}
 use Rattle.alpha_core.specs.declared.wire.Wire.{Wire}
 use Rattle.alpha_core.specs.declared.wire.Wire.TheVariants.{Safe, Close}
 use Rattle.alpha_core.specs.Wires.{data_of, acks_of, payload_at}

@@ -1,8 +1,8 @@
 //! What holds of nodes under synchroniser alpha. Each law is a function that does nothing: its contract
 //! is the law.
 
-ghost use Rattle.alpha_core.specs.interference.Net.{IsNetwork, Net};
-ghost use Rattle.alpha_core.specs.node_api.Program.{Program};
+ghost use Rattle.interference.specs.Net.{IsNetwork, Net};
+ghost use Rattle.node_api.specs.Program.{Program};
 ghost use Rattle.alpha_laws.specs.Counts.{CompleteListsAreCounted, LegalListsAreShort};
 ghost use Rattle.alpha_laws.specs.Laws.{KeptSimulate, OnEveryNetwork, PulsesKeep, PutsKeep, StartsKeep, TakesKeep};
 ghost use Rattle.alpha_laws.specs.Progress.{EventsAreBounded, SomeNodeCanMove, WholeNetworksHaveEnded};

@@ -4,8 +4,9 @@
 //!
 //! `Simulates` of `specs/Simulates.antt` is the claim, one field for each of its words; `NodeFits` of
 //! `specs/Fits.antt` says when one node fits the lists of its links. `Kept` of `specs/Kept.antt` is what
-//! each node keeps by itself. `net_core` cites the laws for lists of events. `specs/Counts.antt` counts wires and
-//! events; `specs/Progress.antt` says what such nodes can still do, and where they end.
+//! each node keeps by itself. `event_machine` and `progress_laws` cite the laws for lists of events, `gather_laws` for
+//! outcomes of worker threads. `specs/Counts.antt` counts wires and events; `specs/Progress.antt` says what such nodes
+//! can still do, and where they end.
 //!
 //! ```text
 //! alpha_laws::laws::kept_links_simulate::<S, M, E>(); // brings the law into a proof
@@ -15,8 +16,3 @@
 #![tactic(auto)]
 
 pub mod laws;
-
-// What crates above name of lower ones.
-pub use alpha_core::{
-    AlphaNode, MAX_DEGREE, Memory, Network, NodeProgram, PayloadText, Stamped, Wire,
-};

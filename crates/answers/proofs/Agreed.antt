@@ -4,19 +4,19 @@ use Rattle.std.proofs.Common.{subst, sym}
 use Rattle.dimacs_col.specs.Lines.{Line, lines_of}
 use Rattle.dimacs_col.specs.Reading.{Graph, IsGraph}
 use Rattle.dimacs_col.proofs.Unique.{graph-or_fault, one-graph}
-use Rattle.alpha_core.specs.interference.Making.{IsFaultOf}
-use Rattle.alpha_core.specs.interference.Net.{IsNetwork, Net, vertices}
-use Rattle.alpha_core.specs.interference.NetFault.{NetFault}
-use Rattle.alpha_core.specs.interference.NetFault.TheVariants as net_fault
+use Rattle.interference.specs.Making.{IsFaultOf}
+use Rattle.interference.specs.Net.{IsNetwork, Net, vertices}
+use Rattle.interference.specs.declared.fault.NetFault.{NetFault}
+use Rattle.interference.specs.declared.fault.NetFault.TheVariants as net_fault
 use Rattle.channel_plan.specs.Checked.{IsFaultOfPlan, IsProper, fault_of, greatest_channel}
 use Rattle.channel_plan.specs.PlanText.{rows_from}
 use Rattle.channel_plan.specs.Reading.{IsFaultOfReading, Row, reading_of, rows_of}
 use Rattle.channel_plan.specs.Split.{network_lines, plan_lines, plan_word}
 use Rattle.channel_plan.specs.declared.plan.CheckFault.{CheckFault}
 use Rattle.channel_plan.specs.declared.plan.CheckFault.TheVariants as check
-use Rattle.channel_plan.proofs.Blank.{graph-front}
+use Rattle.dimacs_col.proofs.Blank.{graph-front}
 use Rattle.channel_plan.proofs.Proper.{fault-from}
-use Rattle.channel_plan.proofs.Splitting.{before-text, last-line}
+use Rattle.dimacs_col.proofs.Splitting.{before-text, last-line}
 use Rattle.channel_plan.proofs.Written.{plan-lines, written-read}
 use Rattle.answers.specs.Answers.{IsPlainAnswer, network_with}
 use Rattle.answers.specs.Faults.{fault_status}

@@ -2,7 +2,7 @@
 use Rattle.std.proofs.Common.{◌≡◌, ◌∙◌, ◌+◌, ◌≤◌, ◌<◌, ℕ, zero, suc, List, ◌∷◌, map, refl, ap₂, arith}
 use Rattle.std.specs.List.{range_with_len}
 use Rattle.std.proofs.lemmas.Simd.{map-map}
-use Rattle.alpha_core.specs.interference.Net.{Net, IsVertex, count_of, vertices}
+use Rattle.interference.specs.Net.{Net, IsVertex, count_of, vertices}
 
 same-from : (f g : ℕ → ℕ) (a n : ℕ) → ((v : ℕ) → a ≤ v → v < a + n → f v ≡ g v)
     → map f (range_with_len a n) ≡ map g (range_with_len a n)

@@ -12,8 +12,9 @@ use Rattle.dimacs_col.specs.Reading.{AllGood, number_after, verdict}
 use Rattle.dimacs_col.specs.declared.fault.ColFault.TheVariants.{UnknownLine}
 use Rattle.dimacs_col.specs.declared.kind.Kind.TheVariants.{Unknown}
 use Rattle.dimacs_col.proofs.Verdicts.{verdict-unknown}
-use Rattle.channel_plan.specs.Split.{begins, plan_word}
-use Rattle.channel_plan.proofs.Splitting.{AreBefore, before-cons, before-none}
+use Rattle.dimacs_col.specs.Split.{begins}
+use Rattle.channel_plan.specs.Split.{plan_word}
+use Rattle.dimacs_col.proofs.Splitting.{AreBefore, before-cons, before-none}
 
 abbrev is_feed : ℕ → Bool
 is_feed byte = byte == 10

@@ -1,13 +1,13 @@
 -- From what is known of a network text and of the plan text behind it to what `check` may answer.
 use Rattle.std.proofs.Common.{◌≡◌, ◌∙◌, inl, inr, ℕ, Ok, List, subst, sym}
 use Rattle.dimacs_col.specs.Lines.{Line, lines_of}
-use Rattle.alpha_core.specs.interference.Net.{IsNetwork, Net}
+use Rattle.interference.specs.Net.{IsNetwork, Net}
 use Rattle.channel_plan.specs.Checked.{IsFaultOfPlan, IsProper, greatest_channel}
 use Rattle.channel_plan.specs.Reading.{IsFaultOfReading, Row, reading_of}
 use Rattle.channel_plan.specs.Split.{AreNetworkLines, plan_lines, plan_word}
 use Rattle.channel_plan.specs.declared.plan.CheckFault.{CheckFault}
 use Rattle.channel_plan.specs.declared.plan.CheckFault.TheVariants as check
-use Rattle.channel_plan.proofs.Blank.{fault-of, graph-of}
+use Rattle.dimacs_col.proofs.Blank.{fault-of, graph-of}
 use Rattle.answers.specs.Answers.{IsFaultOfText, ReadsAs}
 use Rattle.answers.specs.Verdicts.{IsCheckAnswer, IsFaultOfCheck, verdict_text}
 use Rattle.answers.specs.declared.fault.PlanFault.{PlanFault}

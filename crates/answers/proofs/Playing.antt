@@ -1,11 +1,11 @@
 -- From what is known of a network text and of the events behind it to what `events` may answer.
 use Rattle.std.proofs.Common.{◌≡◌, inl, inr, ℕ, Ok, List, subst}
 use Rattle.dimacs_col.specs.Lines.{lines_of}
-use Rattle.alpha_core.specs.interference.Net.{IsNetwork, Net}
-use Rattle.alpha_core.specs.node_api.Program.{Program}
+use Rattle.interference.specs.Net.{IsNetwork, Net}
+use Rattle.node_api.specs.Program.{Program}
 use Rattle.event_machine.specs.State.{State}
 use Rattle.event_machine.specs.Step.{run}
-use Rattle.channel_plan.proofs.Blank.{fault-of, graph-of}
+use Rattle.dimacs_col.proofs.Blank.{fault-of, graph-of}
 use Rattle.event_texts.specs.EventLines.{AreNetworkLines, event_words}
 use Rattle.event_texts.specs.Played.{IsFaultOfRun, events_in}
 use Rattle.event_texts.specs.Reader.{IsFaultOfReading}

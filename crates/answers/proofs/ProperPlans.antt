@@ -6,8 +6,8 @@ use Rattle.std.proofs.lemmas.List.{length-map}
 use Rattle.std.proofs.lemmas.List.Elements.{All-map}
 use Rattle.std.proofs.lemmas.List.FromFn.{get_or-map-range_with_len, length-map-range_with_len, length-range_with_len}
 use Rattle.std.specs.List.{Contains, range_with_len}
-use Rattle.alpha_core.specs.interference.Net.{IsBarred, IsEdge, IsNetwork, IsVertex, Net, count_of, span_of, vertices}
-use Rattle.alpha_core.proofs.interference.Neighbours.{greatest_bars-within, greatest_degree-within}
+use Rattle.interference.specs.Net.{IsBarred, IsEdge, IsNetwork, IsVertex, Net, count_of, span_of, vertices}
+use Rattle.interference.proofs.Neighbours.{greatest_bars-within, greatest_degree-within}
 use Rattle.channel_plan.specs.Checked.{IsProper}
 use Rattle.channel_plan.specs.Reading.{Row, rows_of}
 use Rattle.channel_plan.proofs.Counts.{counted, row_count}

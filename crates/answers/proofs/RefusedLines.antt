@@ -3,12 +3,12 @@ use Rattle.std.proofs.Common.{◌≡◌, ◌≢◌, ◌++◌, ◌∷◌, [], ◌
 use Rattle.std.proofs.Common.{refl, slice_get, slice_index_or, subst, sym, take}
 use Rattle.std.proofs.lemmas.List.{length-append}
 use Rattle.dimacs_col.specs.Lines.{Line}
-use Rattle.alpha_core.specs.interference.Net.{IsNetwork, Net}
-use Rattle.alpha_core.specs.node_api.Program.{Program}
+use Rattle.interference.specs.Net.{IsNetwork, Net}
+use Rattle.node_api.specs.Program.{Program}
 use Rattle.event_machine.specs.declared.refused.RunRefused.TheVariants as run
 use Rattle.net_core.specs.Replays.{IsReplay, Stops}
 use Rattle.net_core.proofs.Decided.{by-index, decided}
-use Rattle.transcripts.specs.TranscriptText.{Row}
+use Rattle.entries.specs.declared.rows.Row.{Row}
 use Rattle.net_core.specs.declared.refused.ReplayRefused.{ReplayRefused}
 use Rattle.net_core.specs.declared.refused.ReplayRefused.TheVariants as replay
 use Rattle.transcripts.specs.Behind.{entry_lines, entry_on}

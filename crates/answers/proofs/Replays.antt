@@ -1,10 +1,10 @@
 -- From what is known of a network text and of the transcript behind it to what `replay` may answer.
 use Rattle.std.proofs.Common.{◌≡◌, ℕ, List, Option, subst}
 use Rattle.dimacs_col.specs.Lines.{lines_of}
-use Rattle.alpha_core.specs.interference.Net.{IsNetwork, Net}
-use Rattle.alpha_core.specs.node_api.Program.{Program}
+use Rattle.interference.specs.Net.{IsNetwork, Net}
+use Rattle.node_api.specs.Program.{Program}
 use Rattle.event_machine.specs.State.{State}
-use Rattle.channel_plan.proofs.Blank.{fault-of, graph-of}
+use Rattle.dimacs_col.proofs.Blank.{fault-of, graph-of}
 use Rattle.event_texts.specs.StateText.{state_text}
 use Rattle.transcripts.specs.Behind.{AreNetworkLines, transcript_word}
 use Rattle.program_texts.specs.Texts.{ProgramTexts}

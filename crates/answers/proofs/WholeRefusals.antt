@@ -4,8 +4,8 @@ use Rattle.std.specs.declared.vec.Vec.{Vec}
 use Rattle.std.specs.declared.alloc.Global.{Global}
 use Rattle.std.proofs.lemmas.List.{length-map, map-append}
 use Rattle.dimacs_col.specs.Lines.{Line}
-use Rattle.alpha_core.specs.interference.Net.{IsNetwork, Net}
-use Rattle.alpha_core.specs.node_api.Program.{Program}
+use Rattle.interference.specs.Net.{IsNetwork, Net}
+use Rattle.node_api.specs.Program.{Program}
 use Rattle.event_machine.specs.declared.refused.RunRefused.TheVariants as run
 use Rattle.net_core.specs.Replays.{Stops, at_entry}
 use Rattle.net_core.specs.Whole.{StopsAtEntry, StopsAtStamp, WhyNotWhole}
@@ -18,7 +18,8 @@ use Rattle.transcripts.specs.Behind.{entry_lines, stamped_entry_on}
 use Rattle.transcripts.specs.Editions.{Two}
 use Rattle.transcripts.specs.Reading.{StampedTranscript}
 use Rattle.entries.specs.Rows.{without_stamp}
-use Rattle.transcripts.specs.TranscriptText.{Row, StampedRow}
+use Rattle.entries.specs.declared.rows.Row.{Row}
+use Rattle.entries.specs.declared.rows.StampedRow.{StampedRow}
 use Rattle.transcripts.proofs.Either.{stamped-have-lines}
 use Rattle.answers.specs.ReplayAnswers.{HasLine, IsEntryTold, IsFaultOfTranscript, IsStampedLine, IsStampedRefusal, IsStampedTold, IsToldAs, bare_rows}
 use Rattle.answers.specs.ReplayAnswers.{SaysWhyNot, StopsThere, fault_at}

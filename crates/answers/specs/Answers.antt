@@ -3,8 +3,8 @@ use Rattle.std.specs.Prelude.{◌≡◌, ℕ, List, map, unwrap_or}
 use Rattle.std.specs.List.{range_with_len}
 use Rattle.dimacs_col.specs.Lines.{Line, lines_of}
 use Rattle.dimacs_col.specs.Reading.{Graph, IsFault, IsGraph, id_in}
-use Rattle.alpha_core.specs.interference.Net.{Net, IsNetwork}
-use Rattle.alpha_core.specs.interference.Making.{IsFaultOf, network_of}
+use Rattle.interference.specs.Net.{Net, IsNetwork}
+use Rattle.interference.specs.Making.{IsFaultOf, network_of}
 use Rattle.answers.specs.Plans.{IsChannelPlan}
 use Rattle.answers.specs.Texts.{colours_text, forests_text}
 use Rattle.answers.specs.declared.fault.PlanFault.{PlanFault}

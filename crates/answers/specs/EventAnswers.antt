@@ -2,9 +2,9 @@
 use Rattle.std.specs.Prelude.{◌≡◌, ◌⊎◌, ℕ, List, Ok}
 use Rattle.dimacs_col.specs.Lines.{Line, lines_of}
 use Rattle.dimacs_col.specs.Reading.{IsFault}
-use Rattle.alpha_core.specs.interference.Net.{Net, IsNetwork}
-use Rattle.alpha_core.specs.interference.Making.{IsFaultOf}
-use Rattle.alpha_core.specs.node_api.Program.{Program}
+use Rattle.interference.specs.Net.{Net, IsNetwork}
+use Rattle.interference.specs.Making.{IsFaultOf}
+use Rattle.node_api.specs.Program.{Program}
 use Rattle.event_machine.specs.State.{State}
 use Rattle.event_machine.specs.Step.{run}
 use Rattle.event_texts.specs.EventLines.{network_lines}

@@ -2,8 +2,8 @@
 use Rattle.std.specs.Prelude.{ℕ, List, [], ◌∷◌, ◌++◌, codes}
 use Rattle.std.specs.Fmt.{decimal}
 use Rattle.dimacs_col.specs.declared.fault.ColFault.TheVariants as col
-use Rattle.alpha_core.specs.interference.NetFault.TheVariants as net
-use Rattle.pool.specs.declared.fault.PoolFault.TheVariants as pool
+use Rattle.interference.specs.declared.fault.NetFault.TheVariants as net
+use Rattle.run_faults.specs.declared.fault.PoolFault.TheVariants as pool
 use Rattle.channel_plan.specs.declared.plan.CheckFault.TheVariants as check
 use Rattle.event_texts.specs.declared.fault.EventFault.TheVariants as event
 use Rattle.answers.specs.declared.fault.PlanFault.{PlanFault}

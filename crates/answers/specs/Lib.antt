@@ -6,13 +6,3 @@ pub mod Verdicts
 pub mod EventAnswers
 pub mod RoundAnswers
 pub mod ReplayAnswers
-pub mod dimacs_col
-pub mod interference
-pub mod alpha_core
-pub mod channel_plan
-pub mod colour_program
-pub mod colour_rules
-pub mod colour_laws
-pub mod transcripts
-pub mod pool
-pub mod net_core

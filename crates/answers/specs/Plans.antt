@@ -1,6 +1,6 @@
 -- What a channel plan of a network is.
 use Rattle.std.specs.Prelude.{◌≡◌, ◌≢◌, ◌≤◌, ℕ, List, map}
-use Rattle.alpha_core.specs.interference.Net.{Net, IsBarred, IsEdge, IsVertex, span_of, vertices}
+use Rattle.interference.specs.Net.{Net, IsBarred, IsEdge, IsVertex, span_of, vertices}
 use Rattle.channel_plan.specs.PlanText.{plan_of}
 
 -- The text has a row for each vertex, with its colour plus one as its channel. The colours of any two

@@ -5,9 +5,9 @@ use Rattle.std.specs.declared.vec.Vec.{Vec}
 use Rattle.std.specs.declared.alloc.Global.{Global}
 use Rattle.dimacs_col.specs.Lines.{Line, lines_of}
 use Rattle.dimacs_col.specs.Reading.{IsFault}
-use Rattle.alpha_core.specs.interference.Net.{Net, IsNetwork}
-use Rattle.alpha_core.specs.interference.Making.{IsFaultOf}
-use Rattle.alpha_core.specs.node_api.Program.{Program}
+use Rattle.interference.specs.Net.{Net, IsNetwork}
+use Rattle.interference.specs.Making.{IsFaultOf}
+use Rattle.node_api.specs.Program.{Program}
 use Rattle.event_machine.specs.State.{State}
 use Rattle.event_machine.specs.declared.refused.RunRefused.TheVariants as run
 use Rattle.event_texts.specs.Missing.{expected_text, missing_text}
@@ -23,7 +23,8 @@ use Rattle.net_core.specs.Whole.{IsWholeReplay, StopsAtEntry, WhyNotWhole}
 use Rattle.transcripts.specs.Behind.{entry_lines, entry_on, network_lines, stamped_entry_on}
 use Rattle.transcripts.specs.Editions.{AnyTranscript, One, Two, any_reading_behind}
 use Rattle.transcripts.specs.Reading.{StampedTranscript, Transcript}
-use Rattle.transcripts.specs.TranscriptText.{Row, StampedRow}
+use Rattle.entries.specs.declared.rows.Row.{Row}
+use Rattle.entries.specs.declared.rows.StampedRow.{StampedRow}
 use Rattle.transcripts.specs.declared.fault.TextFault.{TextFault}
 use Rattle.transcripts.specs.declared.fault.TextFault.TheVariants as text
 use Rattle.program_texts.specs.Texts.{ProgramTexts}

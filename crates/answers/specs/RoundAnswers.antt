@@ -1,7 +1,7 @@
 -- The answer that shows the rounds of a network.
 use Rattle.std.specs.Prelude.{◌≡◌, ℕ, List}
-use Rattle.alpha_core.specs.interference.Net.{IsNetwork}
-use Rattle.alpha_core.specs.node_api.Program.{Program}
+use Rattle.interference.specs.Net.{IsNetwork}
+use Rattle.node_api.specs.Program.{Program}
 use Rattle.program_texts.specs.Texts.{ProgramTexts}
 use Rattle.round_texts.specs.RoundsText.{rounds_text}
 use Rattle.answers.specs.Answers.{ReadsAs}

@@ -1,10 +1,10 @@
 -- The texts that commands write.
 use Rattle.std.specs.Prelude.{ℕ, List, [], ◌∷◌, ◌++◌, codes, flat_map, map}
 use Rattle.number_rows.specs.Row.{row}
-use Rattle.alpha_core.specs.interference.Net.{Net, count_of, forest_count_of, vertices}
+use Rattle.interference.specs.Net.{Net, count_of, forest_count_of, vertices}
 use Rattle.forests.specs.Forests.{triples}
 use Rattle.channel_plan.specs.PlanText.{plan_of}
-use Rattle.colour_program.specs.colour_laws.Colours.{colours}
+use Rattle.colour_laws.specs.Colours.{colours}
 
 -- the line of an edge: its forest, the child, the parent
 abbrev pub triple_row : ℕ × ℕ × ℕ → List ℕ

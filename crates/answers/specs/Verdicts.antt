@@ -3,8 +3,8 @@ use Rattle.std.specs.Prelude.{◌≡◌, ◌⊎◌, ℕ, List, [], ◌∷◌, �
 use Rattle.number_rows.specs.Row.{row}
 use Rattle.dimacs_col.specs.Lines.{Line, lines_of}
 use Rattle.dimacs_col.specs.Reading.{IsFault}
-use Rattle.alpha_core.specs.interference.Net.{Net, IsNetwork}
-use Rattle.alpha_core.specs.interference.Making.{IsFaultOf}
+use Rattle.interference.specs.Net.{Net, IsNetwork}
+use Rattle.interference.specs.Making.{IsFaultOf}
 use Rattle.channel_plan.specs.Checked.{IsFaultOfPlan, IsProper, greatest_channel}
 use Rattle.channel_plan.specs.Reading.{IsFaultOfReading, Row, reading_of}
 use Rattle.channel_plan.specs.Split.{network_lines, plan_lines}

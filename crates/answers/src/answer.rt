@@ -2,19 +2,19 @@
 
 ghost use Rattle.std.specs.Prelude.{◌≡◌, IfOk, IfErr};
 ghost use Rattle.std.specs.List.{range_with_len};
-ghost use Rattle.dimacs_col.specs.Pairs.{AreVertices};
+ghost use Rattle.graph_limits.specs.Pairs.{AreVertices};
 ghost use Rattle.dimacs_col.specs.Reading.{graph_of};
-ghost use Rattle.alpha_core.specs.interference.Making.{BarsFit, EdgesFit, IsFaultOf};
-ghost use Rattle.alpha_core.specs.interference.Net.{IsNetwork};
+ghost use Rattle.interference.specs.Making.{BarsFit, EdgesFit, IsFaultOf};
+ghost use Rattle.interference.specs.Net.{IsNetwork};
 ghost use Rattle.answers.specs.Answers.{IsFaultOfText, IsForestsAnswer, IsPlainAnswer, ReadsAs};
 ghost use Rattle.answers.specs.Answers.{identifiers_with, network_with};
 
 use crate::colours_text::text_of_plan;
 use crate::fault::PlanFault;
 use crate::forests_text::text_of_forests;
-use alpha_core::{NetFault, Network};
-use colour_program::laws::colours_are_proper;
+use colour_laws::laws::colours_are_proper;
 use dimacs_col::{ColFile, read};
+use interference::{NetFault, Network};
 use std::alloc::{AllocError, Global};
 
 // The numbers 1 to n.

@@ -4,10 +4,10 @@ ghost use Rattle.std.specs.Prelude.{◌≡◌, IfOk, map};
 ghost use Rattle.channel_plan.specs.PlanText.{plan_of};
 ghost use Rattle.answers.specs.Texts.{colours_text};
 
-use alpha_core::{Memory, Network};
 use channel_plan::plan_text;
+use colour_laws::laws::rounds_end_with_the_colours;
 use colour_program::Colouring;
-use colour_program::laws::rounds_end_with_the_colours;
+use interference::{Memory, Network};
 use std::alloc::{AllocError, Global};
 use sync_rounds::run_rounds;
 

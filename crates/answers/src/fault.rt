@@ -5,11 +5,11 @@ ghost use Rattle.answers.specs.declared.fault.PlanFault.TheVariants.{Check, Col,
 ghost use Rattle.answers.specs.declared.fault.PlanFault.TheVariants.{Replay};
 
 use crate::replaying::ReplayFault;
-use alpha_core::{Memory, NetFault};
 use channel_plan::CheckFault;
 use dimacs_col::ColFault;
 use event_texts::EventFault;
-use pool::PoolFault;
+use interference::{Memory, NetFault};
+use run_faults::PoolFault;
 
 /// Why a text has no answer.
 #[derive(Debug, PartialEq, Eq, Drop)]

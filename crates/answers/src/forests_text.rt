@@ -3,8 +3,8 @@
 ghost use Rattle.std.specs.Prelude.{◌≡◌, ◌++◌, IfOk, flat_map};
 ghost use Rattle.answers.specs.Texts.{forests_text, triple_row};
 
-use alpha_core::{Memory, Network};
 use forests::decompose;
+use interference::{Memory, Network};
 use number_rows::push_row;
 use std::alloc::{AllocError, Global};
 

@@ -1,9 +1,8 @@
 //! The answers of the commands that start no thread, from the bytes of a DIMACS text to the bytes of an answer, and the
 //! report of each fault of any command.
 //!
-//! `byte_functions` adds the two commands that run worker threads, and passes all on to `serving`, which calls
-//! `forest_bytes`, `plain_bytes`, `check_bytes`, `events_bytes`, `replay_bytes` or `rounds_bytes` for a command, and
-//! `fault_report` if they fail.
+//! `byte_functions` has the three commands that run worker threads. `serving` calls `forest_bytes`, `plain_bytes`,
+//! `check_bytes`, `events_bytes`, `replay_bytes` or `rounds_bytes` for a command, and `fault_report` if they fail.
 //!
 //! ```
 //! let text = b"p edge 3 3\ne 1 2\ne 1 3\ne 2 3\n";
@@ -34,17 +33,3 @@ pub use replaying::{ReplayFault, replay_bytes};
 pub use report::{FaultReport, fault_report};
 pub use rounds::rounds_bytes;
 pub use verdict::check_bytes;
-
-// What crates above name of lower ones.
-pub use alpha_core::{Memory, Network, Refused, Wire};
-pub use channel_plan::plan_text;
-pub use colour_program::{Colouring, Long, Payload, laws};
-pub use dimacs_col::ColFault;
-pub use event_texts::EventFault;
-pub use net_core::{ReplayRefused, WholeRefused, replay, replay_whole};
-pub use pool::PoolFault;
-pub use program_texts::ProgramText;
-pub use transcripts::{
-    TextFault, Transcript, push_entries, push_first_line, push_stamped_row, read_any,
-    read_transcript, stamped_text, transcript_text,
-};

@@ -13,12 +13,13 @@ ghost use Rattle.answers.specs.ReplayAnswers.{first_line_in, index_of, last_of, 
 
 use crate::answer::network_of_text;
 use crate::fault::PlanFault;
-use alpha_core::{Network, NodeProgram, PayloadText};
-use channel_plan::text_start;
+use dimacs_col::text_start;
 use entries::{Row, StampedRow};
 use event_machine::{NetState, RunRefused};
 use event_texts::{expected_words, missing_words, text_of_state};
+use interference::Network;
 use net_core::{ReplayRefused, StampedState, WholeRefused, event_of, replay, replay_whole};
+use node_api::{NodeProgram, PayloadText};
 use program_texts::ProgramText;
 use std::alloc::{AllocError, Global};
 use transcripts::{TextFault, Transcript, entry_lines, network_text, read_any_behind_network};

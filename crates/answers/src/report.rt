@@ -6,11 +6,11 @@ ghost use Rattle.answers.specs.declared.fault.PlanFault.TheVariants.{Check, Col,
 
 use crate::fault::PlanFault;
 use crate::replaying::ReplayFault;
-use alpha_core::NetFault;
 use channel_plan::CheckFault;
 use dimacs_col::ColFault;
 use event_texts::EventFault;
-use pool::PoolFault;
+use interference::NetFault;
+use run_faults::PoolFault;
 use std::alloc::{AllocError, Global};
 
 // The status if the input is refused.

@@ -5,8 +5,8 @@ ghost use Rattle.answers.specs.Verdicts.{IsCheckAnswer, IsFaultOfCheck, verdict_
 
 use crate::answer::network_of_text;
 use crate::fault::PlanFault;
-use alpha_core::Memory;
 use channel_plan::{check, read_plan, split_plan};
+use interference::Memory;
 use number_rows::push_row;
 use std::alloc::Global;
 

@@ -2,12 +2,12 @@
 use Rattle.std.proofs.Common.{◌≡◌, ℕ, ◌≤◌, sym, ap, ◌∙◌, subst}
 use Rattle.std.proofs.lemmas.Bool.{and_parts, eqb-true}
 use Rattle.std.proofs.lemmas.List.{get_or_default}
-use Rattle.alpha_laws.specs.interference.Net.{Net, IsBarred, IsNetwork, IsVertex, IsEdge, neighbours, forest_count_of, span_of}
-use Rattle.alpha_laws.specs.node_api.Program.{last_pulse_on}
-use Rattle.alpha_laws.specs.node_api.Run.{state_at}
+use Rattle.interference.specs.Net.{Net, IsBarred, IsNetwork, IsVertex, IsEdge, neighbours, forest_count_of, span_of}
+use Rattle.node_api.specs.Program.{last_pulse_on}
+use Rattle.node_api.specs.Run.{state_at}
 use Rattle.alpha_laws.proofs.Runs.{runs}
-use Rattle.colour_laws.specs.colour_rules.Node as colour
-use Rattle.colour_laws.specs.colour_rules.Program.{colouring}
+use Rattle.colour_rules.specs.Node as colour
+use Rattle.colour_rules.specs.Program.{colouring}
 use Rattle.colour_laws.specs.Colours.{colours}
 use Rattle.colour_laws.proofs.Choices.{colours_unbarred, colours_within}
 use Rattle.colour_laws.proofs.Forests.{has_forest, has_start}

@@ -1,22 +1,11 @@
 -- The network of the small run keeps what every network keeps, and is whole if it is at both vertices.
 use Rattle.std.proofs.Common.{◌≡◌, ◌≢◌, ℕ, zero, suc, ◌<◌, ◌≤◌, true, Result, Ok, Err, [], refl, arith}
 use Rattle.std.specs.Prelude.{IfOk, slice_index}
-use Rattle.alpha_laws.specs.interference.Net.{
-  IsBarred,
-  IsNetwork,
-  IsVertex,
-  id_of,
-  id_bound,
-  bar_count_of,
-  bars_of,
-  degree_of,
-  neighbour_of,
-  back_port_of,
-}
-use Rattle.dimacs_col.specs.declared.limits.TheConstants.{MAX_BARS, MAX_CHANNEL}
-use Rattle.alpha_laws.below.interference.specs.declared.limits.TheConstants.{MAX_DEGREE}
-use Rattle.alpha_laws.specs.node_api.Program.{Program, last_pulse_on}
-use Rattle.alpha_laws.specs.alpha_core.View.{is_drained}
+use Rattle.interference.specs.Net.{IsBarred, IsNetwork, IsVertex, id_of, id_bound, bar_count_of, bars_of, degree_of, neighbour_of, back_port_of}
+use Rattle.graph_limits.specs.declared.limits.TheConstants.{MAX_BARS, MAX_CHANNEL}
+use Rattle.interference.specs.declared.limits.TheConstants.{MAX_DEGREE}
+use Rattle.node_api.specs.Program.{Program, last_pulse_on}
+use Rattle.alpha_core.specs.View.{is_drained}
 use Rattle.event_machine.specs.State.{State, node_of, link_at}
 use Rattle.progress_laws.specs.Ends.{IsWholeState}
 use Rattle.async_colour_laws.specs.Small.{edge}

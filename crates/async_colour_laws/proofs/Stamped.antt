@@ -5,15 +5,15 @@ use Rattle.std.specs.List.{range_with_len}
 use Rattle.std.proofs.lemmas.List.{length-append}
 use Rattle.std.proofs.lemmas.List.FromFn.{length-range_with_len}
 use Rattle.std.proofs.lemmas.List.Sums.{count_by-le-length, sum_by-le}
-use Rattle.dimacs_col.specs.declared.limits.TheConstants.{MAX_NODES}
-use Rattle.alpha_laws.below.interference.specs.declared.limits.TheConstants.{MAX_DEGREE}
-use Rattle.alpha_laws.specs.interference.Net.{Net, IsNetwork, count_of, degree_of, neighbour_of, neighbours, vertices}
-use Rattle.alpha_laws.specs.interference.Counts.{edge_count_of, sum_over_ports}
-use Rattle.alpha_laws.proofs.interference.Neighbours.{degree-within, greatest_degree-within}
-use Rattle.alpha_laws.specs.alpha_core.Program.{sends}
-use Rattle.alpha_laws.specs.alpha_core.Streams.{sent_pulse, sent_pulses}
-use Rattle.alpha_laws.specs.node_api.Program.{Program, last_pulse_on}
-use Rattle.alpha_laws.specs.node_api.Laws.{IsProgram}
+use Rattle.graph_limits.specs.declared.limits.TheConstants.{MAX_NODES}
+use Rattle.interference.specs.declared.limits.TheConstants.{MAX_DEGREE}
+use Rattle.interference.specs.Net.{Net, IsNetwork, count_of, degree_of, neighbour_of, neighbours, vertices}
+use Rattle.interference.specs.Counts.{edge_count_of, sum_over_ports}
+use Rattle.interference.proofs.Neighbours.{degree-within, greatest_degree-within}
+use Rattle.alpha_core.specs.Program.{sends}
+use Rattle.alpha_core.specs.Streams.{sent_pulse, sent_pulses}
+use Rattle.node_api.specs.Program.{Program, last_pulse_on}
+use Rattle.node_api.specs.Laws.{IsProgram}
 use Rattle.alpha_laws.specs.Counts.{events_of_run, payloads_sent}
 use Rattle.alpha_laws.proofs.Runs.{runs}
 use Rattle.colour_laws.specs.declared.laws.TheConstants.{MAX_LAST_PULSE}

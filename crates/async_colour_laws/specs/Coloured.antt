@@ -1,14 +1,14 @@
 -- Nodes of the colouring that have halted, and their colours.
 use Rattle.std.specs.Prelude.{◌≡◌, ◌≢◌, ℕ, ◌≤◌, Bool, IsTrue, List, Ok}
-use Rattle.alpha_laws.specs.interference.Net.{Net, IsVertex, IsBarred, IsEdge, span_of}
-use Rattle.alpha_laws.specs.node_api.Program.{Program, last_pulse_on}
-use Rattle.alpha_laws.specs.alpha_core.Wire.{Wire}
-use Rattle.alpha_laws.specs.alpha_core.View.{Node, is_halted}
+use Rattle.interference.specs.Net.{Net, IsVertex, IsBarred, IsEdge, span_of}
+use Rattle.node_api.specs.Program.{Program, last_pulse_on}
+use Rattle.alpha_core.specs.declared.wire.Wire.{Wire}
+use Rattle.alpha_core.specs.View.{Node, is_halted}
 use Rattle.alpha_laws.specs.Simulates.{Simulates}
 use Rattle.gather_laws.specs.Outcome.{Outcome, IsOutcome, node_in}
-use Rattle.colour_laws.specs.colour_rules.Payload.{Payload}
-use Rattle.colour_laws.specs.colour_rules.Node as colour
-use Rattle.colour_laws.specs.colour_rules.Program.{colouring}
+use Rattle.colour_rules.specs.declared.payload.Payload.{Payload}
+use Rattle.colour_rules.specs.Node as colour
+use Rattle.colour_rules.specs.Program.{colouring}
 use Rattle.colour_laws.specs.Colours.{colours}
 use Rattle.event_machine.specs.declared.event.Event.{Event}
 use Rattle.event_machine.specs.State.{State, node_of}

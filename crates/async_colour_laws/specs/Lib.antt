@@ -1,4 +1,3 @@
 pub mod Coloured
 pub mod Small
 pub mod Stamped
-pub mod event_machine

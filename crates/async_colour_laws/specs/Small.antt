@@ -1,7 +1,7 @@
 -- A small run that meets all premises: two vertices with the identifiers 1 and 2, the edge between them, and the
 -- program that spreads the greatest identifier, with last pulse 1.
 use Rattle.std.specs.Prelude.{◌≡◌, IfOk, List, [], ◌∷◌, ◌++◌, map}
-use Rattle.alpha_laws.specs.interference.Net.{Net}
+use Rattle.interference.specs.Net.{Net}
 use Rattle.event_machine.specs.declared.event.Event.{Event}
 use Rattle.event_machine.specs.declared.event.Event.TheVariants.{Pulse, Put, Take}
 use Rattle.event_machine.specs.Step.{run}

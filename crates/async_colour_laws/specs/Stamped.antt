@@ -1,14 +1,14 @@
 -- How great the stamps of a run can be.
 use Rattle.std.specs.Prelude.{◌^◌, ◌<◌, ◌≤◌, All, List}
-use Rattle.alpha_laws.specs.interference.Net.{Net}
-use Rattle.alpha_laws.specs.node_api.Program.{Program}
+use Rattle.interference.specs.Net.{Net}
+use Rattle.node_api.specs.Program.{Program}
 use Rattle.alpha_laws.specs.Counts.{events_of_run}
-use Rattle.colour_laws.specs.colour_rules.Payload.{Payload}
-use Rattle.colour_laws.specs.colour_rules.Node as colour
-use Rattle.colour_laws.specs.colour_rules.Program.{colouring}
+use Rattle.colour_rules.specs.declared.payload.Payload.{Payload}
+use Rattle.colour_rules.specs.Node as colour
+use Rattle.colour_rules.specs.Program.{colouring}
 use Rattle.event_machine.specs.State.{State}
 use Rattle.net_core.specs.Whole.{IsStampedReplay}
-use Rattle.stamps.specs.Merged.{StampedRow}
+use Rattle.entries.specs.declared.rows.StampedRow.{StampedRow}
 
 -- No stamp of a stamped replay passes the number of events that a whole run has.
 abbrev pub StampsAreBounded : {S M E : Type 0} → Program S M E → Net → Type 0

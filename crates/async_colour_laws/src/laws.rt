@@ -1,12 +1,12 @@
 //! What holds of nodes of the two programs. Each law is a function that does nothing: its contract is the law.
 
 ghost use Rattle.std.specs.Prelude.{◌≡◌, IsOk, length, ℕ};
-ghost use Rattle.alpha_laws.specs.interference.Net.{IsNetwork, Net};
+ghost use Rattle.interference.specs.Net.{IsNetwork, Net};
 ghost use Rattle.alpha_laws.specs.Counts.{events_of_run};
 ghost use Rattle.alpha_laws.specs.Laws.{OnEveryNetwork};
-ghost use Rattle.alpha_laws.specs.node_api.Program.{Program};
+ghost use Rattle.node_api.specs.Program.{Program};
 ghost use Rattle.sync_rounds.specs.Spread.{spread};
-ghost use Rattle.colour_laws.specs.colour_rules.Program.{colouring};
+ghost use Rattle.colour_rules.specs.Program.{colouring};
 ghost use Rattle.event_machine.specs.Laws.{RunsAreExact, RunsSimulate};
 ghost use Rattle.event_machine.specs.Step.{run};
 ghost use Rattle.async_colour_laws.specs.Coloured.{HaltedAreColoured, HaltedOutcomesAreColoured, HaltedRunsAreColoured};

@@ -5,11 +5,11 @@ use Rattle.std.proofs.lemmas.List.Folds.{flat_map-map}
 use Rattle.std.proofs.lemmas.List.FromFn.{get_or-map-range_with_len, get_or-range_with_len, length-map-range_with_len}
 use Rattle.answers.specs.Answers.{ReadsAs}
 use Rattle.program_texts.specs.Texts.{ProgramTexts}
-use Rattle.program_texts.specs.node_api.Net.{Net, IsNetwork, IsVertex, count_of, vertices}
-use Rattle.program_texts.specs.node_api.Program.{Program, last_pulse_on}
-use Rattle.program_texts.specs.node_api.Run.{last_state}
+use Rattle.interference.specs.Net.{Net, IsNetwork, IsVertex, count_of, vertices}
+use Rattle.node_api.specs.Program.{Program, last_pulse_on}
+use Rattle.node_api.specs.Run.{last_state}
 use Rattle.alpha_laws.specs.Progress.{end_node}
-use Rattle.node_pool.specs.gather_laws.Outcome.{Gathered, IsOutcome, Outcome, node_in, start_of}
+use Rattle.gather_laws.specs.Outcome.{Gathered, IsOutcome, Outcome, node_in, start_of}
 use Rattle.byte_functions.specs.Ends.{IsEndsAnswer, end_line, ends_text, gathered_end, node_end}
 use Rattle.byte_functions.proofs.Recording.{nodes-count}
 

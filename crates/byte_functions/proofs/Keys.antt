@@ -10,7 +10,7 @@ use Rattle.std.proofs.lemmas.Bool.{true≢false}
 use Rattle.std.proofs.lemmas.List.{get_or_at, get_or_append_left, length-append}
 use Rattle.std.proofs.Math.ListN.{get_or-eq_default}
 use Rattle.std.proofs.lemmas.List.Sorted.{sum_by-IsPermutation, sum_by_pushed}
-use Rattle.stamps.specs.Stamps.{StampedEntry}
+use Rattle.entries.specs.declared.rows.StampedEntry.{StampedEntry}
 use Rattle.byte_functions.specs.Merge.{AreKeys, IsKeyAdded, Key, is_key, key_cmp, keys_in, starts_at}
 
 not_lt : (a b : ℕ) → (a < b → ⊥) → nat_lt a b ≡ false

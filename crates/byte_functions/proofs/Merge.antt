@@ -8,11 +8,13 @@ use Rattle.std.proofs.lemmas.Bool.{cases_eq, cases_lt}
 use Rattle.std.proofs.lemmas.List.{append-nil, get_or-set_other, get_or-set_same, length-set}
 use Rattle.std.proofs.lemmas.List.Elements.{All-get_or, All-head, All-nil, All-push, All-weaker}
 use Rattle.std.proofs.Math.ListN.{get_or-eq_default}
-use Rattle.stamps.specs.entries.Entry.{Entry}
-use Rattle.stamps.specs.entries.Rows.{stamped_entry, stamped_row}
-use Rattle.stamps.specs.Stamps.{StampedEntry, Rises}
-use Rattle.stamps.specs.Merged.{StampedRow, AreOrdered, IsMerge, Precedes, entries_at, list_of}
-use Rattle.answers.specs.transcripts.TranscriptText.{stamped_transcript_of}
+use Rattle.entries.specs.declared.entry.Entry.{Entry}
+use Rattle.entries.specs.Rows.{stamped_entry, stamped_row}
+use Rattle.entries.specs.declared.rows.StampedEntry.{StampedEntry}
+use Rattle.stamps.specs.Stamps.{Rises}
+use Rattle.entries.specs.declared.rows.StampedRow.{StampedRow}
+use Rattle.stamps.specs.Merged.{AreOrdered, IsMerge, Precedes, entries_at, list_of}
+use Rattle.transcripts.specs.TranscriptText.{stamped_transcript_of}
 use Rattle.byte_functions.specs.Merge.{IsTaken, NoneLeft}
 use Rattle.stamps.proofs.Growing.{ordered_push}
 use Rattle.stamps.proofs.Lists.{entry_here, entry_other}

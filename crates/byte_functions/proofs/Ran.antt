@@ -1,12 +1,12 @@
 -- What is returned of a run of workers.
 use Rattle.std.proofs.Common.{◌≡◌, Bool, true, false, refl}
 use Rattle.std.specs.Prelude.{if◌then◌else◌, IfErr, IfOk, Result, Ok, Err}
-use Rattle.answers.specs.interference.Net.{Net}
-use Rattle.node_pool.specs.run_options.Ranges.{AreInRange}
-use Rattle.node_pool.specs.run_options.Options.{Options}
-use Rattle.node_pool.specs.gather_laws.Outcome.{Outcome, IsOutcome, is_whole}
-use Rattle.answers.specs.pool.PoolFault.TheVariants as pool
-use Rattle.program_texts.specs.node_api.Program.{Program}
+use Rattle.interference.specs.Net.{Net}
+use Rattle.run_options.specs.Ranges.{AreInRange}
+use Rattle.run_options.specs.declared.Options.{Options}
+use Rattle.gather_laws.specs.Outcome.{Outcome, IsOutcome, is_whole}
+use Rattle.run_faults.specs.declared.fault.PoolFault.TheVariants as pool
+use Rattle.node_api.specs.Program.{Program}
 use Rattle.answers.specs.declared.fault.PlanFault.TheVariants as plan
 use Rattle.byte_functions.specs.Workers.{IsFaultOfRun, MayRun, Ran, whole_after}
 use Rattle.byte_functions.proofs.Working.{pool-fault}

@@ -3,10 +3,10 @@ use Rattle.std.proofs.Common.{◌≡◌, ◌-◌, ◌∙◌, [], ℕ, suc, All, 
 use Rattle.std.proofs.lemmas.List.{length-map}
 use Rattle.std.proofs.lemmas.List.FromFn.{length-range_with_len}
 use Rattle.std.proofs.lemmas.List.Elements.{All-from_get_or}
-use Rattle.answers.specs.interference.Net.{Net, IsNetwork, count_of}
-use Rattle.program_texts.specs.node_api.Program.{Program}
-use Rattle.node_pool.specs.gather_laws.Outcome.{Outcome, IsOutcome, entries_in, is_whole}
-use Rattle.node_pool.specs.gather_laws.Merged.{WholeOutcomesReplay}
+use Rattle.interference.specs.Net.{Net, IsNetwork, count_of}
+use Rattle.node_api.specs.Program.{Program}
+use Rattle.gather_laws.specs.Outcome.{Outcome, IsOutcome, entries_in, is_whole}
+use Rattle.gather_laws.specs.Merged.{WholeOutcomesReplay}
 use Rattle.run_options.specs.declared.Edition.{Edition}
 use Rattle.run_options.specs.declared.Edition.TheVariants as edition
 use Rattle.stamps.specs.Merged.{IsMerge}

@@ -9,9 +9,9 @@ use Rattle.std.proofs.lemmas.Bool.{and_parts, cases_Bool, cases_eq, eqb-true, tr
 use Rattle.std.proofs.lemmas.List.{get_or_default, get_or-set_other, get_or-set_same}
 use Rattle.std.proofs.lemmas.List.Sorted.{IsPermutation-refl, sum_by_popped}
 use Rattle.std.proofs.lemmas.List.Sums.{sum_by-cons}
-use Rattle.stamps.specs.entries.Entry.{Entry}
-use Rattle.stamps.specs.entries.Rows.{stamped_entry, stamped_row}
-use Rattle.stamps.specs.Stamps.{StampedEntry}
+use Rattle.entries.specs.declared.entry.Entry.{Entry}
+use Rattle.entries.specs.Rows.{stamped_entry, stamped_row}
+use Rattle.entries.specs.declared.rows.StampedEntry.{StampedEntry}
 use Rattle.byte_functions.specs.Merge.{AreKeys, IsKeyAdded, IsTaken, Key, NoneLeft, is_key, key_cmp, keys_in, starts_at}
 use Rattle.byte_functions.proofs.Keys.{NotAfter, in_here, in_other, none_if, not_after, number, one_if, other_index, other_stamp, own_key}
 

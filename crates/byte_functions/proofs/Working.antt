@@ -5,19 +5,19 @@ use Rattle.std.proofs.lemmas.Bool.{cases_lt}
 use Rattle.std.proofs.lemmas.List.{get_or-map, length-map, same_lists}
 use Rattle.std.proofs.lemmas.List.FromFn.{get_or-map-range_with_len, length-map-range_with_len, length-range_with_len}
 use Rattle.std.proofs.lemmas.Simd.{map-map}
-use Rattle.answers.specs.interference.Net.{Net, IsBarred, IsNetwork, IsEdge, IsVertex, count_of, span_of, vertices}
-use Rattle.node_pool.specs.run_options.Ranges.{AreInRange}
-use Rattle.node_pool.specs.run_options.Options.{Options}
-use Rattle.node_pool.below.run_options.specs.declared.TheConstants.{MAX_CAPACITY, MAX_WORKERS}
-use Rattle.answers.specs.pool.PoolFault.{PoolFault}
-use Rattle.answers.specs.pool.PoolFault.TheVariants as pool
-use Rattle.node_pool.specs.gather_laws.Outcome.{Outcome, node_in, start_of}
-use Rattle.answers.specs.alpha_core.View.{Alpha}
-use Rattle.answers.specs.channel_plan.PlanText.{plan_of}
-use Rattle.answers.specs.colour_rules.Payload.{Payload}
-use Rattle.answers.specs.colour_rules.Node as colour
-use Rattle.answers.specs.colour_rules.Program.{colouring}
-use Rattle.answers.specs.colour_laws.Colours.{colours}
+use Rattle.interference.specs.Net.{Net, IsBarred, IsNetwork, IsEdge, IsVertex, count_of, span_of, vertices}
+use Rattle.run_options.specs.Ranges.{AreInRange}
+use Rattle.run_options.specs.declared.Options.{Options}
+use Rattle.run_options.specs.declared.TheConstants.{MAX_CAPACITY, MAX_WORKERS}
+use Rattle.run_faults.specs.declared.fault.PoolFault.{PoolFault}
+use Rattle.run_faults.specs.declared.fault.PoolFault.TheVariants as pool
+use Rattle.gather_laws.specs.Outcome.{Outcome, node_in, start_of}
+use Rattle.alpha_core.specs.View.{Alpha}
+use Rattle.channel_plan.specs.PlanText.{plan_of}
+use Rattle.colour_rules.specs.declared.payload.Payload.{Payload}
+use Rattle.colour_rules.specs.Node as colour
+use Rattle.colour_rules.specs.Program.{colouring}
+use Rattle.colour_laws.specs.Colours.{colours}
 use Rattle.answers.specs.Answers.{IsPlainAnswer, ReadsAs}
 use Rattle.answers.proofs.Plain.{plain}
 use Rattle.byte_functions.specs.Colours.{merged_of}

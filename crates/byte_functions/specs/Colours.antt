@@ -1,8 +1,8 @@
 -- The colour of a node that a run of workers left.
 use Rattle.std.specs.Prelude.{ℕ}
-use Rattle.answers.specs.colour_rules.Node as colour
-use Rattle.answers.specs.colour_rules.Payload.{Payload}
-use Rattle.node_pool.specs.gather_laws.Outcome.{Gathered}
+use Rattle.colour_rules.specs.Node as colour
+use Rattle.colour_rules.specs.declared.payload.Payload.{Payload}
+use Rattle.gather_laws.specs.Outcome.{Gathered}
 
 -- the merged colour in its state
 abbrev pub merged_of : Gathered colour.Node Payload → ℕ

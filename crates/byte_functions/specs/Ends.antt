@@ -1,13 +1,13 @@
 -- The text of the last states of a program's nodes.
 use Rattle.std.specs.Prelude.{◌≡◌, ℕ, List, ◌++◌, codes, flat_map}
 use Rattle.answers.specs.Answers.{ReadsAs}
-use Rattle.answers.specs.alpha_core.View.{Node}
-use Rattle.node_pool.specs.gather_laws.Outcome.{Gathered}
+use Rattle.alpha_core.specs.View.{Node}
+use Rattle.gather_laws.specs.Outcome.{Gathered}
 use Rattle.program_texts.specs.Texts.{ProgramTexts}
-use Rattle.program_texts.specs.node_api.Net.{Net, IsNetwork, vertices}
-use Rattle.program_texts.specs.node_api.Program.{Program, last_pulse_on}
-use Rattle.program_texts.specs.node_api.Run.{last_state}
-use Rattle.wire_texts.specs.WireText.{numbered}
+use Rattle.interference.specs.Net.{Net, IsNetwork, vertices}
+use Rattle.node_api.specs.Program.{Program, last_pulse_on}
+use Rattle.node_api.specs.Run.{last_state}
+use Rattle.number_rows.specs.Row.{numbered}
 
 -- `node V pulse P`, and the result of a state
 abbrev pub end_line : {S : Type 0} → ProgramTexts S → ℕ → ℕ → S → List ℕ

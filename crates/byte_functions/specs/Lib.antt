@@ -3,9 +3,3 @@ pub mod Ends
 pub mod Transcripts
 pub mod Merge
 pub mod Colours
-pub mod answers
-pub mod colour_program
-pub mod colour_rules
-pub mod interference
-pub mod pool
-pub mod gather_laws

@@ -5,9 +5,10 @@ use Rattle.std.specs.BinaryHeap.{IsHeap}
 use Rattle.std.specs.Ordering.{nat_cmp, ordering_then}
 use Rattle.std.specs.declared.cmp.Ordering.{Ordering}
 use Rattle.std.specs.declared.cmp.Reverse.{Reverse}
-use Rattle.stamps.specs.entries.Rows.{stamped_row, without_vertex}
-use Rattle.stamps.specs.Stamps.{StampedEntry}
-use Rattle.stamps.specs.Merged.{StampedRow, Precedes}
+use Rattle.entries.specs.Rows.{stamped_row, without_vertex}
+use Rattle.entries.specs.declared.rows.StampedEntry.{StampedEntry}
+use Rattle.entries.specs.declared.rows.StampedRow.{StampedRow}
+use Rattle.stamps.specs.Merged.{Precedes}
 
 -- the stamp of the first entry that a node has left, and the index of the node, from 0
 abbrev pub Key : Type 0

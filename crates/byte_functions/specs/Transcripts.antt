@@ -1,17 +1,18 @@
 -- The text of what the nodes of a run of workers did.
 use Rattle.std.specs.Prelude.{◌≡◌, ℕ, true, List, flat_map, length, map}
-use Rattle.answers.specs.interference.Net.{Net, IsNetwork, count_of}
-use Rattle.node_pool.specs.gather_laws.Outcome.{Gathered, Outcome, IsOutcome, entries_in, is_whole}
-use Rattle.async_colour_laws.specs.event_machine.State.{State}
-use Rattle.program_texts.specs.node_api.Program.{Program}
-use Rattle.answers.specs.transcripts.TranscriptText.{Row, stamped_transcript_of, transcript_of}
+use Rattle.interference.specs.Net.{Net, IsNetwork, count_of}
+use Rattle.gather_laws.specs.Outcome.{Gathered, Outcome, IsOutcome, entries_in, is_whole}
+use Rattle.event_machine.specs.State.{State}
+use Rattle.node_api.specs.Program.{Program}
+use Rattle.entries.specs.declared.rows.Row.{Row}
+use Rattle.transcripts.specs.TranscriptText.{stamped_transcript_of, transcript_of}
 use Rattle.answers.specs.Answers.{ReadsAs}
-use Rattle.answers.specs.net_core.Whole.{IsWholeReplay}
+use Rattle.net_core.specs.Whole.{IsWholeReplay}
 use Rattle.run_options.specs.declared.Edition.{Edition}
 use Rattle.run_options.specs.declared.Edition.TheVariants as edition
-use Rattle.stamps.specs.entries.Rows.{vertex_row}
-use Rattle.stamps.specs.Merged.{IsMerge, StampedRow, list_of}
-use Rattle.stamps.specs.Stamps.{bare_of}
+use Rattle.entries.specs.Rows.{vertex_row, bare_of}
+use Rattle.stamps.specs.Merged.{IsMerge, list_of}
+use Rattle.entries.specs.declared.rows.StampedRow.{StampedRow}
 
 -- the entries of a node without their stamps, each with its vertex
 abbrev pub rows_in : {S M : Type 0} → Gathered S M → List (Row M)

@@ -1,15 +1,15 @@
 -- The faults of runs of worker threads.
 use Rattle.std.specs.Prelude.{ℕ, Bool, List, Result, Ok, Err, if◌then◌else◌}
-use Rattle.answers.specs.dimacs_col.Lines.{lines_of}
-use Rattle.answers.specs.dimacs_col.Reading.{IsFault}
-use Rattle.answers.specs.interference.Net.{Net, IsNetwork}
-use Rattle.answers.specs.interference.Making.{IsFaultOf}
-use Rattle.node_pool.specs.run_options.Ranges.{AreInRange}
-use Rattle.node_pool.specs.run_options.Options.{Options}
-use Rattle.node_pool.specs.gather_laws.Outcome.{Outcome, IsOutcome, is_whole}
-use Rattle.answers.specs.pool.PoolFault.{PoolFault}
-use Rattle.answers.specs.pool.PoolFault.TheVariants as pool
-use Rattle.program_texts.specs.node_api.Program.{Program}
+use Rattle.dimacs_col.specs.Lines.{lines_of}
+use Rattle.dimacs_col.specs.Reading.{IsFault}
+use Rattle.interference.specs.Net.{Net, IsNetwork}
+use Rattle.interference.specs.Making.{IsFaultOf}
+use Rattle.run_options.specs.Ranges.{AreInRange}
+use Rattle.run_options.specs.declared.Options.{Options}
+use Rattle.gather_laws.specs.Outcome.{Outcome, IsOutcome, is_whole}
+use Rattle.run_faults.specs.declared.fault.PoolFault.{PoolFault}
+use Rattle.run_faults.specs.declared.fault.PoolFault.TheVariants as pool
+use Rattle.node_api.specs.Program.{Program}
 use Rattle.answers.specs.Answers.{ReadsAs}
 use Rattle.answers.specs.declared.fault.PlanFault.{PlanFault}
 use Rattle.answers.specs.declared.fault.PlanFault.TheVariants as plan

@@ -1,20 +1,24 @@
 //! Runs of worker threads, and the last states of their nodes.
 
 ghost use Rattle.std.specs.Prelude.{◌≡◌, ◌++◌, IfOk, IfErr, flat_map, map};
-ghost use Rattle.node_pool.specs.run_options.Ranges.{AreInRange};
-ghost use Rattle.node_pool.specs.outcomes.Gathers.{gathered_of};
+ghost use Rattle.run_options.specs.Ranges.{AreInRange};
+ghost use Rattle.outcomes.specs.Gathers.{gathered_of};
 ghost use Rattle.byte_functions.specs.Ends.{IsEndsAnswer, gathered_end};
 ghost use Rattle.byte_functions.specs.Workers.{IsFaultOfWorkers};
 
 use crate::workers::whole_run;
-use answers::{Memory, PlanFault, Refused, network_of_text};
+use actor::Gate;
+use answers::{PlanFault, network_of_text};
 use gather_laws::laws::whole_outcomes_have_ended;
-use node_pool::{Actor, Gate, Options};
+use interference::Memory;
+use node_api::Refused;
+use number_rows::push_numbered;
+use outcomes::Actor;
 use program_texts::ProgramText;
+use run_options::Options;
 use std::alloc::{AllocError, Global};
 use std::sync::Wait;
 use std::thread::Threads;
-use wire_texts::push_numbered;
 
 // Appends the line of a node.
 fn push_end<P: ProgramText>(text: &mut Vec<u8>, actor: &Actor<P>) -> Result<(), AllocError>

@@ -3,7 +3,7 @@
 ghost use Rattle.std.specs.Prelude.{◌≡◌, ◌∷◌, [], MatchOption, true};
 ghost use Rattle.byte_functions.specs.Merge.{starts_at};
 
-use stamps::{StampedEntry, StampedIter};
+use entries::{StampedEntry, StampedIter};
 use std::marker::Model;
 
 /// The entries that a node has left, by value, seen as their list. The first of them is read ahead, so that its stamp
@@ -16,7 +16,7 @@ pub struct LeftEntries<'a, T> {
 
 impl<'a, T> Model for LeftEntries<'a, T> {
     ghost use Rattle.std.specs.Prelude.{List};
-    ghost use Rattle.stamps.specs.Stamps.{StampedEntry};
+    ghost use Rattle.entries.specs.declared.rows.StampedEntry.{StampedEntry};
 
     ghost Value = { List (StampedEntry T) };
 

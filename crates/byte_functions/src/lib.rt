@@ -4,8 +4,8 @@
 //!
 //! `serving` calls `forest_bytes`, `plain_bytes`, `plan_bytes`, `transcript_bytes`, `check_bytes`, `events_bytes`,
 //! `replay_bytes`, `rounds_bytes` or `run_bytes` for a command, and `fault_report` if they fail. The three that run
-//! worker threads, `plan_bytes`, `transcript_bytes` and `run_bytes`, are here; the others are in `answers`, which is
-//! proved beside the worker threads. `transcript_bytes` and `run_bytes` are for any program of nodes.
+//! worker threads, `plan_bytes`, `transcript_bytes` and `run_bytes`, are here; the others are in `answers`, which needs
+//! no thread. `transcript_bytes` and `run_bytes` are for any program of nodes.
 //!
 //! ```
 //! let text = b"p edge 3 3\ne 1 2\ne 1 3\ne 2 3\n";
@@ -25,21 +25,6 @@ mod plan_text;
 mod transcript;
 mod workers;
 
-pub use answers::{
-    FaultReport, PlanFault, ReplayFault, check_bytes, events_bytes, fault_report, forest_bytes,
-    plain_bytes, replay_bytes, rounds_bytes,
-};
 pub use ends::run_bytes;
 pub use transcript::transcript_bytes;
 pub use workers::plan_bytes;
-
-// What crates above name of lower ones.
-pub use answers::{
-    Colouring, Long, Network, Payload, PoolFault, ProgramText, ReplayRefused, WholeRefused, Wire,
-    read_transcript, replay, replay_whole, stamped_text,
-};
-pub use node_pool::{Gate, OpenGate, Options, Outcome, run_workers};
-pub use run_options::Edition;
-pub use stamps::{
-    Counter, Entries, Entry, Row, StampFull, Stamped, StampedEntry, StampedRow, order, rising,
-};

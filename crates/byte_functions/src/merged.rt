@@ -1,15 +1,16 @@
 //! The transcript of a run of worker threads in one order, with stamps.
 
 ghost use Rattle.std.specs.Prelude.{◌≡◌, All, IfOk, length, map};
-ghost use Rattle.node_pool.specs.outcomes.Gathers.{gathered_of};
+ghost use Rattle.outcomes.specs.Gathers.{gathered_of};
 ghost use Rattle.stamps.specs.Stamps.{Rises};
 ghost use Rattle.byte_functions.specs.Transcripts.{IsMergedText};
 
 use crate::merging::Merging;
-use alpha_laws::NodeProgram;
-use answers::{Memory, push_stamped_row, stamped_text};
-use node_pool::Actor;
+use interference::Memory;
+use node_api::NodeProgram;
+use outcomes::Actor;
 use std::alloc::Global;
+use transcripts::{push_stamped_row, stamped_text};
 
 /// The transcript of nodes with stamps, in the order of the stamps and then of the vertices. Beside the nodes and the
 /// text it takes memory by the number of nodes.

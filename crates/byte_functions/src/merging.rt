@@ -2,13 +2,13 @@
 
 ghost use Rattle.std.specs.Prelude.{◌≡◌, ◌<◌, ◌^◌, IfOk, MatchOption, OnOk, drop, length, map};
 ghost use Rattle.std.specs.BinaryHeap.{KeepsHeap, heap_items, heap_len};
-ghost use Rattle.node_pool.specs.outcomes.Gathers.{gathered_of};
+ghost use Rattle.outcomes.specs.Gathers.{gathered_of};
 ghost use Rattle.byte_functions.specs.Merge.{AreKeys, IsKeyAdded, IsTaken, NoneLeft, key_cmp};
 
 use crate::left_entries::LeftEntries;
-use alpha_laws::{NodeProgram, PayloadText};
-use node_pool::Actor;
-use stamps::StampedRow;
+use entries::StampedRow;
+use node_api::{NodeProgram, PayloadText};
+use outcomes::Actor;
 use std::alloc::{AllocError, Global};
 use std::cmp::Reverse;
 use std::collections::BinaryHeap;

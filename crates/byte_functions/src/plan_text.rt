@@ -1,12 +1,14 @@
 //! The text of a channel plan, from the nodes that a run of workers left.
 
 ghost use Rattle.std.specs.Prelude.{◌≡◌, IfOk, map};
-ghost use Rattle.answers.specs.channel_plan.PlanText.{plan_of};
-ghost use Rattle.node_pool.specs.outcomes.Gathers.{gathered_of};
+ghost use Rattle.channel_plan.specs.PlanText.{plan_of};
+ghost use Rattle.outcomes.specs.Gathers.{gathered_of};
 ghost use Rattle.byte_functions.specs.Colours.{merged_of};
 
-use answers::{Colouring, Memory, plan_text};
-use node_pool::Actor;
+use channel_plan::plan_text;
+use colour_program::Colouring;
+use interference::Memory;
+use outcomes::Actor;
 use std::alloc::{AllocError, Global};
 
 // The colours of nodes, in their order.

@@ -1,21 +1,25 @@
 //! The transcript of a run of worker threads.
 
 ghost use Rattle.std.specs.Prelude.{◌≡◌, All, IfOk, IfErr, length, map};
-ghost use Rattle.node_pool.specs.run_options.Ranges.{AreInRange};
-ghost use Rattle.node_pool.specs.outcomes.Gathers.{gathered_of};
+ghost use Rattle.run_options.specs.Ranges.{AreInRange};
+ghost use Rattle.outcomes.specs.Gathers.{gathered_of};
 ghost use Rattle.stamps.specs.Stamps.{Rises};
 ghost use Rattle.byte_functions.specs.Transcripts.{IsTextIn, IsTranscriptAnswer, entries_text};
 ghost use Rattle.byte_functions.specs.Workers.{IsFaultOfWorkers};
 
 use crate::merged::merged_text;
 use crate::workers::whole_run;
-use alpha_laws::NodeProgram;
-use answers::{Memory, PlanFault, Refused, network_of_text, push_entries, push_first_line};
-use node_pool::{Actor, Gate, Options, whole_outcomes_replay};
-use run_options::Edition;
+use actor::Gate;
+use answers::{PlanFault, network_of_text};
+use gather_laws::laws::whole_outcomes_replay;
+use interference::Memory;
+use node_api::{NodeProgram, Refused};
+use outcomes::Actor;
+use run_options::{Edition, Options};
 use std::alloc::Global;
 use std::sync::Wait;
 use std::thread::Threads;
+use transcripts::{push_entries, push_first_line};
 
 // The transcript of nodes, each of which is dropped with its entries once its lines are written.
 fn text_of_actors<P: NodeProgram>(

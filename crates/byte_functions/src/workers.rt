@@ -1,17 +1,25 @@
 //! Runs of worker threads, and the channel plan that they find.
 
 ghost use Rattle.std.specs.Prelude.{◌≡◌, true, IfOk, IfErr};
-ghost use Rattle.node_pool.specs.run_options.Ranges.{AreInRange};
-ghost use Rattle.node_pool.specs.gather_laws.Outcome.{IsOutcome, is_whole};
+ghost use Rattle.run_options.specs.Ranges.{AreInRange};
+ghost use Rattle.gather_laws.specs.Outcome.{IsOutcome, is_whole};
 ghost use Rattle.answers.specs.Answers.{IsPlainAnswer};
 ghost use Rattle.byte_functions.specs.Workers.{IsFaultOfRun, IsFaultOfWorkers, MayRun, Ran, whole_after};
 
 use crate::plan_text::text_of_nodes;
-use alpha_laws::NodeProgram;
-use answers::laws::colours_are_proper;
-use answers::{Colouring, Network, Payload, PlanFault, Refused, network_of_text};
+use actor::Gate;
+use answers::{PlanFault, network_of_text};
 use async_colour_laws::laws::halted_nodes_are_coloured;
-use node_pool::{Gate, Options, Outcome, PoolFault, run_workers, whole_outcomes_are_complete};
+use colour_laws::laws::colours_are_proper;
+use colour_program::Colouring;
+use colour_rules::Payload;
+use gather_laws::laws::whole_outcomes_are_complete;
+use interference::Network;
+use node_api::{NodeProgram, Refused};
+use node_pool::run_workers;
+use outcomes::Outcome;
+use run_faults::PoolFault;
+use run_options::Options;
 use std::alloc::Global;
 use std::sync::Wait;
 use std::thread::Threads;

@@ -1,5 +1,4 @@
 mod Rows
-pub mod Numbers
 pub mod Barred
 pub mod Finding
 pub mod Tables
@@ -7,8 +6,5 @@ pub mod Counts
 pub mod Proper
 pub mod Same
 pub mod Readings
-pub mod Parts
-pub mod Splitting
-pub mod Blank
 pub mod Written
 pub mod Texts

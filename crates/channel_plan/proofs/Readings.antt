@@ -1,22 +1,12 @@
 -- What is known after one more line of a plan text.
 use Rattle.std.proofs.Common.{◌≡◌, ◌+◌, ◌++◌, ◌∷◌, [], ◌∙◌, ℕ, IfErr, Option, Some, None, Result, Ok, Err, List}
-use Rattle.std.proofs.Common.{false, true, ap, drop, refl, sym}
-use Rattle.std.specs.List.{slice_get}
+use Rattle.std.proofs.Common.{false, true, ap, refl, sym}
 use Rattle.dimacs_col.specs.Lines.{Line}
 use Rattle.channel_plan.specs.Reader.{IsSyntaxFault}
-use Rattle.channel_plan.specs.Reading.{IsFaultOfReading, Row, is_header, known_after, read_at_end, read_from, row_of}
+use Rattle.channel_plan.specs.Reading.{IsFaultOfReading, Row, is_header, known_after, read_at_end, read_from, reading_of, row_of}
 use Rattle.channel_plan.specs.declared.plan.CheckFault.{CheckFault}
 use Rattle.channel_plan.specs.declared.plan.CheckFault.TheVariants.{Barred, Clash, Memory, Missing, Stranger, Syntax, TooHigh}
 use Rattle.channel_plan.specs.declared.plan.CheckFault.TheVariants.{Twice}
-
--- ---- a line and its first field
-pub line-none : (line : Line) → None ≡ slice_get line 0 → line ≡ []
-line-none [] e = refl
-line-none (word ∷ words) e = absurd cc
-
-pub line-cons : (line rest : Line) (word : List ℕ) → Some word ≡ slice_get line 0 → rest ≡ drop 1 line → line ≡ word ∷ rest
-line-cons [] rest word e r = absurd cc
-line-cons (first ∷ words) rest word e r = let same : word ≡ first = cc in cc
 
 -- ---- one line
 pub known-blank : (known : Option (List Row)) (line : Line) → line ≡ [] → known_after known line ≡ Some known
@@ -75,3 +65,8 @@ pub fault-end : {A : Type 0} (lines : List Line) (n : ℕ) (wrong : Type 0) (r :
     IfErr r (IsSyntaxFault wrong n) → IfErr r (IsFaultOfReading lines)
 fault-end lines n wrong (Ok a) told is = tt
 fault-end lines n wrong (Err fault) told is = fault-line lines n wrong fault told is
+
+-- ---- an empty line
+pub read-empty : reading_of ([] ∷ []) ≡ reading_of []
+unfolding read_from known_after
+read-empty = refl

@@ -14,11 +14,10 @@ use Rattle.std.specs.List.{filter, slice_split}
 use Rattle.std.specs.Str.{all_ascii_digits}
 use Rattle.std.specs.Str.Lines.{strip_carriage_return}
 use Rattle.std.specs.Str.Parse.{digits_value}
-use Rattle.dimacs_col.specs.Lines.{Line, fields_of, is_blank, is_field, line_of, lines_of}
+use Rattle.dimacs_col.specs.Lines.{Line, fields_of, is_blank, is_field, line_of, lines_of, small_number}
 use Rattle.channel_plan.specs.PlanText.{plan_of, rows_from}
 use Rattle.channel_plan.specs.Reading.{Row, known_after, read_from, reading_of, row_of, row_with, rows_of}
-use Rattle.channel_plan.specs.Reading.{small_number}
-use Rattle.channel_plan.proofs.Numbers.{small-digits}
+use Rattle.dimacs_col.proofs.SmallNumbers.{small-digits}
 use Rattle.channel_plan.proofs.Readings.{read-one, then_read}
 
 -- ---- the digits of a number

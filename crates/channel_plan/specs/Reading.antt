@@ -1,18 +1,14 @@
 -- The reading of a plan text: the line `plan`, and then a row a line.
-use Rattle.std.specs.Prelude.{ℕ, ◌+◌, ◌^◌, ◌≡◌, Bool, false, true, Option, Some, None, Result, Ok, Err, List, [], ◌∷◌}
-use Rattle.std.specs.Prelude.{◌++◌, ◌==◌, if◌then◌else◌, codes, filter, map, nat_lt, option_and_then, option_map}
+use Rattle.std.specs.Prelude.{ℕ, ◌+◌, ◌≡◌, Bool, false, true, Option, Some, None, Result, Ok, Err, List, [], ◌∷◌}
+use Rattle.std.specs.Prelude.{◌++◌, ◌==◌, if◌then◌else◌, codes, filter, map, option_map}
 use Rattle.std.specs.Str.{bytes_eq}
-use Rattle.dimacs_col.specs.Lines.{Line, number_of}
+use Rattle.dimacs_col.specs.Lines.{Line, has_fields, small_number}
 use Rattle.channel_plan.specs.declared.plan.CheckFault.{CheckFault}
 use Rattle.channel_plan.specs.declared.plan.CheckFault.TheVariants.{Memory, Syntax}
 
 -- a row of a plan: a vertex, and its channel
 abbrev pub Row : Type 0
 Row = ℕ × ℕ
-
--- the number that a field spells, where it is below 2^32
-abbrev pub small_number : List ℕ → Option ℕ
-small_number field = option_and_then (λ n. if nat_lt n (2 ^ 32) then Some n else None) (number_of field)
 
 -- a channel is not 0
 abbrev pub row_with : Option ℕ → Option ℕ → Option Row
@@ -53,10 +49,6 @@ read_from n known (line ∷ lines) =
 -- the rows of a plan text, or the number of its first wrong line
 abbrev pub reading_of : List Line → Result (List Row) ℕ
 reading_of lines = read_from 1 None lines
-
-abbrev pub has_fields : Line → Bool
-has_fields [] = false
-has_fields (word ∷ words) = true
 
 -- the lines that have fields are the line `plan` and then these rows
 pub record IsPlanText (lines : List Line) (rows : List Row) : Type 0 where

@@ -1,28 +1,9 @@
-//! The fields of a line of a plan text, and the numbers that fields of other texts spell, too.
+//! The fields of a line of a plan text.
 
 ghost use Rattle.std.specs.Prelude.{◌≡◌, ◌∷◌, List, ℕ};
-ghost use Rattle.channel_plan.specs.Reading.{is_header, row_of, small_number};
+ghost use Rattle.channel_plan.specs.Reading.{is_header, row_of};
 
-use dimacs_col::Fields;
-
-/// The number that a field spells, if it is below 2^32.
-pub fn small_number(field: &[u8]) -> Option<u32>
-    ensures { result ≡ small_number field.now }
-{
-    if field.is_empty() {
-        return None;
-    }
-    let mut value: u32 = 0;
-    for digit in field {
-        if !digit.is_ascii_digit() {
-            return None;
-        }
-        value = value
-            .checked_mul(10)?
-            .checked_add(u32::from(*digit - b'0'))?;
-    }
-    Some(value)
-}
+use dimacs_col::{Fields, small_number};
 
 /// Whether a line, whose first field was taken, is `plan` alone.
 pub(crate) fn is_header(first: &[u8], mut others: Fields) -> bool

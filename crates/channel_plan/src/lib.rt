@@ -1,7 +1,7 @@
 //! Channel plans as text: written, read, and checked for a network.
 //!
-//! A plan text is `plan`, and then a line for each vertex with its channel. `byte_functions` writes the plans
-//! of its commands by `plan_text`, and checks the plans of anybody by `split_plan`, `read_plan` and `check`.
+//! A plan text is `plan`, and then a line for each vertex with its channel. `answers` and `byte_functions`
+//! write plans by `plan_text`, and `answers` checks the plans of anybody by `split_plan`, `read_plan` and `check`.
 //!
 //! ```
 //! let text = plan_text(alloc, &[1, 2, 0])?;          // "plan", "1 2", "2 3", "3 1", a line each
@@ -22,8 +22,7 @@ mod split;
 mod writing;
 
 pub use checking::check;
-pub use fields::small_number;
 pub use plan::{CheckFault, Plan};
 pub use reading::read_plan;
-pub use split::{TextStart, split_plan, text_before, text_start};
+pub use split::split_plan;
 pub use writing::plan_text;

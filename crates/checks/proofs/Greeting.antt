@@ -1,12 +1,12 @@
 -- The greeting of the colouring is legal: vertex 1 of the network of two says its identifier, and is safe then.
 use Rattle.std.proofs.Common.{◌≡◌, [], ◌∷◌, Some, refl, arith}
-use Rattle.alpha_core.specs.node_api.Program.{last_pulse_on}
-use Rattle.alpha_core.specs.node_api.Run.{node_at}
+use Rattle.node_api.specs.Program.{last_pulse_on}
+use Rattle.node_api.specs.Run.{node_at}
 use Rattle.alpha_core.specs.declared.wire.Wire.TheVariants.{Payload, Safe}
 use Rattle.alpha_core.specs.Program.{sends}
 use Rattle.link_rule.specs.Legal.{IsLegalOn, name_of}
-use Rattle.colour_program.specs.colour_rules.Program.{colouring}
-use Rattle.colour_program.specs.colour_rules.Payload.TheVariants.{Hello}
+use Rattle.colour_rules.specs.Program.{colouring}
+use Rattle.colour_rules.specs.declared.payload.Payload.TheVariants.{Hello}
 use Rattle.checks.specs.LinkRows.{pair_net}
 use Rattle.checks.proofs.LinkRows.{first_round}
 

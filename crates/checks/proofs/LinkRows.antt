@@ -8,11 +8,11 @@ use Rattle.std.proofs.Common.{◌≡◌, ◌≢◌, ℕ, suc, zero, ◌<◌, ◌
 use Rattle.std.proofs.Common.{append-nil, lt-ltb, ⊎_elim}
 use Rattle.std.specs.Prelude.{Result, Ok, Err, IfOk, Contains, max}
 use Rattle.std.proofs.lemmas.List.Elements.{Contains-append_cases, Contains-append_left, Contains-push}
-use Rattle.alpha_core.specs.interference.Net.{Net}
-use Rattle.alpha_core.specs.node_api.Boxes.{at_port}
-use Rattle.alpha_core.specs.interference.Making.{network_of}
-use Rattle.alpha_core.specs.node_api.Program.{Program}
-use Rattle.alpha_core.specs.node_api.Run.{node_at, state_at, outbox_at}
+use Rattle.interference.specs.Net.{Net}
+use Rattle.node_api.specs.Boxes.{at_port}
+use Rattle.interference.specs.Making.{network_of}
+use Rattle.node_api.specs.Program.{Program}
+use Rattle.node_api.specs.Run.{node_at, state_at, outbox_at}
 use Rattle.alpha_core.specs.declared.wire.Wire.{Wire}
 use Rattle.alpha_core.specs.declared.wire.Wire.TheVariants.{Payload, Ack, Safe, Close}
 use Rattle.alpha_core.specs.Wires.{data_of, acks_of}

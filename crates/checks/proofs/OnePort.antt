@@ -5,7 +5,7 @@ use Rattle.std.proofs.lemmas.List.{length-map, length-set}
 use Rattle.alpha_core.specs.declared.wire.Wire.{Wire}
 use Rattle.alpha_core.specs.declared.wire.Wire.TheVariants.{Payload, Ack, Safe, Close}
 use Rattle.alpha_core.specs.declared.refused.AlphaRefused.{AlphaRefused}
-use Rattle.alpha_core.specs.node_api.Refused.{Refused}
+use Rattle.node_api.specs.declared.program.Refused.{Refused}
 use Rattle.alpha_core.specs.View.{View, Node, Alpha, port_at, none_waits, set_at}
 use Rattle.alpha_core.specs.Alpha.{reaction, reacts, takes, unless_refused, PulseRefused, pulse, pulsed, advances, emit, entering}
 use Rattle.alpha_core.specs.Table.{refusal_of}

@@ -1,6 +1,6 @@
 -- The network of two nodes, and what `Greatest` sends over its links.
 use Rattle.std.specs.Prelude.{ℕ, zero, suc, List, [], ◌∷◌, ◌++◌}
-use Rattle.alpha_core.specs.interference.Net.{Net}
+use Rattle.interference.specs.Net.{Net}
 use Rattle.alpha_core.specs.declared.wire.Wire.{Wire}
 use Rattle.alpha_core.specs.declared.wire.Wire.TheVariants.{Payload, Ack, Safe}
 use Rattle.sync_rounds.specs.declared.greatest.Best.{Best}

@@ -1,14 +1,15 @@
 //! The text of each kind of payload, at its greatest number and one beyond; and each call once.
 
 ghost use Rattle.std.specs.Prelude.{◌≡◌};
-ghost use Rattle.alpha_core.specs.interference.Net.{IsVertex, degree_of};
-ghost use Rattle.alpha_core.specs.node_api.Boxes.{nothing, unread};
-ghost use Rattle.colour_program.specs.colour_rules.Node.{ports};
+ghost use Rattle.interference.specs.Net.{IsVertex, degree_of};
+ghost use Rattle.node_api.specs.Boxes.{nothing, unread};
+ghost use Rattle.colour_rules.specs.Node.{ports};
 
 use crate::networks::edge;
 use crate::told::Told;
-use alpha_core::{Inbox, Network, Outbox, PayloadText};
-use colour_program::{ColourNode, IdlePulses, Payload, Phase, Reduction};
+use colour_rules::{ColourNode, IdlePulses, Payload, Phase, Reduction};
+use interference::Network;
+use node_api::{Inbox, Outbox, PayloadText};
 use std::alloc::Global;
 
 static TEXTS: [(Told, &str, u128); 4] = [

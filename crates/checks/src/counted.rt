@@ -1,7 +1,8 @@
 //! A program whose working space counts the engine's calls.
 ghost use Rattle.std.specs.Prelude.{◌≡◌};
 
-use alpha_core::{Inbox, Memory, Network, NodeProgram, Outbox, Refused};
+use interference::{Memory, Network};
+use node_api::{Inbox, NodeProgram, Outbox, Refused};
 use std::alloc::Global;
 use std::marker::Model;
 use sync_rounds::{Best, Greatest};

@@ -3,11 +3,12 @@
 
 ghost use Rattle.std.specs.Prelude.{◌≡◌, ◌<◌, ◌≤◌, All, IfOk, length, map, vec_len};
 ghost use Rattle.crossbeam_deque.specs.Handles.{stealer_deque};
-ghost use Rattle.worker_deques.specs.deque_rule.Deques.{deque_of};
+ghost use Rattle.deque_rule.specs.Deques.{deque_of};
 
 use crossbeam_deque::protocol::Split;
+use deque_rule::{Ledger, Task, Thief};
 use std::alloc::{AllocError, Global};
-use worker_deques::{Desk, Ledger, Task, Thief, cut, deal, make_deques, make_desks};
+use worker_deques::{Desk, cut, deal, make_deques, make_desks};
 
 // A task that is only a number.
 #[derive(Drop)]
@@ -28,7 +29,7 @@ struct Dealt;
 
 impl Split<Ledger> for Dealt {
     ghost use Rattle.std.specs.Prelude.{[], ◌-◌};
-    ghost use Rattle.worker_deques.specs.deque_rule.Ledgers.{ledger};
+    ghost use Rattle.deque_rule.specs.Ledgers.{ledger};
 
     ghost left = { λ v. ledger (v.shares - 1) [] [] };
 

@@ -3,12 +3,12 @@
 //! refused.
 
 ghost use Rattle.std.specs.Prelude.{◌≡◌};
-ghost use Rattle.alpha_core.specs.interference.Net.{count_of, degree_of};
+ghost use Rattle.interference.specs.Net.{count_of, degree_of};
 
 use crate::net_core_checks::run_all;
 use crate::networks::edge;
-use alpha_core::{Memory, Network};
 use event_machine::{Event, NetState, RunRefused, StepRefused};
+use interference::{Memory, Network};
 use std::alloc::Global;
 use sync_rounds::Greatest;
 

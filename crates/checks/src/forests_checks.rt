@@ -1,9 +1,9 @@
 //! Ports that are numbered, and networks that are decomposed.
 
 use crate::networks::network;
-use alpha_core::Network;
 use forests::Role::{Down, Unknown, Up};
 use forests::{decompose, number_up};
+use interference::Network;
 use std::alloc::Global;
 
 // Whether a network is decomposed into these triples.

@@ -3,9 +3,10 @@
 ghost use Rattle.std.specs.Prelude.{◌≡◌, [], ◌∷◌, IfOk, map};
 ghost use Rattle.checks.specs.LinkRows.{lone_net};
 
-use actor::TurnRefused;
-use alpha_core::{Memory, Network};
-use pool::{Links, Node, OpenGate, PoolFault, Wiring, run_nodes};
+use actor::{Links, Node, OpenGate, TurnRefused, Wiring};
+use interference::{Memory, Network};
+use pool::run_nodes;
+use run_faults::PoolFault;
 use std::alloc::Global;
 use std::sync::Wait;
 use std::thread::Threads;

@@ -1,7 +1,8 @@
 //! A program that writes down what comes to it.
 ghost use Rattle.std.specs.Prelude.{◌≡◌};
 
-use alpha_core::{Inbox, Memory, Network, NodeProgram, Outbox, Refused};
+use interference::{Memory, Network};
+use node_api::{Inbox, NodeProgram, Outbox, Refused};
 use std::alloc::Global;
 use std::marker::Model;
 

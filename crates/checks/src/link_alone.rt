@@ -8,8 +8,10 @@ ghost use Rattle.link_queue.specs.Ends.{IsNewPutEnd, IsPutEndOf, IsTakeEndOf, St
 ghost use Rattle.link_queue.specs.Ends.{take_name};
 ghost use Rattle.checks.specs.LinkRows.{pair_net};
 
-use alpha_core::{Memory, Network, NodeProgram, Stamped, Wire};
+use alpha_core::{Stamped, Wire};
+use interference::{Memory, Network};
 use link_queue::{Full, Link, MeetRefused, Met, PutEnd, TakeEnd};
+use node_api::NodeProgram;
 use std::alloc::Global;
 use std::sync::Wait;
 use sync_rounds::{Best, Greatest};

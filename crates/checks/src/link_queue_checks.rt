@@ -5,8 +5,10 @@ ghost use Rattle.checks.specs.LinkRows.{pair_net};
 
 use crate::link_alone::{met_again, one_after_another};
 use crate::link_threads::hand_over;
-use alpha_core::{NetFault, Network, Stamped, Wire, bars_fit, edges_fit};
-use colour_program::{Colouring, Long, Payload};
+use alpha_core::{Stamped, Wire};
+use colour_program::Colouring;
+use colour_rules::{Long, Payload};
+use interference::{NetFault, Network, bars_fit, edges_fit};
 use link_rule::StreamCheck;
 use run_options::MAX_CAPACITY;
 use std::alloc::Global;

@@ -12,7 +12,8 @@ ghost use Rattle.link_queue.specs.Ends.{put_stamped, take_name};
 ghost use Rattle.checks.specs.LinkRows.{echoes};
 
 use crate::link_alone::held_at_the_end;
-use alpha_core::{Memory, Network, Stamped, Wire};
+use alpha_core::{Stamped, Wire};
+use interference::{Memory, Network};
 use link_queue::{Link, PutEnd, TakeEnd};
 use run_options::MAX_CAPACITY;
 use std::alloc::Global;

@@ -5,9 +5,9 @@ ghost use Rattle.link_queue.specs.Ends.{put_list, put_name, take_name, taken_lis
 ghost use Rattle.actor.specs.Tables.{IsEndAt, table_of};
 ghost use Rattle.checks.specs.LinkRows.{pair_net};
 
-use actor::TurnRefused;
-use alpha_core::{Memory, Network};
-use pool::{Link, Links, Node, OpenGate, PutEnd, TakeEnd, WiredPut, WiredTake, Wiring};
+use actor::{Links, Node, OpenGate, TurnRefused, WiredPut, WiredTake, Wiring};
+use interference::{Memory, Network};
+use link_queue::{Link, PutEnd, TakeEnd};
 use std::alloc::Global;
 use std::marker::Brand;
 use std::sync::Wait;

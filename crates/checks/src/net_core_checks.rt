@@ -1,15 +1,17 @@
 //! Lists of events on the triangle: what `run` refuses, and what node 3 hears though two wires come a pulse early.
 
 ghost use Rattle.std.specs.Prelude.{◌≡◌, IfOk};
-ghost use Rattle.alpha_core.specs.interference.Net.{count_of};
+ghost use Rattle.interference.specs.Net.{count_of};
 
 use crate::heard::{Came, Heard};
 use crate::networks::{edge, network};
 use crate::told::Told;
-use alpha_core::{Network, NodeProgram};
-use colour_program::{Colouring, Payload};
+use colour_program::Colouring;
+use colour_rules::Payload;
 use event_machine::{Event, NetState, RunRefused};
+use interference::Network;
 use net_core::run;
+use node_api::NodeProgram;
 use std::alloc::Global;
 use sync_rounds::Greatest;
 

@@ -1,6 +1,6 @@
 //! The networks of most tests, in boxes: to own a box costs less proof than to own a network.
 
-use alpha_core::{Memory, Network};
+use interference::{Memory, Network};
 use std::alloc::Global;
 
 /// The network of these identifiers and edges.

@@ -1,8 +1,8 @@
 //! Each call of an inbox and an outbox once, with ample memory, at payloads of one byte.
 ghost use Rattle.std.specs.Prelude.{◌≡◌, length};
-ghost use Rattle.alpha_core.specs.node_api.Boxes.{nothing};
+ghost use Rattle.node_api.specs.Boxes.{nothing};
 
-use alpha_core::{Inbox, Outbox, Sent};
+use node_api::{Inbox, Outbox, Sent};
 
 // Whether this payload of this port is the next to be read.
 fn next_is(inbox: &mut Inbox<u8>, port: u32, payload: u8) -> bool

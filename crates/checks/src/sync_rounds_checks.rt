@@ -2,7 +2,8 @@
 
 use crate::counted::Counted;
 use crate::networks::network;
-use alpha_core::{Network, PayloadText};
+use interference::Network;
+use node_api::PayloadText;
 use std::alloc::Global;
 use sync_rounds::{Best, Greatest, run_rounds};
 

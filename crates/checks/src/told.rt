@@ -1,7 +1,7 @@
 //! Payloads of the colouring as the tables of the tests have them: a static can't hold a payload, whose numbers have
 //! a model.
 
-use colour_program::{Long, Payload, Short};
+use colour_rules::{Long, Payload, Short};
 
 /// What a node sends.
 #[derive(Clone, Copy)]

@@ -6,7 +6,7 @@ use Rattle.std.proofs.lemmas.Bool.Decides.{nat_tests}
 use Rattle.std.proofs.Math.Nat.{mul-le-mul_right}
 use Rattle.std.proofs.lemmas.Bool.{cases_order}
 use Rattle.std.proofs.Common.{inl, inr}
-use Rattle.node_api.specs.interference.Net.{Net, IsBarred, IsVertex, bars_of, degree_of, id_of, neighbour_of, neighbours, span_of}
+use Rattle.interference.specs.Net.{Net, IsBarred, IsVertex, bars_of, degree_of, id_of, neighbour_of, neighbours, span_of}
 use Rattle.node_api.specs.Program.{sizes_of}
 use Rattle.colour_base.specs.Forest.{IsProper, IsWithin}
 use Rattle.cole_vishkin.specs.Digits.{HasDigits}

@@ -30,19 +30,8 @@ use Rattle.std.specs.Prelude.{
 use Rattle.std.specs.List.{range_with_len}
 use Rattle.std.specs.Ordering.{nat_cmp}
 use Rattle.std.specs.FinSet.{FinSet, empty, from_list}
-use Rattle.node_api.specs.interference.Net.{
-  Net,
-  IsVertex,
-  id_of,
-  bars_of,
-  degree_of,
-  neighbours,
-  neighbour_of,
-  forest_count_of,
-  greatest_bars_of,
-  greatest_degree_of,
-  span_of,
-}
+use Rattle.interference.specs.Net.{Net, IsVertex, id_of, bars_of, degree_of, neighbours, neighbour_of, forest_count_of, greatest_bars_of, greatest_degree_of}
+use Rattle.interference.specs.Net.{span_of}
 use Rattle.node_api.specs.Program.{sizes_of}
 use Rattle.forests.specs.Forests.{number, parent, role_of}
 use Rattle.colour_laws.specs.Colours.{three, colours_after}

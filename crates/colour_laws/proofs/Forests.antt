@@ -5,19 +5,10 @@ use Rattle.std.specs.List.{Contains}
 use Rattle.std.proofs.lemmas.Bool.Decides.{nat_tests}
 use Rattle.std.proofs.lemmas.Bool.{cases_eq}
 use Rattle.std.proofs.lemmas.List.Elements.{Contains-get_or}
-use Rattle.node_api.specs.interference.Net.{Net, IsNetwork, IsVertex, id_of, neighbours, degree_of, neighbour_of, place_of}
-use Rattle.node_api.proofs.interference.Members.{filter-map}
-use Rattle.node_api.proofs.interference.Neighbours.{
-  both-ways,
-  neighbour-is_vertex,
-  neighbour-id,
-  neighbour-ids,
-  id-small,
-  bars-within,
-  degree-within,
-  port-of,
-  higher_count-le-forests,
-}
+use Rattle.interference.specs.Net.{Net, IsNetwork, IsVertex, id_of, neighbours, degree_of, neighbour_of, place_of}
+use Rattle.interference.proofs.Members.{filter-map}
+use Rattle.interference.proofs.Neighbours.{both-ways, neighbour-is_vertex, neighbour-id, neighbour-ids, id-small, bars-within, degree-within, port-of}
+use Rattle.interference.proofs.Neighbours.{higher_count-le-forests}
 use Rattle.forests.specs.Forests.{higher, up, parent, number, role_of, role_by}
 use Rattle.forests.specs.Order.{in_order}
 use Rattle.forests.proofs.Sorts.{order-map}

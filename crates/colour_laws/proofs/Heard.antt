@@ -7,7 +7,7 @@ use Rattle.std.proofs.lemmas.Bool.{cases_order}
 use Rattle.std.specs.Ordering.{nat_cmp}
 use Rattle.std.specs.FinSet.{FinSet, empty, insert, contains, from_list, contains-empty, contains-from_list_nat}
 use Rattle.forest_merge.proofs.Sets.{contains-insert_colour, same_colours}
-use Rattle.node_api.specs.interference.Net.{Net, neighbours}
+use Rattle.interference.specs.Net.{Net, neighbours}
 use Rattle.colour_rules.specs.declared.payload.Payload.{Payload}
 use Rattle.colour_rules.specs.declared.payload.Payload.TheVariants.{Hello, Label, Colour, Chosen}
 use Rattle.colour_rules.specs.Choice.{with_chosen}

@@ -16,4 +16,3 @@ pub mod Proper
 pub mod Rounds
 pub mod FirstRefusal
 pub mod StepsInOrder
-pub mod colour_rules

@@ -3,8 +3,8 @@ use Rattle.std.proofs.Common.{◌≡◌, ℕ, zero, suc, ◌+◌, ◌<◌, ◌�
 use Rattle.std.specs.Prelude.{if◌then◌else◌, map, Option, None, count_by}
 use Rattle.std.specs.List.{range_with_len, fold}
 use Rattle.std.proofs.lemmas.List.{get_or-map}
-use Rattle.node_api.specs.interference.Net.{Net, IsNetwork, IsVertex, degree_of, neighbours, neighbour_of, port_to}
-use Rattle.node_api.proofs.interference.Members.{place_of-is}
+use Rattle.interference.specs.Net.{Net, IsNetwork, IsVertex, degree_of, neighbours, neighbour_of, port_to}
+use Rattle.interference.proofs.Members.{place_of-is}
 use Rattle.node_api.specs.Boxes.{at_port}
 use Rattle.std.specs.List.{list_any}
 use Rattle.node_api.specs.Run.{inbox_from}

@@ -6,7 +6,7 @@ use Rattle.std.specs.Prelude.{◌||◌, if◌then◌else◌, map, not, Option, S
 use Rattle.std.proofs.lemmas.Bool.Decides.{nat_tests}
 use Rattle.std.specs.Ordering.{nat_cmp}
 use Rattle.std.specs.FinSet.{contains, from_list, contains-from_list_nat}
-use Rattle.node_api.specs.interference.Net.{Net, IsNetwork, IsVertex, bars_of, id_of, neighbours, forest_count_of, span_of}
+use Rattle.interference.specs.Net.{Net, IsNetwork, IsVertex, bars_of, id_of, neighbours, forest_count_of, span_of}
 use Rattle.node_api.specs.Program.{sizes_of, span, Sizes}
 use Rattle.colour_laws.specs.Colours.{three}
 use Rattle.colour_base.proofs.LeastKnown.{least-same}

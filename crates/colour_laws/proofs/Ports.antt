@@ -5,7 +5,7 @@ use Rattle.std.proofs.lemmas.Bool.Decides.{nat_tests}
 use Rattle.std.proofs.lemmas.Bool.{lt-ltb}
 use Rattle.std.proofs.lemmas.List.FromFn.{get_or-map-range_with_len}
 use Rattle.std.specs.List.{list_any}
-use Rattle.node_api.specs.interference.Net.{Net, forest_count_of}
+use Rattle.interference.specs.Net.{Net, forest_count_of}
 use Rattle.node_api.specs.Program.{Sizes}
 use Rattle.colour_rules.specs.declared.payload.Payload.{Payload}
 use Rattle.colour_rules.specs.declared.payload.Payload.TheVariants.{Colour}

@@ -3,7 +3,7 @@ use Rattle.std.proofs.Common.{◌≡◌, ◌≢◌, ℕ, zero, suc, ◌<◌, ref
 use Rattle.std.specs.Prelude.{Some}
 use Rattle.std.specs.List.{Contains}
 use Rattle.std.proofs.lemmas.List.{get_or_default}
-use Rattle.node_api.specs.interference.Net.{Net, IsNetwork, IsVertex, id_of, neighbours, degree_of, neighbour_of, forest_count_of, port_to}
+use Rattle.interference.specs.Net.{Net, IsNetwork, IsVertex, id_of, neighbours, degree_of, neighbour_of, forest_count_of, port_to}
 use Rattle.forest_merge.specs.Merge.{IsNumbered, merge}
 use Rattle.colour_base.specs.Forest.{IsProper}
 use Rattle.colour_laws.specs.Colours.{three}
@@ -19,7 +19,7 @@ use Rattle.colour_laws.specs.Colours.{merging, colours_after, colours}
 use Rattle.colour_laws.proofs.Expected.{IsForest}
 use Rattle.forests.specs.Forests.{role_of}
 use Rattle.forests.specs.Forests.{parent}
-use Rattle.node_api.proofs.interference.Members.{place_of-is}
+use Rattle.interference.proofs.Members.{place_of-is}
 use Rattle.colour_laws.proofs.Forests.{has_forest}
 
 module _ (net : Net) (ok : IsNetwork net) where

@@ -1,7 +1,7 @@
 -- The rounds of the colouring are a node program.
 use Rattle.std.proofs.Common.{sym, ◌∙◌}
 use Rattle.std.specs.Prelude.{None}
-use Rattle.node_api.specs.interference.Net.{neighbours}
+use Rattle.interference.specs.Net.{neighbours}
 use Rattle.node_api.specs.Laws.{IsProgram}
 use Rattle.colour_rules.specs.Program.{colouring}
 use Rattle.colour_rules.proofs.KeptPorts.{keeps}

@@ -7,7 +7,7 @@ use Rattle.std.specs.Prelude.{map, Option, None}
 use Rattle.std.proofs.lemmas.Nat.{div-add-mod', div_below, mod_below}
 use native.Mathlib.Decide.{dec_lt}
 use Prim.{yes, no}
-use Rattle.node_api.specs.interference.Net.{Net, IsNetwork, IsVertex, neighbours, neighbour_of, forest_count_of}
+use Rattle.interference.specs.Net.{Net, IsNetwork, IsVertex, neighbours, neighbour_of, forest_count_of}
 use Rattle.node_api.specs.Program.{sizes_of}
 use Rattle.colour_rules.specs.declared.payload.Payload.{Payload}
 use Rattle.colour_rules.specs.Node.{Node, steps, last}

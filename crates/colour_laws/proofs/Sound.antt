@@ -4,7 +4,7 @@
 use Rattle.std.proofs.Common.{◌≡◌, ℕ, zero, suc, ◌+◌, ◌<◌, ◌≤◌, false, refl, ◌∙◌, arith}
 use Rattle.std.specs.Prelude.{nat_lt}
 use Rattle.std.proofs.lemmas.Bool.{le-ltb}
-use Rattle.node_api.specs.interference.Net.{Net, id_of}
+use Rattle.interference.specs.Net.{Net, id_of}
 use Rattle.cole_vishkin.specs.BitStep.{bit_steps}
 use Rattle.shift_down.specs.Steps.{shift, reduce}
 use Rattle.colour_base.specs.Forest.{IsProper, IsWithin}

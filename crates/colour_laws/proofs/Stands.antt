@@ -1,7 +1,7 @@
 -- What stands after a pulse of the synchronous run, and what the next pulse makes of it.
 use Rattle.std.proofs.Common.{◌≡◌, ℕ, suc, List, refl, ap, ◌∙◌}
 use Rattle.std.specs.Prelude.{map, Option, Ok, IsOk}
-use Rattle.node_api.specs.interference.Net.{Net, IsNetwork, IsVertex, neighbours, degree_of}
+use Rattle.interference.specs.Net.{Net, IsNetwork, IsVertex, neighbours, degree_of}
 use Rattle.node_api.specs.Run.{node_at, inbox_from, after}
 use Rattle.node_api.proofs.Runs.{node_at-more}
 use Rattle.colour_rules.specs.declared.payload.Payload.{Payload}

@@ -4,19 +4,7 @@ use Rattle.std.specs.Prelude.{if◌then◌else◌, map, not, replicate, Option, 
 use Rattle.std.specs.List.{range_with_len}
 use Rattle.std.proofs.lemmas.Bool.Decides.{nat_tests}
 use Rattle.std.proofs.lemmas.Bool.{cases_order}
-use Rattle.node_api.specs.interference.Net.{
-  Net,
-  IsNetwork,
-  IsVertex,
-  bars_of,
-  id_of,
-  neighbours,
-  degree_of,
-  neighbour_of,
-  forest_count_of,
-  place_of,
-  span_of,
-}
+use Rattle.interference.specs.Net.{Net, IsNetwork, IsVertex, bars_of, id_of, neighbours, degree_of, neighbour_of, forest_count_of, place_of, span_of}
 use Rattle.node_api.specs.Program.{own_of, sizes_of}
 use Rattle.node_api.proofs.Runs.{node_at-none}
 use Rattle.colour_rules.specs.declared.payload.Payload.{Payload}

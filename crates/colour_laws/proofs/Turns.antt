@@ -5,7 +5,7 @@ use Rattle.std.specs.Prelude.{if◌then◌else◌, map, Option, None}
 use Rattle.std.proofs.lemmas.Bool.Decides.{nat_tests}
 use Rattle.std.specs.Ordering.{nat_cmp}
 use Rattle.std.specs.FinSet.{FinSet, empty}
-use Rattle.node_api.specs.interference.Net.{Net, IsNetwork, neighbours, neighbour_of, forest_count_of}
+use Rattle.interference.specs.Net.{Net, IsNetwork, neighbours, neighbour_of, forest_count_of}
 use Rattle.node_api.specs.Program.{sizes_of}
 use Rattle.node_api.specs.Run.{inbox_from}
 use Rattle.colour_rules.specs.declared.phase.TheConstants.{FIRST_MERGE}

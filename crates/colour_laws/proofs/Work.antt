@@ -5,7 +5,7 @@ use Rattle.std.proofs.Common.{◌≡◌, ℕ, zero, suc, ◌+◌, ◌<◌, ◌==
 use Rattle.std.specs.Prelude.{map, Option, Some, None, Ok}
 use Rattle.std.specs.List.{range_with_len}
 use Rattle.std.proofs.lemmas.Bool.Decides.{nat_tests}
-use Rattle.node_api.specs.interference.Net.{Net, IsNetwork, IsVertex, degree_of, neighbours, neighbour_of, forest_count_of}
+use Rattle.interference.specs.Net.{Net, IsNetwork, IsVertex, degree_of, neighbours, neighbour_of, forest_count_of}
 use Rattle.node_api.specs.Program.{sizes_of}
 use Rattle.node_api.specs.Run.{inbox_from}
 use Rattle.colour_base.specs.Forest.{at_parent, colour_of}

@@ -1,4 +1,3 @@
 pub mod Colours
 pub mod FirstRefusal
 pub mod Rows
-pub mod colour_rules

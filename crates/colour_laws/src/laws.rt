@@ -2,7 +2,7 @@
 ghost use Rattle.std.specs.Prelude.{◌≡◌, ◌≢◌, ◌<◌, ◌≤◌, ◌↔◌, ◌*◌, ◌+◌, ◌%◌, ℕ, List, Option, None, Some};
 ghost use Rattle.std.specs.Prelude.{IsTrue, false, length, map, nat_lt, slice_index};
 ghost use Rattle.std.specs.List.{range_with_len};
-ghost use Rattle.node_api.specs.interference.Net.{IsBarred, IsEdge, IsNetwork, IsVertex, Net, id_of, span_of};
+ghost use Rattle.interference.specs.Net.{IsBarred, IsEdge, IsNetwork, IsVertex, Net, id_of, span_of};
 ghost use Rattle.node_api.specs.Laws.{IsProgram};
 ghost use Rattle.node_api.specs.Program.{Sizes, last_pulse_on, span};
 ghost use Rattle.node_api.specs.Run.{state_at};
@@ -28,7 +28,8 @@ ghost use Rattle.forest_merge.specs.Step.{step_of};
 ghost use Rattle.colour_laws.specs.declared.laws.TheConstants.{MAX_LAST_PULSE};
 
 use colour_rules::FIRST_MERGE;
-use node_api::{MAX_BARS, MAX_DEGREE};
+use graph_limits::MAX_BARS;
+use interference::MAX_DEGREE;
 
 /// The last pulse in a network of the greatest degree, the most bars and the most forests that a network may have.
 pub const MAX_LAST_PULSE: u32 = FIRST_MERGE - 1 + MAX_DEGREE * 3 * (MAX_DEGREE + MAX_BARS + 1);

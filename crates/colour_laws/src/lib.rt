@@ -17,8 +17,3 @@
 #![tactic(auto)]
 
 pub mod laws;
-
-// What crates above name of lower ones.
-pub use colour_rules::{
-    ColourNode, FIRST_MERGE, IdlePulses, Long, Payload, Phase, Reduction, Schedule, Short, rules,
-};

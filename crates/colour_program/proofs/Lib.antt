@@ -1,3 +1,2 @@
 mod Pulses
 mod Sizes
-pub mod colour_rules

@@ -1,7 +1,7 @@
 -- How many pulses there are.
 use Rattle.std.proofs.Common.{ℕ, ◌+◌, ◌*◌, ◌^◌, ◌<◌, ◌≤◌, arith, mul-le-mul}
-use Rattle.node_api.below.dimacs_col.specs.declared.limits.TheConstants.{MAX_BARS}
-use Rattle.node_api.below.interference.specs.declared.limits.TheConstants.{MAX_DEGREE}
+use Rattle.graph_limits.specs.declared.limits.TheConstants.{MAX_BARS}
+use Rattle.interference.specs.declared.limits.TheConstants.{MAX_DEGREE}
 
 -- the pulses of the merging are few enough to be counted in 31 bits
 pub pulses-few : (forests degree bars : ℕ) → forests ≤ MAX_DEGREE → degree ≤ MAX_DEGREE → bars ≤ MAX_BARS → forests * (3 * (degree + bars + 1)) < 2 ^ 31

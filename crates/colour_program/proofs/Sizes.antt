@@ -1,16 +1,16 @@
 -- Every node of the run knows the sizes of its network.
 use Rattle.std.proofs.Common.{◌≡◌, ◌∙◌, ℕ, zero, suc, List, Option, Some, None, ap, refl}
-use Rattle.node_api.specs.interference.Net.{Net, degree_of}
+use Rattle.interference.specs.Net.{Net, degree_of}
 use Rattle.node_api.specs.Program.{sizes_of}
 use Rattle.node_api.specs.Run.{after, inbox_from, node_at, state_at}
 use Rattle.node_api.specs.declared.program.Refused.{Refused}
 use Rattle.node_api.proofs.Runs.{node_at-more, node_at-none}
-use Rattle.colour_laws.specs.colour_rules.Payload.{Payload}
-use Rattle.colour_laws.specs.colour_rules.Phase.{Phase}
-use Rattle.colour_laws.specs.colour_rules.Phase.TheVariants.{Greet, Orient, Seed, Work, Merge, Halted}
-use Rattle.colour_laws.specs.colour_rules.Node.{Node, phase_of}
-use Rattle.colour_laws.specs.colour_rules.Program.{answered, colouring, done}
-use Rattle.colour_laws.specs.colour_rules.Refusals.{refusal}
+use Rattle.colour_rules.specs.declared.payload.Payload.{Payload}
+use Rattle.colour_rules.specs.declared.phase.Phase.{Phase}
+use Rattle.colour_rules.specs.declared.phase.Phase.TheVariants.{Greet, Orient, Seed, Work, Merge, Halted}
+use Rattle.colour_rules.specs.Node.{Node, phase_of}
+use Rattle.colour_rules.specs.Program.{answered, colouring, done}
+use Rattle.colour_rules.specs.Refusals.{refusal}
 
 done-sizes : (node : Node) (phase : Phase) (inbox : List (Option Payload)) → (done node phase inbox).0.sizes ≡ node.sizes
 done-sizes node Greet inbox = refl

@@ -3,18 +3,17 @@ use Rattle.std.specs.Prelude.{ℕ, ◌+◌, ◌/◌, ◌%◌, ◌==◌, if◌the
 use Rattle.std.specs.Prelude.{slice_index}
 use Rattle.std.specs.List.{range_with_len}
 use Rattle.std.proofs.Common.{arith, rules}
-use Rattle.node_api.specs.interference.Net.{Net, count_of, forest_count_of, greatest_bars_of, greatest_degree_of}
+use Rattle.interference.specs.Net.{Net, count_of, forest_count_of, greatest_bars_of, greatest_degree_of}
 use Rattle.node_api.specs.Program.{Sizes, last_pulse_on, sizes_of, span}
-use Rattle.colour_laws.specs.colour_rules.Reduction.{Reduction}
-use Rattle.colour_laws.specs.colour_rules.Reduction.TheVariants.{Step, Shift, Drop}
-use Rattle.colour_laws.specs.colour_rules.Phase.{Phase}
-use Rattle.colour_laws.specs.colour_rules.Phase.TheVariants.{Greet, Orient, Seed, Work, Merge, Halted}
-use Rattle.colour_laws.specs.colour_rules.Node.{Node, phase_of}
-use Rattle.colour_laws.specs.colour_rules.Choice.{chooses}
-use Rattle.colour_laws.specs.colour_rules.Program.{colouring}
-use Rattle.number_rows.specs.Row.{row}
+use Rattle.colour_rules.specs.declared.phase.Reduction.{Reduction}
+use Rattle.colour_rules.specs.declared.phase.Reduction.TheVariants.{Step, Shift, Drop}
+use Rattle.colour_rules.specs.declared.phase.Phase.{Phase}
+use Rattle.colour_rules.specs.declared.phase.Phase.TheVariants.{Greet, Orient, Seed, Work, Merge, Halted}
+use Rattle.colour_rules.specs.Node.{Node, phase_of}
+use Rattle.colour_rules.specs.Choice.{chooses}
+use Rattle.colour_rules.specs.Program.{colouring}
+use Rattle.number_rows.specs.Row.{row, numbered}
 use Rattle.program_texts.specs.Texts.{HasName, ProgramTexts}
-use Rattle.wire_texts.specs.WireText.{numbered}
 
 -- `rounds 1 N DELTA U R`, or `rounds 2 N DELTA BARS U R` where a vertex has a bar
 abbrev pub head_line : Net → List ℕ

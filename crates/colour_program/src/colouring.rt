@@ -2,11 +2,12 @@
 ghost use Rattle.std.specs.Prelude.{◌≡◌, OnErr, length};
 ghost use Rattle.node_api.specs.Boxes.{nothing};
 ghost use Rattle.node_api.specs.Program.{Matches};
-ghost use Rattle.colour_laws.specs.colour_rules.Node.{ports};
-ghost use Rattle.colour_laws.specs.colour_rules.Program.{next};
+ghost use Rattle.colour_rules.specs.Node.{ports};
+ghost use Rattle.colour_rules.specs.Program.{next};
 
-use colour_laws::{ColourNode, FIRST_MERGE, IdlePulses, Payload};
-use node_api::{Inbox, Memory, Network, NodeProgram, Outbox, Refused};
+use colour_rules::{ColourNode, FIRST_MERGE, IdlePulses, Payload};
+use interference::{Memory, Network};
+use node_api::{Inbox, NodeProgram, Outbox, Refused};
 use std::alloc::Global;
 use std::marker::Model;
 
@@ -19,9 +20,9 @@ pub struct Colouring {
 }
 
 impl Model for Colouring {
-    ghost use Rattle.colour_laws.specs.colour_rules.Node.{Node};
-    ghost use Rattle.colour_laws.specs.colour_rules.Stored.{node_code};
-    ghost use Rattle.colour_laws.specs.colour_rules.Idle.{IsWaiting};
+    ghost use Rattle.colour_rules.specs.Node.{Node};
+    ghost use Rattle.colour_rules.specs.Stored.{node_code};
+    ghost use Rattle.colour_rules.specs.Idle.{IsWaiting};
 
     ghost Value = { Node };
 
@@ -74,7 +75,7 @@ impl Colouring {
 }
 
 impl NodeProgram for Colouring {
-    ghost use Rattle.colour_laws.specs.colour_rules.Program.{colouring};
+    ghost use Rattle.colour_rules.specs.Program.{colouring};
     ghost use Rattle.colour_laws.proofs.Rounds.{rounds_are_program};
 
     type Payload = Payload;

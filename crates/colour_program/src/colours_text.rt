@@ -1,17 +1,17 @@
 //! The colouring's texts: the first line of its rounds, its phases, colours and choices, and the channel of a node.
 
 ghost use Rattle.std.specs.Prelude.{◌≡◌, ◌<◌, ◌++◌, IfOk};
-ghost use Rattle.colour_laws.specs.colour_rules.Node.{IsPhase};
+ghost use Rattle.colour_rules.specs.Node.{IsPhase};
 ghost use Rattle.colour_program.specs.ColoursText.{choice_text, colour_text, colours_text, node_text, phase_text};
 ghost use Rattle.colour_program.specs.ColoursText.{reduction_text};
 
 use crate::colouring::Colouring;
-use colour_laws::{ColourNode, Phase, Reduction, Schedule};
-use node_api::{Network, NodeProgram};
-use number_rows::push_row;
+use colour_rules::{ColourNode, Phase, Reduction, Schedule};
+use interference::Network;
+use node_api::NodeProgram;
+use number_rows::{push_numbered, push_row};
 use program_texts::ProgramText;
 use std::alloc::AllocError;
-use wire_texts::push_numbered;
 
 fn push_reduction(text: &mut Vec<u8>, reduction: Reduction) -> Result<(), AllocError>
     ensures { IfOk result (λ _. text.new.items ≡ text.old.items ++ reduction_text reduction) }

@@ -6,8 +6,8 @@ use Rattle.std.proofs.lemmas.List.{get_or-map, length-map}
 use Rattle.std.proofs.lemmas.List.Elements.{Contains-get_or}
 use Rattle.std.proofs.lemmas.List.Sorted.{Contains-permutation, length_permutation}
 use Rattle.std.proofs.lemmas.List.Sums.{length-filter}
-use Rattle.node_api.specs.interference.Net.{place_of}
-use Rattle.node_api.proofs.interference.Members.{Contains-filter, place_of-below}
+use Rattle.interference.specs.Net.{place_of}
+use Rattle.interference.proofs.Members.{Contains-filter, place_of-below}
 use Rattle.forests.specs.Order.{in_order}
 use Rattle.forests.specs.Forests.{role_by}
 use Rattle.forests.specs.declared.numbering.Role.TheVariants.{Unknown, Up}

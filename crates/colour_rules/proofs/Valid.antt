@@ -4,8 +4,8 @@ use Rattle.std.specs.Ordering.{nat_cmp}
 use Rattle.std.specs.FinSet.{FinSet, contains}
 use Rattle.forests.specs.declared.numbering.Role.{Role}
 use Rattle.forests.specs.declared.numbering.Role.TheVariants.{Unknown}
-use Rattle.node_api.below.dimacs_col.specs.declared.limits.TheConstants.{MAX_BARS}
-use Rattle.node_api.below.interference.specs.declared.limits.TheConstants.{MAX_DEGREE}
+use Rattle.graph_limits.specs.declared.limits.TheConstants.{MAX_BARS}
+use Rattle.interference.specs.declared.limits.TheConstants.{MAX_DEGREE}
 use Rattle.node_api.specs.Program.{span}
 use Rattle.forest_merge.specs.Free.{HasFree}
 use Rattle.colour_rules.specs.Node.{Node, HasForests, AreBelow, ports}

@@ -7,7 +7,7 @@ ghost use Rattle.colour_rules.specs.Table.{is_above};
 use crate::phase::Reduction;
 use crate::ports::is_above;
 use cole_vishkin::Identifier;
-use node_api::Memory;
+use interference::Memory;
 use std::alloc::Global;
 
 // What a node writes down of its colour in a forest: the colour after a bit step, and that before the last shift.

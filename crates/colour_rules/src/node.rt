@@ -1,6 +1,6 @@
 //! A node of the colouring: making it and its greeting.
 ghost use Rattle.std.specs.Prelude.{◌≡◌, IfOk};
-ghost use Rattle.node_api.specs.interference.Net.{IsVertex};
+ghost use Rattle.interference.specs.Net.{IsVertex};
 ghost use Rattle.node_api.specs.Boxes.{nothing};
 ghost use Rattle.node_api.specs.Program.{own_of};
 ghost use Rattle.colour_rules.specs.Node.{greet, made, ports};
@@ -11,7 +11,8 @@ use crate::payload::Payload;
 use crate::taken::TakenColours;
 use cole_vishkin::Identifier;
 use forests::Role;
-use node_api::{Memory, Network, Outbox};
+use interference::{Memory, Network};
+use node_api::Outbox;
 use std::alloc::Global;
 use std::marker::Model;
 
@@ -38,8 +39,8 @@ impl Model for ColourNode {
     ghost use Rattle.std.specs.Prelude.{◌≡◌, ◌+◌, ◌<◌, ◌≤◌, length};
     ghost use Rattle.std.specs.FinSet.{contains};
     ghost use Rattle.forest_merge.specs.Free.{HasFree};
-    ghost use Rattle.node_api.below.dimacs_col.specs.declared.limits.TheConstants.{MAX_BARS};
-    ghost use Rattle.node_api.below.interference.specs.declared.limits.TheConstants.{MAX_DEGREE};
+    ghost use Rattle.graph_limits.specs.declared.limits.TheConstants.{MAX_BARS};
+    ghost use Rattle.interference.specs.declared.limits.TheConstants.{MAX_DEGREE};
     ghost use Rattle.colour_rules.specs.InForests.{before_in, colours_in};
     ghost use Rattle.colour_rules.specs.Node.{AreBelow, HasForests, Node};
     ghost use Rattle.colour_rules.specs.Stored.{node_code};

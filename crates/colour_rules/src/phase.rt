@@ -5,7 +5,7 @@ ghost use Rattle.colour_rules.specs.Node.{IsPhase, phase_of, steps};
 ghost use Rattle.colour_rules.specs.Program.{is_last};
 
 use crate::node::ColourNode;
-use node_api::Network;
+use interference::Network;
 use std::marker::Model;
 
 /// The pulse of the first step of the merging.
@@ -54,8 +54,8 @@ pub struct Schedule {
 
 impl Model for Schedule {
     ghost use Rattle.std.specs.Prelude.{◌≤◌};
-    ghost use Rattle.node_api.below.dimacs_col.specs.declared.limits.TheConstants.{MAX_BARS};
-    ghost use Rattle.node_api.below.interference.specs.declared.limits.TheConstants.{MAX_DEGREE};
+    ghost use Rattle.graph_limits.specs.declared.limits.TheConstants.{MAX_BARS};
+    ghost use Rattle.interference.specs.declared.limits.TheConstants.{MAX_DEGREE};
     ghost use Rattle.node_api.specs.Program.{Sizes};
 
     ghost Value = { Sizes };

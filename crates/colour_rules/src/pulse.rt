@@ -16,7 +16,8 @@ use crate::payload::Payload;
 use crate::phase::{Phase, Reduction};
 use crate::rules::{COLOUR_RANGE, FOREST_RANGE};
 use cole_vishkin::Identifier;
-use node_api::{Inbox, MAX_DEGREE, Outbox, Refused};
+use interference::MAX_DEGREE;
+use node_api::{Inbox, Outbox, Refused};
 
 // How many ports a node has at most.
 const MAX_PORTS: usize = MAX_DEGREE as usize;

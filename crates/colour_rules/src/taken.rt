@@ -13,7 +13,8 @@ ghost use Rattle.colour_rules.specs.Taken.{barred_in, chosen_in, is_taken_in, ro
 use crate::merge::add_chosen;
 use crate::payload::Payload;
 use forest_merge::{COLOURS, ChosenSet, ColourSet, WORDS, has_free, least_free};
-use node_api::{Inbox, Memory};
+use interference::Memory;
+use node_api::Inbox;
 use std::alloc::Global;
 
 // How many words the smallest set has.

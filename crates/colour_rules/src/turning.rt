@@ -2,7 +2,7 @@
 ghost use Rattle.std.specs.Prelude.{◌≡◌, ◌≢◌, ◌<◌, ◌≤◌, ℕ, IfSome, None, Some, false, length, not, slice_set};
 ghost use Rattle.std.specs.FinSet.{contains, empty};
 ghost use Rattle.cole_vishkin.specs.BitStep.{bit_by};
-ghost use Rattle.node_api.below.interference.specs.declared.limits.TheConstants.{MAX_DEGREE};
+ghost use Rattle.interference.specs.declared.limits.TheConstants.{MAX_DEGREE};
 ghost use Rattle.node_api.specs.Boxes.{unread};
 ghost use Rattle.colour_rules.specs.InForests.{AreTurned, IsReadyAt, before_in, colours_in, in_forest, turned_in};
 ghost use Rattle.colour_rules.specs.Program.{AreReady, BringColours, IsReady, colour_in, from_parent};
@@ -14,7 +14,8 @@ use crate::phase::Reduction;
 use cole_vishkin::{Identifier, bit_step};
 use forest_merge::ColourSet;
 use forests::Role;
-use node_api::{Inbox, MAX_DEGREE};
+use interference::MAX_DEGREE;
+use node_api::Inbox;
 use shift_down::{drop_class, shift};
 
 // How many words hold one bit for each forest.

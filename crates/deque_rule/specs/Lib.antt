@@ -1,3 +1,2 @@
 pub mod Deques
 pub mod Ledgers
-pub mod run_options

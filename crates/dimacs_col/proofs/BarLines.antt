@@ -8,16 +8,17 @@ use Rattle.dimacs_col.specs.BarSets.{IsCounted}
 use Rattle.dimacs_col.specs.Lines.{Line, field_at, is_channel, number_of}
 use Rattle.dimacs_col.specs.Kinds.{kind_of_word}
 use Rattle.dimacs_col.specs.Reading.{verdict, nodes_of, edges_of, first_of, id_in, ids_of, bars_of, bar_count, number_after}
-use Rattle.dimacs_col.specs.Pairs.{same_pair, is_bar_at, IsBarOf}
+use Rattle.graph_limits.specs.Pairs.{same_pair, is_bar_at, IsBarOf}
 use Rattle.dimacs_col.specs.State.{Knows, kept_number}
-use Rattle.dimacs_col.specs.declared.limits.TheConstants.{MAX_CHANNEL, MAX_BARS}
+use Rattle.graph_limits.specs.declared.limits.TheConstants.{MAX_CHANNEL, MAX_BARS}
 use Rattle.dimacs_col.specs.declared.bars.BarSet.{BarSet}
 use Rattle.dimacs_col.specs.declared.reader.Reader.{Reader}
 use Rattle.dimacs_col.specs.declared.fault.ColFault.TheVariants.{VertexRange, ChannelRange, TooManyBars}
 use Rattle.dimacs_col.specs.declared.kind.Kind.TheVariants.{Bar}
 use Rattle.dimacs_col.proofs.Lists.{AllGood-push, nodes_of-same, edges_of-same, edge_count-same, ids_of-same, bars_of-push}
 use Rattle.dimacs_col.proofs.Edges.{small-nodes}
-use Rattle.dimacs_col.proofs.Members.{member-push, members-push, same_pair-exact, count-same}
+use Rattle.dimacs_col.proofs.Members.{member-push, members-push, count-same}
+use Rattle.graph_limits.proofs.Pairs.{same_pair-exact}
 use Rattle.dimacs_col.proofs.BarSets.{same-filtered}
 use Rattle.dimacs_col.proofs.Verdicts.{verdict-bar, outside-one, inside-one, channel-outside, channel-inside, kept-channel, kept-from, kept-inside}
 

@@ -20,9 +20,10 @@ use Rattle.std.proofs.lemmas.Bool.{cases_eq, eq-eqb, ne_eqb}
 use Rattle.dimacs_col.specs.Bag.{SameMembers}
 use Rattle.dimacs_col.specs.BarSets.{IsCounted, count_in}
 use Rattle.dimacs_col.specs.declared.bars.BarSet.{BarSet}
-use Rattle.dimacs_col.specs.declared.limits.TheConstants.{MAX_BARS}
-use Rattle.dimacs_col.specs.Pairs.{is_bar_at, bars_at, pair_cmp, same_pair}
-use Rattle.dimacs_col.proofs.Members.{same_pair-laws, same_pair-exact, count-ascending}
+use Rattle.graph_limits.specs.declared.limits.TheConstants.{MAX_BARS}
+use Rattle.graph_limits.specs.Pairs.{is_bar_at, bars_at, pair_cmp, same_pair}
+use Rattle.graph_limits.proofs.Pairs.{same_pair-laws, same_pair-exact}
+use Rattle.dimacs_col.proofs.Members.{count-ascending}
 
 -- ---- a new key in a set of keys
 -- a key that is put among others counts once more

@@ -32,15 +32,16 @@ use Rattle.std.proofs.lemmas.Bool.{ltb-false}
 use Rattle.dimacs_col.specs.Lines.{Line, number_of, field_at}
 use Rattle.dimacs_col.specs.Kinds.{kind_of_word}
 use Rattle.dimacs_col.specs.Reading.{verdict, nodes_of, edges_of, edge_count, first_of, id_in, ids_of, bars_of, number_after}
-use Rattle.dimacs_col.specs.Pairs.{same_pair, FitsIn}
-use Rattle.dimacs_col.specs.declared.limits.TheConstants.{MAX_NODES, MAX_EDGES}
+use Rattle.graph_limits.specs.Pairs.{same_pair, FitsIn}
+use Rattle.graph_limits.specs.declared.limits.TheConstants.{MAX_NODES, MAX_EDGES}
 use Rattle.dimacs_col.specs.Bag.{SameMembers}
 use Rattle.dimacs_col.specs.State.{Knows, kept_number}
 use Rattle.dimacs_col.specs.declared.reader.Reader.{Reader}
 use Rattle.dimacs_col.specs.declared.fault.ColFault.TheVariants.{VertexRange, TooLarge}
 use Rattle.dimacs_col.specs.declared.kind.Kind.TheVariants.{Edge}
 use Rattle.dimacs_col.proofs.Lists.{AllGood-push, nodes_of-same, edges_of-push, edge_count-of, ids_of-same, bars_of-same}
-use Rattle.dimacs_col.proofs.Members.{member-push, members-push, same_pair-exact}
+use Rattle.dimacs_col.proofs.Members.{member-push, members-push}
+use Rattle.graph_limits.proofs.Pairs.{same_pair-exact}
 use Rattle.dimacs_col.proofs.Verdicts.{verdict-edge, outside-any, kept-from, kept-inside, inside, differ}
 
 edge-nodes : (word : List ℕ) (fields : Line) → kind_of_word word ≡ Edge → nodes_of ((word ∷ fields) ∷ []) ≡ None

@@ -11,7 +11,7 @@ use Rattle.std.proofs.lemmas.Bool.{cases_eq, eq-eqb, ne_eqb}
 use Rattle.dimacs_col.specs.Lines.{Line, field_at, is_identifier, number_of}
 use Rattle.dimacs_col.specs.Kinds.{kind_of_word}
 use Rattle.dimacs_col.specs.Reading.{verdict, nodes_of, edges_of, first_of, has_id, id_in, ids_of, bars_of, number_after}
-use Rattle.dimacs_col.specs.Pairs.{same_pair, IsVertexOf}
+use Rattle.graph_limits.specs.Pairs.{same_pair, IsVertexOf}
 use Rattle.dimacs_col.specs.State.{Knows, kept_number}
 use Rattle.dimacs_col.specs.declared.reader.Reader.{Reader}
 use Rattle.dimacs_col.specs.declared.fault.ColFault.TheVariants.{VertexRange, NumberRange, IdTwice}

@@ -4,8 +4,8 @@ use Rattle.std.specs.Set.{is_member}
 use Rattle.dimacs_col.specs.Lines.{Line, number_of, field_at}
 use Rattle.dimacs_col.specs.Kinds.{kind_of, kind_of_word}
 use Rattle.dimacs_col.specs.Reading.{verdict, nodes_of, edges_of, id_in, ids_of, bars_of}
-use Rattle.dimacs_col.specs.Pairs.{same_pair, FitsIn, IsVertexOf}
-use Rattle.dimacs_col.specs.declared.limits.TheConstants.{MAX_NODES}
+use Rattle.graph_limits.specs.Pairs.{same_pair, FitsIn, IsVertexOf}
+use Rattle.graph_limits.specs.declared.limits.TheConstants.{MAX_NODES}
 use Rattle.dimacs_col.specs.State.{Knows}
 use Rattle.dimacs_col.specs.declared.reader.Reader.{Reader}
 use Rattle.dimacs_col.specs.declared.kind.Kind.TheVariants.{Skipped, Problem}

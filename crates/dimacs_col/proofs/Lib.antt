@@ -12,4 +12,8 @@ pub mod BarLines
 pub mod Whole
 pub mod Unique
 pub mod LineEnds
+pub mod SmallNumbers
+pub mod Parts
+pub mod Splitting
+pub mod Blank
 mod Refused

@@ -5,7 +5,7 @@ use Rattle.std.specs.Set.{distinct_count}
 use Rattle.dimacs_col.specs.Lines.{Line, value_at}
 use Rattle.dimacs_col.specs.Kinds.{kind_of, is_problem_kind, is_edge_kind, is_identifier_kind, is_bar_kind}
 use Rattle.dimacs_col.specs.Reading.{AllGood, verdict, nodes_of, edges_of, edge_count, ids_of, bars_of}
-use Rattle.dimacs_col.specs.Pairs.{pair_cmp, same_pair}
+use Rattle.graph_limits.specs.Pairs.{pair_cmp, same_pair}
 use Rattle.dimacs_col.specs.Bag.{SameMembers}
 use Rattle.dimacs_col.proofs.Members.{count-same, count-ascending}
 

@@ -16,7 +16,7 @@ use Rattle.std.specs.declared.cmp.Ordering.{Ordering}
 use Rattle.std.specs.declared.cmp.Ordering.TheVariants.{Less, Equal, Greater}
 use Rattle.dimacs_col.specs.Lines.{Line}
 use Rattle.dimacs_col.specs.Reading.{AllGood, Graph, id_in, nodes_of, verdict, IsFirstFault, IsFault, IsGraph}
-use Rattle.dimacs_col.specs.Pairs.{pair_cmp, same_pair}
+use Rattle.graph_limits.specs.Pairs.{pair_cmp, same_pair}
 use Rattle.dimacs_col.specs.Bag.{SameMembers}
 use Rattle.dimacs_col.specs.declared.fault.ColFault.{ColFault}
 use Rattle.dimacs_col.specs.declared.fault.ColFault.TheVariants.{
@@ -35,7 +35,8 @@ use Rattle.dimacs_col.specs.declared.fault.ColFault.TheVariants.{
   TooManyBars,
   Memory,
 }
-use Rattle.dimacs_col.proofs.Members.{pair_total, same_pair-laws, same_pair-exact, members-from_Contains}
+use Rattle.graph_limits.proofs.Pairs.{pair_total, same_pair-laws, same_pair-exact}
+use Rattle.dimacs_col.proofs.Members.{members-from_Contains}
 
 -- ---- ascending lists
 first-or : (q x : ℕ × ℕ) (xs : List (ℕ × ℕ)) → is_member same_pair (x ∷ xs) q ≡ true → (q ≡ x) ⊎ (is_member same_pair xs q ≡ true)

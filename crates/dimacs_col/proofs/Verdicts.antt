@@ -27,7 +27,7 @@ use Rattle.std.proofs.Common.{
   drop,
 }
 use Rattle.std.proofs.lemmas.Bool.Decides.{nat_tests}
-use Rattle.dimacs_col.specs.declared.limits.TheConstants.{MAX_NODES, MAX_EDGES, MAX_CHANNEL, MAX_BARS}
+use Rattle.graph_limits.specs.declared.limits.TheConstants.{MAX_NODES, MAX_EDGES, MAX_CHANNEL, MAX_BARS}
 use Rattle.dimacs_col.specs.Lines.{Line, is_channel, is_identifier, number_of}
 use Rattle.dimacs_col.specs.Lines.{field_at}
 use Rattle.dimacs_col.specs.Kinds.{kind_of_word, kind_of, is_format}

@@ -2,9 +2,9 @@
 use Rattle.std.specs.Prelude.{ℕ, ◌≡◌, ◌≤◌, unwrap_or}
 use Rattle.std.specs.BTreeMap.{get}
 use Rattle.std.specs.Ordering.{nat_cmp}
-use Rattle.dimacs_col.specs.Pairs.{bars_at}
+use Rattle.graph_limits.specs.Pairs.{bars_at}
 use Rattle.dimacs_col.specs.declared.bars.BarSet.{BarSet}
-use Rattle.dimacs_col.specs.declared.limits.TheConstants.{MAX_BARS}
+use Rattle.graph_limits.specs.declared.limits.TheConstants.{MAX_BARS}
 
 -- the number that a set keeps for a vertex; it keeps none for a vertex without bars
 abbrev pub count_in : BarSet → ℕ → ℕ

@@ -1,5 +1,5 @@
-pub mod Pairs
 pub mod Lines
+pub mod Split
 pub mod Bag
 pub mod BarSets
 pub mod Kinds

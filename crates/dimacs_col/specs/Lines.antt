@@ -1,17 +1,22 @@
 -- How a text is cut into lines and a line into fields, and which number a field is.
-use Rattle.std.specs.Prelude.{ℕ, ◌^◌, Bool, nat_lt, not, ◌==◌, ◌&&◌, ◌||◌, if◌then◌else◌, List, [], map, filter, length}
+use Rattle.std.specs.Prelude.{ℕ, ◌^◌, Bool, true, false, nat_lt, not, ◌==◌, ◌&&◌, ◌||◌, if◌then◌else◌, List, [], ◌∷◌, map, filter, length}
 use Rattle.std.specs.Prelude.{Option, Some, None, is_none, option_and_then, unwrap_or}
 use Rattle.std.specs.List.{slice_split, slice_index_or}
 use Rattle.std.specs.Str.{all_ascii_digits}
 use Rattle.std.specs.Str.Lines.{strip_carriage_return}
 use Rattle.std.specs.Str.Parse.{digits_value}
-use Rattle.dimacs_col.specs.declared.limits.TheConstants.{IDENTIFIER_DIGITS, MAX_CHANNEL}
+use Rattle.graph_limits.specs.declared.limits.TheConstants.{IDENTIFIER_DIGITS, MAX_CHANNEL}
 use Rattle.dimacs_col.specs.declared.fields.IdentifierField.{IdentifierField}
 use Rattle.dimacs_col.specs.declared.fields.IdentifierField.TheVariants.{NoNumber, TooGreat, Value}
 
 -- a line is the list of its fields, each a list of bytes
 abbrev pub Line : Type 0
 Line = List (List ℕ)
+
+-- whether a line has a field
+abbrev pub has_fields : Line → Bool
+has_fields [] = false
+has_fields (word ∷ words) = true
 
 -- fields are parted by spaces and tabs
 abbrev pub is_blank : ℕ → Bool
@@ -39,6 +44,10 @@ lines_of text = map line_of (slice_split (λ byte. byte == 10) text)
 unfoldable pub number_of : List ℕ → Option ℕ
 number_of field =
     if is_field field then (if all_ascii_digits field then Some (digits_value 10 field) else None) else None
+
+-- the number that a field spells, where it is below 2^32
+abbrev pub small_number : List ℕ → Option ℕ
+small_number field = option_and_then (λ n. if nat_lt n (2 ^ 32) then Some n else None) (number_of field)
 
 -- whether a number has at most so many binary digits as an identifier
 abbrev pub is_identifier : ℕ → Bool

@@ -7,8 +7,8 @@ use Rattle.std.specs.Ordering.{nat_cmp}
 use Rattle.std.specs.Set.{distinct_count}
 use Rattle.dimacs_col.specs.Lines.{Line, field_at, is_channel, is_identifier, no_number_at, value_at}
 use Rattle.dimacs_col.specs.Kinds.{kind_of, is_problem_kind, is_edge_kind, is_identifier_kind, is_bar_kind, is_format}
-use Rattle.dimacs_col.specs.Pairs.{pair_cmp, same_pair, is_bar_at}
-use Rattle.dimacs_col.specs.declared.limits.TheConstants.{MAX_NODES, MAX_EDGES, MAX_BARS}
+use Rattle.graph_limits.specs.Pairs.{pair_cmp, same_pair, is_bar_at}
+use Rattle.graph_limits.specs.declared.limits.TheConstants.{MAX_NODES, MAX_EDGES, MAX_BARS}
 use Rattle.dimacs_col.specs.declared.kind.Kind.{Kind}
 use Rattle.dimacs_col.specs.declared.kind.Kind.TheVariants.{Skipped, Problem, Edge, Identifier, Bar, Unknown}
 use Rattle.dimacs_col.specs.declared.fault.ColFault.{ColFault}

@@ -8,8 +8,8 @@ use Rattle.dimacs_col.specs.Lines.{Line, number_of}
 use Rattle.dimacs_col.specs.Reading.{AllGood, nodes_of, edges_of, edge_count, ids_of, id_in, bars_of, verdict}
 use Rattle.dimacs_col.specs.Bag.{SameMembers}
 use Rattle.dimacs_col.specs.BarSets.{IsCounted}
-use Rattle.dimacs_col.specs.Pairs.{same_pair, FitsIn, IsBarOf, IsVertexOf}
-use Rattle.dimacs_col.specs.declared.limits.TheConstants.{MAX_NODES, MAX_EDGES}
+use Rattle.graph_limits.specs.Pairs.{same_pair, FitsIn, IsBarOf, IsVertexOf}
+use Rattle.graph_limits.specs.declared.limits.TheConstants.{MAX_NODES, MAX_EDGES}
 use Rattle.dimacs_col.specs.declared.reader.Reader.{Reader}
 use Rattle.dimacs_col.specs.declared.fault.ColFault.{ColFault}
 use Rattle.dimacs_col.specs.declared.fault.ColFault.TheVariants.{NoProblem, Memory}

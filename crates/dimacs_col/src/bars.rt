@@ -5,9 +5,9 @@ ghost use Rattle.std.specs.List.Sorted.{IsStrictlySortedBy};
 ghost use Rattle.std.specs.Set.{distinct_count};
 ghost use Rattle.dimacs_col.specs.BarSets.{IsCounted, count_in};
 ghost use Rattle.dimacs_col.specs.Bag.{SameMembers};
-ghost use Rattle.dimacs_col.specs.Pairs.{is_bar_at, pair_cmp, same_pair};
+ghost use Rattle.graph_limits.specs.Pairs.{is_bar_at, pair_cmp, same_pair};
 
-use crate::limits::MAX_BARS;
+use graph_limits::MAX_BARS;
 use std::alloc::{AllocError, Global};
 use std::collections::{BTreeMap, BTreeSet};
 

@@ -4,7 +4,7 @@ ghost use Rattle.std.specs.Prelude.{◌≡◌, ◌≢◌, ◌≤◌, MatchOption
 ghost use Rattle.std.specs.List.{prefix_len};
 ghost use Rattle.std.specs.Option.{option_copied};
 ghost use Rattle.dimacs_col.specs.Lines.{fields_of, field_at, identifier_in, is_blank, is_part, number_of};
-ghost use Rattle.dimacs_col.specs.Lines.{wide_number};
+ghost use Rattle.dimacs_col.specs.Lines.{small_number, wide_number};
 ghost use Rattle.dimacs_col.specs.State.{kept_number};
 
 use std::marker::Model;
@@ -114,6 +114,25 @@ pub fn number(field: &[u8]) -> Option<u32>
         value = value
             .saturating_mul(10)
             .saturating_add(u32::from(*digit - b'0'));
+    }
+    Some(value)
+}
+
+/// The number that a field spells, if it is below 2^32.
+pub fn small_number(field: &[u8]) -> Option<u32>
+    ensures { result ≡ small_number field.now }
+{
+    if field.is_empty() {
+        return None;
+    }
+    let mut value: u32 = 0;
+    for digit in field {
+        if !digit.is_ascii_digit() {
+            return None;
+        }
+        value = value
+            .checked_mul(10)?
+            .checked_add(u32::from(*digit - b'0'))?;
     }
     Some(value)
 }

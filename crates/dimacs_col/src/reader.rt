@@ -1,7 +1,7 @@
 //! The reader: one step a line, and the graph at the end.
 
 ghost use Rattle.std.specs.Prelude.{◌≡◌, ◌+◌, ◌^◌, ◌<◌, ◌++◌, ◌∷◌, [], List, ℕ};
-ghost use Rattle.std.specs.Prelude.{drop, length, min, max, IfOk, IfErr};
+ghost use Rattle.std.specs.Prelude.{drop, length, IfOk, IfErr};
 ghost use Rattle.std.specs.List.Sorted.{IsStrictlySortedBy};
 ghost use Rattle.std.specs.Map.{keys_of};
 ghost use Rattle.std.specs.Ordering.{nat_cmp};
@@ -9,7 +9,7 @@ ghost use Rattle.std.specs.Str.Lines.{strip_carriage_return};
 ghost use Rattle.dimacs_col.specs.Lines.{Line, fields_of, lines_of, field_at};
 ghost use Rattle.dimacs_col.specs.Kinds.{kind_of_word, is_format};
 ghost use Rattle.dimacs_col.specs.Reading.{graph_of, number_after, IsFault, IsGraph};
-ghost use Rattle.dimacs_col.specs.Pairs.{AreBars, AreVertices, IsWithinLimits};
+ghost use Rattle.graph_limits.specs.Pairs.{AreBars, AreVertices, IsWithinLimits};
 ghost use Rattle.dimacs_col.specs.State.{Knows, Judged};
 
 use crate::bag::EdgeBag;
@@ -17,7 +17,7 @@ use crate::bars::BarSet;
 use crate::fault::ColFault;
 use crate::fields::{Fields, IdentifierField};
 use crate::kind::{Kind, is_format};
-use crate::limits::{MAX_CHANNEL, MAX_NODES};
+use graph_limits::{MAX_CHANNEL, MAX_NODES, ordered};
 use std::alloc::{AllocError, Global};
 use std::collections::BTreeMap;
 
@@ -229,13 +229,6 @@ fn by_vertex(alloc: Global, ids: BTreeMap<u32, u128>) -> Result<Vec<(u32, u128)>
     ensures ordered { IsStrictlySortedBy nat_cmp (keys_of ids.entries) }
 {
     ids.into_iter().collect(alloc)
-}
-
-// The edge of two vertices, the smaller one first.
-fn ordered(v: u32, w: u32) -> (u32, u32)
-    ensures { result ≡ (min v w, max v w) }
-{
-    (v.min(w), v.max(w))
 }
 
 /// A line without the carriage return at its end, where it has one.

@@ -8,7 +8,7 @@ use Rattle.std.proofs.lemmas.List.Kept.{AllPairs-cons}
 use Rattle.std.proofs.lemmas.Map.Made.{IsDistinct-from_AllPairs}
 use Rattle.std.proofs.lemmas.Map.Steps.{length-le_from_distinct_below}
 use Rattle.std.proofs.lemmas.Map.Views.{Contains-from_any}
-use Rattle.node_api.specs.interference.Net.{Net, IsNetwork, IsVertex, count_of, neighbour_of}
+use Rattle.interference.specs.Net.{Net, IsNetwork, IsVertex, count_of, neighbour_of}
 use Rattle.sync_rounds.specs.Reach.{IsWithinLinks}
 use Rattle.distances.specs.Distance.{IsDistance}
 use Rattle.distances.proofs.Walks.{closer}

@@ -5,7 +5,7 @@ use Rattle.std.specs.Prelude.{◌⊎◌}
 use native.Mathlib.Decide.{dec_lt}
 use Prim.{yes, no}
 use Rattle.std.proofs.lemmas.Bool.Decides.{eqb_tells}
-use Rattle.node_api.specs.interference.Net.{Net, degree_of, neighbour_of}
+use Rattle.interference.specs.Net.{Net, degree_of, neighbour_of}
 use Rattle.sync_rounds.specs.Reach.{IsWithinLinks}
 use Rattle.distances.specs.Distance.{IsDistance}
 

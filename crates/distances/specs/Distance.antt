@@ -1,6 +1,6 @@
 -- Distances in a network: how many links the shortest way from one vertex to another has.
 use Rattle.std.specs.Prelude.{ℕ, ◌≤◌}
-use Rattle.node_api.specs.interference.Net.{Net}
+use Rattle.interference.specs.Net.{Net}
 use Rattle.sync_rounds.specs.Reach.{IsWithinLinks}
 
 -- w is reached from v, over however many links: the vertices that are reached from v are its component

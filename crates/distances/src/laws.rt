@@ -1,7 +1,7 @@
 //! What holds of distances in every network. Each law is the contract of a function that does nothing.
 
 ghost use Rattle.std.specs.Prelude.{ℕ, ◌<◌};
-ghost use Rattle.node_api.specs.interference.Net.{Net, IsNetwork, IsVertex, count_of};
+ghost use Rattle.interference.specs.Net.{Net, IsNetwork, IsVertex, count_of};
 ghost use Rattle.distances.specs.Distance.{IsDistance, IsReached};
 
 /// A vertex that is reached has a distance, which is less than the number of nodes: a shortest way passes no vertex

@@ -3,5 +3,3 @@ pub mod Blocks
 pub mod EntryList
 pub mod Recorded
 pub mod Rows
-pub mod alpha_core
-pub mod interference

@@ -27,6 +27,3 @@ pub use iter::{Iter, StampedIter};
 pub use list::Entries;
 pub use recorder::Recorder;
 pub use rows::{Row, StampedEntry, StampedRow};
-
-// What crates above name of lower ones.
-pub use alpha_core::{Counter, Memory, StampFull, Stamped};

@@ -7,7 +7,7 @@ use crate::bare::{BareEntry, split};
 use crate::blocks::Blocks;
 use crate::entry::Entry;
 use crate::iter::{Iter, StampedIter};
-use alpha_core::Memory;
+use interference::Memory;
 use std::alloc::{AllocError, Global};
 use std::marker::Model;
 

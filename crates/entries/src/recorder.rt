@@ -5,7 +5,7 @@ ghost use Rattle.entries.specs.Recorded.{HasRoom, HasSame, HasWritten, entries_b
 
 use crate::entry::Entry;
 use crate::list::Entries;
-use alpha_core::Memory;
+use interference::Memory;
 use std::alloc::Global;
 
 /// The entries of a node that writes down what it does, or nothing.

@@ -1,7 +1,7 @@
 -- `run` accepts the runs, and refuses as the relations ask.
 use Rattle.std.proofs.Common.{◌≡◌, ℕ, suc, ◌+◌, List, [], ◌∷◌, ◌++◌, length, Result, Ok, Err, refl, sym, ap, ◌∙◌, arith, subst}
-use Rattle.alpha_laws.specs.interference.Net.{Net, IsNetwork}
-use Rattle.alpha_laws.specs.node_api.Program.{Program}
+use Rattle.interference.specs.Net.{Net, IsNetwork}
+use Rattle.node_api.specs.Program.{Program}
 use Rattle.alpha_laws.proofs.Runs.{Runs}
 use Rattle.event_machine.specs.declared.event.Event.{Event}
 use Rattle.event_machine.specs.declared.refused.StepRefused.{StepRefused}

@@ -25,13 +25,13 @@ use Rattle.std.proofs.Common.{
   subst,
 }
 use Rattle.std.specs.Prelude.{if◌then◌else◌}
-use Rattle.alpha_laws.specs.interference.Net.{Net, IsNetwork, IsVertex, degree_of, neighbour_of, back_port_of}
-use Rattle.alpha_laws.proofs.interference.Neighbours.{at-back_port, back-of-back_port}
-use Rattle.alpha_laws.specs.node_api.Program.{Program, last_pulse_on}
-use Rattle.alpha_laws.specs.alpha_core.Wire.{Wire}
-use Rattle.alpha_laws.specs.alpha_core.View.{port_at, can_pulse}
-use Rattle.alpha_laws.specs.alpha_core.Alpha.{unless_refused, reacts, reaction}
-use Rattle.alpha_laws.proofs.alpha_core.Due.{due-taken}
+use Rattle.interference.specs.Net.{Net, IsNetwork, IsVertex, degree_of, neighbour_of, back_port_of}
+use Rattle.interference.proofs.Neighbours.{at-back_port, back-of-back_port}
+use Rattle.node_api.specs.Program.{Program, last_pulse_on}
+use Rattle.alpha_core.specs.declared.wire.Wire.{Wire}
+use Rattle.alpha_core.specs.View.{port_at, can_pulse}
+use Rattle.alpha_core.specs.Alpha.{unless_refused, reacts, reaction}
+use Rattle.alpha_core.proofs.Due.{due-taken}
 use Rattle.alpha_laws.proofs.Runs.{Runs}
 use Rattle.alpha_laws.proofs.NodeTakes.{puts_kept, takes_node}
 use Rattle.alpha_laws.proofs.NodePulses.{pulse_node}

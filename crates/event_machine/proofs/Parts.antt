@@ -35,7 +35,7 @@ use Rattle.std.proofs.Common.{
 use Rattle.std.specs.Prelude.{IfErr, OnErr, slice_get}
 use Rattle.std.specs.List.{range_with_len}
 use Rattle.std.proofs.lemmas.List.{map-append}
-use Rattle.alpha_laws.proofs.interference.Members.{range-more}
+use Rattle.interference.proofs.Members.{range-more}
 
 -- an entry that is written where it stands leaves the list
 pub set-same : {X : Type 0} (xs : List X) (i : ℕ) (x : X) → i < length xs → x ≡ get_or xs i x → set xs i x ≡ xs

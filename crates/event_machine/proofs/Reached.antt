@@ -1,7 +1,7 @@
 -- The states that some list of events reaches: the start, and what a step leads to.
 use Rattle.std.proofs.Common.{◌≡◌, ℕ, suc, ◌+◌, ◌<◌, List, [], ◌∷◌, ◌++◌, take, drop, length, get_or, Result, Ok, Err, refl, ap, ◌∙◌, arith}
-use Rattle.alpha_laws.specs.interference.Net.{Net}
-use Rattle.alpha_laws.specs.node_api.Program.{Program}
+use Rattle.interference.specs.Net.{Net}
+use Rattle.node_api.specs.Program.{Program}
 use Rattle.event_machine.specs.declared.event.Event.{Event}
 use Rattle.event_machine.specs.declared.refused.StepRefused.{StepRefused}
 use Rattle.event_machine.specs.declared.refused.RunRefused.{RunRefused}

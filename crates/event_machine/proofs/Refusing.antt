@@ -1,9 +1,9 @@
 -- An event that names no vertex or port of the network is refused, and no refusal of an event is `Memory`.
 use Rattle.std.proofs.Common.{◌≡◌, ℕ, false, Ok, Err, ap}
 use Rattle.std.specs.Prelude.{◌≢◌, if◌then◌else◌}
-use Rattle.alpha_laws.specs.interference.Net.{Net}
-use Rattle.alpha_laws.specs.node_api.Program.{Program, last_pulse_on}
-use Rattle.alpha_laws.specs.alpha_core.View.{port_at, can_pulse}
+use Rattle.interference.specs.Net.{Net}
+use Rattle.node_api.specs.Program.{Program, last_pulse_on}
+use Rattle.alpha_core.specs.View.{port_at, can_pulse}
 use Rattle.event_machine.specs.declared.event.Event.TheVariants.{Pulse, Put, Take}
 use Rattle.event_machine.specs.declared.refused.StepRefused.TheVariants.{NotReady, NothingToPut, LinkEmpty, NoSuch, Memory}
 use Rattle.event_machine.specs.State.{State, node_of, link_to}

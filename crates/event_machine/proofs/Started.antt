@@ -1,9 +1,9 @@
 -- The lists that a NetState keeps at the start.
 use Rattle.std.proofs.Common.{◌≡◌, ℕ, suc, zero, ◌<◌, List, [], ◌∷◌, map, length, get_or, replicate, Ok, refl, sym, ap, ◌∙◌, arith, subst}
-use Rattle.alpha_laws.specs.interference.Net.{Net, degree_of, vertices}
-use Rattle.alpha_laws.specs.node_api.Program.{Program, last_pulse_on}
-use Rattle.alpha_laws.specs.alpha_core.View.{Alpha, Node}
-use Rattle.alpha_laws.specs.alpha_core.Program.{start_node}
+use Rattle.interference.specs.Net.{Net, degree_of, vertices}
+use Rattle.node_api.specs.Program.{Program, last_pulse_on}
+use Rattle.alpha_core.specs.View.{Alpha, Node}
+use Rattle.alpha_core.specs.Program.{start_node}
 use Rattle.event_machine.specs.State.{Link, NetView, no_link, start, started_nodes, state_in}
 use Rattle.event_machine.specs.Simulation.{IsNetState}
 

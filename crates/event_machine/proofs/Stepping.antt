@@ -2,10 +2,10 @@
 use Rattle.std.proofs.Common.{◌≡◌, ℕ, ◌<◌, inl, inr, Bool, true, false, List, [], ◌∷◌, ◌++◌, length, Result, Ok, Err, refl, sym, ap, ◌∙◌, arith}
 use Rattle.std.specs.Prelude.{if◌then◌else◌}
 use Rattle.std.proofs.lemmas.List.{append-nil, length-append}
-use Rattle.alpha_laws.specs.interference.Net.{Net, IsNetwork}
-use Rattle.alpha_laws.specs.node_api.Program.{Program, last_pulse_on}
-use Rattle.alpha_laws.specs.alpha_core.Wire.{Wire}
-use Rattle.alpha_laws.specs.alpha_core.View.{port_at, can_pulse}
+use Rattle.interference.specs.Net.{Net, IsNetwork}
+use Rattle.node_api.specs.Program.{Program, last_pulse_on}
+use Rattle.alpha_core.specs.declared.wire.Wire.{Wire}
+use Rattle.alpha_core.specs.View.{port_at, can_pulse}
 use Rattle.alpha_laws.proofs.Runs.{Runs}
 use Rattle.alpha_laws.proofs.Next.{next_pulse, next_reacts}
 use Rattle.event_machine.specs.declared.event.Event.{Event}

@@ -1,10 +1,10 @@
 -- When an event is possible, what it leads to, and what a run is, in relations.
 use Rattle.std.specs.Prelude.{◌≡◌, ◌↔◌, ◌⊎◌, ℕ, ◌+◌, ◌<◌, IsTrue, List, [], ◌∷◌, ◌++◌, length, Ok, Err}
-use Rattle.alpha_laws.specs.interference.Net.{Net, IsVertex, degree_of}
-use Rattle.alpha_laws.specs.node_api.Program.{Program, last_pulse_on}
-use Rattle.alpha_laws.specs.alpha_core.Wire.{Wire}
-use Rattle.alpha_laws.specs.alpha_core.View.{View, Node, port_at, can_pulse}
-use Rattle.alpha_laws.specs.alpha_core.Alpha.{pulse, reaction, put_done}
+use Rattle.interference.specs.Net.{Net, IsVertex, degree_of}
+use Rattle.node_api.specs.Program.{Program, last_pulse_on}
+use Rattle.alpha_core.specs.declared.wire.Wire.{Wire}
+use Rattle.alpha_core.specs.View.{View, Node, port_at, can_pulse}
+use Rattle.alpha_core.specs.Alpha.{pulse, reaction, put_done}
 use Rattle.event_machine.specs.declared.event.Event.{Event}
 use Rattle.event_machine.specs.declared.event.Event.TheVariants.{Pulse, Put, Take}
 use Rattle.event_machine.specs.declared.refused.StepRefused.{StepRefused}

@@ -1,7 +1,7 @@
 -- The laws of every list of events, on a network.
 use Rattle.std.specs.Prelude.{◌≡◌, List, Ok}
-use Rattle.alpha_laws.specs.interference.Net.{Net}
-use Rattle.alpha_laws.specs.node_api.Program.{Program}
+use Rattle.interference.specs.Net.{Net}
+use Rattle.node_api.specs.Program.{Program}
 use Rattle.event_machine.specs.declared.event.Event.{Event}
 use Rattle.event_machine.specs.State.{State}
 use Rattle.event_machine.specs.Step.{run}

@@ -1,8 +1,8 @@
 -- What holds of every state that a list of events reaches.
 use Rattle.std.specs.Prelude.{◌≡◌, List, All, Ok}
-use Rattle.alpha_laws.specs.interference.Net.{Net}
-use Rattle.alpha_laws.specs.node_api.Program.{Program, last_pulse_on}
-use Rattle.alpha_laws.specs.alpha_core.View.{Alpha}
+use Rattle.interference.specs.Net.{Net}
+use Rattle.node_api.specs.Program.{Program, last_pulse_on}
+use Rattle.alpha_core.specs.View.{Alpha}
 use Rattle.alpha_laws.specs.Simulates.{Simulates}
 use Rattle.event_machine.specs.declared.event.Event.{Event}
 use Rattle.event_machine.specs.State.{Link, State, node_of, link_at, link_to, sent_of, state_in}

@@ -16,11 +16,11 @@ use Rattle.std.specs.Prelude.{
   slice_index_or,
   slice_set,
 }
-use Rattle.alpha_laws.specs.interference.Net.{Net, vertices, degree_of, neighbour_of, back_port_of}
-use Rattle.alpha_laws.specs.node_api.Program.{Program, last_pulse_on}
-use Rattle.alpha_laws.specs.alpha_core.Wire.{Wire}
-use Rattle.alpha_laws.specs.alpha_core.View.{Node, Alpha}
-use Rattle.alpha_laws.specs.alpha_core.Program.{start_node}
+use Rattle.interference.specs.Net.{Net, vertices, degree_of, neighbour_of, back_port_of}
+use Rattle.node_api.specs.Program.{Program, last_pulse_on}
+use Rattle.alpha_core.specs.declared.wire.Wire.{Wire}
+use Rattle.alpha_core.specs.View.{Node, Alpha}
+use Rattle.alpha_core.specs.Program.{start_node}
 
 -- One direction of a link: the wires that were taken, and those that were put and not taken, oldest first.
 pub record Link (M : Type 0) : Type 0 where

@@ -1,11 +1,11 @@
 -- One event, and a list of events, as functions of the state. `Events` says the same in relations.
 use Rattle.std.specs.Prelude.{◌≡◌, ◌≢◌, ℕ, suc, Bool, ◌&&◌, nat_lt, nat_le, if◌then◌else◌}
 use Rattle.std.specs.Prelude.{List, [], ◌∷◌, ◌++◌, Result, Ok, Err, MatchResult}
-use Rattle.alpha_laws.specs.interference.Net.{Net, count_of, degree_of}
-use Rattle.alpha_laws.specs.node_api.Program.{Program, last_pulse_on}
-use Rattle.alpha_laws.specs.alpha_core.Wire.{Wire}
-use Rattle.alpha_laws.specs.alpha_core.View.{Node, port_at, can_pulse}
-use Rattle.alpha_laws.specs.alpha_core.Alpha.{pulse, reaction, put_done}
+use Rattle.interference.specs.Net.{Net, count_of, degree_of}
+use Rattle.node_api.specs.Program.{Program, last_pulse_on}
+use Rattle.alpha_core.specs.declared.wire.Wire.{Wire}
+use Rattle.alpha_core.specs.View.{Node, port_at, can_pulse}
+use Rattle.alpha_core.specs.Alpha.{pulse, reaction, put_done}
 use Rattle.event_machine.specs.declared.event.Event.{Event}
 use Rattle.event_machine.specs.declared.event.Event.TheVariants.{Pulse, Put, Take}
 use Rattle.event_machine.specs.declared.refused.StepRefused.{StepRefused}

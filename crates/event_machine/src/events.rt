@@ -10,7 +10,8 @@ ghost use Rattle.event_machine.specs.Step.{StepMatches, has_port, is_vertex};
 use crate::event::Event;
 use crate::refused::StepRefused;
 use crate::state::NetState;
-use alpha_laws::{Network, NodeProgram};
+use interference::Network;
+use node_api::NodeProgram;
 
 fn is_vertex(net: &Network, v: u32) -> bool
     ensures vertex { result ≡ is_vertex net.now v }

@@ -1,6 +1,6 @@
 //! What holds of every list of events. Each law is a function that does nothing: its contract is the law.
 
-ghost use Rattle.alpha_laws.specs.node_api.Program.{Program};
+ghost use Rattle.node_api.specs.Program.{Program};
 ghost use Rattle.alpha_laws.specs.Laws.{OnEveryNetwork};
 ghost use Rattle.event_machine.specs.Laws.{RunsAreExact, RunsSimulate, StepsAreExact};
 

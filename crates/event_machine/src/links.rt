@@ -4,7 +4,8 @@ ghost use Rattle.std.specs.Prelude.{◌≡◌, ◌<◌, IfOk, OnErr, length, rep
 ghost use Rattle.event_machine.specs.State.{HasLink, empty_links, link_at, no_link, put_one, set_link, take_one};
 
 use crate::wires::Wires;
-use alpha_laws::{Memory, Network, Wire};
+use alpha_core::Wire;
+use interference::{Memory, Network};
 use std::alloc::Global;
 use std::marker::Model;
 

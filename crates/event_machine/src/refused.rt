@@ -3,7 +3,7 @@
 ghost use Rattle.std.specs.Prelude.{◌≡◌};
 ghost use Rattle.event_machine.specs.Refusals.{at_index};
 
-use alpha_laws::Memory;
+use interference::Memory;
 use thiserror::Error;
 
 /// Why `step` refuses an event. Nothing is changed.

@@ -1,13 +1,15 @@
 //! The state of a network, as it is read.
 
 ghost use Rattle.std.specs.Prelude.{◌≡◌, ◌<◌, IfOk, length};
-ghost use Rattle.alpha_laws.specs.interference.Net.{IsVertex, degree_of, vertices};
-ghost use Rattle.alpha_laws.specs.node_api.Program.{last_pulse_on};
+ghost use Rattle.interference.specs.Net.{IsVertex, degree_of, vertices};
+ghost use Rattle.node_api.specs.Program.{last_pulse_on};
 ghost use Rattle.event_machine.specs.Simulation.{IsReached, IsSimulation};
 ghost use Rattle.event_machine.specs.State.{link_at, node_of, start, started_nodes};
 
 use crate::links::Links;
-use alpha_laws::{AlphaNode, Memory, Network, NodeProgram, Wire};
+use alpha_core::{AlphaNode, Wire};
+use interference::{Memory, Network};
+use node_api::NodeProgram;
 use std::alloc::Global;
 use std::marker::Model;
 

@@ -3,7 +3,8 @@
 ghost use Rattle.std.specs.Prelude.{◌≡◌, ◌<◌, ◌++◌, ◌∷◌, [], IfOk, OnErr, length, slice_get};
 ghost use Rattle.event_machine.specs.State.{no_link, take_one};
 
-use alpha_laws::{Memory, Wire};
+use alpha_core::Wire;
+use interference::Memory;
 use std::alloc::Global;
 use std::marker::Model;
 

@@ -1,8 +1,8 @@
 -- A script that is played event by event: one event more (play-next), and the fault at one that isn't possible (fault-told).
 use Rattle.std.proofs.Common.{◌≡◌, ◌≢◌, ◌+◌, ◌<◌, ◌∙◌, ℕ, suc, [], ◌∷◌, take, drop, length, get_or, Ok, Err, ap, arith}
 use Rattle.std.proofs.lemmas.List.{map-append}
-use Rattle.alpha_core.specs.interference.Net.{Net}
-use Rattle.alpha_core.specs.node_api.Program.{Program}
+use Rattle.interference.specs.Net.{Net}
+use Rattle.node_api.specs.Program.{Program}
 use Rattle.event_machine.specs.declared.event.Event.{Event}
 use Rattle.event_machine.specs.declared.refused.StepRefused.{StepRefused}
 use Rattle.event_machine.specs.declared.refused.StepRefused.TheVariants as step_refused

@@ -6,12 +6,12 @@ use Rattle.std.specs.List.{flat_map}
 use Rattle.std.specs.Result.{IsErrAnd}
 use Rattle.std.proofs.lemmas.List.{get_or_default}
 use Rattle.std.proofs.lemmas.List.Concat.{flat_map-append}
-use Rattle.alpha_core.specs.interference.Net.{Net}
+use Rattle.interference.specs.Net.{Net}
 use Rattle.alpha_core.specs.View.{View, is_halted}
 use Rattle.event_machine.proofs.Parts.{take-split}
 use Rattle.event_texts.specs.Missing.{lack_text, lacking, last_text, pulse_text, safe_words}
 use Rattle.event_texts.specs.declared.missing.Lack.TheVariants.{Ack, Safe}
-use Rattle.wire_texts.proofs.Ranges.{behind}
+use Rattle.number_rows.proofs.Ranges.{behind}
 
 -- an error says nothing of a good answer
 pub err_says : {X E : Type 0} (Q : E → Type 0) (P : X → Type 0) (r : Result X E) → IsErrAnd r Q → IfOk r P

@@ -4,7 +4,7 @@ use Rattle.std.specs.Prelude.{List, [], ◌∷◌, codes}
 use Rattle.std.specs.Str.{bytes_eq}
 use Rattle.dimacs_col.specs.Lines.{Line}
 use Rattle.dimacs_col.specs.State.{kept_number}
-use Rattle.channel_plan.specs.Split.{AreLinesBefore, begins, is_one_of, lines_before}
+use Rattle.dimacs_col.specs.Split.{AreLinesBefore, begins, is_one_of, lines_before}
 use Rattle.event_machine.specs.declared.event.Event.{Event}
 use Rattle.event_machine.specs.declared.event.Event.TheVariants.{Pulse, Put, Take}
 

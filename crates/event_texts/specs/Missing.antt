@@ -2,8 +2,8 @@
 use Rattle.std.specs.Prelude.{ℕ, suc, ◌+◌, Bool, not, nat_eq, if◌then◌else◌, Option, Some, None}
 use Rattle.std.specs.Prelude.{List, [], ◌∷◌, ◌++◌, codes, flat_map, length, slice_get, slice_index_or}
 use Rattle.std.specs.List.{range_with_len}
-use Rattle.alpha_core.specs.interference.Net.{Net, degree_of, neighbour_of}
-use Rattle.alpha_core.specs.node_api.Program.{Program, last_pulse_on}
+use Rattle.interference.specs.Net.{Net, degree_of, neighbour_of}
+use Rattle.node_api.specs.Program.{Program, last_pulse_on}
 use Rattle.alpha_core.specs.View.{Port, View, is_halted, port_at}
 use Rattle.alpha_core.specs.declared.wire.Wire.{Wire}
 use Rattle.event_machine.specs.declared.event.Event.{Event}
@@ -12,7 +12,8 @@ use Rattle.event_machine.specs.State.{State, link_to, node_of}
 use Rattle.event_machine.specs.Step.{has_port, is_vertex}
 use Rattle.event_texts.specs.declared.missing.Lack.{Lack}
 use Rattle.event_texts.specs.declared.missing.Lack.TheVariants.{Ack, Safe}
-use Rattle.wire_texts.specs.WireText.{numbered, wire_text}
+use Rattle.number_rows.specs.Row.{numbered}
+use Rattle.wire_texts.specs.WireText.{wire_text}
 
 -- a port at which a wire of the node's pulse is still to come: its payload's acknowledgement, or the neighbour's safe
 abbrev pub lacks : {M : Type 0} → Lack → Port M → Bool

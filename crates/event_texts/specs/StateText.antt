@@ -1,12 +1,13 @@
 -- The text of the state of a network.
 use Rattle.std.specs.Prelude.{ℕ, if◌then◌else◌, List, [], ◌++◌, codes, flat_map, length}
 use Rattle.std.specs.List.{range_with_len}
-use Rattle.alpha_core.specs.interference.Net.{Net, degree_of, neighbour_of, vertices}
-use Rattle.alpha_core.specs.node_api.Program.{Program, last_pulse_on}
+use Rattle.interference.specs.Net.{Net, degree_of, neighbour_of, vertices}
+use Rattle.node_api.specs.Program.{Program, last_pulse_on}
 use Rattle.alpha_core.specs.View.{Node, is_halted}
 use Rattle.event_machine.specs.State.{Link, State, link_at, node_of}
 use Rattle.program_texts.specs.Texts.{ProgramTexts}
-use Rattle.wire_texts.specs.WireText.{numbered, wire_text}
+use Rattle.number_rows.specs.Row.{numbered}
+use Rattle.wire_texts.specs.WireText.{wire_text}
 
 -- at the last pulse, the result of the node
 abbrev pub result_text : {S M : Type 0} → ProgramTexts S → ℕ → Node S M → List ℕ

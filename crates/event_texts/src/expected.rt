@@ -4,10 +4,12 @@ ghost use Rattle.std.specs.Prelude.{◌≡◌, ◌++◌, IfOk};
 ghost use Rattle.event_texts.specs.Missing.{expected_text, expected_wire};
 
 use crate::missing::{has_port, is_vertex};
-use alpha_core::{NodeProgram, PayloadText, Wire};
+use alpha_core::Wire;
 use event_machine::{Event, NetState};
+use node_api::{NodeProgram, PayloadText};
+use number_rows::push_numbered;
 use std::alloc::{AllocError, Global};
-use wire_texts::{push_numbered, push_wire};
+use wire_texts::push_wire;
 
 // A wire, if there is one, as the one that was expected.
 fn wire_words<T: PayloadText>(alloc: Global, wire: Option<Wire<T>>) -> Result<Vec<u8>, AllocError>

@@ -3,7 +3,7 @@
 ghost use Rattle.std.specs.Prelude.{◌≡◌};
 ghost use Rattle.event_texts.specs.declared.fault.EventFault.TheVariants.{Memory};
 
-use alpha_core::Memory as OutOfMemory;
+use interference::Memory as OutOfMemory;
 use std::alloc::{AllocError, AllocFailed};
 use thiserror::Error;
 

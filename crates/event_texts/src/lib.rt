@@ -1,7 +1,7 @@
 //! Events as text: read behind a network text, played, and the state that they lead to as text.
 //!
-//! A text of events has a line for each: `pulse V`, `put V PORT` or `take V PORT`. The command `events` of
-//! `byte_functions` cuts its input by `network_text`, and calls `read_events`, `play` and
+//! A text of events has a line for each: `pulse V`, `put V PORT` or `take V PORT`. `events_bytes` of
+//! `answers` cuts its input by `network_text`, and calls `read_events`, `play` and
 //! `text_of_state`, which are for any program. An event that isn't possible is refused with words for what it lacks
 //! (`specs/Missing.antt`).
 //!

@@ -6,8 +6,9 @@ ghost use Rattle.event_machine.specs.Step.{run};
 
 use crate::fault::EventFault;
 use crate::missing::missing_words;
-use alpha_core::{Network, NodeProgram};
 use event_machine::{Event, NetState, StepRefused};
+use interference::Network;
+use node_api::NodeProgram;
 use std::alloc::Global;
 
 // The refusal of an event in a state, with its line and what it lacks.

@@ -3,7 +3,7 @@
 ghost use Rattle.dimacs_col.specs.Lines.{lines_of};
 ghost use Rattle.event_texts.specs.EventLines.{AreNetworkLines};
 
-use channel_plan::text_before;
+use dimacs_col::text_before;
 
 /// The network text that an input begins with: all before the first line whose first field is `pulse`, `put`
 /// or `take`.

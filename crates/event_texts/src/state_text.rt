@@ -1,17 +1,20 @@
 //! The text of a state of a network.
 
 ghost use Rattle.std.specs.Prelude.{◌≡◌, ◌++◌, ◌<◌, IfOk, flat_map};
-ghost use Rattle.alpha_core.specs.interference.Net.{IsVertex, degree_of, neighbour_of};
-ghost use Rattle.alpha_core.specs.node_api.Program.{last_pulse_on};
+ghost use Rattle.interference.specs.Net.{IsVertex, degree_of, neighbour_of};
+ghost use Rattle.node_api.specs.Program.{last_pulse_on};
 ghost use Rattle.event_machine.specs.State.{link_at, node_of};
 ghost use Rattle.event_texts.specs.StateText.{link_text, links_text, node_text, state_text};
 ghost use Rattle.wire_texts.specs.WireText.{wire_text};
 
-use alpha_core::{Memory, NodeProgram, PayloadText, Wire};
+use alpha_core::Wire;
 use event_machine::NetState;
+use interference::Memory;
+use node_api::{NodeProgram, PayloadText};
+use number_rows::push_numbered;
 use program_texts::ProgramText;
 use std::alloc::{AllocError, Global};
-use wire_texts::{push_numbered, push_wire};
+use wire_texts::push_wire;
 
 // Appends the line of a vertex's node.
 fn push_node<P: ProgramText>(

@@ -9,7 +9,8 @@
 //! and which status comes, for all words and every input.
 #![tactic(auto)]
 
-use serving::{Program, serve_process};
+use command_line::Program;
+use serving::serve_process;
 use std::process::ExitCode;
 
 fn main(rt: HostRuntime) -> ExitCode {

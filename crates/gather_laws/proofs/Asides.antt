@@ -4,15 +4,15 @@ use Rattle.std.proofs.Common.{Some, None, ⊎_elim, arith}
 use Rattle.std.specs.Prelude.{Option, IsOk}
 use Rattle.std.proofs.lemmas.Bool.{cases_eq}
 use Rattle.std.proofs.lemmas.List.{append-nil, get_or-set_same, get_or-set_other}
-use Rattle.alpha_laws.specs.interference.Net.{Net, IsNetwork, IsVertex, degree_of, neighbour_of, back_port_of}
-use Rattle.alpha_laws.specs.node_api.Program.{Program, last_pulse_on}
-use Rattle.alpha_laws.specs.node_api.Laws.{IsProgram}
-use Rattle.actor.specs.alpha_core.Wire.{Wire}
-use Rattle.actor.specs.alpha_core.AlphaRefused.{AlphaRefused}
-use Rattle.actor.specs.alpha_core.View.{View, Node, port_at}
-use Rattle.actor.specs.alpha_core.Table.{is_due, refusal_of}
-use Rattle.actor.specs.alpha_core.Alpha.{reaction, reacts, unless_refused}
-use Rattle.actor.proofs.alpha_core.Cells.{taken-due}
+use Rattle.interference.specs.Net.{Net, IsNetwork, IsVertex, degree_of, neighbour_of, back_port_of}
+use Rattle.node_api.specs.Program.{Program, last_pulse_on}
+use Rattle.node_api.specs.Laws.{IsProgram}
+use Rattle.alpha_core.specs.declared.wire.Wire.{Wire}
+use Rattle.alpha_core.specs.declared.refused.AlphaRefused.{AlphaRefused}
+use Rattle.alpha_core.specs.View.{View, Node, port_at}
+use Rattle.alpha_core.specs.Table.{is_due, refusal_of}
+use Rattle.alpha_core.specs.Alpha.{reaction, reacts, unless_refused}
+use Rattle.alpha_core.proofs.Cells.{taken-due}
 use Rattle.alpha_laws.specs.Kept.{NodeKept, AllKept}
 use Rattle.alpha_laws.specs.Simulates.{Simulates, taken_over}
 use Rattle.alpha_laws.proofs.Across.{over}

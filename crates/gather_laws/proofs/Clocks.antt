@@ -5,29 +5,31 @@ use Rattle.std.specs.Prelude.{All, max, Result, MatchResult, ◌&&◌}
 use Rattle.std.proofs.lemmas.Bool.{eq-eqb}
 use Rattle.std.proofs.lemmas.List.{get_or_append_left, get_or_at, length-append, length-map, map-append}
 use Rattle.std.proofs.lemmas.List.Elements.{All-cons, All-head, All-nil, All-tail, All-weaker, All-get_or}
-use Rattle.alpha_laws.specs.interference.Net.{Net, IsNetwork, IsVertex, count_of, degree_of, neighbour_of, neighbours, port_to, back_port_of}
-use Rattle.alpha_laws.proofs.interference.Members.{place_of-is}
-use Rattle.alpha_laws.proofs.interference.Neighbours.{at-back_port, back-of-back_port}
-use Rattle.alpha_laws.specs.node_api.Program.{Program, last_pulse_on}
-use Rattle.alpha_laws.specs.alpha_core.Wire.{Wire}
-use Rattle.alpha_laws.specs.alpha_core.View.{Node, is_drained}
-use Rattle.alpha_laws.specs.alpha_core.Alpha.{pulse, put_done, reaction}
-use Rattle.alpha_laws.specs.alpha_core.Program.{start_node}
-use Rattle.actor.specs.entries.Entry.{Entry}
-use Rattle.actor.specs.entries.Entry.TheVariants.{Pulse, Put, Take}
-use Rattle.actor.specs.entries.Rows.{stamped_entry, stamped_row}
+use Rattle.interference.specs.Net.{Net, IsNetwork, IsVertex, count_of, degree_of, neighbour_of, neighbours, port_to, back_port_of}
+use Rattle.interference.proofs.Members.{place_of-is}
+use Rattle.interference.proofs.Neighbours.{at-back_port, back-of-back_port}
+use Rattle.node_api.specs.Program.{Program, last_pulse_on}
+use Rattle.alpha_core.specs.declared.wire.Wire.{Wire}
+use Rattle.alpha_core.specs.View.{Node, is_drained}
+use Rattle.alpha_core.specs.Alpha.{pulse, put_done, reaction}
+use Rattle.alpha_core.specs.Program.{start_node}
+use Rattle.entries.specs.declared.entry.Entry.{Entry}
+use Rattle.entries.specs.declared.entry.Entry.TheVariants.{Pulse, Put, Take}
+use Rattle.entries.specs.Rows.{stamped_entry, stamped_row, bare_of}
 use Rattle.actor.specs.Written.{Leads, takes_in}
-use Rattle.net_core.specs.event_machine.State.{State, node_of}
-use Rattle.actor.specs.alpha_core.Stamped.{Stamped}
-use Rattle.actor.specs.alpha_core.StampedWires.{stamped, stamps_of, wires_of}
-use Rattle.actor.specs.stamps.Stamps.{StampedEntry, bare_of, counter_of, next_stamp, put_in, taken_in}
-use Rattle.actor.specs.stamps.Keeps.{came_to}
-use Rattle.actor.specs.stamps.Merged.{StampedRow, AreOrdered, AreStampedRows, IsMerge, Precedes, entries_at, puts_at, stamp_behind}
+use Rattle.event_machine.specs.State.{State, node_of}
+use Rattle.alpha_core.specs.declared.stamped.Stamped.{Stamped}
+use Rattle.alpha_core.specs.StampedWires.{stamped, stamps_of, wires_of}
+use Rattle.entries.specs.declared.rows.StampedEntry.{StampedEntry}
+use Rattle.stamps.specs.Stamps.{counter_of, next_stamp, put_in, taken_in}
+use Rattle.stamps.specs.Keeps.{came_to}
+use Rattle.entries.specs.declared.rows.StampedRow.{StampedRow}
+use Rattle.stamps.specs.Merged.{AreOrdered, AreStampedRows, IsMerge, Precedes, entries_at, puts_at, stamp_behind}
 use Rattle.net_core.specs.Whole.{IsStampedReplay, IsWholeReplay}
-use Rattle.actor.proofs.stamps.Appends.{not_above, puts_append, rest_ordered}
-use Rattle.actor.proofs.stamps.Lists.{entry_here, none_or_one, puts_are}
-use Rattle.actor.proofs.stamps.Unique.{entries_append}
-use Rattle.actor.proofs.stamps.Local.{taken_more}
+use Rattle.stamps.proofs.Appends.{not_above, puts_append, rest_ordered}
+use Rattle.stamps.proofs.Lists.{entry_here, none_or_one, puts_are}
+use Rattle.stamps.proofs.Unique.{entries_append}
+use Rattle.stamps.proofs.Local.{taken_more}
 use Rattle.gather_laws.specs.MergedRuns.{HaveMet, IsReplayTo, links_of}
 use Rattle.gather_laws.proofs.MetNodes.{met_written}
 use Rattle.actor.proofs.StampedEntries.{wires_taken}

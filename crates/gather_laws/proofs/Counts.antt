@@ -4,11 +4,11 @@ use Rattle.std.proofs.Common.{◌≡◌, ℕ, true, Bool, length, sym, ◌∙◌
 use Rattle.std.specs.List.{sum_by}
 use Rattle.std.proofs.lemmas.List.{length-map}
 use Rattle.std.proofs.lemmas.List.FromFn.{length-range_with_len}
-use Rattle.alpha_laws.specs.interference.Net.{Net, IsNetwork, count_of}
-use Rattle.alpha_laws.specs.interference.Counts.{sum_over_ports}
-use Rattle.alpha_laws.specs.node_api.Program.{Program}
-use Rattle.actor.specs.alpha_core.StampedWires.{wires_of}
-use Rattle.actor.specs.alpha_core.Wires.{payloads_of}
+use Rattle.interference.specs.Net.{Net, IsNetwork, count_of}
+use Rattle.interference.specs.Counts.{sum_over_ports}
+use Rattle.node_api.specs.Program.{Program}
+use Rattle.alpha_core.specs.StampedWires.{wires_of}
+use Rattle.alpha_core.specs.Wires.{payloads_of}
 use Rattle.alpha_laws.proofs.Counts.{lists_counted}
 use Rattle.alpha_laws.proofs.Sums.{by_ports}
 use Rattle.gather_laws.specs.Outcome.{History, Outcome, IsOutcome, is_whole, link_in, no_history, put_by}

@@ -1,11 +1,11 @@
 -- Of each direction at most two emitted wires are untaken, and a link holds some of those.
 use Rattle.std.proofs.Common.{◌≡◌, ℕ, ◌+◌, ◌≤◌, ◌<◌, Bool, List, ◌++◌, length, ap, ◌∙◌, arith}
 use Rattle.std.proofs.lemmas.List.{length-append, length-map}
-use Rattle.alpha_laws.specs.interference.Net.{Net, IsNetwork, IsVertex, degree_of}
-use Rattle.alpha_laws.specs.node_api.Program.{Program}
-use Rattle.actor.specs.alpha_core.StampedWires.{wires_of}
-use Rattle.actor.specs.alpha_core.Wire.{Wire}
-use Rattle.actor.specs.alpha_core.View.{port_at}
+use Rattle.interference.specs.Net.{Net, IsNetwork, IsVertex, degree_of}
+use Rattle.node_api.specs.Program.{Program}
+use Rattle.alpha_core.specs.StampedWires.{wires_of}
+use Rattle.alpha_core.specs.declared.wire.Wire.{Wire}
+use Rattle.alpha_core.specs.View.{port_at}
 use Rattle.alpha_laws.specs.Simulates.{taken_over}
 use Rattle.alpha_laws.proofs.Across.{over}
 use Rattle.gather_laws.specs.Outcome.{Outcome, IsOutcome, held_on, link_in, node_in, put_by, taken_by}

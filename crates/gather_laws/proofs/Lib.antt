@@ -8,4 +8,3 @@ pub mod Counts
 pub mod Progress
 pub mod Held
 pub mod Merged
-pub mod alpha_laws

@@ -1,13 +1,14 @@
 -- The merged entries of an outcome.
 use Rattle.std.proofs.Common.{◌≡◌, ℕ, ◌<◌, true, List, refl, sym, ap, ◌∙◌, subst}
-use Rattle.alpha_laws.specs.interference.Net.{Net, IsNetwork, IsVertex, count_of, degree_of, neighbour_of, back_port_of}
-use Rattle.alpha_laws.specs.node_api.Program.{Program, last_pulse_on}
-use Rattle.actor.specs.alpha_core.Stamped.{Stamped}
-use Rattle.actor.specs.alpha_core.StampedWires.{wires_of}
-use Rattle.actor.specs.alpha_core.View.{is_drained}
-use Rattle.net_core.specs.event_machine.State.{State, node_of}
+use Rattle.interference.specs.Net.{Net, IsNetwork, IsVertex, count_of, degree_of, neighbour_of, back_port_of}
+use Rattle.node_api.specs.Program.{Program, last_pulse_on}
+use Rattle.alpha_core.specs.declared.stamped.Stamped.{Stamped}
+use Rattle.alpha_core.specs.StampedWires.{wires_of}
+use Rattle.alpha_core.specs.View.{is_drained}
+use Rattle.event_machine.specs.State.{State, node_of}
 use Rattle.net_core.specs.Whole.{IsStampedReplay, IsWholeReplay}
-use Rattle.actor.specs.stamps.Merged.{StampedRow, IsMerge}
+use Rattle.entries.specs.declared.rows.StampedRow.{StampedRow}
+use Rattle.stamps.specs.Merged.{IsMerge}
 use Rattle.gather_laws.specs.MergedRuns.{HaveMet, IsReplayTo}
 use Rattle.gather_laws.proofs.Clocks.{met_replay}
 use Rattle.gather_laws.specs.Outcome.{Outcome, IsOutcome, entries_in, held_on, is_whole, link_in, link_of, node_in}

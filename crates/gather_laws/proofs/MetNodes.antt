@@ -1,17 +1,19 @@
 -- Nodes that keep their stamps are written, once their ends have met.
 use Rattle.std.proofs.Common.{◌≡◌, ℕ, List, refl, sym, ap, ◌∙◌, subst}
 use Rattle.std.proofs.lemmas.List.{map-append}
-use Rattle.alpha_laws.specs.interference.Net.{Net, IsNetwork, IsVertex, neighbour_of, back_port_of}
-use Rattle.alpha_laws.proofs.interference.Neighbours.{at-back_port}
-use Rattle.alpha_laws.specs.node_api.Program.{Program}
-use Rattle.alpha_laws.specs.alpha_core.View.{Node}
+use Rattle.interference.specs.Net.{Net, IsNetwork, IsVertex, neighbour_of, back_port_of}
+use Rattle.interference.proofs.Neighbours.{at-back_port}
+use Rattle.node_api.specs.Program.{Program}
+use Rattle.alpha_core.specs.View.{Node}
 use Rattle.alpha_laws.proofs.Across.{over}
-use Rattle.actor.specs.alpha_core.Stamped.{Stamped}
+use Rattle.alpha_core.specs.declared.stamped.Stamped.{Stamped}
 use Rattle.actor.specs.Written.{takes_in}
-use Rattle.actor.specs.stamps.Keeps.{came_to}
-use Rattle.actor.specs.alpha_core.StampedWires.{wires_of}
-use Rattle.actor.specs.stamps.Stamps.{StampedEntry, Carries, Rises, bare_of, taken_in}
-use Rattle.actor.proofs.stamps.Local.{carried, rises}
+use Rattle.stamps.specs.Keeps.{came_to}
+use Rattle.alpha_core.specs.StampedWires.{wires_of}
+use Rattle.entries.specs.declared.rows.StampedEntry.{StampedEntry}
+use Rattle.stamps.specs.Stamps.{Carries, Rises, taken_in}
+use Rattle.entries.specs.Rows.{bare_of}
+use Rattle.stamps.proofs.Local.{carried, rises}
 use Rattle.gather_laws.specs.MergedRuns.{AreWritten, HaveMet, links_of}
 use Rattle.actor.proofs.StampedEntries.{wires_taken}
 

@@ -5,9 +5,9 @@ use Rattle.std.proofs.Common.{List, [], ◌∷◌, map, length, get_or, refl, sy
 use Rattle.std.proofs.lemmas.Bool.{and_from, eq-eqb}
 use Rattle.std.proofs.lemmas.List.{get_or_default, length-map}
 use Rattle.std.proofs.lemmas.List.FromFn.{length-range_with_len}
-use Rattle.alpha_laws.specs.interference.Net.{Net, IsNetwork, IsVertex, count_of}
-use Rattle.alpha_laws.specs.node_api.Program.{Program}
-use Rattle.actor.specs.alpha_core.View.{Alpha, is_drained}
+use Rattle.interference.specs.Net.{Net, IsNetwork, IsVertex, count_of}
+use Rattle.node_api.specs.Program.{Program}
+use Rattle.alpha_core.specs.View.{Alpha, is_drained}
 use Rattle.alpha_laws.specs.Progress.{CanMove, IsWhole}
 use Rattle.alpha_laws.proofs.Moves.{moves}
 use Rattle.gather_laws.specs.Outcome.{

@@ -5,21 +5,23 @@ use Rattle.std.specs.Prelude.{All}
 use Rattle.std.proofs.lemmas.List.{append-nil, get_or-map, length-map, length-replicate}
 use Rattle.std.proofs.lemmas.List.FromFn.{length-range_with_len, get_or-range_with_len}
 use Rattle.std.proofs.lemmas.List.Elements.{All-head, All-tail}
-use Rattle.alpha_laws.specs.interference.Net.{Net, IsNetwork, IsVertex, count_of, degree_of, neighbour_of, back_port_of, vertices}
-use Rattle.alpha_laws.proofs.interference.Neighbours.{at-back_port}
-use Rattle.alpha_laws.specs.node_api.Program.{Program}
-use Rattle.alpha_laws.specs.alpha_core.View.{Node}
-use Rattle.alpha_laws.specs.alpha_core.Program.{start_node}
+use Rattle.interference.specs.Net.{Net, IsNetwork, IsVertex, count_of, degree_of, neighbour_of, back_port_of, vertices}
+use Rattle.interference.proofs.Neighbours.{at-back_port}
+use Rattle.node_api.specs.Program.{Program}
+use Rattle.alpha_core.specs.View.{Node}
+use Rattle.alpha_core.specs.Program.{start_node}
 use Rattle.alpha_laws.proofs.Across.{over}
 use Rattle.actor.specs.Written.{Leads, takes_in}
-use Rattle.net_core.specs.event_machine.State.{Link, State, link_at, no_link, start}
-use Rattle.net_core.specs.event_machine.Step.{go_on, run_from, step}
+use Rattle.event_machine.specs.State.{Link, State, link_at, no_link, start}
+use Rattle.event_machine.specs.Step.{go_on, run_from, step}
 use Rattle.net_core.specs.Rows.{event_of, if_made, rows_from}
-use Rattle.actor.specs.alpha_core.StampedWires.{wires_of}
-use Rattle.actor.specs.entries.Rows.{without_stamp}
-use Rattle.actor.specs.stamps.Stamps.{StampedEntry, Carries, bare_of, put_in, taken_in}
-use Rattle.actor.specs.stamps.Merged.{StampedRow, AreOrdered, IsMerge, entries_at, puts_at, rows_in, takes_at}
-use Rattle.actor.proofs.stamps.Lists.{puts_are, takes_are}
+use Rattle.alpha_core.specs.StampedWires.{wires_of}
+use Rattle.entries.specs.Rows.{without_stamp, bare_of}
+use Rattle.entries.specs.declared.rows.StampedEntry.{StampedEntry}
+use Rattle.stamps.specs.Stamps.{Carries, put_in, taken_in}
+use Rattle.entries.specs.declared.rows.StampedRow.{StampedRow}
+use Rattle.stamps.specs.Merged.{AreOrdered, IsMerge, entries_at, puts_at, rows_in, takes_at}
+use Rattle.stamps.proofs.Lists.{puts_are, takes_are}
 use Rattle.gather_laws.specs.MergedRuns.{AreWritten, IsReplayTo}
 use Rattle.actor.proofs.StampedEntries.{wires_taken}
 use Rattle.gather_laws.proofs.Steps.{Comes, IsTable, Left, row_made}

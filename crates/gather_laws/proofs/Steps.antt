@@ -5,30 +5,32 @@ use Rattle.std.proofs.Common.{append_assoc, arith, subst, ⊎_elim}
 use Rattle.std.specs.Prelude.{Result, MatchResult, All}
 use Rattle.std.proofs.lemmas.Bool.{cases_eq}
 use Rattle.std.proofs.lemmas.List.{get_or-set_same, get_or-set_other, length-set}
-use Rattle.alpha_laws.specs.interference.Net.{Net, IsNetwork, IsVertex, count_of, degree_of, neighbours, neighbour_of, port_to, back_port_of}
-use Rattle.alpha_laws.proofs.interference.Neighbours.{at-back_port, port_to-is}
-use Rattle.alpha_laws.proofs.interference.Members.{place_of-is}
-use Rattle.alpha_laws.specs.node_api.Program.{Program, last_pulse_on}
-use Rattle.alpha_laws.specs.alpha_core.Wire.{Wire}
-use Rattle.alpha_laws.specs.alpha_core.View.{Node, port_at}
-use Rattle.alpha_laws.specs.alpha_core.Alpha.{pulse, put_done, reaction}
-use Rattle.alpha_laws.specs.alpha_core.Program.{start_node}
-use Rattle.actor.specs.entries.Entry.{Entry}
-use Rattle.actor.specs.entries.Entry.TheVariants.{Pulse, Put, Take}
-use Rattle.actor.specs.entries.Rows.{stamped_row, vertex_row, without_stamp}
+use Rattle.interference.specs.Net.{Net, IsNetwork, IsVertex, count_of, degree_of, neighbours, neighbour_of, port_to, back_port_of}
+use Rattle.interference.proofs.Neighbours.{at-back_port, port_to-is}
+use Rattle.interference.proofs.Members.{place_of-is}
+use Rattle.node_api.specs.Program.{Program, last_pulse_on}
+use Rattle.alpha_core.specs.declared.wire.Wire.{Wire}
+use Rattle.alpha_core.specs.View.{Node, port_at}
+use Rattle.alpha_core.specs.Alpha.{pulse, put_done, reaction}
+use Rattle.alpha_core.specs.Program.{start_node}
+use Rattle.entries.specs.declared.entry.Entry.{Entry}
+use Rattle.entries.specs.declared.entry.Entry.TheVariants.{Pulse, Put, Take}
+use Rattle.entries.specs.Rows.{stamped_row, vertex_row, without_stamp, bare_of}
 use Rattle.actor.specs.Written.{Leads}
-use Rattle.net_core.specs.event_machine.State.{Link, State, link_at, node_of, set_link, set_link_to, set_node}
-use Rattle.net_core.specs.event_machine.Step.{after_put, after_take, else_old, step}
-use Rattle.net_core.proofs.event_machine.LinkTable.{link_same, link_other, rows_kept, row_kept}
-use Rattle.net_core.proofs.event_machine.NetKept.{port_is, vertex_is}
-use Rattle.net_core.proofs.event_machine.Parts.{first-some}
-use Rattle.net_core.specs.Rows.{Row, event_of, row_of}
+use Rattle.event_machine.specs.State.{Link, State, link_at, node_of, set_link, set_link_to, set_node}
+use Rattle.event_machine.specs.Step.{after_put, after_take, else_old, step}
+use Rattle.event_machine.proofs.LinkTable.{link_same, link_other, rows_kept, row_kept}
+use Rattle.event_machine.proofs.NetKept.{port_is, vertex_is}
+use Rattle.event_machine.proofs.Parts.{first-some}
+use Rattle.entries.specs.declared.rows.Row.{Row}
+use Rattle.net_core.specs.Rows.{event_of, row_of}
 use Rattle.net_core.proofs.Writes.{row-is}
-use Rattle.actor.specs.alpha_core.Stamped.{Stamped}
-use Rattle.actor.specs.alpha_core.StampedWires.{stamped, wires_of}
-use Rattle.actor.specs.stamps.Stamps.{Carries, bare_of}
-use Rattle.actor.specs.stamps.Merged.{StampedRow, Precedes, entries_at, puts_at, takes_at}
-use Rattle.actor.proofs.stamps.Lists.{entry_here, entry_other, first_put, put_here, put_other, take_here, take_other}
+use Rattle.alpha_core.specs.declared.stamped.Stamped.{Stamped}
+use Rattle.alpha_core.specs.StampedWires.{stamped, wires_of}
+use Rattle.stamps.specs.Stamps.{Carries}
+use Rattle.entries.specs.declared.rows.StampedRow.{StampedRow}
+use Rattle.stamps.specs.Merged.{Precedes, entries_at, puts_at, takes_at}
+use Rattle.stamps.proofs.Lists.{entry_here, entry_other, first_put, put_here, put_other, take_here, take_other}
 
 -- the state has a node for each vertex, and a link for each of its ports
 pub record IsTable {S M : Type 0} (net : Net) (state : State S M) : Type 0 where

@@ -1,10 +1,10 @@
 -- How many wires a run of workers put on its links.
 use Rattle.std.specs.Prelude.{◌≡◌, ℕ, ◌+◌, ◌*◌, Bool, true, length, sum_by}
-use Rattle.alpha_laws.specs.interference.Net.{Net}
-use Rattle.alpha_laws.specs.interference.Counts.{edge_count_of}
-use Rattle.alpha_laws.specs.node_api.Program.{Program, last_pulse_on}
-use Rattle.actor.specs.alpha_core.StampedWires.{wires_of}
-use Rattle.actor.specs.alpha_core.Wires.{payloads_of}
+use Rattle.interference.specs.Net.{Net}
+use Rattle.interference.specs.Counts.{edge_count_of}
+use Rattle.node_api.specs.Program.{Program, last_pulse_on}
+use Rattle.alpha_core.specs.StampedWires.{wires_of}
+use Rattle.alpha_core.specs.Wires.{payloads_of}
 use Rattle.alpha_laws.specs.Counts.{payloads_sent}
 use Rattle.gather_laws.specs.Outcome.{Outcome, IsOutcome, is_whole}
 

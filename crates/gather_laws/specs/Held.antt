@@ -1,7 +1,7 @@
 -- How many wires a link holds in what a run of workers leaves.
 use Rattle.std.specs.Prelude.{ℕ, ◌<◌, ◌≤◌, Bool, length}
-use Rattle.alpha_laws.specs.interference.Net.{Net, IsVertex, degree_of}
-use Rattle.alpha_laws.specs.node_api.Program.{Program}
+use Rattle.interference.specs.Net.{Net, IsVertex, degree_of}
+use Rattle.node_api.specs.Program.{Program}
 use Rattle.gather_laws.specs.Outcome.{Outcome, IsOutcome, link_in}
 
 -- No link of an outcome holds more than two wires, whatever its capacity.

@@ -1,9 +1,9 @@
 -- What nodes that were gathered are, if they keep the lists of their ends and all ends have met.
 use Rattle.std.specs.Prelude.{◌≡◌, ℕ, ◌<◌, List, ◌++◌, length, Option, Some, None}
-use Rattle.alpha_laws.specs.interference.Net.{Net, IsVertex, degree_of}
-use Rattle.alpha_laws.specs.node_api.Program.{Program, last_pulse_on}
-use Rattle.actor.specs.alpha_core.Wire.{Wire}
-use Rattle.actor.specs.alpha_core.View.{Node}
+use Rattle.interference.specs.Net.{Net, IsVertex, degree_of}
+use Rattle.node_api.specs.Program.{Program, last_pulse_on}
+use Rattle.alpha_core.specs.declared.wire.Wire.{Wire}
+use Rattle.alpha_core.specs.View.{Node}
 use Rattle.alpha_laws.specs.Kept.{NodeKept}
 use Rattle.alpha_laws.specs.Simulates.{Simulates, taken_over}
 use Rattle.actor.specs.declared.aside.Aside.{Aside}

@@ -1,10 +1,11 @@
 -- What the merged entries of an outcome are if it is whole.
 use Rattle.std.specs.Prelude.{◌≡◌, ℕ, true, List}
-use Rattle.alpha_laws.specs.interference.Net.{Net, IsVertex, count_of}
-use Rattle.alpha_laws.specs.node_api.Program.{Program}
-use Rattle.net_core.specs.event_machine.State.{State, node_of}
+use Rattle.interference.specs.Net.{Net, IsVertex, count_of}
+use Rattle.node_api.specs.Program.{Program}
+use Rattle.event_machine.specs.State.{State, node_of}
 use Rattle.net_core.specs.Whole.{IsWholeReplay}
-use Rattle.actor.specs.stamps.Merged.{StampedRow, IsMerge}
+use Rattle.entries.specs.declared.rows.StampedRow.{StampedRow}
+use Rattle.stamps.specs.Merged.{IsMerge}
 use Rattle.gather_laws.specs.Outcome.{Outcome, IsOutcome, entries_in, is_whole, node_in}
 
 -- With a transcript, the entries of all nodes, in the order of their stamps and then of their vertices, are a whole

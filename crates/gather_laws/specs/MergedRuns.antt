@@ -1,17 +1,20 @@
 -- What the stamped entries of a run of workers are, once all ends have met.
 use Rattle.std.specs.Prelude.{◌≡◌, ℕ, ◌<◌, IsTrue, List, [], ◌++◌}
-use Rattle.alpha_laws.specs.interference.Net.{Net, IsVertex, count_of, degree_of, neighbour_of, back_port_of}
-use Rattle.alpha_laws.specs.node_api.Program.{Program, last_pulse_on}
-use Rattle.alpha_laws.specs.alpha_core.View.{Node, is_drained}
-use Rattle.actor.specs.alpha_core.Stamped.{Stamped}
+use Rattle.interference.specs.Net.{Net, IsVertex, count_of, degree_of, neighbour_of, back_port_of}
+use Rattle.node_api.specs.Program.{Program, last_pulse_on}
+use Rattle.alpha_core.specs.View.{Node, is_drained}
+use Rattle.alpha_core.specs.declared.stamped.Stamped.{Stamped}
 use Rattle.actor.specs.Written.{IsWritten}
-use Rattle.net_core.specs.event_machine.State.{Link, State, link_at, node_of, sent_of}
+use Rattle.event_machine.specs.State.{Link, State, link_at, node_of, sent_of}
 use Rattle.net_core.specs.Replays.{IsReplay}
 use Rattle.net_core.specs.Whole.{IsStampedReplay, IsWholeReplay}
-use Rattle.actor.specs.stamps.Keeps.{KeepsStamps}
-use Rattle.actor.specs.stamps.Merged.{StampedRow, IsMerge, rows_in}
-use Rattle.actor.specs.alpha_core.StampedWires.{wires_of}
-use Rattle.actor.specs.stamps.Stamps.{StampedEntry, Carries, Rises, bare_of, put_in, taken_in}
+use Rattle.stamps.specs.Keeps.{KeepsStamps}
+use Rattle.entries.specs.declared.rows.StampedRow.{StampedRow}
+use Rattle.stamps.specs.Merged.{IsMerge, rows_in}
+use Rattle.alpha_core.specs.StampedWires.{wires_of}
+use Rattle.entries.specs.declared.rows.StampedEntry.{StampedEntry}
+use Rattle.stamps.specs.Stamps.{Carries, Rises, put_in, taken_in}
+use Rattle.entries.specs.Rows.{bare_of}
 
 -- The entries of each node are all that it did, from its start to what it is, with the lists of its links; and each
 -- take of a link is of its put, and later.

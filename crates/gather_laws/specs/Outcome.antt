@@ -1,18 +1,21 @@
 -- What a run of workers leaves, and what it promises of it.
 use Rattle.std.specs.Prelude.{◌≡◌, ℕ, ◌-◌, ◌<◌, ◌≤◌, Bool, true, ◌&&◌, nat_eq, IsTrue}
 use Rattle.std.specs.Prelude.{List, [], ◌∷◌, ◌++◌, map, length, slice_index_or}
-use Rattle.alpha_laws.specs.interference.Net.{Net, IsVertex, count_of, vertices, degree_of, neighbour_of, back_port_of}
-use Rattle.alpha_laws.specs.node_api.Program.{Program, last_pulse_on}
-use Rattle.actor.specs.alpha_core.Wire.{Wire}
-use Rattle.actor.specs.alpha_core.Stamped.{Stamped}
-use Rattle.actor.specs.alpha_core.StampedWires.{wires_of}
-use Rattle.actor.specs.alpha_core.View.{Alpha, Node, is_drained}
-use Rattle.actor.specs.alpha_core.Program.{start_node}
+use Rattle.interference.specs.Net.{Net, IsVertex, count_of, vertices, degree_of, neighbour_of, back_port_of}
+use Rattle.node_api.specs.Program.{Program, last_pulse_on}
+use Rattle.alpha_core.specs.declared.wire.Wire.{Wire}
+use Rattle.alpha_core.specs.declared.stamped.Stamped.{Stamped}
+use Rattle.alpha_core.specs.StampedWires.{wires_of}
+use Rattle.alpha_core.specs.View.{Alpha, Node, is_drained}
+use Rattle.alpha_core.specs.Program.{start_node}
 use Rattle.alpha_laws.specs.Simulates.{Simulates}
 use Rattle.actor.specs.Written.{IsTranscript}
-use Rattle.actor.specs.stamps.Merged.{StampedRow, IsMerge}
-use Rattle.actor.specs.stamps.Stamps.{Carries, StampedEntry, Rises, bare_of, put_in, taken_in}
-use Rattle.net_core.specs.event_machine.State.{Link}
+use Rattle.entries.specs.declared.rows.StampedRow.{StampedRow}
+use Rattle.stamps.specs.Merged.{IsMerge}
+use Rattle.stamps.specs.Stamps.{Carries, Rises, put_in, taken_in}
+use Rattle.entries.specs.declared.rows.StampedEntry.{StampedEntry}
+use Rattle.entries.specs.Rows.{bare_of}
+use Rattle.event_machine.specs.State.{Link}
 use Rattle.net_core.specs.Whole.{IsStampedReplay}
 use Rattle.gather_laws.specs.MergedRuns.{IsReplayTo}
 

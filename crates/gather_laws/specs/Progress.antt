@@ -1,7 +1,7 @@
 -- What the nodes of an outcome can still do, how many events they have made, and what they are once it is whole.
 use Rattle.std.specs.Prelude.{◌≡◌, ◌⊎◌, ◌↔◌, ℕ, ◌<◌, ◌≤◌, Bool, true}
-use Rattle.alpha_laws.specs.interference.Net.{Net, IsVertex}
-use Rattle.alpha_laws.specs.node_api.Program.{Program}
+use Rattle.interference.specs.Net.{Net, IsVertex}
+use Rattle.node_api.specs.Program.{Program}
 use Rattle.alpha_laws.specs.Counts.{events_made, events_of_run}
 use Rattle.alpha_laws.specs.Progress.{CanMove, HasEnded}
 use Rattle.gather_laws.specs.Outcome.{Outcome, IsOutcome, held_on, is_whole, node_in, put_by, taken_by}

@@ -1,8 +1,8 @@
 -- What a run of workers leaves if it is whole.
 use Rattle.std.specs.Prelude.{◌≡◌, ℕ, ◌<◌, Bool, true, IsTrue, []}
-use Rattle.alpha_laws.specs.interference.Net.{Net, IsVertex, degree_of, neighbour_of}
-use Rattle.alpha_laws.specs.node_api.Program.{Program, last_pulse_on}
-use Rattle.actor.specs.alpha_core.View.{is_halted}
+use Rattle.interference.specs.Net.{Net, IsVertex, degree_of, neighbour_of}
+use Rattle.node_api.specs.Program.{Program, last_pulse_on}
+use Rattle.alpha_core.specs.View.{is_halted}
 use Rattle.alpha_laws.specs.Simulates.{IsCompleteOn}
 use Rattle.gather_laws.specs.Outcome.{Outcome, IsOutcome, is_whole, link_in, node_in, put_by}
 

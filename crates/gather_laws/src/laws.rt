@@ -1,7 +1,7 @@
 //! What holds of nodes whose ends have met, of what a run of workers leaves, and of the stamped entries of a run. Each
 //! law is a function that does nothing: its contract is the law.
 
-ghost use Rattle.alpha_laws.specs.node_api.Program.{Program};
+ghost use Rattle.node_api.specs.Program.{Program};
 ghost use Rattle.alpha_laws.specs.Laws.{OnEveryNetwork};
 ghost use Rattle.gather_laws.specs.Counts.{WholeOutcomesAreCounted};
 ghost use Rattle.gather_laws.specs.Held.{OutcomesHoldAtMostTwo};
@@ -10,7 +10,7 @@ ghost use Rattle.gather_laws.specs.Merged.{WholeOutcomesReplay};
 ghost use Rattle.gather_laws.specs.MergedRuns.{MergedRunsReplay, MetNodesAreWritten, MetRunsReplay, WholeRunsReplay};
 ghost use Rattle.gather_laws.specs.Progress.{OutcomesAreBounded, OutcomesCanGoOn, WholeOutcomesHaveEnded};
 ghost use Rattle.gather_laws.specs.Whole.{WholeOutcomesAreComplete};
-ghost use Rattle.alpha_laws.specs.interference.Net.{IsNetwork, Net};
+ghost use Rattle.interference.specs.Net.{IsNetwork, Net};
 
 /// Once all ends have met, the lists of both ends of each link show that no node has refused a wire, and the nodes
 /// simulate the synchronous run.

@@ -25,6 +25,3 @@
 #![tactic(auto)]
 
 pub mod laws;
-
-// What crates above name of lower ones.
-pub use alpha_laws::{MAX_DEGREE, Memory, Network, NodeProgram};

@@ -12,8 +12,8 @@ use Rattle.std.proofs.lemmas.List.Elements.{All-more, All-tail}
 use Rattle.std.proofs.lemmas.List.Sums.{count_by_more_no, count_by_more_yes, sum_by-cons, sum_by-take-le}
 use Rattle.std.specs.List.Sorted.{IsStrictlySortedBy}
 use Rattle.std.proofs.lemmas.Map.Keys.{Less-from_sorted}
-use Rattle.dimacs_col.specs.Pairs.{IsBarOf, is_bar_at, bars_at, pair_cmp}
-use Rattle.dimacs_col.specs.declared.limits.TheConstants.{MAX_BARS}
+use Rattle.graph_limits.specs.Pairs.{IsBarOf, is_bar_at, bars_at, pair_cmp}
+use Rattle.graph_limits.specs.declared.limits.TheConstants.{MAX_BARS}
 
 -- ---- tests and orders of numbers
 pub eq-yes : (a b : ℕ) → a ≡ b → (a == b) ≡ true

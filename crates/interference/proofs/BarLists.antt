@@ -7,8 +7,8 @@ use Rattle.std.proofs.lemmas.List.Elements.{All-filter, All-map, All-contains, f
 use Rattle.std.proofs.lemmas.List.Kept.{IsStrictlySortedBy-filter}
 use Rattle.std.proofs.lemmas.List.Sums.{length-filter}
 use Rattle.std.proofs.lemmas.Map.Keys.{Less-from_sorted}
-use Rattle.dimacs_col.specs.Pairs.{IsBarOf, is_bar_at, bars_at, pair_cmp}
-use Rattle.dimacs_col.specs.declared.limits.TheConstants.{MAX_CHANNEL}
+use Rattle.graph_limits.specs.Pairs.{IsBarOf, is_bar_at, bars_at, pair_cmp}
+use Rattle.graph_limits.specs.declared.limits.TheConstants.{MAX_CHANNEL}
 use Rattle.interference.proofs.BarCounts.{pairs-before}
 use Rattle.interference.specs.Making.{BarsFit, barred_at, colour_of}
 

@@ -10,8 +10,8 @@ use Rattle.std.proofs.lemmas.List.FromFn.{length-map-range_with_len, get_or-map-
 use Rattle.std.proofs.lemmas.List.Sums.{count_by-le-length, sum_by-le, sum_by_more}
 use Rattle.std.proofs.lemmas.Map.Keys.{sorted_tail}
 use Rattle.std.proofs.lemmas.Map.Views.{All-after_first}
-use Rattle.dimacs_col.specs.declared.limits.TheConstants.{MAX_NODES, MAX_BARS}
-use Rattle.dimacs_col.specs.Pairs.{is_bar_at, bars_at, pair_cmp}
+use Rattle.graph_limits.specs.declared.limits.TheConstants.{MAX_NODES, MAX_BARS}
+use Rattle.graph_limits.specs.Pairs.{is_bar_at, bars_at, pair_cmp}
 use Rattle.interference.specs.Filling.{ArePackedBars}
 use Rattle.interference.specs.Making.{BarsFit, barred_at, colour_of}
 use Rattle.interference.specs.Net.{longest}

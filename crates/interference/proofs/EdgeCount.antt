@@ -5,7 +5,7 @@ use Rattle.std.specs.List.{sum_by, range_with_len}
 use Rattle.std.proofs.Math.Nat.{mul_comm}
 use Rattle.std.proofs.lemmas.Bool.Decides.{nat_tests}
 use Rattle.std.proofs.lemmas.List.Elements.{Contains-get_or}
-use Rattle.dimacs_col.specs.Pairs.{FitsIn}
+use Rattle.graph_limits.specs.Pairs.{FitsIn}
 use Rattle.interference.specs.Net.{IsNetwork, degree_of}
 use Rattle.interference.specs.Making.{EdgesFit, network_of}
 use Rattle.interference.specs.Filling.{touches, degree_in}

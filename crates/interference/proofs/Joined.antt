@@ -8,8 +8,8 @@ use Rattle.std.proofs.Math.Nat.{min_comm, max_comm}
 use Rattle.std.proofs.lemmas.List.Elements.{All-contains}
 use Rattle.std.proofs.lemmas.List.Kept.{IsStrictlySortedBy-filter}
 use Rattle.std.proofs.lemmas.Map.Made.{is_member-Decides}
-use Rattle.dimacs_col.specs.Pairs.{same_pair, IsWithinLimits}
-use Rattle.dimacs_col.proofs.Members.{same_pair-laws, same_pair-exact}
+use Rattle.graph_limits.specs.Pairs.{same_pair, IsWithinLimits}
+use Rattle.graph_limits.proofs.Pairs.{same_pair-laws, same_pair-exact}
 use Rattle.interference.specs.Making.{joins, joined_to}
 use Rattle.interference.proofs.Members.{Contains-filter, Contains-from_filter, passes-from_filter, Contains-range, range-bounds, range-ascends}
 

@@ -5,7 +5,7 @@ use Rattle.std.proofs.lemmas.Bool.{cases_order}
 use Rattle.std.proofs.lemmas.List.FromFn.{length-map-range_with_len, get_or-map-range_with_len}
 use Rattle.std.proofs.lemmas.List.Elements.{Contains-get_or}
 use Rattle.std.proofs.lemmas.Map.Keys.{below_from_sorted}
-use Rattle.dimacs_col.specs.Pairs.{IsWithinLimits}
+use Rattle.graph_limits.specs.Pairs.{IsWithinLimits}
 use Rattle.interference.specs.Net.{IsNetwork, IsVertex, id_of, neighbours, degree_of, neighbour_of, back_port_of, bars_of, id_bound}
 use Rattle.interference.specs.declared.limits.TheConstants.{MAX_DEGREE}
 use Rattle.interference.specs.Making.{BarsFit, barred_at, joins, joined_to, network_of, IsCrowded, HaveSameId}

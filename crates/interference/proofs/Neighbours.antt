@@ -25,7 +25,7 @@ use Rattle.interference.specs.Net.{
   higher_count,
   forest_count_of,
 }
-use Rattle.dimacs_col.specs.declared.limits.TheConstants.{MAX_BARS}
+use Rattle.graph_limits.specs.declared.limits.TheConstants.{MAX_BARS}
 use Rattle.interference.specs.declared.limits.TheConstants.{MAX_DEGREE}
 use Rattle.interference.proofs.Members.{place_of-below, place_of-is, Contains-place_of}
 use Rattle.interference.proofs.Greatest.{longest-holds, longest-within, longest-reached, greatest-holds, greatest-within, greatest-reached}

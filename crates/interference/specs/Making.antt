@@ -3,8 +3,8 @@ use Rattle.std.specs.Prelude.{◌≡◌, ◌⊎◌, ℕ, ◌-◌, ◌<◌, ◌�
 use Rattle.std.specs.List.{range_with_len}
 use Rattle.std.specs.Set.{is_member}
 use Rattle.std.specs.List.Sorted.{IsStrictlySortedBy}
-use Rattle.dimacs_col.specs.Pairs.{IsWithinLimits, IsBarOf, pair_cmp, same_pair, is_bar_at, bars_at}
-use Rattle.dimacs_col.specs.declared.limits.TheConstants.{MAX_BARS}
+use Rattle.graph_limits.specs.Pairs.{IsWithinLimits, IsBarOf, pair_cmp, same_pair, is_bar_at, bars_at}
+use Rattle.graph_limits.specs.declared.limits.TheConstants.{MAX_BARS}
 use Rattle.interference.specs.Net.{Net, IsVertex, id_of, degree_of}
 use Rattle.interference.specs.declared.limits.TheConstants.{MAX_DEGREE}
 use Rattle.interference.specs.declared.fault.NetFault.{NetFault}

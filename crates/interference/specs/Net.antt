@@ -2,7 +2,7 @@
 use Rattle.std.specs.Prelude.{◌≡◌, ◌≢◌, ℕ, zero, suc, ◌+◌, ◌-◌, ◌^◌, ◌<◌, ◌≤◌, ◌==◌, nat_lt, max, if◌then◌else◌}
 use Rattle.std.specs.Prelude.{List, [], ◌∷◌, length, slice_index, slice_index_or, count_by, Contains}
 use Rattle.std.specs.List.{range_with_len}
-use Rattle.dimacs_col.specs.declared.limits.TheConstants.{IDENTIFIER_DIGITS, MAX_NODES, MAX_CHANNEL, MAX_BARS}
+use Rattle.graph_limits.specs.declared.limits.TheConstants.{IDENTIFIER_DIGITS, MAX_NODES, MAX_CHANNEL, MAX_BARS}
 use Rattle.interference.specs.declared.limits.TheConstants.{MAX_DEGREE}
 
 -- The value of a network. Entry `v - 1` of each list is of vertex v.

@@ -1,6 +1,6 @@
 -- Lists of neighbours and of barred colours, each packed into one list.
 use Rattle.std.specs.Prelude.{◌≡◌, ℕ, ◌+◌, ◌-◌, ◌*◌, ◌<◌, ◌≤◌, List, [], ◌∷◌, length, slice_index, take, drop}
-use Rattle.dimacs_col.specs.declared.limits.TheConstants.{MAX_EDGES}
+use Rattle.graph_limits.specs.declared.limits.TheConstants.{MAX_EDGES}
 use Rattle.interference.specs.Net.{Net, IsNetwork, IsVertex, degree_of, back_port_of}
 
 -- the parts of a list between one start and the next

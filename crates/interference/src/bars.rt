@@ -1,14 +1,14 @@
 //! Whether a network takes a list of bars, and how the barred colours are packed.
 
 ghost use Rattle.std.specs.Prelude.{◌≡◌, ◌↔◌, ℕ, ◌+◌, ◌<◌, ◌≤◌, All, IfOk, IsTrue, Some, length, map, slice_index};
-ghost use Rattle.dimacs_col.specs.Pairs.{IsBarOf, bars_at};
+ghost use Rattle.graph_limits.specs.Pairs.{IsBarOf, bars_at};
 ghost use Rattle.interference.specs.Filling.{ArePackedBars};
 ghost use Rattle.interference.specs.Making.{BarsFit, colour_of};
 
 use crate::degrees::{greatest, starts_of};
 use crate::edges::comes_before;
 use crate::fault::Memory;
-use dimacs_col::{MAX_BARS, MAX_CHANNEL, MAX_NODES};
+use graph_limits::{MAX_BARS, MAX_CHANNEL, MAX_NODES};
 use std::alloc::Global;
 
 /// The barred colours of all vertices, ascending by vertex and then by colour.

@@ -3,10 +3,10 @@
 ghost use Rattle.std.specs.Prelude.{◌≡◌, ◌↔◌, IsTrue, All, Some};
 ghost use Rattle.std.specs.List.Sorted.{IsStrictlySortedBy};
 ghost use Rattle.std.specs.declared.cmp.Ordering.TheVariants.{Less};
-ghost use Rattle.dimacs_col.specs.Pairs.{pair_cmp, FitsIn};
+ghost use Rattle.graph_limits.specs.Pairs.{pair_cmp, FitsIn};
 ghost use Rattle.interference.specs.Making.{EdgesFit};
 
-use dimacs_col::{MAX_EDGES, MAX_NODES};
+use graph_limits::{MAX_EDGES, MAX_NODES};
 
 /// Whether `Network::new` takes the edges: at most `MAX_NODES` nodes and `MAX_EDGES` edges, each edge with
 /// its smaller vertex first, both from 1 to `nodes`, the edges ascending, none twice.

@@ -7,7 +7,7 @@ ghost use Rattle.interference.specs.Net.{IsEdge, IsNetwork, IsVertex, Net};
 ghost use Rattle.interference.specs.Net.{back_port_of, degree_of, neighbour_of, port_to};
 ghost use Rattle.interference.specs.Net.{bar_count_of, count_of, forest_count_of, greatest_bars_of};
 ghost use Rattle.interference.specs.Net.{greatest_degree_of, higher_count};
-ghost use Rattle.dimacs_col.specs.declared.limits.TheConstants.{MAX_BARS};
+ghost use Rattle.graph_limits.specs.declared.limits.TheConstants.{MAX_BARS};
 ghost use Rattle.interference.specs.declared.limits.TheConstants.{MAX_DEGREE};
 
 /// If w is a neighbour of v, then v is a neighbour of w.

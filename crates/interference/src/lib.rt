@@ -12,7 +12,7 @@
 //! net.bars(3) // [0], the colour of channel 1
 //! ```
 //!
-//! Limits: `MAX_NODES` (20,000) nodes and `MAX_EDGES` (400,000) edges, both of `dimacs_col`; `MAX_DEGREE` (1,023)
+//! Limits: `MAX_NODES` (20,000) nodes and `MAX_EDGES` (400,000) edges, both of `graph_limits`; `MAX_DEGREE` (1,023)
 //! neighbours a node; `MAX_BARS` (1,024) bars a node, of channels up to `MAX_CHANNEL` (2,048); identifiers below 2^128.
 #![tactic(auto)]
 
@@ -29,7 +29,6 @@ mod rows;
 mod same_ids;
 
 pub use bars::bars_fit;
-pub use dimacs_col::{MAX_BARS, MAX_CHANNEL};
 pub use edges::edges_fit;
 pub use fault::{Memory, NetFault, TryFault};
 pub use limits::MAX_DEGREE;

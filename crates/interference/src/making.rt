@@ -14,7 +14,7 @@ use crate::forests::forest_count;
 use crate::network::Network;
 use crate::rows::fill;
 use crate::same_ids::first_same_id;
-use dimacs_col::MAX_NODES;
+use graph_limits::MAX_NODES;
 use std::alloc::Global;
 
 impl Network {

@@ -5,7 +5,7 @@ ghost use Rattle.std.specs.List.Sorted.{IsStrictlyIncreasing};
 ghost use Rattle.interference.specs.Filling.{HasNoSameId, IsFirstSameId, earlier};
 
 use crate::fault::Memory;
-use dimacs_col::MAX_NODES;
+use graph_limits::MAX_NODES;
 use std::alloc::Global;
 use std::collections::BTreeMap;
 

@@ -5,7 +5,7 @@ use Rattle.std.proofs.lemmas.Bool.{eqb-true, eq-eqb}
 use Rattle.std.proofs.lemmas.Bool.Decides.{eqb_tells}
 use native.Mathlib.Decide.{dec_lt}
 use Prim.{yes, no}
-use Rattle.node_api.specs.interference.Net.{Net, IsNetwork, IsVertex, id_of, count_of, degree_of, neighbour_of}
+use Rattle.interference.specs.Net.{Net, IsNetwork, IsVertex, id_of, count_of, degree_of, neighbour_of}
 use Rattle.node_api.specs.Run.{inbox_from}
 use Rattle.node_api.proofs.Runs.{node_at-none, length-inbox}
 use Rattle.sync_rounds.specs.Reach.{IsWithinLinks}

@@ -1,6 +1,6 @@
 -- What the layer of a node says: its distance from the root, and a port that leads closer.
 use Rattle.std.specs.Prelude.{◌≡◌, ◌↔◌, ℕ, suc, ◌<◌, Option, Some, None}
-use Rattle.node_api.specs.interference.Net.{Net, IsVertex, id_of, degree_of, neighbour_of}
+use Rattle.interference.specs.Net.{Net, IsVertex, id_of, degree_of, neighbour_of}
 use Rattle.distances.specs.Distance.{IsDistance, IsReached}
 use Rattle.layers.specs.declared.layer.Layer.{Layer}
 use Rattle.layers.specs.declared.layer.Layer.TheVariants.{Unreached, Root, Away}

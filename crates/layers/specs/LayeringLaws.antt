@@ -7,7 +7,7 @@ use Rattle.std.proofs.lemmas.List.{length-replicate, get_or-map, get_or-replicat
 use native.Mathlib.Decide.{dec_lt}
 use Prim.{yes, no}
 use Rattle.std.proofs.lemmas.Bool.Decides.{nat_tests}
-use Rattle.node_api.specs.interference.Net.{Net, count_of, degree_of, neighbours, port_to, neighbour_of}
+use Rattle.interference.specs.Net.{Net, count_of, degree_of, neighbours, port_to, neighbour_of}
 use Rattle.node_api.specs.Boxes.{at_port, nothing, fold_slots}
 use Rattle.node_api.specs.Laws.{HasPorts, IsProgram, KeepsPorts}
 use Rattle.node_api.specs.Program.{own_of}

@@ -7,7 +7,8 @@ ghost use Rattle.layers.specs.Layering.{sends};
 use crate::hearing::first_port;
 use crate::hops::Hops;
 use crate::layer::Layer;
-use node_api::{Inbox, Memory, Network, NodeProgram, Outbox, Refused};
+use interference::{Memory, Network};
+use node_api::{Inbox, NodeProgram, Outbox, Refused};
 use std::alloc::Global;
 use std::marker::Model;
 

@@ -2,11 +2,11 @@
 
 use crate::layer::Layer;
 use crate::node::Layers;
-use node_api::{Network, NodeProgram};
-use number_rows::push_row;
+use interference::Network;
+use node_api::NodeProgram;
+use number_rows::{push_numbered, push_row};
 use program_texts::ProgramText;
 use std::alloc::AllocError;
-use wire_texts::push_numbered;
 
 impl ProgramText for Layers {
     ghost use Rattle.layers.specs.Texts.{layers_named, layers_texts};

@@ -2,7 +2,7 @@
 -- as there are nodes.
 use Rattle.std.proofs.Common.{◌≡◌, ℕ, zero, suc, ◌<◌, ◌≤◌, List, refl, ap, ◌∙◌, arith, inl, inr}
 use Rattle.std.specs.Prelude.{Option}
-use Rattle.node_api.specs.interference.Net.{Net, IsNetwork, IsVertex, id_of, count_of, degree_of, neighbour_of}
+use Rattle.interference.specs.Net.{Net, IsNetwork, IsVertex, id_of, count_of, degree_of, neighbour_of}
 use Rattle.node_api.proofs.Runs.{node_at-none, length-inbox}
 use Rattle.leader.specs.Elector.{Elector}
 use Rattle.sync_rounds.specs.Reach.{IsGreatestWithin, IsWithinLinks}

@@ -4,7 +4,7 @@ use Rattle.std.specs.Prelude.{Option, Some, None, Result, Ok, ◌⊎◌}
 use Rattle.std.proofs.lemmas.List.{get_or-map, get_or-replicate}
 use native.Mathlib.Decide.{dec_lt}
 use Prim.{yes, no}
-use Rattle.node_api.specs.interference.Net.{Net, IsNetwork, IsVertex, count_of, degree_of, neighbours, neighbour_of, port_to}
+use Rattle.interference.specs.Net.{Net, IsNetwork, IsVertex, count_of, degree_of, neighbours, neighbour_of, port_to}
 use Rattle.node_api.specs.Boxes.{at_port, nothing}
 use Rattle.node_api.specs.Run.{node_at, inbox_from, after}
 use Rattle.node_api.specs.declared.program.Refused.{Refused}

@@ -1,6 +1,6 @@
 -- The greatest identifier of a component.
 use Rattle.std.specs.Prelude.{◌≡◌, ℕ, ◌≤◌}
-use Rattle.node_api.specs.interference.Net.{Net, IsVertex, id_of}
+use Rattle.interference.specs.Net.{Net, IsVertex, id_of}
 use Rattle.distances.specs.Distance.{IsReached}
 
 -- This number is the identifier of a vertex that is reached from v, and no vertex that is reached has a greater one.

@@ -4,7 +4,7 @@ use Rattle.std.proofs.Common.{arith, Bool, true, false, cond, replicate}
 use Rattle.std.specs.Prelude.{Option, Some, None, Result, Ok, Err, IsOk, IfOk, nat_lt, max}
 use Rattle.std.proofs.lemmas.List.{length-replicate}
 use Rattle.std.proofs.lemmas.Bool.Decides.{nat_tests}
-use Rattle.node_api.specs.interference.Net.{Net, count_of, degree_of}
+use Rattle.interference.specs.Net.{Net, count_of, degree_of}
 use Rattle.node_api.specs.Boxes.{nothing, fold_slots}
 use Rattle.node_api.specs.Laws.{HasPorts, IsProgram, KeepsPorts}
 use Rattle.node_api.specs.Run.{after, node_at, inbox_from}

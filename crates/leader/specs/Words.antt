@@ -5,7 +5,7 @@ use Rattle.std.specs.Cmp.Lexicographic.{pointwise}
 use Rattle.std.proofs.Common.{arith, rules}
 use Rattle.std.proofs.lemmas.Bool.Decides.{nat_tests}
 use Rattle.std.specs.Char.{IsAsciiAlphabetic}
-use Rattle.node_api.specs.interference.Net.{id_bound}
+use Rattle.interference.specs.Net.{id_bound}
 use Rattle.leader.specs.declared.candidate.Candidate.{Candidate}
 
 -- what a word and a number say: an identifier, after its word

@@ -1,7 +1,7 @@
 //! What holds of the election on every network. The law is the contract of a function that does nothing.
 
 ghost use Rattle.std.specs.Prelude.{ℕ};
-ghost use Rattle.node_api.specs.interference.Net.{Net, IsNetwork, IsVertex};
+ghost use Rattle.interference.specs.Net.{Net, IsNetwork, IsVertex};
 ghost use Rattle.node_api.specs.Run.{last_state};
 ghost use Rattle.leader.specs.Election.{election};
 ghost use Rattle.leader.specs.Component.{IsGreatestReached};

@@ -6,7 +6,8 @@ ghost use Rattle.leader.specs.Election.{sends};
 
 use crate::candidate::Candidate;
 use crate::hearing::greatest;
-use node_api::{Inbox, Memory, Network, NodeProgram, Outbox, Refused};
+use interference::{Memory, Network};
+use node_api::{Inbox, NodeProgram, Outbox, Refused};
 use std::alloc::Global;
 use std::marker::Model;
 

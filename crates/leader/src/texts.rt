@@ -1,11 +1,11 @@
 //! The words of the election in texts.
 
 use crate::node::Leader;
-use node_api::{Network, NodeProgram};
-use number_rows::push_row;
+use interference::Network;
+use node_api::NodeProgram;
+use number_rows::{push_numbered, push_row};
 use program_texts::ProgramText;
 use std::alloc::AllocError;
-use wire_texts::push_numbered;
 
 impl ProgramText for Leader {
     ghost use Rattle.leader.specs.Texts.{leader_named, leader_texts};

@@ -1,4 +1,3 @@
 pub mod Queued
 pub mod Rule
 pub mod Ends
-pub mod link_rule

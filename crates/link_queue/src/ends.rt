@@ -7,8 +7,8 @@ ghost use Rattle.link_queue.specs.Rule.{has_close};
 
 use crate::queued::Queued;
 use crate::view::EndView;
-use alpha_core::NodeProgram;
 use crossbeam_queue::Pass;
+use node_api::NodeProgram;
 
 /// The end that puts, of a link of the program `P`.
 pub type PutEnd<P: NodeProgram> = PutSide<P::Payload>;

@@ -6,8 +6,8 @@
 
 use crate::queued::Queued;
 use crate::view::EndView;
-use alpha_core::NodeProgram;
 use crossbeam_queue::protocol::{Join, Lesson, Outcome, Protocol, Split};
+use node_api::NodeProgram;
 use std::marker::{Brand, PhantomData};
 
 // What was put is what was taken and then what is on the queue, and is legal on the link of that name.

@@ -4,16 +4,16 @@ use Rattle.std.proofs.Common.{◌⊎◌, inl, inr, ⊎_elim, append_assoc, appen
 use Rattle.std.specs.Prelude.{Contains, IsTrue, ◌↔◌, ◌&&◌, not, nat_eq, nat_lt, nat_le, MatchBool}
 use Rattle.std.proofs.lemmas.List.Elements.{Contains-append_left, Contains-append_right, Contains-append_cases, Contains-push}
 use Rattle.std.proofs.lemmas.Bool.{eqb-true, eq-eqb, cases_Bool}
-use Rattle.alpha_laws.specs.alpha_core.Wire.{Wire}
-use Rattle.alpha_laws.specs.alpha_core.Wire.TheVariants.{Payload, Ack, Safe, Close}
-use Rattle.alpha_laws.specs.alpha_core.Wires.{acks_of, payloads_of, safes_of}
-use Rattle.alpha_laws.proofs.alpha_core.Wires.{acks-append, payloads-append}
+use Rattle.alpha_core.specs.declared.wire.Wire.{Wire}
+use Rattle.alpha_core.specs.declared.wire.Wire.TheVariants.{Payload, Ack, Safe, Close}
+use Rattle.alpha_core.specs.Wires.{acks_of, payloads_of, safes_of}
+use Rattle.alpha_core.proofs.Wires.{acks-append, payloads-append}
 use Rattle.link_rule.specs.Order.{MayFollow, IsInOrder}
 use Rattle.link_rule.specs.Progress.{Progress, HasCome, WasFed, at_start, may_come, goes_on, advanced, after_wire}
 use Rattle.std.proofs.lemmas.List.{map-append, take-append-drop}
-use Rattle.alpha_laws.specs.alpha_core.Stamped.{Stamped}
-use Rattle.alpha_laws.specs.alpha_core.StampedWires.{StampsRise, wires_of}
-use Rattle.alpha_laws.proofs.alpha_core.StampedWires.{last_more, rise_last, rise_more}
+use Rattle.alpha_core.specs.declared.stamped.Stamped.{Stamped}
+use Rattle.alpha_core.specs.StampedWires.{StampsRise, wires_of}
+use Rattle.alpha_core.proofs.StampedWires.{last_more, rise_last, rise_more}
 use Rattle.link_rule.proofs.Orders.{contains_nil, contains_snoc, order-front, order-more, order-last, order-nil, safes-append}
 
 new_come : {M : Type 0} (last : ℕ) → HasCome {M = M} (at_start last) []

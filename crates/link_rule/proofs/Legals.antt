@@ -4,11 +4,11 @@ use Rattle.std.proofs.Common.{◌∙◌, arith, subst, ◌⊎◌, inl, inr, ⊎_
 use Rattle.std.specs.Prelude.{Contains, is_some, ◌↔◌}
 use Rattle.std.proofs.lemmas.List.{take-append-drop}
 use Rattle.std.proofs.lemmas.List.Elements.{Contains-append_left, Contains-append_right, Contains-append_cases, Contains-push}
-use Rattle.alpha_laws.specs.alpha_core.Wire.{Wire}
-use Rattle.alpha_laws.specs.alpha_core.Wire.TheVariants.{Payload, Ack, Safe, Close}
-use Rattle.alpha_laws.specs.alpha_core.Wires.{data_of, acks_of, payloads_of, safes_of}
-use Rattle.alpha_laws.specs.alpha_core.Streams.{payload_wire, sent_pulse, rounds, stream, sent_pulses, Begins, Legal}
-use Rattle.alpha_laws.proofs.alpha_core.Wires.{acks-append, begins_rest, data-append, legal-front}
+use Rattle.alpha_core.specs.declared.wire.Wire.{Wire}
+use Rattle.alpha_core.specs.declared.wire.Wire.TheVariants.{Payload, Ack, Safe, Close}
+use Rattle.alpha_core.specs.Wires.{data_of, acks_of, payloads_of, safes_of}
+use Rattle.alpha_core.specs.Streams.{payload_wire, sent_pulse, rounds, stream, sent_pulses, Begins, Legal}
+use Rattle.alpha_core.proofs.Wires.{acks-append, begins_rest, data-append, legal-front}
 use Rattle.alpha_laws.specs.Position.{Position, move, moves, start_at, Allows, Follows}
 use Rattle.alpha_laws.proofs.Complete.{data-payloads}
 use Rattle.alpha_laws.proofs.Cursor.{moves-append, follows-front, follows-rest, follows-more, payloads_to-grows}

@@ -3,9 +3,9 @@ use Rattle.std.proofs.Common.{◌≡◌, ℕ, suc, zero, ◌+◌, ◌<◌, ◌�
 use Rattle.std.proofs.Common.{append_assoc, append-nil}
 use Rattle.std.specs.Prelude.{Contains}
 use Rattle.std.proofs.lemmas.List.Elements.{Contains-append_left, Contains-append_right, Contains-append_cases, Contains-push}
-use Rattle.alpha_laws.specs.alpha_core.Wire.{Wire}
-use Rattle.alpha_laws.specs.alpha_core.Wire.TheVariants.{Payload, Ack, Safe, Close}
-use Rattle.alpha_laws.specs.alpha_core.Wires.{acks_of, payloads_of, safes_of}
+use Rattle.alpha_core.specs.declared.wire.Wire.{Wire}
+use Rattle.alpha_core.specs.declared.wire.Wire.TheVariants.{Payload, Ack, Safe, Close}
+use Rattle.alpha_core.specs.Wires.{acks_of, payloads_of, safes_of}
 use Rattle.link_rule.specs.Order.{MayFollow, IsInOrder}
 
 module _ {A : Type 0} where

@@ -1,9 +1,9 @@
 -- Legal lists of a link, by its name.
 use Rattle.std.specs.Prelude.{◌≡◌, ℕ, List, Option, Some}
-use Rattle.alpha_laws.specs.interference.Net.{Net, neighbour_of}
-use Rattle.alpha_laws.specs.alpha_core.Wire.{Wire}
-use Rattle.alpha_laws.specs.alpha_core.Program.{IsLegal}
-use Rattle.alpha_laws.specs.node_api.Program.{Program}
+use Rattle.interference.specs.Net.{Net, neighbour_of}
+use Rattle.alpha_core.specs.declared.wire.Wire.{Wire}
+use Rattle.alpha_core.specs.Program.{IsLegal}
+use Rattle.node_api.specs.Program.{Program}
 use Rattle.link_rule.specs.declared.name.LinkName.{LinkName}
 
 -- the link out of a vertex by a port

@@ -1,6 +1,6 @@
 //! Which link it is.
 
-use alpha_laws::Network;
+use interference::Network;
 
 /// The link out of a vertex (from 1) by a port (from 0), in a network. Contracts speak of it; no value of it is made.
 pub struct LinkName {

@@ -4,14 +4,15 @@ use Rattle.std.proofs.Common.{append_assoc, arith, refl, sym, subst, ⊎_elim, �
 use Rattle.std.specs.Prelude.{All, slice_index_or}
 use Rattle.std.proofs.lemmas.List.{append-nil, length-append}
 use Rattle.std.proofs.lemmas.List.Elements.{All-cons, All-head, All-nil, All-push, All-tail}
-use Rattle.stamps.specs.entries.Entry.{Entry}
-use Rattle.stamps.specs.entries.Entry.TheVariants.{Pulse, Put, Take}
-use Rattle.stamps.specs.entries.Rows.{stamped_row, without_vertex}
-use Rattle.stamps.specs.alpha_core.Stamped.{Stamped}
+use Rattle.entries.specs.declared.entry.Entry.{Entry}
+use Rattle.entries.specs.declared.entry.Entry.TheVariants.{Pulse, Put, Take}
+use Rattle.entries.specs.Rows.{stamped_row, without_vertex}
+use Rattle.alpha_core.specs.declared.stamped.Stamped.{Stamped}
 use Rattle.stamps.specs.Stamps.{counter_from, counter_of, taken_in}
-use Rattle.stamps.specs.Merged.{StampedRow, AreStampedRows, entries_at, puts_at, stamp_behind}
+use Rattle.entries.specs.declared.rows.StampedRow.{StampedRow}
+use Rattle.stamps.specs.Merged.{AreStampedRows, entries_at, puts_at, stamp_behind}
 use Rattle.stamps.proofs.Lists.{none_or_one}
-use Rattle.alpha_laws.specs.alpha_core.StampedWires.{stamps_of}
+use Rattle.alpha_core.specs.StampedWires.{stamps_of}
 
 pick : {A : Type 0} (P : A → Type 0) (b : Bool) (x y : A) → P x → P y → P (if b then x else y)
 pick P true x y p q = p

@@ -3,13 +3,13 @@
 use Rattle.std.proofs.Common.{◌≡◌, ◌+◌, ◌∙◌, ℕ, suc, Bool, true, false, Option, Some, None, List, [], ◌∷◌, ◌++◌, map, slice_get, Result, Ok, Err}
 use Rattle.std.proofs.Common.{◌⊎◌, inl, inr, ap, ap₂, length, refl, subst, sym, ⊎_elim}
 use Rattle.std.specs.Option.{option_map}
-use Rattle.alpha_laws.specs.interference.Net.{IsNetwork, Net, neighbour_of, port_to}
-use Rattle.alpha_laws.proofs.interference.Neighbours.{port_to-is}
-use Rattle.alpha_laws.specs.node_api.Program.{Program}
-use Rattle.alpha_laws.specs.alpha_core.Wire.{Wire}
-use Rattle.alpha_laws.specs.alpha_core.View.{port_at}
-use Rattle.stamps.specs.entries.Entry.TheVariants as entry
-use Rattle.stamps.specs.entries.Rows.{vertex_row}
+use Rattle.interference.specs.Net.{IsNetwork, Net, neighbour_of, port_to}
+use Rattle.interference.proofs.Neighbours.{port_to-is}
+use Rattle.node_api.specs.Program.{Program}
+use Rattle.alpha_core.specs.declared.wire.Wire.{Wire}
+use Rattle.alpha_core.specs.View.{port_at}
+use Rattle.entries.specs.declared.entry.Entry.TheVariants as entry
+use Rattle.entries.specs.Rows.{vertex_row}
 use Rattle.event_machine.specs.declared.event.Event.{Event}
 use Rattle.event_machine.specs.declared.event.Event.TheVariants.{Pulse, Put, Take}
 use Rattle.event_machine.specs.declared.refused.StepRefused.{StepRefused}
@@ -24,7 +24,8 @@ use Rattle.net_core.specs.declared.refused.ReplayRefused.{ReplayRefused}
 use Rattle.net_core.specs.declared.refused.ReplayRefused.TheVariants as replay
 use Rattle.net_core.specs.Laws.{ReplaysAreExact}
 use Rattle.net_core.specs.Replays.{IsReplay, Stops, WhyNot, at_entry}
-use Rattle.net_core.specs.Rows.{Row, event_of, if_made, row_of, rows_from}
+use Rattle.entries.specs.declared.rows.Row.{Row}
+use Rattle.net_core.specs.Rows.{event_of, if_made, row_of, rows_from}
 
 head-is : {A : Type 0} (x y : A) (xs ys : List A) → x ∷ xs ≡ y ∷ ys → x ≡ y
 head-is x y xs ys e = cc

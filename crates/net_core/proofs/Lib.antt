@@ -6,4 +6,3 @@ pub mod WholeReplays
 pub mod Decided
 pub mod Ones
 pub mod Counted
-pub mod event_machine

@@ -1,8 +1,8 @@
 -- An event whose vertex or port isn't there isn't possible. The refusal of an event is the entry's.
 use Rattle.std.proofs.Common.{◌≡◌, false, Result, Ok, Err, subst, sym}
 use Rattle.std.specs.Result.{IfErr, IsErrAnd}
-use Rattle.alpha_laws.specs.interference.Net.{Net}
-use Rattle.alpha_laws.specs.node_api.Program.{Program}
+use Rattle.interference.specs.Net.{Net}
+use Rattle.node_api.specs.Program.{Program}
 use Rattle.event_machine.specs.declared.event.Event.{Event}
 use Rattle.event_machine.specs.declared.event.Event.TheVariants.{Pulse, Put, Take}
 use Rattle.event_machine.specs.declared.refused.StepRefused.{StepRefused}

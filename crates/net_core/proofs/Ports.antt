@@ -4,9 +4,9 @@ use Rattle.std.proofs.Common.{◌∙◌, List, Result, Ok, Err, MatchResult, nat
 use Rattle.std.proofs.lemmas.Bool.{cases_order, cases_lt}
 use Rattle.std.proofs.lemmas.List.Sorted.{searched}
 use Rattle.std.specs.List.Sorted.{IsBinarySearchResult}
-use Rattle.alpha_laws.proofs.interference.Neighbours.{port_to-is}
-use Rattle.alpha_laws.specs.interference.Net.{Net, IsNetwork, IsVertex, neighbours, degree_of, neighbour_of, port_to}
-use Rattle.alpha_laws.proofs.interference.Members.{place_of-is}
+use Rattle.interference.proofs.Neighbours.{port_to-is}
+use Rattle.interference.specs.Net.{Net, IsNetwork, IsVertex, neighbours, degree_of, neighbour_of, port_to}
+use Rattle.interference.proofs.Members.{place_of-is}
 
 pub rises : (net : Net) → IsNetwork net → (v : ℕ) → IsVertex net v → (i j : ℕ) → i ≤ j → j < length (neighbours net v) →
     get_or (neighbours net v) i 0 ≤ get_or (neighbours net v) j 0

@@ -2,15 +2,16 @@
 use Rattle.std.proofs.Common.{◌≡◌, ◌+◌, ◌<◌, ◌∙◌, ℕ, suc, Some, List, [], ◌∷◌, ◌++◌, take, length, get_or, Result, Ok, Err}
 use Rattle.std.proofs.Common.{ap, arith, refl, sym, subst}
 use Rattle.std.proofs.lemmas.List.{map-append}
-use Rattle.alpha_laws.specs.interference.Net.{Net}
-use Rattle.alpha_laws.specs.node_api.Program.{Program}
+use Rattle.interference.specs.Net.{Net}
+use Rattle.node_api.specs.Program.{Program}
 use Rattle.event_machine.specs.declared.event.Event.{Event}
 use Rattle.event_machine.specs.declared.refused.StepRefused.{StepRefused}
 use Rattle.event_machine.specs.State.{State, start}
 use Rattle.event_machine.specs.Step.{go_on, run_from, step}
 use Rattle.event_machine.proofs.Parts.{take-split}
 use Rattle.event_machine.proofs.Reached.{run_push}
-use Rattle.net_core.specs.Rows.{Row, event_of, if_made, row_of, rows_from, rows_of}
+use Rattle.entries.specs.declared.rows.Row.{Row}
+use Rattle.net_core.specs.Rows.{event_of, if_made, row_of, rows_from, rows_of}
 use Rattle.net_core.specs.Replays.{IsReplay}
 
 module _ {S M E : Type 0} (program : Program S M E) (net : Net) where

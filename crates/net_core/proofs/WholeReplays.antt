@@ -3,8 +3,8 @@ use Rattle.std.specs.Prelude.{All}
 use Rattle.std.proofs.Common.{◌≡◌, ℕ, suc, ◌+◌, ◌<◌, ◌≤◌, ◌∙◌, List, [], ◌∷◌, ◌++◌, take, drop, length, get_or, Some, Ok}
 use Rattle.std.proofs.Common.{ap, arith, refl, sym, subst, ⊎_elim}
 use Rattle.std.proofs.lemmas.List.{get_or-map, length-map, map-append, take-map}
-use Rattle.alpha_laws.specs.interference.Net.{IsNetwork, Net}
-use Rattle.alpha_laws.specs.node_api.Program.{Program}
+use Rattle.interference.specs.Net.{IsNetwork, Net}
+use Rattle.node_api.specs.Program.{Program}
 use Rattle.event_machine.specs.State.{State, start}
 use Rattle.event_machine.specs.Step.{step}
 use Rattle.event_machine.proofs.Parts.{take-split}
@@ -13,14 +13,16 @@ use Rattle.net_core.specs.declared.refused.WholeRefused.TheVariants.{Replay, Wro
 use Rattle.net_core.specs.declared.refused.EntryRefused.{EntryRefused}
 use Rattle.net_core.specs.declared.refused.ReplayRefused.{ReplayRefused}
 use Rattle.net_core.specs.Replays.{IsReplay, Stops, WhyNot, at_entry}
-use Rattle.net_core.specs.Rows.{Row, event_of, row_of}
+use Rattle.entries.specs.declared.rows.Row.{Row}
+use Rattle.net_core.specs.Rows.{event_of, row_of}
 use Rattle.net_core.specs.Whole.{IsStampedReplay, IsWhole, IsWholeReplay, ReachesRow, StopsAtEntry, StopsAtStamp, WholeReplaysAreExact, WhyNotWhole}
 use Rattle.net_core.specs.Counted.{EventsBoundStamps}
 use Rattle.net_core.proofs.Counted.{stamps-within}
 use Rattle.net_core.proofs.Decided.{decided, refused-not, split-twice}
 use Rattle.net_core.proofs.Replayed.{replay-next, replay-start}
-use Rattle.stamps.specs.entries.Rows.{without_stamp}
-use Rattle.stamps.specs.Merged.{StampedRow, AreOrdered, AreStampedRows, IsInPlace, rows_in}
+use Rattle.entries.specs.Rows.{without_stamp}
+use Rattle.entries.specs.declared.rows.StampedRow.{StampedRow}
+use Rattle.stamps.specs.Merged.{AreOrdered, AreStampedRows, IsInPlace, rows_in}
 use Rattle.stamps.proofs.Growing.{all_before, ordered_push, stamped_none, stamped_push}
 
 -- the rows up to one, and that one

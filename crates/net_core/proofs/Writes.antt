@@ -2,19 +2,20 @@
 use Rattle.std.proofs.Common.{◌≡◌, ◌≢◌, ◌<◌, ◌+◌, ◌∙◌, ℕ, Bool, true, false, Option, Some, None, ap, sym}
 use Rattle.std.specs.Prelude.{MatchBool}
 use Rattle.std.specs.Option.{option_map}
-use Rattle.alpha_laws.specs.interference.Net.{Net, neighbours, degree_of, neighbour_of, port_to}
-use Rattle.alpha_laws.proofs.interference.Members.{place_of-is}
-use Rattle.alpha_laws.specs.node_api.Program.{Program}
-use Rattle.alpha_laws.specs.alpha_core.Wire.{Wire}
-use Rattle.stamps.specs.entries.Entry.{Entry}
-use Rattle.stamps.specs.entries.Entry.TheVariants as entry
-use Rattle.stamps.specs.entries.Rows.{vertex_row}
+use Rattle.interference.specs.Net.{Net, neighbours, degree_of, neighbour_of, port_to}
+use Rattle.interference.proofs.Members.{place_of-is}
+use Rattle.node_api.specs.Program.{Program}
+use Rattle.alpha_core.specs.declared.wire.Wire.{Wire}
+use Rattle.entries.specs.declared.entry.Entry.{Entry}
+use Rattle.entries.specs.declared.entry.Entry.TheVariants as entry
+use Rattle.entries.specs.Rows.{vertex_row}
 use Rattle.event_machine.specs.declared.event.Event.{Event}
 use Rattle.event_machine.specs.declared.event.Event.TheVariants.{Pulse, Put, Take}
 use Rattle.event_machine.specs.State.{State, node_of}
 use Rattle.event_machine.specs.Step.{has_port}
 use Rattle.event_machine.proofs.NetKept.{port_from}
-use Rattle.net_core.specs.Rows.{Row, event_of, event_with, has_place, next_wire, row_of}
+use Rattle.entries.specs.declared.rows.Row.{Row}
+use Rattle.net_core.specs.Rows.{event_of, event_with, has_place, next_wire, row_of}
 
 leads : (net : Net) (v w : ℕ) → port_to net v w < degree_of net v → neighbour_of net v (port_to net v w) ≡ w
 leads net v w there = place_of-is w (neighbours net v) 0 there

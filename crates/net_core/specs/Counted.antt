@@ -1,9 +1,9 @@
 -- How great the stamps of a replay can be.
 use Rattle.std.specs.Prelude.{◌≤◌, All, List, length}
-use Rattle.alpha_laws.specs.interference.Net.{Net}
-use Rattle.alpha_laws.specs.node_api.Program.{Program}
+use Rattle.interference.specs.Net.{Net}
+use Rattle.node_api.specs.Program.{Program}
 use Rattle.event_machine.specs.State.{State}
-use Rattle.stamps.specs.Merged.{StampedRow}
+use Rattle.entries.specs.declared.rows.StampedRow.{StampedRow}
 use Rattle.net_core.specs.Whole.{IsStampedReplay}
 
 -- No stamp of a stamped replay passes the number of its entries.

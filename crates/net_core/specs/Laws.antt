@@ -1,10 +1,11 @@
 -- The laws of every list of entries, on a network.
 use Rattle.std.specs.Prelude.{◌≡◌, List, map}
-use Rattle.alpha_laws.specs.interference.Net.{Net}
-use Rattle.alpha_laws.specs.node_api.Program.{Program}
+use Rattle.interference.specs.Net.{Net}
+use Rattle.node_api.specs.Program.{Program}
 use Rattle.event_machine.specs.State.{State}
 use Rattle.net_core.specs.declared.refused.ReplayRefused.{ReplayRefused}
-use Rattle.net_core.specs.Rows.{Row, event_of}
+use Rattle.entries.specs.declared.rows.Row.{Row}
+use Rattle.net_core.specs.Rows.{event_of}
 use Rattle.net_core.specs.Replays.{IsReplay, Stops}
 
 pub record ReplaysAreExact {S M E : Type 0} (program : Program S M E) (net : Net) : Type 0 where

@@ -4,4 +4,3 @@ pub mod Replays
 pub mod Laws
 pub mod Whole
 pub mod Counted
-pub mod event_machine

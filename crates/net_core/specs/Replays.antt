@@ -1,7 +1,7 @@
 -- What a replay of entries is, and where entries aren't one.
 use Rattle.std.specs.Prelude.{◌≡◌, ◌≢◌, ℕ, Some, Ok, Err, List, ◌∷◌, ◌++◌, length, map}
-use Rattle.alpha_laws.specs.interference.Net.{Net}
-use Rattle.alpha_laws.specs.node_api.Program.{Program}
+use Rattle.interference.specs.Net.{Net}
+use Rattle.node_api.specs.Program.{Program}
 use Rattle.event_machine.specs.declared.event.Event.{Event}
 use Rattle.event_machine.specs.declared.refused.StepRefused.TheVariants as step_refused
 use Rattle.event_machine.specs.State.{NetView, State}
@@ -11,7 +11,8 @@ use Rattle.net_core.specs.declared.refused.EntryRefused.{EntryRefused}
 use Rattle.net_core.specs.declared.refused.EntryRefused.TheVariants.{Step, WrongWire}
 use Rattle.net_core.specs.declared.refused.ReplayRefused.{ReplayRefused}
 use Rattle.net_core.specs.declared.refused.ReplayRefused.TheVariants as replay_refused
-use Rattle.net_core.specs.Rows.{Row, event_of, row_of, rows_of}
+use Rattle.entries.specs.declared.rows.Row.{Row}
+use Rattle.net_core.specs.Rows.{event_of, row_of, rows_of}
 
 -- Entries are a replay that leads to a state: the events of some run that leads there write down just these.
 pub record IsReplay {S M E : Type 0} (program : Program S M E) (net : Net) (rows : List (Row M)) (last : State S M)

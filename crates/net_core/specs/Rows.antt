@@ -1,18 +1,18 @@
 -- Which event an entry is of, and what an event writes down.
 use Rattle.std.specs.Prelude.{ℕ, ◌+◌, Bool, Option, Some, None, option_map, Result, Ok, Err, List, [], ◌∷◌, slice_get}
-use Rattle.alpha_laws.specs.interference.Net.{Net, neighbour_of, port_to}
-use Rattle.alpha_laws.specs.node_api.Program.{Program}
-use Rattle.alpha_laws.specs.alpha_core.View.{port_at}
-use Rattle.alpha_laws.specs.alpha_core.Wire.{Wire}
-use Rattle.stamps.specs.entries.Entry.{Entry}
-use Rattle.stamps.specs.entries.Entry.TheVariants as entry
-use Rattle.stamps.specs.entries.Rows.{vertex_row}
+use Rattle.interference.specs.Net.{Net, neighbour_of, port_to}
+use Rattle.node_api.specs.Program.{Program}
+use Rattle.alpha_core.specs.View.{port_at}
+use Rattle.alpha_core.specs.declared.wire.Wire.{Wire}
+use Rattle.entries.specs.declared.entry.Entry.{Entry}
+use Rattle.entries.specs.declared.entry.Entry.TheVariants as entry
+use Rattle.entries.specs.Rows.{vertex_row}
 use Rattle.event_machine.specs.declared.event.Event.{Event}
 use Rattle.event_machine.specs.declared.event.Event.TheVariants.{Pulse, Put, Take}
 use Rattle.event_machine.specs.State.{State, link_to, node_of, start}
 use Rattle.event_machine.specs.Step.{has_port, is_vertex, step}
 -- an entry with the vertex of its node
-pub use Rattle.stamps.specs.entries.Row.{Row}
+use Rattle.entries.specs.declared.rows.Row.{Row}
 
 -- the event that an entry of v is of; the port to a neighbour that is none is one that isn't there
 abbrev pub event_with : {M : Type 0} → Net → ℕ → Entry M → Event

@@ -1,8 +1,8 @@
 -- A replay of stamped entries that ends whole, and why a list of them isn't one.
 use Rattle.std.specs.Prelude.{◌≡◌, ℕ, ◌<◌, IsTrue, List, [], ◌∷◌, ◌++◌, length, Ok, Some}
-use Rattle.alpha_laws.specs.interference.Net.{Net, IsVertex, degree_of}
-use Rattle.alpha_laws.specs.node_api.Program.{Program, last_pulse_on}
-use Rattle.alpha_laws.specs.alpha_core.View.{is_drained}
+use Rattle.interference.specs.Net.{Net, IsVertex, degree_of}
+use Rattle.node_api.specs.Program.{Program, last_pulse_on}
+use Rattle.alpha_core.specs.View.{is_drained}
 use Rattle.event_machine.specs.State.{State, link_at, node_of}
 use Rattle.event_machine.specs.Step.{step}
 use Rattle.net_core.specs.declared.refused.EntryRefused.{EntryRefused}
@@ -11,8 +11,9 @@ use Rattle.net_core.specs.declared.refused.WholeRefused.{WholeRefused}
 use Rattle.net_core.specs.declared.refused.WholeRefused.TheVariants.{Replay, WrongStamp, NotWhole}
 use Rattle.net_core.specs.Replays.{IsReplay, WhyNot, at_entry}
 use Rattle.net_core.specs.Rows.{event_of, row_of}
-use Rattle.stamps.specs.entries.Rows.{without_stamp}
-use Rattle.stamps.specs.Merged.{StampedRow, AreOrdered, AreStampedRows, IsInPlace, rows_in}
+use Rattle.entries.specs.Rows.{without_stamp}
+use Rattle.entries.specs.declared.rows.StampedRow.{StampedRow}
+use Rattle.stamps.specs.Merged.{AreOrdered, AreStampedRows, IsInPlace, rows_in}
 
 -- no link out of v holds a wire
 abbrev pub HoldsNothing : {S M : Type 0} → Net → State S M → ℕ → Type 0

@@ -1,15 +1,17 @@
 //! One entry, made by the event that it is of.
 
 ghost use Rattle.std.specs.Prelude.{◌≡◌, ◌≢◌, ◌<◌, ◌≤◌, ◌+◌, true, false, IfErr, IfNone, IfOk, IfSome, MatchBool, Some};
-ghost use Rattle.alpha_laws.specs.interference.Net.{IsVertex, degree_of, port_to};
+ghost use Rattle.interference.specs.Net.{IsVertex, degree_of, port_to};
 ghost use Rattle.net_core.specs.Replays.{IsMade, IsRefusedEntry};
 ghost use Rattle.net_core.specs.Rows.{event_of, has_place, next_wire, row_of};
 
 use crate::refused::EntryRefused;
 use crate::same_wire::carries;
-use alpha_laws::{Network, NodeProgram, Wire};
+use alpha_core::Wire;
+use entries::{Entry, Row};
 use event_machine::{Event, NetState, StepRefused};
-use stamps::{Entry, Row};
+use interference::Network;
+use node_api::NodeProgram;
 
 // The port of vertex `v` that leads to `w`; `None` if `w` isn't its neighbour.
 fn port_to(net: &Network, v: u32, w: u32) -> Option<u32>

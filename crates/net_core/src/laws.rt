@@ -1,7 +1,7 @@
 //! What holds of every list of entries. Each law is a function that does nothing: its contract is the law.
 
-ghost use Rattle.alpha_laws.specs.interference.Net.{Net};
-ghost use Rattle.alpha_laws.specs.node_api.Program.{Program};
+ghost use Rattle.interference.specs.Net.{Net};
+ghost use Rattle.node_api.specs.Program.{Program};
 ghost use Rattle.alpha_laws.specs.Laws.{OnEveryNetwork};
 ghost use Rattle.net_core.specs.Counted.{EventsBoundStamps, StampsAreCounted};
 ghost use Rattle.net_core.specs.Laws.{ReplaysAreExact};

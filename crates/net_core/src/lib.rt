@@ -1,14 +1,12 @@
 //! Lists, played by the machine of `event_machine`: of events, and of entries, which nodes wrote down of their events.
-//! The machine itself (`NetState` with `start` and `step`), its events, and entries with their `order` are passed on,
-//! so that a caller needs no other crate.
 //!
 //! `run` accepts a list of events, or says at which event, and why, it isn't one that can happen.
 //!
 //! `replay` takes entries, each with the vertex of its node, in the order of the events. It accepts exactly what the
 //! events of some list write down, and else names the first entry that can't be one, and why. So nothing is taken on
-//! trust: each pulse and each wire of an entry is compared with that of its event. `transcripts` reads such entries
-//! from a text. `replay_whole` takes stamped entries of a whole run, and returns the state with its stamps
-//! (`StampedState`).
+//! trust: each pulse and each wire of an entry is compared with that of its event. `replay_whole` takes stamped entries
+//! of a whole run, and returns the state with its stamps (`StampedState`). `answers` calls both for the entries of a
+//! transcript.
 //!
 //! `specs/Runs.antt` has what `run` returns, `specs/Rows.antt` what an event writes down, `specs/Replays.antt` what a
 //! replay is and where it stops.
@@ -40,7 +38,3 @@ pub use replaying::replay;
 pub use running::run;
 pub use stamped_state::StampedState;
 pub use whole::replay_whole;
-
-// What crates above name of lower ones.
-pub use event_machine::{Event, NetState, RunRefused, StepRefused};
-pub use stamps::{Entry, Row, StampedEntry, StampedRow, order};

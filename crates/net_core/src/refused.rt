@@ -3,8 +3,8 @@
 ghost use Rattle.std.specs.Prelude.{◌≡◌};
 ghost use Rattle.net_core.specs.Replays.{at_entry};
 
-use alpha_laws::Memory;
 use event_machine::{RunRefused, StepRefused};
+use interference::Memory;
 use thiserror::Error;
 
 /// Why `replay` refuses a list of entries: the first entry that no event writes down at its place.

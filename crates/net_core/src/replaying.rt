@@ -8,9 +8,10 @@ ghost use Rattle.net_core.specs.Replays.{IsReplay, Stops};
 
 use crate::entry_event::make_entry;
 use crate::refused::ReplayRefused;
-use alpha_laws::{Network, NodeProgram};
+use entries::Row;
 use event_machine::NetState;
-use stamps::Row;
+use interference::Network;
+use node_api::NodeProgram;
 use std::alloc::Global;
 
 /// Plays entries, each with the vertex of its node, from the start, and returns the state that they lead to.

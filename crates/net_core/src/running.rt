@@ -6,8 +6,9 @@ ghost use Rattle.event_machine.specs.Simulation.{IsSimulation};
 ghost use Rattle.event_machine.specs.Step.{run_from};
 ghost use Rattle.net_core.specs.Runs.{RunMatches};
 
-use alpha_laws::{Network, NodeProgram};
 use event_machine::{Event, NetState, RunRefused};
+use interference::Network;
+use node_api::NodeProgram;
 use std::alloc::Global;
 
 // Makes the event of an index of a list, from 0.

@@ -2,7 +2,8 @@
 
 ghost use Rattle.std.specs.Prelude.{◌≡◌, ◌≢◌, MatchBool, Option};
 
-use alpha_laws::{PayloadText, Wire};
+use alpha_core::Wire;
+use node_api::PayloadText;
 
 fn is_same_payload<T: PayloadText>(a: T, b: T) -> bool
     ensures { MatchBool result (a ≡ b) (a ≢ b) }

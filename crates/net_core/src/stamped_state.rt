@@ -3,8 +3,8 @@
 ghost use Rattle.std.specs.Prelude.{◌≡◌};
 ghost use Rattle.stamps.specs.Table.{counter_at};
 
-use alpha_laws::NodeProgram;
 use event_machine::NetState;
+use node_api::NodeProgram;
 use stamps::StampTable;
 
 /// A state of the event machine with the stamps of its nodes: what `replay_whole` returns.

@@ -15,9 +15,11 @@ use crate::entry_event::make_entry;
 use crate::refused::WholeRefused;
 use crate::stamped_state::StampedState;
 use crate::whole_state::is_whole;
-use alpha_laws::{Network, NodeProgram};
+use entries::StampedRow;
 use event_machine::NetState;
-use stamps::{StampTable, StampedRow};
+use interference::Network;
+use node_api::NodeProgram;
+use stamps::StampTable;
 use std::alloc::Global;
 
 // Plays the row of an index. Those before it led to the state, and the table is theirs.

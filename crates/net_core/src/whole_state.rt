@@ -1,12 +1,12 @@
 //! Whether a state is whole.
 
 ghost use Rattle.std.specs.Prelude.{◌≡◌, ◌<◌, ℕ, MatchBool, []};
-ghost use Rattle.alpha_laws.specs.interference.Net.{IsVertex, degree_of};
+ghost use Rattle.interference.specs.Net.{IsVertex, degree_of};
 ghost use Rattle.event_machine.specs.State.{link_at};
 ghost use Rattle.net_core.specs.Whole.{HoldsNothing, IsDone, IsWhole};
 
-use alpha_laws::NodeProgram;
 use event_machine::NetState;
+use node_api::NodeProgram;
 
 // Whether no link out of a vertex holds a wire.
 fn holds_nothing<P: NodeProgram>(state: &NetState<P>, v: u32) -> bool

@@ -8,4 +8,3 @@ pub mod Filled
 pub mod Keeping
 pub mod Runs
 pub mod Reading
-pub mod interference

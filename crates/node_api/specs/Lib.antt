@@ -6,4 +6,3 @@ pub mod Sent
 pub mod Program
 pub mod Run
 pub mod Laws
-pub mod interference

@@ -2,8 +2,8 @@
 use Rattle.std.proofs.Common.{◌≡◌, ◌⊎◌, inl, inr, ⊎_elim, ℕ, ◌+◌, ◌<◌, ◌≤◌, ap, refl, sym, subst, ◌∙◌, arith}
 use Rattle.std.specs.Prelude.{◌↔◌}
 use Rattle.std.proofs.lemmas.Bool.{cases_eq, cases_lt}
-use Rattle.outcomes.specs.interference.Net.{Net, IsNetwork, IsVertex, back_port_of, degree_of, neighbour_of}
-use Rattle.outcomes.proofs.gather_laws.Neighbours.{at-back_port, back-of-back_port}
+use Rattle.interference.specs.Net.{Net, IsNetwork, IsVertex, back_port_of, degree_of, neighbour_of}
+use Rattle.interference.proofs.Neighbours.{at-back_port, back-of-back_port}
 use Rattle.node_pool.specs.Makes.{IsBefore, HasEndBefore}
 
 -- a length, where the ports below it are those of which D holds, and D holds exactly below j

@@ -8,10 +8,10 @@ use Rattle.std.proofs.Common.{subst, ◌∙◌, arith, Some, slice_get}
 use Rattle.std.specs.Prelude.{◌↔◌}
 use Rattle.std.proofs.lemmas.Bool.{cases_eq, cases_lt}
 use Rattle.std.proofs.lemmas.List.{get_or-set_same, get_or-set_other, length-append, length-set, length_push}
-use Rattle.outcomes.specs.interference.Net.{Net, IsNetwork, IsVertex, back_port_of, count_of, degree_of, neighbour_of}
-use Rattle.pool.specs.link_queue.Link.{Link}
-use Rattle.pool.specs.link_rule.Legal.{name_of}
-use Rattle.pool.specs.link_queue.Ends.{IsNewPutEnd, IsNewTakeEnd, link_capacity}
+use Rattle.interference.specs.Net.{Net, IsNetwork, IsVertex, back_port_of, count_of, degree_of, neighbour_of}
+use Rattle.link_queue.specs.declared.link.Link.{Link}
+use Rattle.link_rule.specs.Legal.{name_of}
+use Rattle.link_queue.specs.Ends.{IsNewPutEnd, IsNewTakeEnd, link_capacity}
 use Rattle.outcomes.specs.Rows.{row_at, thing_at}
 use Rattle.node_pool.specs.Makes.{AreEndsAt, AreMade, AreMadeBefore, HasEndBefore, row_more}
 use Rattle.node_pool.specs.declared.making.PortEnds.{PortEnds}

@@ -2,11 +2,11 @@
 use Rattle.std.specs.Prelude.{All, Option}
 use Rattle.std.proofs.Common.{◌≡◌, ℕ, zero, suc, ◌-◌, ◌<◌, ◌≤◌, List, [], ◌∷◌, map, get_or, sym, ap, subst, ◌∙◌, arith, Some, slice_get}
 use Rattle.atomic_table.specs.Seated.{TableId}
-use Rattle.outcomes.specs.interference.Net.{Net, IsNetwork, IsVertex, degree_of, neighbour_of, back_port_of}
-use Rattle.pool.specs.link_queue.Link.{Link}
-use Rattle.pool.specs.link_queue.Ends.{link_capacity}
-use Rattle.pool.specs.link_rule.LinkName.{LinkName}
-use Rattle.pool.specs.actor.Tables.{IsEndAt, table_of, table_at}
+use Rattle.interference.specs.Net.{Net, IsNetwork, IsVertex, degree_of, neighbour_of, back_port_of}
+use Rattle.link_queue.specs.declared.link.Link.{Link}
+use Rattle.link_queue.specs.Ends.{link_capacity}
+use Rattle.link_rule.specs.declared.name.LinkName.{LinkName}
+use Rattle.actor.specs.Tables.{IsEndAt, table_of, table_at}
 use Rattle.outcomes.specs.Rows.{row_at, thing_at}
 use Rattle.node_pool.specs.Makes.{AreMade, tables_of}
 use Rattle.node_pool.specs.News.{AreNewAt, AreNewEnds}

@@ -1,8 +1,8 @@
 -- Which fault a run has if its nodes set wires aside.
 use Rattle.std.specs.Prelude.{List, Option, Result, Ok, Err, if◌then◌else◌}
-use Rattle.pool.specs.actor.Aside.{Aside}
-use Rattle.pool.specs.declared.fault.PoolFault.{PoolFault}
-use Rattle.pool.specs.declared.fault.PoolFault.TheVariants.{StampFull}
+use Rattle.actor.specs.declared.aside.Aside.{Aside}
+use Rattle.run_faults.specs.declared.fault.PoolFault.{PoolFault}
+use Rattle.run_faults.specs.declared.fault.PoolFault.TheVariants.{StampFull}
 use Rattle.outcomes.specs.Full.{some_full}
 
 -- What a run reports of the wires that its nodes set aside: a stamp that would be too great, if one was set aside for

@@ -2,11 +2,11 @@
 use Rattle.std.specs.Prelude.{◌≡◌, ◌⊎◌, ◌↔◌, ◌<◌, ◌≤◌, ◌+◌, ◌*◌, ◌-◌, ℕ, List, ◌++◌, ◌∷◌, [], All, length, map, Some}
 use Rattle.std.specs.Prelude.{slice_get, slice_set}
 use Rattle.atomic_table.specs.Seated.{TableId}
-use Rattle.outcomes.specs.interference.Net.{Net, IsVertex, back_port_of, count_of, degree_of, neighbour_of}
-use Rattle.outcomes.below.interference.specs.declared.limits.TheConstants.{MAX_DEGREE}
-use Rattle.pool.specs.link_rule.Legal.{name_of}
-use Rattle.pool.specs.link_queue.Link.{Link}
-use Rattle.pool.specs.link_queue.Ends.{IsNewPutEnd, IsNewTakeEnd, link_capacity}
+use Rattle.interference.specs.Net.{Net, IsVertex, back_port_of, count_of, degree_of, neighbour_of}
+use Rattle.interference.specs.declared.limits.TheConstants.{MAX_DEGREE}
+use Rattle.link_rule.specs.Legal.{name_of}
+use Rattle.link_queue.specs.declared.link.Link.{Link}
+use Rattle.link_queue.specs.Ends.{IsNewPutEnd, IsNewTakeEnd, link_capacity}
 use Rattle.outcomes.specs.Rows.{HasShape, row_at, thing_at}
 use Rattle.node_pool.specs.declared.making.PortEnds.{PortEnds}
 

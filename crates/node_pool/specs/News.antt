@@ -1,9 +1,9 @@
 -- Ends of a run at which nothing was put or taken.
 use Rattle.std.specs.Prelude.{◌≡◌, ℕ, List, [], length, Some, slice_get}
 use Rattle.atomic_table.specs.Seated.{TableId}
-use Rattle.outcomes.specs.interference.Net.{Net, IsVertex, back_port_of, degree_of, neighbour_of}
-use Rattle.pool.specs.link_queue.Ends.{put_list, put_name, take_name, taken_list}
-use Rattle.pool.specs.actor.Tables.{IsEndAt}
+use Rattle.interference.specs.Net.{Net, IsVertex, back_port_of, degree_of, neighbour_of}
+use Rattle.link_queue.specs.Ends.{put_list, put_name, take_name, taken_list}
+use Rattle.actor.specs.Tables.{IsEndAt}
 use Rattle.outcomes.specs.Rows.{HasShape, row_at}
 use Rattle.node_pool.specs.declared.making.PortEnds.{PortEnds}
 

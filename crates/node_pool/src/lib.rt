@@ -21,10 +21,4 @@ mod run;
 mod starting;
 mod wires;
 
-pub use outcomes::{Actor, Outcome};
-pub use pool::{Gate, OpenGate, PoolFault};
 pub use run::run_workers;
-
-// What crates above name of lower ones.
-pub use outcomes::{whole_outcomes_are_complete, whole_outcomes_replay};
-pub use run_options::{MAX_CAPACITY, MAX_WORKERS, Options};

@@ -1,12 +1,13 @@
 //! The links of a network.
 
 ghost use Rattle.std.specs.Prelude.{◌≡◌, ◌<◌, ◌≤◌, ◌+◌, ℕ, [], IfOk, length, map, vec_len};
-ghost use Rattle.outcomes.specs.interference.Net.{IsVertex, count_of, degree_of, neighbour_of};
+ghost use Rattle.interference.specs.Net.{IsVertex, count_of, degree_of, neighbour_of};
 ghost use Rattle.outcomes.specs.Rows.{row_at};
 ghost use Rattle.node_pool.specs.Makes.{AreMade, AreMadeBefore, row_more};
 
-use outcomes::{Memory, Network, NodeProgram};
-use pool::{Link, PutEnd, TakeEnd};
+use interference::{Memory, Network};
+use link_queue::{Link, PutEnd, TakeEnd};
+use node_api::NodeProgram;
 use run_options::MAX_CAPACITY;
 use std::alloc::{AllocError, Global};
 

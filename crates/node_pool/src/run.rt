@@ -1,17 +1,21 @@
 //! A run of workers, from a network to its outcome.
 
 ghost use Rattle.std.specs.Prelude.{◌≡◌, ◌≢◌, ◌↔◌, IfErr, IfOk, IsTrue, Result, Err, map};
-ghost use Rattle.pool.specs.actor.Tables.{table_of};
-ghost use Rattle.outcomes.specs.gather_laws.Outcome.{IsOutcome};
-ghost use Rattle.pool.specs.declared.fault.PoolFault.TheVariants.{BadOptions};
+ghost use Rattle.actor.specs.Tables.{table_of};
+ghost use Rattle.gather_laws.specs.Outcome.{IsOutcome};
+ghost use Rattle.run_faults.specs.declared.fault.PoolFault.TheVariants.{BadOptions};
 ghost use Rattle.run_options.specs.Ranges.{AreInRange};
 ghost use Rattle.node_pool.specs.Ends.{full_after};
 ghost use Rattle.node_pool.specs.Makes.{AreMade, tables_of};
 
 use crate::making::{Made, make_links};
 use crate::starting::start_nodes;
-use outcomes::{Network, NodeProgram, Outcome, gathered, some_full};
-use pool::{Gate, Links, Node, PoolFault, Wiring, run_nodes};
+use actor::{Gate, Links, Node, Wiring};
+use interference::Network;
+use node_api::NodeProgram;
+use outcomes::{Outcome, gathered, some_full};
+use pool::run_nodes;
+use run_faults::PoolFault;
 use run_options::{MAX_CAPACITY, MAX_WORKERS, Options};
 use std::alloc::Global;
 use std::marker::Brand;

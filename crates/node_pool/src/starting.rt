@@ -1,14 +1,15 @@
 //! The nodes of a network, each with the ends of its links.
 
 ghost use Rattle.std.specs.Prelude.{◌≡◌, ◌∷◌, ◌++◌, ◌<◌, [], All, IfOk, map, reverse, vec_len};
-ghost use Rattle.outcomes.specs.interference.Net.{IsVertex, vertices};
-ghost use Rattle.pool.specs.alpha_core.Program.{start_node};
+ghost use Rattle.interference.specs.Net.{IsVertex, vertices};
+ghost use Rattle.alpha_core.specs.Program.{start_node};
 ghost use Rattle.node_pool.specs.News.{AreNewEnds, AreNewOf};
 
 use crate::making::PortEnds;
 use crate::wires::{WiredEnds, wired_ends};
-use outcomes::{Memory, Network, NodeProgram};
-use pool::{Node, Wiring};
+use actor::{Node, Wiring};
+use interference::{Memory, Network};
+use node_api::NodeProgram;
 use std::alloc::Global;
 
 // Takes the last row off.

@@ -1,14 +1,15 @@
 //! Ends that know the place and the index of their link.
 
 ghost use Rattle.std.specs.Prelude.{◌≡◌, [], All, IfOk, map};
-ghost use Rattle.outcomes.specs.interference.Net.{IsVertex};
-ghost use Rattle.pool.specs.link_queue.Ends.{put_list, taken_list};
-ghost use Rattle.pool.specs.actor.Node.{links_in, links_out};
+ghost use Rattle.interference.specs.Net.{IsVertex};
+ghost use Rattle.link_queue.specs.Ends.{put_list, taken_list};
+ghost use Rattle.actor.specs.Node.{links_in, links_out};
 ghost use Rattle.node_pool.specs.News.{AreNewOf};
 
 use crate::making::PortEnds;
-use outcomes::{Network, NodeProgram};
-use pool::{WiredPut, WiredTake, Wiring};
+use actor::{WiredPut, WiredTake, Wiring};
+use interference::Network;
+use node_api::NodeProgram;
 use std::alloc::{AllocError, Global};
 
 /// The ends of a node, by port.

@@ -1,4 +1,4 @@
--- The line of some numbers.
+-- The line of some numbers, and a number after words.
 use Rattle.std.specs.Prelude.{ℕ, List, [], ◌∷◌, ◌++◌, map, flat_map}
 use Rattle.std.specs.List.{join_with_byte}
 use Rattle.std.specs.Fmt.{decimal}
@@ -10,3 +10,7 @@ row numbers = join_with_byte 32 (map decimal numbers) ++ 10 ∷ []
 -- the numbers in decimal, a space behind each
 abbrev pub spaced : List ℕ → List ℕ
 spaced numbers = flat_map (λ n. decimal n ++ 32 ∷ []) numbers
+
+-- words, and a number after them
+abbrev pub numbered : List ℕ → ℕ → List ℕ
+numbered words number = words ++ decimal number

@@ -6,8 +6,8 @@ use Rattle.std.specs.List.{range_with_len}
 use Rattle.std.proofs.lemmas.Bool.{cases_eq}
 use Rattle.std.proofs.lemmas.List.{length-map, map-append}
 use Rattle.std.proofs.lemmas.List.FromFn.{length-range_with_len}
-use Rattle.gather_laws.specs.alpha_laws.Net.{Net, IsNetwork, IsVertex, degree_of, neighbour_of, back_port_of}
-use Rattle.gather_laws.proofs.alpha_laws.Neighbours.{at-back_port, same-port}
+use Rattle.interference.specs.Net.{Net, IsNetwork, IsVertex, degree_of, neighbour_of, back_port_of}
+use Rattle.interference.proofs.Neighbours.{at-back_port, same-port}
 use Rattle.outcomes.specs.Rows.{row_at, thing_at, slot_at, set_slot, HasShape}
 use Rattle.outcomes.proofs.Slots.{slot_other, shape_kept}
 use Rattle.outcomes.proofs.ReadLists.{some_at, somes_at, somes_long, at_old, at_new, at_range, range_next}

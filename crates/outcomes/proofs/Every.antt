@@ -4,9 +4,9 @@ use Rattle.std.proofs.Common.{true, false, nat_eq, sym, ap, ◌∙◌, arith}
 use Rattle.std.specs.Prelude.{Bool, ◌&&◌}
 use Rattle.std.proofs.Math.Numerals.{add-one}
 use Rattle.std.proofs.Math.Seq.{drop-cons, drop-nil}
-use Rattle.actor.specs.alpha_core.Stamped.{Stamped}
-use Rattle.actor.specs.link_queue.Met.{Met}
-use Rattle.actor.specs.link_queue.Ends.{held_stamped}
+use Rattle.alpha_core.specs.declared.stamped.Stamped.{Stamped}
+use Rattle.link_queue.specs.declared.met.Met.{Met}
+use Rattle.link_queue.specs.Ends.{held_stamped}
 use Rattle.outcomes.specs.Meets.{history_of_met}
 
 -- nothing is left past the end

@@ -12,4 +12,3 @@ mod Full
 mod Every
 mod Meetings
 mod LinkIn
-pub mod gather_laws

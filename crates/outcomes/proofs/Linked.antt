@@ -4,21 +4,22 @@ use Rattle.std.proofs.Common.{◌≡◌, ℕ, ◌-◌, ◌<◌, List, [], ◌++�
 use Rattle.std.proofs.Common.{Some, slice_get}
 use Rattle.std.specs.Prelude.{All, Bool, Option}
 use Rattle.std.proofs.lemmas.List.{length-map}
-use Rattle.gather_laws.specs.alpha_laws.Net.{Net, IsNetwork, IsVertex, degree_of, neighbour_of, back_port_of, vertices}
-use Rattle.gather_laws.specs.alpha_laws.Program.{Program, last_pulse_on}
-use Rattle.gather_laws.specs.alpha_laws.Laws.{IsProgram}
-use Rattle.gather_laws.specs.alpha_laws.Kept.{NodeKept}
-use Rattle.gather_laws.proofs.alpha_laws.Across.{over}
-use Rattle.actor.specs.alpha_core.Stamped.{Stamped}
-use Rattle.actor.specs.alpha_core.StampedWires.{wires_of}
-use Rattle.actor.specs.alpha_core.View.{Alpha}
+use Rattle.interference.specs.Net.{Net, IsNetwork, IsVertex, degree_of, neighbour_of, back_port_of, vertices}
+use Rattle.node_api.specs.Program.{Program, last_pulse_on}
+use Rattle.node_api.specs.Laws.{IsProgram}
+use Rattle.alpha_laws.specs.Kept.{NodeKept}
+use Rattle.alpha_laws.proofs.Across.{over}
+use Rattle.alpha_core.specs.declared.stamped.Stamped.{Stamped}
+use Rattle.alpha_core.specs.StampedWires.{wires_of}
+use Rattle.alpha_core.specs.View.{Alpha}
 use Rattle.actor.specs.declared.aside.Aside.{Aside}
 use Rattle.actor.specs.declared.aside.WhyAside.TheVariants.{Refused}
 use Rattle.actor.specs.HasStamps.{HasStamps}
 use Rattle.actor.specs.Node.{IsAside, by_port, reacted_to}
 use Rattle.actor.specs.Written.{IsTranscript}
-use Rattle.actor.specs.stamps.Stamps.{StampedEntry, bare_of}
-use Rattle.actor.proofs.worker_deques.Views.{as_many}
+use Rattle.entries.specs.declared.rows.StampedEntry.{StampedEntry}
+use Rattle.entries.specs.Rows.{bare_of}
+use Rattle.worker_deques.proofs.Views.{as_many}
 use Rattle.gather_laws.specs.Outcome.{Outcome, alpha_in, entries_in, link_in, link_into, no_history, row_in, start_of}
 use Rattle.outcomes.specs.Rows.{AreCrossed, row_at}
 use Rattle.outcomes.proofs.Rows.{some_there, get_map, row_map, get_field, node_of, length-nodes}

@@ -3,10 +3,10 @@ use Rattle.std.proofs.Common.{◌≡◌, ◌-◌, List, [], ◌∷◌, ◌++◌,
 use Rattle.std.specs.Prelude.{All, Option}
 use Rattle.std.proofs.lemmas.List.{length-append, map-append}
 use Rattle.std.proofs.lemmas.List.Elements.{All-nil, All-push, All-same}
-use Rattle.actor.specs.alpha_core.Stamped.{Stamped}
-use Rattle.actor.specs.link_rule.LinkName.{LinkName}
-use Rattle.actor.specs.link_queue.Met.{Met}
-use Rattle.actor.specs.link_queue.Ends.{HasMet, held_stamped}
+use Rattle.alpha_core.specs.declared.stamped.Stamped.{Stamped}
+use Rattle.link_rule.specs.declared.name.LinkName.{LinkName}
+use Rattle.link_queue.specs.declared.met.Met.{Met}
+use Rattle.link_queue.specs.Ends.{HasMet, held_stamped}
 use Rattle.outcomes.specs.Meets.{AreMet, RowsAreMet, put_of, taken_of}
 
 take_front : {A : Type 0} (xs ys : List A) → take (length xs) (xs ++ ys) ≡ xs

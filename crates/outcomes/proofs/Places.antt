@@ -1,7 +1,7 @@
 -- Each end that was gathered stands at the place of its link.
 use Rattle.std.proofs.Common.{◌≡◌, ℕ, List, map, sym, ◌∙◌}
-use Rattle.gather_laws.specs.alpha_laws.Net.{Net, IsNetwork, neighbour_of, back_port_of, vertices}
-use Rattle.gather_laws.proofs.alpha_laws.Across.{over}
+use Rattle.interference.specs.Net.{Net, IsNetwork, neighbour_of, back_port_of, vertices}
+use Rattle.alpha_laws.proofs.Across.{over}
 use Rattle.actor.specs.Node.{links_in, links_out}
 use Rattle.outcomes.specs.Rows.{AreCrossed}
 use Rattle.outcomes.proofs.Rows.{by_entries, by_nodes, entry_of}

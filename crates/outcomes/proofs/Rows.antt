@@ -9,7 +9,7 @@ use Rattle.std.proofs.lemmas.List.Elements.{All-map}
 use Rattle.std.proofs.lemmas.Option.{slice_get-map, slice_get-get_or, get_or_from_slice_get}
 use Rattle.std.proofs.lemmas.Simd.{map-map}
 use Rattle.outcomes.specs.Rows.{row_at, thing_at, HasShape}
-use Rattle.gather_laws.specs.alpha_laws.Net.{Net, IsVertex, count_of, degree_of, vertices}
+use Rattle.interference.specs.Net.{Net, IsVertex, count_of, degree_of, vertices}
 
 module _ {A : Type 0} where
   -- lists that have the same at each place

@@ -9,18 +9,19 @@ use Rattle.std.proofs.lemmas.List.{length-map}
 use Rattle.std.proofs.lemmas.List.FromFn.{length-range_with_len}
 use Rattle.std.proofs.lemmas.Option.{get_or_from_slice_get}
 use Rattle.std.proofs.lemmas.Simd.{map-map}
-use Rattle.gather_laws.specs.alpha_laws.Net.{Net, IsVertex, count_of, degree_of, neighbour_of, back_port_of}
-use Rattle.gather_laws.specs.alpha_laws.Program.{Program, last_pulse_on}
-use Rattle.gather_laws.specs.alpha_laws.Kept.{AllKept, NodeKept}
-use Rattle.gather_laws.proofs.alpha_laws.Across.{over}
-use Rattle.gather_laws.proofs.alpha_laws.Runs.{runs}
-use Rattle.gather_laws.proofs.alpha_laws.Claims.{simulates}
-use Rattle.actor.specs.alpha_core.Stamped.{Stamped}
-use Rattle.actor.specs.alpha_core.StampedWires.{wires_of}
-use Rattle.actor.specs.alpha_core.View.{Alpha}
-use Rattle.actor.specs.alpha_core.Wire.{Wire}
+use Rattle.interference.specs.Net.{Net, IsVertex, count_of, degree_of, neighbour_of, back_port_of}
+use Rattle.node_api.specs.Program.{Program, last_pulse_on}
+use Rattle.alpha_laws.specs.Kept.{AllKept, NodeKept}
+use Rattle.alpha_laws.proofs.Across.{over}
+use Rattle.alpha_laws.proofs.Runs.{runs}
+use Rattle.alpha_laws.proofs.Claims.{simulates}
+use Rattle.alpha_core.specs.declared.stamped.Stamped.{Stamped}
+use Rattle.alpha_core.specs.StampedWires.{wires_of}
+use Rattle.alpha_core.specs.View.{Alpha}
+use Rattle.alpha_core.specs.declared.wire.Wire.{Wire}
 use Rattle.actor.specs.declared.aside.Aside.{Aside}
-use Rattle.actor.specs.stamps.Stamps.{StampedEntry, bare_of}
+use Rattle.entries.specs.declared.rows.StampedEntry.{StampedEntry}
+use Rattle.entries.specs.Rows.{bare_of}
 use Rattle.actor.specs.Node.{IsAside, by_port, reacted_to}
 use Rattle.actor.specs.Written.{IsTranscript}
 use Rattle.actor.proofs.Kept.{node_same}

@@ -4,7 +4,7 @@ use Rattle.std.specs.Prelude.{Option, None}
 use Rattle.std.proofs.lemmas.Bool.{cases_eq}
 use Rattle.std.proofs.lemmas.List.{get_or-set_same, get_or-set_other, length-set}
 use Rattle.std.proofs.lemmas.List.{get_or_default, get_or-map, map-set}
-use Rattle.gather_laws.specs.alpha_laws.Net.{Net}
+use Rattle.interference.specs.Net.{Net}
 use Rattle.outcomes.specs.Rows.{row_at, slot_at, set_slot, HasShape}
 
 module _ {A : Type 0} (slots : List (List (Option A))) (v i : ℕ) (x : Option A) (low : 1 ≤ v) (in_rows : v - 1 < length slots) where

@@ -3,14 +3,15 @@
 use Rattle.std.proofs.Common.{ℕ, ◌-◌, List, ◌++◌, map, get_or, sym, ap, ◌∙◌}
 use Rattle.std.proofs.Math.Path.{transport}
 use Rattle.std.specs.Prelude.{Bool, IsTrue, Option}
-use Rattle.gather_laws.specs.alpha_laws.Net.{Net, IsVertex}
-use Rattle.gather_laws.specs.alpha_laws.Program.{Program}
-use Rattle.actor.specs.alpha_core.Stamped.{Stamped}
-use Rattle.actor.specs.alpha_core.StampedWires.{wires_of}
-use Rattle.actor.specs.alpha_core.View.{Alpha}
+use Rattle.interference.specs.Net.{Net, IsVertex}
+use Rattle.node_api.specs.Program.{Program}
+use Rattle.alpha_core.specs.declared.stamped.Stamped.{Stamped}
+use Rattle.alpha_core.specs.StampedWires.{wires_of}
+use Rattle.alpha_core.specs.View.{Alpha}
 use Rattle.actor.specs.declared.aside.Aside.{Aside}
-use Rattle.actor.specs.stamps.Keeps.{KeepsStamps}
-use Rattle.actor.specs.stamps.Stamps.{StampedEntry, bare_of}
+use Rattle.stamps.specs.Keeps.{KeepsStamps}
+use Rattle.entries.specs.declared.rows.StampedEntry.{StampedEntry}
+use Rattle.entries.specs.Rows.{bare_of}
 use Rattle.actor.specs.Node.{by_port}
 use Rattle.actor.specs.Written.{IsTranscript}
 use Rattle.gather_laws.specs.MergedRuns.{HaveMet}

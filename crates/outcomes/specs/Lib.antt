@@ -2,5 +2,3 @@ pub mod Gathers
 pub mod Rows
 pub mod Meets
 pub mod Full
-pub mod gather_laws
-pub mod interference

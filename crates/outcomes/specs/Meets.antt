@@ -1,9 +1,9 @@
 -- Links whose ends have met.
 use Rattle.std.specs.Prelude.{◌≡◌, ◌-◌, List, ◌++◌, All, map, length, take}
 use Rattle.crossbeam_queue.specs.Passes.{view}
-use Rattle.actor.specs.alpha_core.Stamped.{Stamped}
-use Rattle.actor.specs.link_queue.Met.{Met}
-use Rattle.actor.specs.link_queue.Ends.{held_stamped}
+use Rattle.alpha_core.specs.declared.stamped.Stamped.{Stamped}
+use Rattle.link_queue.specs.declared.met.Met.{Met}
+use Rattle.link_queue.specs.Ends.{held_stamped}
 use Rattle.gather_laws.specs.Outcome.{History}
 
 module _ {T : Type 0} where

@@ -1,6 +1,6 @@
 -- Things by vertex and port: entry `v - 1` of the rows has those of vertex v, by port.
 use Rattle.std.specs.Prelude.{◌≡◌, ℕ, ◌-◌, ◌<◌, List, [], length, Option, None, slice_get, slice_index_or, slice_set}
-use Rattle.gather_laws.specs.alpha_laws.Net.{Net, IsVertex, count_of, degree_of, neighbour_of, back_port_of}
+use Rattle.interference.specs.Net.{Net, IsVertex, count_of, degree_of, neighbour_of, back_port_of}
 
 module _ {A : Type 0} where
   abbrev pub row_at : List (List A) → ℕ → List A

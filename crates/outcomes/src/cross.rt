@@ -2,10 +2,10 @@
 
 ghost use Rattle.std.specs.Prelude.{◌≡◌, ◌≢◌, ◌<◌, ◌≤◌, ℕ, IfOk, None, Some, length, map};
 ghost use Rattle.std.specs.List.{range_with_len};
-ghost use Rattle.gather_laws.specs.alpha_laws.Net.{IsVertex, back_port_of, degree_of, neighbour_of};
+ghost use Rattle.interference.specs.Net.{IsVertex, back_port_of, degree_of, neighbour_of};
 ghost use Rattle.outcomes.specs.Rows.{AreCrossed, HasShape, row_at, set_slot, slot_at};
 
-use gather_laws::Network;
+use interference::Network;
 use std::alloc::{AllocError, Global};
 
 /// The things of a row, each in a slot.

@@ -1,8 +1,8 @@
 //! The nodes and links of a run become its outcome.
 
 ghost use Rattle.std.specs.Prelude.{◌≡◌, ◌≤◌, ℕ, All, IfOk, false, map};
-ghost use Rattle.gather_laws.specs.alpha_laws.Net.{vertices};
-ghost use Rattle.actor.specs.link_queue.Ends.{link_capacity};
+ghost use Rattle.interference.specs.Net.{vertices};
+ghost use Rattle.link_queue.specs.Ends.{link_capacity};
 ghost use Rattle.gather_laws.specs.Outcome.{IsOutcome};
 ghost use Rattle.outcomes.specs.Full.{some_full};
 
@@ -11,7 +11,8 @@ use crate::meeting::meet_rows;
 use crate::outcome::Outcome;
 use crate::taking_apart::{NodesAndEnds, apart};
 use actor::{Links, Node, Wiring};
-use gather_laws::{Memory, Network, NodeProgram};
+use interference::{Memory, Network};
+use node_api::NodeProgram;
 use std::alloc::Global;
 use std::sync::Wait;
 

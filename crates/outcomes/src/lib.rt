@@ -24,7 +24,3 @@ mod taking_apart;
 pub use gathering::gathered;
 pub use outcome::Outcome;
 pub use taking_apart::{Actor, some_full};
-
-// What crates above name of lower ones.
-pub use gather_laws::laws::{whole_outcomes_are_complete, whole_outcomes_replay};
-pub use gather_laws::{MAX_DEGREE, Memory, Network, NodeProgram};

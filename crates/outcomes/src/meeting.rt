@@ -1,12 +1,14 @@
 //! Each link's ends meet.
 
 ghost use Rattle.std.specs.Prelude.{◌≡◌, ◌≤◌, ℕ, All, IfOk, length, map};
-ghost use Rattle.actor.specs.link_queue.Ends.{held_stamped, link_capacity, put_stamped, taken_stamped};
+ghost use Rattle.link_queue.specs.Ends.{held_stamped, link_capacity, put_stamped, taken_stamped};
 ghost use Rattle.outcomes.specs.Meets.{AreMet, RowsAreMet};
 
 use crate::pairs::pairs;
-use actor::{Links, Met, WiredPut, WiredTake, Wiring};
-use gather_laws::{Memory, NodeProgram};
+use actor::{Links, WiredPut, WiredTake, Wiring};
+use interference::Memory;
+use link_queue::Met;
+use node_api::NodeProgram;
 use std::alloc::Global;
 use std::sync::Wait;
 

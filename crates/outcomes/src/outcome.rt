@@ -6,8 +6,8 @@ ghost use Rattle.gather_laws.specs.Outcome.{all_drained, all_empty, is_whole, li
 ghost use Rattle.outcomes.specs.Gathers.{gathered_of};
 
 use crate::taking_apart::Actor;
-use actor::Met;
-use gather_laws::NodeProgram;
+use link_queue::Met;
+use node_api::NodeProgram;
 use std::marker::Model;
 
 /// What a run of workers leaves: every node, ascending by vertex, and every link with what it still holds.

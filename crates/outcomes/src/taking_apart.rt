@@ -1,11 +1,13 @@
 //! A node after the run, and the nodes taken apart.
 
 ghost use Rattle.std.specs.Prelude.{◌≡◌, ◌≤◌, [], IfOk, map, vec_capacity};
-ghost use Rattle.actor.specs.entries.Recorded.{entries_by};
+ghost use Rattle.entries.specs.Recorded.{entries_by};
 ghost use Rattle.outcomes.specs.Full.{is_full, some_full};
 
-use actor::{AlphaNode, Aside, Entries, Node, WhyAside, WiredPut, WiredTake, Wiring};
-use gather_laws::NodeProgram;
+use actor::{Aside, Node, WhyAside, WiredPut, WiredTake, Wiring};
+use alpha_core::AlphaNode;
+use entries::Entries;
+use node_api::NodeProgram;
 use std::alloc::{AllocError, Global};
 
 /// A node after the run, with its vertex and its entries.

@@ -1,7 +1,7 @@
 -- The task in hand is given back to the own deque, or stays in hand.
 use Rattle.std.proofs.Common.{◌≡◌, ℕ, List, [], ◌∷◌, ◌++◌, Option, Some, None, refl}
 use Rattle.std.specs.Prelude.{IfNone, IfSome}
-use Rattle.worker_deques.specs.deque_rule.Ledgers.{AreOut, in_hand, ledger}
+use Rattle.deque_rule.specs.Ledgers.{AreOut, in_hand, ledger}
 use Rattle.worker_deques.proofs.Out.{kept, pushed}
 
 module _ {A : Type 0} (f : A → ℕ) where

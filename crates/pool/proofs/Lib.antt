@@ -2,5 +2,3 @@ pub mod Joined
 mod Ends
 mod InHand
 mod Numbers
-pub mod actor
-pub mod worker_deques

@@ -3,8 +3,8 @@ use Rattle.std.proofs.Common.{◌≡◌, ℕ, zero, suc, ◌+◌, ◌-◌, ◌�
 use Rattle.std.specs.List.{range_with_len}
 use Rattle.std.proofs.lemmas.List.{length-map, length-reverse}
 use Rattle.std.proofs.lemmas.List.FromFn.{length-range_with_len}
-use Rattle.worker_deques.specs.deque_rule.Ledgers.{AreSame, weigh}
-use Rattle.worker_deques.proofs.deque_rule.Rule.{weigh-reverse}
+use Rattle.deque_rule.specs.Ledgers.{AreSame, weigh}
+use Rattle.deque_rule.proofs.Rule.{weigh-reverse}
 
 suc_range : (a n : ℕ) → map (λ k. k + 1) (range_with_len a n) ≡ range_with_len (a + 1) n
 suc_range a zero = refl

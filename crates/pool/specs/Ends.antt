@@ -2,8 +2,8 @@
 use Rattle.std.specs.Prelude.{Bool, true, false, List, [], ◌∷◌, Option, Some, None, Result, Ok, Err}
 use Rattle.actor.specs.declared.refused.TurnRefused.{TurnRefused}
 use Rattle.actor.specs.declared.refused.TurnRefused.TheVariants.{Memory, StampFull}
-use Rattle.pool.specs.declared.fault.PoolFault.{PoolFault}
-use Rattle.pool.specs.declared.fault.PoolFault.TheVariants as fault
+use Rattle.run_faults.specs.declared.fault.PoolFault.{PoolFault}
+use Rattle.run_faults.specs.declared.fault.PoolFault.TheVariants as fault
 
 -- What a run reports of the refusals that its nodes remember: memory first, and then a stamp that would be too great,
 -- also if one was before.

@@ -17,18 +17,10 @@
 //! time, of fairness, or that a call returns.
 #![tactic(auto)]
 
-mod fault;
 mod looks;
 mod run;
 mod signals;
 mod threads;
 mod told;
 
-pub use fault::PoolFault;
 pub use run::run_nodes;
-
-// What crates above name of lower ones.
-pub use actor::{
-    AlphaNode, Entries, Gate, Link, Links, Met, Node, OpenGate, PutEnd, TakeEnd, WhyAside,
-    WiredPut, WiredTake, Wiring,
-};

@@ -2,13 +2,15 @@
 
 ghost use Rattle.std.specs.Prelude.{◌≡◌, ◌<◌, length, map};
 ghost use Rattle.crossbeam_deque.specs.Handles.{stealer_deque, worker_deque};
-ghost use Rattle.worker_deques.specs.deque_rule.Deques.{deque_of};
+ghost use Rattle.deque_rule.specs.Deques.{deque_of};
 
 use crate::signals::Signals;
-use actor::{Gate, Links, Node, NodeProgram, TurnRefused, Wiring};
+use actor::{Gate, Links, Node, TurnRefused, Wiring};
+use deque_rule::{Thief, give_back};
+use node_api::NodeProgram;
 use std::sync::Wait;
 use std::thread;
-use worker_deques::{Desk, Thief, give_back};
+use worker_deques::Desk;
 
 /// What all workers share besides the deques.
 #[derive(Drop)]

@@ -1,31 +1,33 @@
 //! A run of workers over their deques.
 
 ghost use Rattle.std.specs.Prelude.{◌≡◌, ◌≢◌, ◌≤◌, All, IfErr, IfOk, None, length, map, reverse, vec_len};
-ghost use Rattle.actor.specs.interference.Net.{vertices};
+ghost use Rattle.interference.specs.Net.{vertices};
 ghost use Rattle.crossbeam_deque.specs.Handles.{stealer_deque, worker_deque};
-ghost use Rattle.worker_deques.specs.deque_rule.Deques.{deque_of};
-ghost use Rattle.pool.specs.declared.fault.PoolFault.TheVariants.{BadOptions, StampFull};
+ghost use Rattle.deque_rule.specs.Deques.{deque_of};
+ghost use Rattle.run_faults.specs.declared.fault.PoolFault.TheVariants.{BadOptions, StampFull};
 
-use crate::fault::PoolFault;
 use crate::looks::Crew;
 use crate::signals::Signals;
 use crate::threads::{join_all, start_all};
 use crate::told::told;
-use actor::{Gate, Links, Node, NodeProgram, Wiring};
+use actor::{Gate, Links, Node, Wiring};
 use crossbeam_deque::protocol::Split;
+use deque_rule::Ledger;
+use node_api::NodeProgram;
+use run_faults::PoolFault;
 use run_options::MAX_WORKERS;
 use std::alloc::Global;
 use std::sync::Wait;
 use std::thread;
 use std::thread::Threads;
-use worker_deques::{Desk, Ledger, cut, deal, gather, make_deques, make_desks, make_places};
+use worker_deques::{Desk, cut, deal, gather, make_deques, make_desks, make_places};
 
 // A share is cut off with all that was pushed and taken so far.
 pub struct Dealt;
 
 impl Split<Ledger> for Dealt {
     ghost use Rattle.std.specs.Prelude.{[], ◌-◌};
-    ghost use Rattle.worker_deques.specs.deque_rule.Ledgers.{ledger};
+    ghost use Rattle.deque_rule.specs.Ledgers.{ledger};
 
     ghost left = { λ v. ledger (v.shares - 1) [] [] };
 

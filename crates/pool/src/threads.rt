@@ -2,20 +2,22 @@
 
 ghost use Rattle.std.specs.Prelude.{◌≡◌, ◌≢◌, ◌<◌, ◌≤◌, All, IfErr, IfOk, length, map, vec_len};
 ghost use Rattle.crossbeam_deque.specs.Handles.{stealer_deque, worker_deque};
-ghost use Rattle.worker_deques.specs.deque_rule.Deques.{deque_of};
-ghost use Rattle.pool.specs.declared.fault.PoolFault.TheVariants.{BadOptions, Spawn, StampFull};
+ghost use Rattle.deque_rule.specs.Deques.{deque_of};
+ghost use Rattle.run_faults.specs.declared.fault.PoolFault.TheVariants.{BadOptions, Spawn, StampFull};
 
-use crate::fault::PoolFault;
 use crate::looks::{Crew, work};
 use crate::signals::Signals;
-use actor::{Gate, Node, NodeProgram, Wiring};
+use actor::{Gate, Node, Wiring};
+use deque_rule::{Task, Thief};
+use node_api::NodeProgram;
+use run_faults::PoolFault;
 use run_options::MAX_WORKERS;
 use std::alloc::Global;
 use std::snapshot::Snapshot;
 use std::sync::Wait;
 use std::thread;
 use std::thread::{PromisedHandle, Scope, Threads};
-use worker_deques::{Desk, SameDeques, Task, Thief};
+use worker_deques::{Desk, SameDeques};
 
 /// A worker in a thread of its own, which can be joined.
 pub type Child<T: Task> = PromisedHandle<Desk<T>, SameDeques<T>>;

@@ -2,10 +2,11 @@
 
 ghost use Rattle.std.specs.Prelude.{◌≡◌, ◌≢◌, IfErr, false, map};
 ghost use Rattle.pool.specs.Ends.{told_after};
-ghost use Rattle.pool.specs.declared.fault.PoolFault.TheVariants.{BadOptions};
+ghost use Rattle.run_faults.specs.declared.fault.PoolFault.TheVariants.{BadOptions};
 
-use crate::fault::PoolFault;
-use actor::{Node, NodeProgram, TurnRefused, Wiring};
+use actor::{Node, TurnRefused, Wiring};
+use node_api::NodeProgram;
+use run_faults::PoolFault;
 
 /// The fault of a run whose nodes remember refusals of their turns, if one does.
 ///

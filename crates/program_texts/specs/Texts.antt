@@ -1,6 +1,6 @@
 -- The texts of a program whose nodes have states S.
 use Rattle.std.specs.Prelude.{ℕ, ◌<◌, ◌≤◌, List, All, length}
-use Rattle.node_api.specs.interference.Net.{Net}
+use Rattle.interference.specs.Net.{Net}
 
 pub record ProgramTexts (S : Type 0) : Type 0 where
   -- the program's name

@@ -1,11 +1,12 @@
 //! Programs have texts.
 
 ghost use Rattle.std.specs.Prelude.{◌≡◌, ◌++◌, IfOk};
-ghost use Rattle.program_texts.specs.node_api.Net.{IsVertex};
-ghost use Rattle.program_texts.specs.node_api.Run.{state_at};
+ghost use Rattle.interference.specs.Net.{IsVertex};
+ghost use Rattle.node_api.specs.Run.{state_at};
 ghost use Rattle.program_texts.specs.Texts.{HasName, ProgramTexts};
 
-use node_api::{Network, NodeProgram};
+use interference::Network;
+use node_api::NodeProgram;
 use std::alloc::AllocError;
 
 /// A program of nodes that has texts. Each call appends to `text`; if a growth is refused, `text` may end in a

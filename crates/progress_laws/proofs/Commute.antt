@@ -2,12 +2,12 @@
 use Rattle.std.proofs.Common.{◌≡◌, ℕ, ◌-◌, ◌<◌, ◌≤◌, List, ◌∷◌, ◌++◌, take, drop, set, refl, sym, ap, ◌∙◌, arith, subst, ⊎_elim}
 use Rattle.std.proofs.lemmas.Bool.{cases_eq}
 use Rattle.std.proofs.lemmas.List.{get_or-set_other, set_comm}
-use Rattle.alpha_laws.specs.interference.Net.{Net, IsNetwork, IsVertex, degree_of, neighbour_of, back_port_of}
-use Rattle.alpha_laws.proofs.interference.Neighbours.{at-back_port}
-use Rattle.alpha_laws.specs.node_api.Program.{Program}
-use Rattle.alpha_laws.specs.alpha_core.Wire.{Wire}
-use Rattle.alpha_laws.specs.alpha_core.View.{Node, port_at}
-use Rattle.alpha_laws.specs.alpha_core.Program.{start_node}
+use Rattle.interference.specs.Net.{Net, IsNetwork, IsVertex, degree_of, neighbour_of, back_port_of}
+use Rattle.interference.proofs.Neighbours.{at-back_port}
+use Rattle.node_api.specs.Program.{Program}
+use Rattle.alpha_core.specs.declared.wire.Wire.{Wire}
+use Rattle.alpha_core.specs.View.{Node, port_at}
+use Rattle.alpha_core.specs.Program.{start_node}
 use Rattle.event_machine.specs.declared.event.Event.{Event}
 use Rattle.event_machine.specs.declared.event.Event.TheVariants.{Pulse, Put, Take}
 use Rattle.event_machine.specs.State.{Link, State, HasLink, node_of, link_at, link_to, set_link, take_one}

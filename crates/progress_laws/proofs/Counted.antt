@@ -4,14 +4,14 @@ use Rattle.std.specs.List.{range_with_len, sum_by}
 use Rattle.std.proofs.lemmas.List.{get_or_default, length-append}
 use Rattle.std.proofs.lemmas.List.Folds.{sum_by-replicate}
 use Rattle.std.proofs.lemmas.List.Sums.{sum_by-set}
-use Rattle.alpha_laws.specs.interference.Net.{Net, IsNetwork, IsVertex, count_of, degree_of, neighbour_of, back_port_of, vertices}
-use Rattle.alpha_laws.proofs.interference.Members.{range-bounds}
-use Rattle.alpha_laws.proofs.interference.PortSums.{ports-same}
-use Rattle.alpha_laws.proofs.interference.Sums.{sum_by-const, sum_by-map, sum_by-places, sum_by-same, sum_by-shifted}
-use Rattle.alpha_laws.specs.node_api.Program.{Program, last_pulse_on}
-use Rattle.alpha_laws.specs.alpha_core.View.{Node, inbox_of}
-use Rattle.alpha_laws.specs.alpha_core.Alpha.{put_done}
-use Rattle.alpha_laws.specs.alpha_core.Program.{start_node}
+use Rattle.interference.specs.Net.{Net, IsNetwork, IsVertex, count_of, degree_of, neighbour_of, back_port_of, vertices}
+use Rattle.interference.proofs.Members.{range-bounds}
+use Rattle.interference.proofs.PortSums.{ports-same}
+use Rattle.interference.proofs.Sums.{sum_by-const, sum_by-map, sum_by-places, sum_by-same, sum_by-shifted}
+use Rattle.node_api.specs.Program.{Program, last_pulse_on}
+use Rattle.alpha_core.specs.View.{Node, inbox_of}
+use Rattle.alpha_core.specs.Alpha.{put_done}
+use Rattle.alpha_core.specs.Program.{start_node}
 use Rattle.alpha_laws.proofs.Across.{over}
 use Rattle.alpha_laws.proofs.PulseAfter.{pulsed_pulse, reaction_pulse, start_pulse}
 use Rattle.alpha_laws.proofs.Sums.{by_ports}

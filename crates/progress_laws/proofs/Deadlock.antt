@@ -2,9 +2,9 @@
 use Rattle.std.proofs.Common.{◌≡◌, ℕ, ◌<◌, ◌⊎◌, inl, inr, true, not, [], length, sym, ap, ◌∙◌, arith, ⊎_elim}
 use Rattle.std.proofs.lemmas.Bool.{and_parts}
 use Rattle.std.proofs.lemmas.List.{length-append}
-use Rattle.alpha_laws.specs.interference.Net.{Net, IsNetwork, IsVertex}
-use Rattle.alpha_laws.specs.node_api.Program.{Program, last_pulse_on}
-use Rattle.alpha_laws.specs.alpha_core.View.{is_halted}
+use Rattle.interference.specs.Net.{Net, IsNetwork, IsVertex}
+use Rattle.node_api.specs.Program.{Program, last_pulse_on}
+use Rattle.alpha_core.specs.View.{is_halted}
 use Rattle.alpha_laws.specs.Progress.{CanMove}
 use Rattle.alpha_laws.proofs.Claims.{simulates}
 use Rattle.alpha_laws.proofs.EachPort.{out_at}

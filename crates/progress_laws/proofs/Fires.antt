@@ -1,11 +1,11 @@
 -- An event reads and writes its own node and at most one link: what it needs of these, and what it makes of them.
 use Rattle.std.proofs.Common.{◌≡◌, true, List, ◌∷◌, ◌++◌, Ok, take, drop, length, refl, sym, ap, ◌∙◌, arith}
 use Rattle.std.proofs.lemmas.List.{length-append}
-use Rattle.alpha_laws.specs.interference.Net.{Net}
-use Rattle.alpha_laws.specs.node_api.Program.{Program, last_pulse_on}
-use Rattle.alpha_laws.specs.alpha_core.Wire.{Wire}
-use Rattle.alpha_laws.specs.alpha_core.View.{View, Node, port_at, can_pulse}
-use Rattle.alpha_laws.specs.alpha_core.Alpha.{pulse, reaction, put_done}
+use Rattle.interference.specs.Net.{Net}
+use Rattle.node_api.specs.Program.{Program, last_pulse_on}
+use Rattle.alpha_core.specs.declared.wire.Wire.{Wire}
+use Rattle.alpha_core.specs.View.{View, Node, port_at, can_pulse}
+use Rattle.alpha_core.specs.Alpha.{pulse, reaction, put_done}
 use Rattle.event_machine.specs.declared.event.Event.{Event}
 use Rattle.event_machine.specs.declared.event.Event.TheVariants.{Pulse, Put, Take}
 use Rattle.event_machine.specs.State.{Link, State, node_of, link_at, link_to, set_node, set_link, set_link_to, take_one}

@@ -3,13 +3,13 @@
 use Rattle.std.proofs.Common.{◌≡◌, ◌⊎◌, inl, inr, ℕ, zero, suc, ◌+◌, ◌<◌, ◌≤◌, List, [], ◌∷◌, ◌++◌, Result, Ok, Err, length}
 use Rattle.std.proofs.Common.{refl, sym, ap, ◌∙◌, append_assoc, append-nil, arith, subst, ⊎_elim}
 use Rattle.std.proofs.lemmas.List.{length-append}
-use Rattle.alpha_laws.specs.interference.Net.{Net, IsNetwork, IsVertex}
-use Rattle.alpha_laws.specs.node_api.Program.{Program}
+use Rattle.interference.specs.Net.{Net, IsNetwork, IsVertex}
+use Rattle.node_api.specs.Program.{Program}
 use Rattle.alpha_laws.specs.Counts.{events_of_run}
 use Rattle.alpha_laws.proofs.Bounded as nodes
 use Rattle.alpha_laws.proofs.Runs.{Runs}
 use Rattle.alpha_laws.proofs.Whole.{has_ended}
-use Rattle.alpha_laws.specs.alpha_core.Wire.{Wire}
+use Rattle.alpha_core.specs.declared.wire.Wire.{Wire}
 use Rattle.event_machine.specs.declared.event.Event.{Event}
 use Rattle.event_machine.specs.declared.refused.StepRefused.{StepRefused}
 use Rattle.event_machine.specs.State.{State, start, node_of, link_at, link_to, sent_of}

@@ -1,7 +1,7 @@
 -- Events of different nodes, in either order.
 use Rattle.std.specs.Prelude.{◌≡◌, ℕ}
-use Rattle.alpha_laws.specs.interference.Net.{Net}
-use Rattle.alpha_laws.specs.node_api.Program.{Program}
+use Rattle.interference.specs.Net.{Net}
+use Rattle.node_api.specs.Program.{Program}
 use Rattle.event_machine.specs.declared.event.Event.{Event}
 use Rattle.event_machine.specs.declared.event.Event.TheVariants.{Pulse, Put, Take}
 use Rattle.event_machine.specs.State.{State}

@@ -1,7 +1,7 @@
 -- States in which nothing is left to be done, and events over links that have little room.
 use Rattle.std.specs.Prelude.{◌≡◌, ℕ, ◌<◌, List, [], ◌∷◌, length}
-use Rattle.alpha_laws.specs.interference.Net.{Net}
-use Rattle.alpha_laws.specs.node_api.Program.{Program}
+use Rattle.interference.specs.Net.{Net}
+use Rattle.node_api.specs.Program.{Program}
 use Rattle.alpha_laws.specs.Progress.{IsWhole}
 use Rattle.event_machine.specs.declared.event.Event.{Event}
 use Rattle.event_machine.specs.declared.event.Event.TheVariants.{Pulse, Put, Take}

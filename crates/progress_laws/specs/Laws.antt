@@ -1,7 +1,7 @@
 -- The laws of progress, on a network.
 use Rattle.std.specs.Prelude.{◌≡◌, ◌⊎◌, ◌↔◌, ℕ, ◌<◌, ◌≤◌, List, ◌++◌, length, Ok}
-use Rattle.alpha_laws.specs.interference.Net.{Net, IsVertex}
-use Rattle.alpha_laws.specs.node_api.Program.{Program}
+use Rattle.interference.specs.Net.{Net, IsVertex}
+use Rattle.node_api.specs.Program.{Program}
 use Rattle.alpha_laws.specs.Counts.{events_made, events_of_run}
 use Rattle.alpha_laws.specs.Progress.{HasEnded}
 use Rattle.event_machine.specs.declared.event.Event.{Event}

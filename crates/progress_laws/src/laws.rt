@@ -1,6 +1,6 @@
 //! How far every list of events can go. Each law is a function that does nothing: its contract is the law.
 
-ghost use Rattle.alpha_laws.specs.node_api.Program.{Program};
+ghost use Rattle.node_api.specs.Program.{Program};
 ghost use Rattle.alpha_laws.specs.Laws.{OnEveryNetwork};
 ghost use Rattle.progress_laws.specs.Commute.{EventsCommute};
 ghost use Rattle.progress_laws.specs.Laws.{MaximalRunsAgree, MaximalRunsEnd, NoDeadlock, RunsAreBounded};

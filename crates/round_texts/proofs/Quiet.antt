@@ -1,8 +1,8 @@
 -- An outbox with nothing in it has no lines.
 use Rattle.std.proofs.Common.{◌≡◌, ◌∙◌, ◌++◌, ℕ, zero, suc, List, [], ◌∷◌, Option, None, ap, refl, get_or, replicate}
 use Rattle.std.specs.List.{flat_map}
-use Rattle.alpha_core.specs.interference.Net.{Net, neighbours, port_to}
-use Rattle.alpha_core.specs.node_api.Boxes.{at_port, nothing}
+use Rattle.interference.specs.Net.{Net, neighbours, port_to}
+use Rattle.node_api.specs.Boxes.{at_port, nothing}
 use Rattle.round_texts.specs.PutsText.{put_text, puts_text}
 
 none_at : {M : Type 0} (n i : ℕ) → get_or {A = Option M} (replicate n None) i None ≡ None

@@ -1,7 +1,7 @@
 -- What a vertex sends at a pulse, in the lines of a transcript.
 use Rattle.std.specs.Prelude.{ℕ, Option, Some, None, List, [], flat_map}
-use Rattle.alpha_core.specs.interference.Net.{Net, neighbours, port_to}
-use Rattle.alpha_core.specs.node_api.Boxes.{at_port}
+use Rattle.interference.specs.Net.{Net, neighbours, port_to}
+use Rattle.node_api.specs.Boxes.{at_port}
 use Rattle.alpha_core.specs.declared.wire.Wire.TheVariants.{Payload}
 use Rattle.entries.specs.declared.entry.Entry.TheVariants.{Put}
 use Rattle.entries.specs.Rows.{vertex_row}

@@ -1,11 +1,11 @@
 -- The text of the synchronous run of a program.
 use Rattle.std.specs.Prelude.{ℕ, ◌+◌, List, ◌++◌, codes, flat_map}
 use Rattle.std.specs.List.{range_with_len}
-use Rattle.alpha_core.specs.interference.Net.{Net, vertices}
-use Rattle.alpha_core.specs.node_api.Program.{Program, last_pulse_on}
-use Rattle.alpha_core.specs.node_api.Run.{outbox_at, state_at}
+use Rattle.interference.specs.Net.{Net, vertices}
+use Rattle.node_api.specs.Program.{Program, last_pulse_on}
+use Rattle.node_api.specs.Run.{outbox_at, state_at}
 use Rattle.program_texts.specs.Texts.{ProgramTexts}
-use Rattle.wire_texts.specs.WireText.{numbered}
+use Rattle.number_rows.specs.Row.{numbered}
 use Rattle.round_texts.specs.PutsText.{puts_text}
 
 -- `pulse P`, and the program's words for it

@@ -1,8 +1,8 @@
 //! What a vertex sends at a pulse.
 
 ghost use Rattle.std.specs.Prelude.{◌≡◌, ◌++◌, IfOk};
-ghost use Rattle.alpha_core.specs.interference.Net.{IsVertex};
-ghost use Rattle.alpha_core.specs.node_api.Run.{outbox_at};
+ghost use Rattle.interference.specs.Net.{IsVertex};
+ghost use Rattle.node_api.specs.Run.{outbox_at};
 ghost use Rattle.round_texts.specs.PutsText.{puts_text};
 
 use alpha_core::Wire;

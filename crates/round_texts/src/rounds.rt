@@ -1,16 +1,16 @@
 //! The text of the rounds, pulse by pulse.
 
 ghost use Rattle.std.specs.Prelude.{◌≡◌, ◌≤◌, ◌++◌, IfOk};
-ghost use Rattle.alpha_core.specs.interference.Net.{IsVertex};
-ghost use Rattle.alpha_core.specs.node_api.Program.{last_pulse_on};
+ghost use Rattle.interference.specs.Net.{IsVertex};
+ghost use Rattle.node_api.specs.Program.{last_pulse_on};
 ghost use Rattle.round_texts.specs.RoundsText.{pulse_line, pulse_text, rounds_text, vertex_text};
 
 use crate::puts::push_puts;
-use alpha_core::{Memory, Network};
+use interference::{Memory, Network};
+use number_rows::push_numbered;
 use program_texts::ProgramText;
 use std::alloc::{AllocError, Global};
 use sync_rounds::Rounds;
-use wire_texts::push_numbered;
 
 // Appends the line of a pulse.
 fn push_pulse_line<P: ProgramText>(

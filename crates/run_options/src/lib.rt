@@ -7,7 +7,7 @@
 //! let options = Options { workers: 4, capacity: 4, turns: 1_000_000_000, transcript: false };
 //! ```
 //!
-//! Limits: those below.
+//! Limits: `MAX_WORKERS`, `MAX_CAPACITY` and `MAX_TURNS`.
 #![tactic(auto)]
 
 /// The greatest number of workers.

@@ -10,17 +10,17 @@ use Rattle.command_line.specs.declared.request.Play.{Play as Played}
 use Rattle.command_line.specs.declared.request.Play.TheVariants.{Events, Replay, Rounds, Run}
 use Rattle.serving.specs.Answers.{MayAnswer}
 use Rattle.serving.specs.Plays.{MayPlay, MayPlayNamed}
-use Rattle.byte_functions.specs.colour_program.ColoursText.{colouring_texts}
+use Rattle.colour_program.specs.ColoursText.{colouring_texts}
 use Rattle.layers.specs.Texts.{layers_texts}
 use Rattle.leader.specs.Texts.{leader_texts}
 use Rattle.program_texts.specs.Texts.{ProgramTexts}
-use Rattle.program_texts.specs.node_api.Program.{Program as NodeProgram}
-use Rattle.byte_functions.specs.answers.Faults.{fault_line, fault_status}
+use Rattle.node_api.specs.Program.{Program as NodeProgram}
+use Rattle.answers.specs.Faults.{fault_line, fault_status}
 use Rattle.command_line.specs.Asked.{request_of}
 use Rattle.serving.specs.Serve.{Answers, Declines, IsReported, Puts, ServesChoice, ServesWords, memory_line}
 use Rattle.serving.specs.Streams.{Taken, Written}
-use Rattle.byte_functions.specs.answers.PlanFault.{PlanFault}
-use Rattle.byte_functions.specs.answers.PlanFault.TheVariants.{Memory}
+use Rattle.answers.specs.declared.fault.PlanFault.{PlanFault}
+use Rattle.answers.specs.declared.fault.PlanFault.TheVariants.{Memory}
 
 pub of-bytes : (program : Program) (output errors : Written) (request : Request) (input bytes text : List ℕ) (status : ℕ)
     → text ≡ bytes → MayAnswer request input (Ok bytes) → Puts program output errors text status

@@ -1,14 +1,14 @@
 -- What a command may answer to the bytes of its input.
 use Rattle.std.specs.Prelude.{◌≢◌, ℕ, List, Result, Ok, Err}
-use Rattle.byte_functions.specs.pool.PoolFault.TheVariants.{BadOptions}
-use Rattle.byte_functions.specs.answers.Answers.{IsFaultOfText, IsForestsAnswer, IsPlainAnswer}
-use Rattle.byte_functions.specs.colour_rules.Program.{colouring}
-use Rattle.byte_functions.specs.colour_rules.Words.{number_in, word_in}
+use Rattle.run_faults.specs.declared.fault.PoolFault.TheVariants.{BadOptions}
+use Rattle.answers.specs.Answers.{IsFaultOfText, IsForestsAnswer, IsPlainAnswer}
+use Rattle.colour_rules.specs.Program.{colouring}
+use Rattle.colour_rules.specs.Words.{number_in, word_in}
 use Rattle.byte_functions.specs.Transcripts.{IsTranscriptAnswer}
-use Rattle.byte_functions.specs.answers.Verdicts.{IsCheckAnswer, IsFaultOfCheck}
+use Rattle.answers.specs.Verdicts.{IsCheckAnswer, IsFaultOfCheck}
 use Rattle.byte_functions.specs.Workers.{IsFaultOfWorkers}
-use Rattle.byte_functions.specs.answers.PlanFault.{PlanFault}
-use Rattle.byte_functions.specs.answers.PlanFault.TheVariants.{Pool}
+use Rattle.answers.specs.declared.fault.PlanFault.{PlanFault}
+use Rattle.answers.specs.declared.fault.PlanFault.TheVariants.{Pool}
 use Rattle.command_line.specs.declared.request.Request.{Request}
 use Rattle.command_line.specs.declared.request.Request.TheVariants.{Check, Forests, Plain, Plan, Play, Transcript}
 use Rattle.serving.specs.Plays.{MayPlayNamed}

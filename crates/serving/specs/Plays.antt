@@ -1,21 +1,21 @@
 -- What may be answered to an input by nodes of a program.
 use Rattle.std.specs.Prelude.{◌≢◌, ℕ, List, Option, Result, Ok, Err, codes}
 use Rattle.program_texts.specs.Texts.{ProgramTexts}
-use Rattle.program_texts.specs.node_api.Program.{Program}
+use Rattle.node_api.specs.Program.{Program}
 use Rattle.run_options.specs.declared.Edition.TheVariants as edition
 use Rattle.byte_functions.specs.Ends.{IsEndsAnswer}
 use Rattle.byte_functions.specs.Transcripts.{IsTranscriptAnswer}
 use Rattle.byte_functions.specs.Workers.{IsFaultOfWorkers}
-use Rattle.byte_functions.specs.answers.Answers.{IsFaultOfText}
-use Rattle.byte_functions.specs.answers.EventAnswers.{IsEventsAnswer, IsFaultOfEvents}
-use Rattle.byte_functions.specs.answers.ReplayAnswers.{IsFaultOfReplay, IsReplayAnswer}
-use Rattle.byte_functions.specs.answers.RoundAnswers.{IsRoundsAnswer}
-use Rattle.byte_functions.specs.answers.PlanFault.{PlanFault}
-use Rattle.byte_functions.specs.answers.PlanFault.TheVariants.{Pool}
-use Rattle.byte_functions.specs.colour_program.ColoursText.{colouring_texts}
-use Rattle.byte_functions.specs.colour_rules.Program.{colouring}
-use Rattle.byte_functions.specs.colour_rules.Words.{number_in, payload_from, word_in}
-use Rattle.byte_functions.specs.pool.PoolFault.TheVariants.{BadOptions}
+use Rattle.answers.specs.Answers.{IsFaultOfText}
+use Rattle.answers.specs.EventAnswers.{IsEventsAnswer, IsFaultOfEvents}
+use Rattle.answers.specs.ReplayAnswers.{IsFaultOfReplay, IsReplayAnswer}
+use Rattle.answers.specs.RoundAnswers.{IsRoundsAnswer}
+use Rattle.answers.specs.declared.fault.PlanFault.{PlanFault}
+use Rattle.answers.specs.declared.fault.PlanFault.TheVariants.{Pool}
+use Rattle.colour_program.specs.ColoursText.{colouring_texts}
+use Rattle.colour_rules.specs.Program.{colouring}
+use Rattle.colour_rules.specs.Words.{number_in, payload_from, word_in}
+use Rattle.run_faults.specs.declared.fault.PoolFault.TheVariants.{BadOptions}
 use Rattle.command_line.specs.declared.programs.NodeProgramName.{NodeProgramName}
 use Rattle.command_line.specs.declared.programs.NodeProgramName.TheVariants.{Colouring, Layers, Leader}
 use Rattle.command_line.specs.declared.programs.Shown.TheVariants as shown

@@ -1,8 +1,8 @@
 -- What serving one command leaves in its reader and its two writers, and its status.
 use Rattle.std.specs.Prelude.{◌≡◌, ◌⊎◌, ℕ, List, Option, Some, None, Result, Ok, Err, codes}
 use Rattle.whole_streams.specs.Streams.{EndsAfter}
-use Rattle.byte_functions.specs.answers.Faults.{fault_line, fault_status, line_with}
-use Rattle.byte_functions.specs.answers.PlanFault.{PlanFault}
+use Rattle.answers.specs.Faults.{fault_line, fault_status, line_with}
+use Rattle.answers.specs.declared.fault.PlanFault.{PlanFault}
 use Rattle.command_line.specs.Asked.{AreRefused, AskForHelp, request_of}
 use Rattle.command_line.specs.Line.{name_of}
 use Rattle.command_line.specs.declared.program.Program.{Program}

@@ -5,10 +5,10 @@ ghost use Rattle.command_line.specs.Asked.{IsInRange};
 ghost use Rattle.serving.specs.Answers.{MayAnswer};
 
 use crate::playing::named_bytes;
-use byte_functions::{
-    Colouring, OpenGate, PlanFault, check_bytes, forest_bytes, plain_bytes, plan_bytes,
-    transcript_bytes,
-};
+use actor::OpenGate;
+use answers::{PlanFault, check_bytes, forest_bytes, plain_bytes};
+use byte_functions::{plan_bytes, transcript_bytes};
+use colour_program::Colouring;
 use command_line::Request;
 use std::alloc::Global;
 use std::sync::Wait;

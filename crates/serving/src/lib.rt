@@ -23,7 +23,6 @@ mod process;
 mod serving;
 mod words;
 
-pub use command_line::Program;
 pub use process::serve_process;
 pub use serving::serve;
 pub use words::serve_all;

@@ -4,14 +4,15 @@ ghost use Rattle.std.specs.Prelude.{IfOk, IfErr, Ok, Err};
 ghost use Rattle.command_line.specs.Asked.{IsPlayInRange};
 ghost use Rattle.serving.specs.Plays.{MayPlay, MayPlayNamed};
 
-use byte_functions::{
-    Colouring, Edition, OpenGate, PlanFault, events_bytes, replay_bytes, rounds_bytes, run_bytes,
-    transcript_bytes,
-};
+use actor::OpenGate;
+use answers::{PlanFault, events_bytes, replay_bytes, rounds_bytes};
+use byte_functions::{run_bytes, transcript_bytes};
+use colour_program::Colouring;
 use command_line::{NodeProgramName, Play, Shown};
 use layers::Layers;
 use leader::Leader;
 use program_texts::ProgramText;
+use run_options::Edition;
 use std::alloc::Global;
 use std::sync::Wait;
 use std::thread::Threads;

@@ -1,14 +1,14 @@
 //! Serving one command, from its words and input to its output and status.
 
 ghost use Rattle.std.specs.Prelude.{◌≡◌, ◌⊎◌, map};
-ghost use Rattle.byte_functions.specs.answers.Faults.{fault_line, fault_status};
+ghost use Rattle.answers.specs.Faults.{fault_line, fault_status};
 ghost use Rattle.command_line.specs.Asked.{IsInRange};
 ghost use Rattle.command_line.specs.Line.{name_of};
 ghost use Rattle.serving.specs.Serve.{Answers, IsReported, Puts, Serves, ServesWords, memory_line, stream_line};
 ghost use Rattle.serving.specs.Streams.{reading, writing};
 
 use crate::answer::answer_bytes;
-use byte_functions::{PlanFault, fault_report};
+use answers::{PlanFault, fault_report};
 use command_line::{Declined, Program, Request, parse};
 use std::alloc::Global;
 use std::sync::Wait;

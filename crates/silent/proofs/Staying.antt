@@ -1,7 +1,7 @@
 -- What the nodes know after each pulse.
 use Rattle.std.proofs.Common.{◌≡◌, ℕ, zero, suc, List, ap, ◌∙◌}
 use Rattle.std.specs.Prelude.{Option}
-use Rattle.node_api.specs.interference.Net.{Net}
+use Rattle.interference.specs.Net.{Net}
 use Rattle.node_api.specs.Run.{state_at}
 use Rattle.node_api.proofs.Runs.{node_at-none, node_at-more}
 use Rattle.silent.specs.declared.payload.Word.{Word}

@@ -3,7 +3,7 @@
 use Rattle.std.proofs.Common.{◌≡◌, ℕ, zero, suc, List, length, refl, ap, ◌∙◌}
 use Rattle.std.proofs.lemmas.List.{length-replicate}
 use Rattle.std.specs.Prelude.{Option, None}
-use Rattle.node_api.specs.interference.Net.{Net, count_of, degree_of}
+use Rattle.interference.specs.Net.{Net, count_of, degree_of}
 use Rattle.node_api.specs.Boxes.{nothing}
 use Rattle.node_api.specs.Laws.{IsProgram, KeepsPorts}
 use Rattle.node_api.specs.Run.{outbox_at}

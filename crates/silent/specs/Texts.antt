@@ -1,10 +1,9 @@
 -- The words of the program in texts.
 use Rattle.std.specs.Prelude.{ℕ, List, [], ◌∷◌, ◌++◌, codes, if◌then◌else◌, nat_eq}
 use Rattle.std.proofs.Common.{arith, rules}
-use Rattle.node_api.specs.interference.Net.{count_of, greatest_degree_of}
+use Rattle.interference.specs.Net.{count_of, greatest_degree_of}
 use Rattle.node_api.specs.Program.{last_pulse_on}
-use Rattle.number_rows.specs.Row.{row}
-use Rattle.wire_texts.specs.WireText.{numbered}
+use Rattle.number_rows.specs.Row.{row, numbered}
 use Rattle.program_texts.specs.Texts.{HasName, ProgramTexts}
 use Rattle.silent.specs.Knowing.{Known, silent}
 

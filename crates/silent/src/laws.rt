@@ -1,7 +1,7 @@
 //! What holds of the last states on every network. The law is the contract of a function that does nothing.
 
 ghost use Rattle.std.specs.Prelude.{◌≡◌, ℕ};
-ghost use Rattle.node_api.specs.interference.Net.{Net, IsNetwork, IsVertex};
+ghost use Rattle.interference.specs.Net.{Net, IsNetwork, IsVertex};
 ghost use Rattle.node_api.specs.Program.{last_pulse_on};
 ghost use Rattle.node_api.specs.Run.{state_at};
 ghost use Rattle.silent.specs.Knowing.{silent};

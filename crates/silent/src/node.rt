@@ -3,7 +3,8 @@
 ghost use Rattle.std.specs.Prelude.{◌≡◌};
 
 use crate::payload::Word;
-use node_api::{Inbox, Memory, Network, NodeProgram, Outbox, Refused};
+use interference::{Memory, Network};
+use node_api::{Inbox, NodeProgram, Outbox, Refused};
 use std::alloc::Global;
 use std::marker::Model;
 

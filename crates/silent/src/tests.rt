@@ -1,7 +1,7 @@
 //! A worked run: the expected numbers are by hand.
 
 use crate::node::Silent;
-use node_api::{Network, bars_fit, edges_fit};
+use interference::{Network, bars_fit, edges_fit};
 use std::alloc::{AllocGlobal, Global};
 use sync_rounds::run_rounds;
 

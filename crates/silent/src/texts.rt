@@ -1,11 +1,11 @@
 //! The words of the program in texts.
 
 use crate::node::Silent;
-use node_api::{Network, NodeProgram};
-use number_rows::push_row;
+use interference::Network;
+use node_api::NodeProgram;
+use number_rows::{push_numbered, push_row};
 use program_texts::ProgramText;
 use std::alloc::AllocError;
-use wire_texts::push_numbered;
 
 impl ProgramText for Silent {
     ghost use Rattle.silent.specs.Texts.{silent_named, silent_texts};

@@ -4,14 +4,14 @@ use Rattle.std.proofs.Common.{append_assoc, arith, subst}
 use Rattle.std.specs.Prelude.{max, ◌⊎◌}
 use Rattle.std.proofs.lemmas.Bool.{cases_eq, cases_lt, eq-eqb, ne_eqb}
 use Rattle.std.proofs.lemmas.List.{append-nil, get_or_append_left, get_or_push, length-append, length-map, map-append}
-use Rattle.entries.specs.interference.Net.{Net, IsNetwork, IsVertex, degree_of, neighbour_of, neighbours, port_to}
-use Rattle.entries.proofs.interference.Members.{place_of-is}
-use Rattle.entries.proofs.interference.Neighbours.{port_to-is}
-use Rattle.entries.specs.alpha_core.Stamped.{Stamped}
-use Rattle.entries.specs.alpha_core.Wire.{Wire}
+use Rattle.interference.specs.Net.{Net, IsNetwork, IsVertex, degree_of, neighbour_of, neighbours, port_to}
+use Rattle.interference.proofs.Members.{place_of-is}
+use Rattle.interference.proofs.Neighbours.{port_to-is}
+use Rattle.alpha_core.specs.declared.stamped.Stamped.{Stamped}
+use Rattle.alpha_core.specs.declared.wire.Wire.{Wire}
 use Rattle.entries.specs.declared.entry.Entry.{Entry}
 use Rattle.entries.specs.declared.entry.Entry.TheVariants.{Pulse, Put, Take}
-use Rattle.entries.specs.alpha_core.StampedWires.{stamped, stamps_of}
+use Rattle.alpha_core.specs.StampedWires.{stamped, stamps_of}
 use Rattle.entries.specs.declared.rows.StampedEntry.{StampedEntry}
 use Rattle.entries.specs.Rows.{stamped_entry}
 use Rattle.stamps.specs.Stamps.{AreStamped, counter_of, next_stamp, put_if, put_in, taken_in}

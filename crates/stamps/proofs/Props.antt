@@ -1,8 +1,8 @@
 -- What a node keeps of its stamps has at most one proof, as a fact of a type has to.
 use Rattle.std.specs.Prelude.{ℕ, List}
 use Rattle.std.proofs.Props.{props}
-use Rattle.entries.specs.interference.Net.{Net}
-use Rattle.entries.specs.alpha_core.Stamped.{Stamped}
+use Rattle.interference.specs.Net.{Net}
+use Rattle.alpha_core.specs.declared.stamped.Stamped.{Stamped}
 use Rattle.entries.specs.declared.rows.StampedEntry.{StampedEntry}
 use Rattle.stamps.specs.Keeps.{KeepsStamps}
 

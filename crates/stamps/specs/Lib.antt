@@ -4,5 +4,3 @@ pub mod Gathered
 pub mod Table
 pub mod Keeps
 pub mod Laws
-pub mod alpha_core
-pub mod entries

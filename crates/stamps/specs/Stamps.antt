@@ -3,13 +3,13 @@
 -- wire has the stamp of its put (Lamport 1978).
 use Rattle.std.specs.Prelude.{◌≡◌, ℕ, suc, max, ◌<◌, ◌==◌, Bool, if◌then◌else◌, List, [], ◌∷◌, ◌++◌, length}
 use Rattle.std.specs.Prelude.{All, slice_index_or}
-use Rattle.entries.specs.alpha_core.StampedWires.{stamped, wires_of}
-use Rattle.entries.specs.alpha_core.Stamped.{Stamped}
-use Rattle.entries.specs.alpha_core.Wire.{Wire}
+use Rattle.alpha_core.specs.StampedWires.{stamped, wires_of}
+use Rattle.alpha_core.specs.declared.stamped.Stamped.{Stamped}
+use Rattle.alpha_core.specs.declared.wire.Wire.{Wire}
 use Rattle.entries.specs.declared.entry.Entry.{Entry}
 use Rattle.entries.specs.declared.entry.Entry.TheVariants.{Pulse, Put, Take}
-pub use Rattle.entries.specs.declared.rows.StampedEntry.{StampedEntry}
-pub use Rattle.entries.specs.Rows.{bare_of}
+use Rattle.entries.specs.declared.rows.StampedEntry.{StampedEntry}
+use Rattle.entries.specs.Rows.{bare_of}
 
 module _ {M : Type 0} where
   -- the wire that an entry put, if its neighbour is one of these, with the stamp of the entry

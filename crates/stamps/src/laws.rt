@@ -1,8 +1,8 @@
 //! What holds of stamped entries. Each law is a function that does nothing: its contract is the law.
 
 ghost use Rattle.std.specs.Prelude.{ℕ, List};
-ghost use Rattle.entries.specs.interference.Net.{IsNetwork, IsVertex, Net};
-ghost use Rattle.entries.specs.alpha_core.Stamped.{Stamped};
+ghost use Rattle.interference.specs.Net.{IsNetwork, IsVertex, Net};
+ghost use Rattle.alpha_core.specs.declared.stamped.Stamped.{Stamped};
 ghost use Rattle.entries.specs.declared.rows.StampedEntry.{StampedEntry};
 ghost use Rattle.stamps.specs.Keeps.{KeepsStamps};
 ghost use Rattle.stamps.specs.Laws.{EventsKeepStamps};

@@ -5,7 +5,8 @@
 //! stamp of its put. So a take has a greater stamp than the put of its wire.
 //!
 //! `specs/Stamps.antt` has the stamps of one node's entries, `specs/Merged.antt` those of all nodes in one list.
-//! `order` makes that list; `replay_whole` of `net_core` plays it.
+//! `order` makes that list, for tests alone: the programs merge entries in `byte_functions`. `replay_whole` of
+//! `net_core` plays it.
 //!
 //! ```text
 //! let lists = [..];                            // the stamped entries of node v in place v - 1
@@ -23,9 +24,3 @@ mod table;
 pub use ordering::order;
 pub use rise::rising;
 pub use table::StampTable;
-
-// What crates above name of lower ones.
-pub use entries::{
-    Counter, Entries, Entry, Recorder, Row, StampFull, Stamped, StampedEntry, StampedIter,
-    StampedRow,
-};

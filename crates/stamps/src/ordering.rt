@@ -5,7 +5,8 @@ ghost use Rattle.stamps.specs.Stamps.{Rises};
 ghost use Rattle.stamps.specs.Merged.{IsMerge, list_of};
 ghost use Rattle.stamps.specs.Gathered.{rows_from, with_vertex};
 
-use entries::{Memory, StampedEntry, StampedRow};
+use entries::{StampedEntry, StampedRow};
+use interference::Memory;
 use std::alloc::{AllocError, Global};
 
 // Appends the entries of a node to those of other nodes.

@@ -8,7 +8,8 @@ ghost use Rattle.stamps.specs.Merged.{IsInPlace, Precedes, stamp_behind};
 ghost use Rattle.stamps.specs.Table.{IsCounted, IsPushed, IsEmptyTable, IsTableOf, count_in, counter_at};
 ghost use Rattle.stamps.specs.Table.{list_in, wire_stamp_at};
 
-use entries::{Entry, Memory, StampedRow};
+use entries::{Entry, StampedRow};
+use interference::Memory;
 use std::alloc::{AllocError, Global};
 use std::collections::HashMap;
 

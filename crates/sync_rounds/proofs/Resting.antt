@@ -4,7 +4,7 @@ use Rattle.std.proofs.Common.{◌++◌, Bool, true, false, inl, inr, refl, ap, s
 use Rattle.std.specs.Prelude.{◌↔◌, Option, Ok, Result, replicate}
 use Rattle.std.proofs.lemmas.List.{get_or_append_left, get_or_push, get_or-replicate, length-replicate, length-set}
 use Rattle.std.proofs.lemmas.List.FromFn.{length-map-range_with_len, get_or-map-range_with_len}
-use Rattle.node_api.specs.interference.Net.{Net, IsVertex, count_of, degree_of}
+use Rattle.interference.specs.Net.{Net, IsVertex, count_of, degree_of}
 use Rattle.node_api.specs.Boxes.{Mail, nothing, unread, HasFrom}
 use Rattle.node_api.specs.Program.{Program, RestsUntil}
 use Rattle.node_api.specs.Run.{node_at, state_at, outbox_at, inbox_at, after}

@@ -2,7 +2,7 @@
 use Rattle.std.proofs.Common.{◌≡◌, ℕ, Bool, suc, ◌+◌, ◌-◌, ◌<◌, List, [], length, get_or, refl, ap, sym, ◌∙◌, arith}
 use Rattle.std.specs.Prelude.{None, Option, slice_index_or}
 use Rattle.std.proofs.lemmas.List.{ext_get_or, length-replicate}
-use Rattle.node_api.specs.interference.Net.{Net, IsNetwork, IsVertex, back_port_of, count_of, degree_of, neighbour_of}
+use Rattle.interference.specs.Net.{Net, IsNetwork, IsVertex, back_port_of, count_of, degree_of, neighbour_of}
 use Rattle.node_api.specs.Boxes.{Mail, at_port, nothing, unread}
 use Rattle.node_api.specs.Program.{Program}
 use Rattle.node_api.specs.Run.{node_at, state_at, outbox_at, inbox_at}

@@ -1,6 +1,6 @@
 -- What the engine keeps: before which pulses nodes rest, an empty outbox for each degree, what was sent, and by whom.
 use Rattle.std.specs.Prelude.{◌≡◌, ◌↔◌, ℕ, ◌+◌, ◌<◌, ◌≤◌, Bool, false, true, List, length, map, Option, slice_index_or}
-use Rattle.node_api.specs.interference.Net.{Net, IsVertex, count_of, degree_of, vertices}
+use Rattle.interference.specs.Net.{Net, IsVertex, count_of, degree_of, vertices}
 use Rattle.node_api.specs.Boxes.{nothing}
 use Rattle.node_api.specs.Program.{Program, RestsUntil}
 use Rattle.node_api.specs.Run.{outbox_at, state_at}

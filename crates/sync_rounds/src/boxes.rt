@@ -1,13 +1,14 @@
 //! The boxes of an engine: an empty inbox for each vertex, and an empty outbox for each degree.
 
 ghost use Rattle.std.specs.Prelude.{◌≡◌, ◌≤◌, ◌+◌, IfOk, length, true};
-ghost use Rattle.node_api.specs.interference.Net.{count_of, greatest_degree_of};
-ghost use Rattle.node_api.below.interference.specs.declared.limits.TheConstants.{MAX_DEGREE};
+ghost use Rattle.interference.specs.Net.{count_of, greatest_degree_of};
+ghost use Rattle.interference.specs.declared.limits.TheConstants.{MAX_DEGREE};
 ghost use Rattle.node_api.specs.Boxes.{nothing};
 ghost use Rattle.sync_rounds.specs.Lists.{Lists, empty_inbox};
 ghost use Rattle.sync_rounds.specs.Rests.{HasDegrees, HasOutboxes};
 
-use node_api::{Inbox, Memory, Network, Outbox};
+use interference::{Memory, Network};
+use node_api::{Inbox, Outbox};
 use std::alloc::Global;
 
 // An empty inbox for each vertex.

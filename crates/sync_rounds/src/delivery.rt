@@ -1,11 +1,12 @@
 //! From an outbox of a pulse to the inboxes of the next one.
 
 ghost use Rattle.std.specs.Prelude.{◌≡◌, ◌<◌, ◌+◌, ◌++◌, ◌∷◌, ◌↔◌, ℕ, List, Option, [], false, length};
-ghost use Rattle.node_api.specs.interference.Net.{IsVertex, degree_of};
+ghost use Rattle.interference.specs.Net.{IsVertex, degree_of};
 ghost use Rattle.node_api.specs.Boxes.{nothing, FilledPorts};
 ghost use Rattle.sync_rounds.specs.Delivery.{Broadcasts, Delivered, IsNext, Sends};
 
-use node_api::{Inbox, Network, Outbox, Sent};
+use interference::Network;
+use node_api::{Inbox, Outbox, Sent};
 
 // Puts what one vertex sent into its neighbours' inboxes, and empties its outbox; an outbox that sends nothing isn't
 // looked into. Returns whether something was sent. Inlined, since after most turns nothing is.

@@ -2,7 +2,7 @@
 //! that rests and to which nothing came is passed over.
 
 ghost use Rattle.std.specs.Prelude.{◌≡◌, ◌<◌, ◌≤◌, ◌+◌, ◌^◌, ℕ, [], IfOk, false, length, slice_index_or, suc};
-ghost use Rattle.node_api.specs.interference.Net.{IsVertex, count_of};
+ghost use Rattle.interference.specs.Net.{IsVertex, count_of};
 ghost use Rattle.node_api.specs.Boxes.{nothing, unread};
 ghost use Rattle.node_api.specs.Program.{RestsUntil, own_of};
 ghost use Rattle.node_api.specs.Run.{after, inbox_at, state_at};
@@ -13,7 +13,8 @@ ghost use Rattle.sync_rounds.specs.Rounds.{AreAt};
 
 use crate::boxes::{inboxes_of, outboxes_of};
 use crate::delivery::send_out;
-use node_api::{Inbox, Memory, Network, NodeProgram, Outbox};
+use interference::{Memory, Network};
+use node_api::{Inbox, NodeProgram, Outbox};
 use std::alloc::Global;
 use std::mem::swap;
 

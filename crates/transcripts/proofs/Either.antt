@@ -4,8 +4,7 @@ use Rattle.std.proofs.Common.{if◌then◌else◌, refl, sym}
 use Rattle.std.proofs.lemmas.Slice.Eq.{bytes_eq-Decides}
 use Rattle.std.specs.List.{filter}
 use Rattle.std.specs.Str.{bytes_eq}
-use Rattle.dimacs_col.specs.Lines.{Line}
-use Rattle.channel_plan.specs.Reading.{has_fields}
+use Rattle.dimacs_col.specs.Lines.{Line, has_fields}
 use Rattle.transcripts.specs.Behind.{AreStampedEntryLines, entry_lines, network_lines, reading_behind, transcript_lines}
 use Rattle.transcripts.specs.Editions.{AnyTranscript, One, Two, any_from, any_reading_behind, as_one, as_two, begins_stamped, is_stamped}
 use Rattle.transcripts.specs.EntryLines.{header_of, only, row_of, stamped_row_of, with_number}

@@ -6,9 +6,8 @@ use Rattle.std.proofs.lemmas.List.{length-append}
 use Rattle.std.proofs.lemmas.List.Elements.{All-cons, All-nil}
 use Rattle.std.specs.List.{filter}
 use Rattle.std.specs.List.Sorted.{IsStrictlyIncreasing}
-use Rattle.dimacs_col.specs.Lines.{Line}
-use Rattle.channel_plan.specs.Reading.{has_fields}
-use Rattle.channel_plan.specs.Split.{begins, lines_before, lines_from}
+use Rattle.dimacs_col.specs.Lines.{Line, has_fields}
+use Rattle.dimacs_col.specs.Split.{begins, lines_before, lines_from}
 use Rattle.transcripts.specs.Behind.{AreRowLines, entry_lines, network_lines, numbers_from, read_behind, row_on, transcript_lines, transcript_word}
 use Rattle.transcripts.specs.Reading.{Contents, IsText}
 use Rattle.transcripts.proofs.Texts.{texts-are-read-from}

@@ -1,7 +1,6 @@
 -- Where a transcript is read behind a network text.
 use Rattle.std.proofs.Common.{◌≡◌, ◌+◌, ◌∷◌, [], ◌∙◌, ℕ, false, None, Err, Option, List, ap, if◌then◌else◌, length, refl, sym}
-use Rattle.dimacs_col.specs.Lines.{Line}
-use Rattle.channel_plan.specs.Reading.{has_fields}
+use Rattle.dimacs_col.specs.Lines.{Line, has_fields}
 use Rattle.transcripts.specs.Behind.{network_lines, numbers_from, read_behind, transcript_lines}
 use Rattle.transcripts.specs.Reading.{read_from}
 

@@ -1,8 +1,7 @@
 -- A text that is read is its first line and its rows, a line each, and such a text is read. Both editions are instances.
 use Rattle.std.proofs.Common.{◌≡◌, ◌↔◌, ◌+◌, ◌++◌, ◌∷◌, [], ◌∙◌, ℕ, Option, Some, None, Ok, Err, List, ap, append-nil, append_assoc, map, refl, sym}
 use Rattle.std.specs.List.{filter}
-use Rattle.dimacs_col.specs.Lines.{Line}
-use Rattle.channel_plan.specs.Reading.{has_fields}
+use Rattle.dimacs_col.specs.Lines.{Line, has_fields}
 use Rattle.transcripts.specs.EntryLines.{header_of}
 use Rattle.transcripts.specs.Reading.{Contents, IsText, read_from}
 use Rattle.transcripts.proofs.Readings.{header-right, header-wrong, known-blank, read-one, row-right, row-wrong, then_read}

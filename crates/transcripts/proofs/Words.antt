@@ -13,16 +13,17 @@ use Rattle.std.specs.Char.{IsAsciiAlphabetic}
 use Rattle.std.specs.Fmt.{decimal}
 use Rattle.std.specs.Str.{IsAscii, all_ascii_digits}
 use Rattle.std.specs.Str.Parse.{digits_value}
-use Rattle.dimacs_col.specs.Lines.{number_of}
+use Rattle.dimacs_col.specs.Lines.{number_of, small_number}
 use Rattle.alpha_core.specs.declared.wire.Wire.{Wire}
 use Rattle.alpha_core.specs.declared.wire.Wire.TheVariants.{Payload, Ack, Safe, Close}
 use Rattle.entries.specs.declared.entry.Entry.{Entry}
 use Rattle.entries.specs.declared.entry.Entry.TheVariants.{Pulse, Put, Take}
-use Rattle.channel_plan.specs.Reading.{small_number}
 use Rattle.wire_texts.specs.WireText
-use Rattle.wire_texts.specs.WireText.{numbered, wire_text}
+use Rattle.number_rows.specs.Row.{numbered}
+use Rattle.wire_texts.specs.WireText.{wire_text}
 use Rattle.transcripts.specs.EntryLines.{entry_of, entry_with, only, payload_in, payload_with, row_with, stamp_number, wide_number, wire_of, wire_with}
-use Rattle.transcripts.specs.TranscriptText.{IsReadable, IsReadableEntry, Row, entry_text}
+use Rattle.transcripts.specs.TranscriptText.{IsReadable, IsReadableEntry, entry_text}
+use Rattle.entries.specs.declared.rows.Row.{Row}
 use Rattle.transcripts.proofs.Payloads.{payload-text}
 use Rattle.transcripts.proofs.Spaced.{IsSeen, IsWord, spaced}
 

@@ -8,8 +8,9 @@ use Rattle.entries.specs.Rows.{stamped_row, vertex_row, without_stamp}
 use Rattle.dimacs_col.specs.Lines.{Line, lines_of}
 use Rattle.transcripts.specs.EntryLines.{row_of, row_with, stamped_row_of}
 use Rattle.transcripts.specs.Reading.{reading_of, stamped_reading_of}
-use Rattle.transcripts.specs.TranscriptText.{IsReadable, IsReadableStamped, Row, StampedRow, entry_text, row_text, stamped_row_text, stamped_transcript_of}
-use Rattle.transcripts.specs.TranscriptText.{transcript_of}
+use Rattle.transcripts.specs.TranscriptText.{IsReadable, IsReadableStamped, entry_text, row_text, stamped_row_text, stamped_transcript_of, transcript_of}
+use Rattle.entries.specs.declared.rows.Row.{Row}
+use Rattle.entries.specs.declared.rows.StampedRow.{StampedRow}
 use Rattle.transcripts.proofs.Spaced.{IsWord, lines-spaced, spaced}
 use Rattle.transcripts.proofs.Words.{entry_words, reads-row, small-word, stamp-decimal, stamp-word, text-of, words-of}
 use Rattle.transcripts.proofs.WrittenRows.{written-read}

@@ -3,12 +3,12 @@ use Rattle.std.specs.Prelude.{◌≡◌, ℕ, zero, suc, ◌+◌, ◌<◌, Optio
 use Rattle.std.specs.Prelude.{List, [], ◌∷◌, codes, drop, if◌then◌else◌, length, map, slice_get}
 use Rattle.std.specs.List.{All}
 use Rattle.std.specs.List.Sorted.{IsStrictlyIncreasing}
-use Rattle.dimacs_col.specs.Lines.{Line}
-use Rattle.channel_plan.specs.Reading.{has_fields}
-use Rattle.channel_plan.specs.Split.{AreLinesBefore, lines_before, lines_from}
+use Rattle.dimacs_col.specs.Lines.{Line, has_fields}
+use Rattle.dimacs_col.specs.Split.{AreLinesBefore, lines_before, lines_from}
 use Rattle.transcripts.specs.EntryLines.{row_of, stamped_row_of}
 use Rattle.transcripts.specs.Reading.{Contents, Transcript, read_from}
-use Rattle.transcripts.specs.TranscriptText.{Row, StampedRow}
+use Rattle.entries.specs.declared.rows.Row.{Row}
+use Rattle.entries.specs.declared.rows.StampedRow.{StampedRow}
 
 -- the word that a transcript begins with
 abbrev pub transcript_word : List (List ℕ)

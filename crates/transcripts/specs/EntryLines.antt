@@ -2,14 +2,14 @@
 use Rattle.std.specs.Prelude.{ℕ, ◌^◌, Option, Some, None, option_and_then, option_map, nat_lt, if◌then◌else◌}
 use Rattle.std.specs.Prelude.{List, [], ◌∷◌, ◌&&◌, codes}
 use Rattle.std.specs.Str.{bytes_eq, is_utf8}
-use Rattle.dimacs_col.specs.Lines.{Line, number_of}
+use Rattle.dimacs_col.specs.Lines.{Line, number_of, small_number}
 use Rattle.alpha_core.specs.declared.wire.Wire.{Wire}
 use Rattle.alpha_core.specs.declared.wire.Wire.TheVariants.{Payload, Ack, Safe, Close}
 use Rattle.entries.specs.declared.entry.Entry.{Entry}
 use Rattle.entries.specs.declared.entry.Entry.TheVariants.{Pulse, Put, Take}
 use Rattle.entries.specs.Rows.{stamped_row, vertex_row}
-use Rattle.channel_plan.specs.Reading.{small_number}
-use Rattle.transcripts.specs.TranscriptText.{Row, StampedRow}
+use Rattle.entries.specs.declared.rows.Row.{Row}
+use Rattle.entries.specs.declared.rows.StampedRow.{StampedRow}
 
 -- the number that a field spells, if it is below 2^128
 abbrev pub wide_number : List ℕ → Option ℕ

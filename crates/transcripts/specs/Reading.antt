@@ -2,9 +2,9 @@
 -- what row a line of it is.
 use Rattle.std.specs.Prelude.{◌≡◌, ℕ, ◌+◌, Option, Some, None, option_map, Result, Ok, Err, List, [], ◌∷◌, ◌++◌}
 use Rattle.std.specs.Prelude.{codes, filter, map}
-use Rattle.dimacs_col.specs.Lines.{Line}
-use Rattle.channel_plan.specs.Reading.{has_fields}
-use Rattle.transcripts.specs.TranscriptText.{Row, StampedRow}
+use Rattle.dimacs_col.specs.Lines.{Line, has_fields}
+use Rattle.entries.specs.declared.rows.Row.{Row}
+use Rattle.entries.specs.declared.rows.StampedRow.{StampedRow}
 use Rattle.transcripts.specs.EntryLines.{header_of, row_of, stamped_row_of}
 use Rattle.transcripts.specs.declared.fault.TextFault.{TextFault}
 use Rattle.transcripts.specs.declared.fault.TextFault.TheVariants.{Memory, Syntax}

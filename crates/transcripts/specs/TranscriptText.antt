@@ -5,10 +5,11 @@ use Rattle.entries.specs.declared.entry.Entry.{Entry}
 use Rattle.entries.specs.declared.entry.Entry.TheVariants.{Pulse, Put, Take}
 use Rattle.entries.specs.Rows.{without_stamp}
 use Rattle.wire_texts.specs.WireText
-use Rattle.wire_texts.specs.WireText.{numbered, wire_text}
+use Rattle.number_rows.specs.Row.{numbered}
+use Rattle.wire_texts.specs.WireText.{wire_text}
 -- an entry with the vertex of its node, and the same with its stamp
-pub use Rattle.entries.specs.declared.rows.Row.{Row}
-pub use Rattle.entries.specs.declared.rows.StampedRow.{StampedRow}
+use Rattle.entries.specs.declared.rows.Row.{Row}
+use Rattle.entries.specs.declared.rows.StampedRow.{StampedRow}
 
 -- the line `transcript EDITION NODES`
 abbrev pub first_line_of : List ℕ → ℕ → List ℕ

@@ -1,17 +1,15 @@
 //! A transcript behind a network text.
 
 ghost use Rattle.std.specs.Prelude.{◌≡◌, ◌<◌, ◌+◌, ◌^◌, ◌++◌, IfOk, IfErr, Ok, drop, length};
-ghost use Rattle.dimacs_col.specs.Lines.{lines_of};
-ghost use Rattle.channel_plan.specs.Reading.{has_fields};
+ghost use Rattle.dimacs_col.specs.Lines.{lines_of, has_fields};
 ghost use Rattle.transcripts.specs.Behind.{AreNetworkLines, entry_lines, numbers_from, reading_behind};
 ghost use Rattle.transcripts.specs.Reading.{IsFaultOf};
 
 use crate::fault::TextFault;
 use crate::reading::read_lines;
-use alpha_core::PayloadText;
-use channel_plan::{text_before, text_start};
-use dimacs_col::{Fields, Lines};
+use dimacs_col::{Fields, Lines, text_before, text_start};
 use entries::Row;
+use node_api::PayloadText;
 use std::alloc::{AllocError, Global};
 
 /// The network text that an input begins with: all before the first line whose first field is `transcript`.

@@ -6,10 +6,9 @@ ghost use Rattle.transcripts.specs.EditionRows.{row_in};
 
 use crate::entry_line::entry_of;
 use crate::numbers::stamp_number;
-use alpha_core::PayloadText;
-use channel_plan::small_number;
-use dimacs_col::Fields;
+use dimacs_col::{Fields, small_number};
 use entries::{Entry, Row, StampedRow};
+use node_api::PayloadText;
 
 /// A row of one edition.
 pub(crate) trait EditionRow<T>: Copy {

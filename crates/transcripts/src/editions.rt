@@ -8,10 +8,9 @@ ghost use Rattle.transcripts.specs.Reading.{IsFaultOf};
 
 use crate::fault::TextFault;
 use crate::reading::read_lines;
-use alpha_core::PayloadText;
-use channel_plan::text_start;
-use dimacs_col::{Fields, Lines};
+use dimacs_col::{Fields, Lines, text_start};
 use entries::{Row, StampedRow};
+use node_api::PayloadText;
 use std::alloc::Global;
 
 /// A transcript of either edition: how many nodes there are, and the entries.

@@ -6,10 +6,10 @@ ghost use Rattle.transcripts.specs.EntryLines.{entry_of, header_of, only, payloa
 ghost use Rattle.transcripts.specs.EntryLines.{pulsed_wire, wire_of, wire_with};
 
 use crate::numbers::wide_number;
-use alpha_core::{PayloadText, Wire};
-use channel_plan::small_number;
-use dimacs_col::Fields;
+use alpha_core::Wire;
+use dimacs_col::{Fields, small_number};
 use entries::Entry;
+use node_api::PayloadText;
 use std::str::from_utf8;
 
 // A value, if no field is left.

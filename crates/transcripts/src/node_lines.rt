@@ -6,8 +6,8 @@ ghost use Rattle.transcripts.specs.TranscriptText.{row_text};
 
 use crate::line_end::LineEnd;
 use crate::lines::push_line;
-use alpha_core::PayloadText;
 use entries::Entries;
+use node_api::PayloadText;
 use std::alloc::AllocError;
 
 /// Appends the lines of a node's entries, each with its vertex first.

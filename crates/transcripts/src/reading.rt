@@ -9,9 +9,9 @@ ghost use Rattle.transcripts.specs.Reader.{IsSyntaxFault};
 use crate::edition_row::{EditionRow, row_in};
 use crate::entry_line::header_of;
 use crate::fault::TextFault;
-use alpha_core::PayloadText;
 use dimacs_col::{Fields, Lines};
 use entries::Row;
+use node_api::PayloadText;
 use std::alloc::Global;
 use std::marker::Model;
 

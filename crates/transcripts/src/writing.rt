@@ -4,13 +4,14 @@ ghost use Rattle.std.specs.Prelude.{◌≡◌, ◌++◌, ◌∷◌, [], IfOk, Ok
 ghost use Rattle.dimacs_col.specs.Lines.{lines_of};
 ghost use Rattle.transcripts.specs.Reading.{reading_of, stamped_reading_of};
 ghost use Rattle.transcripts.specs.TranscriptText.{first_line, stamped_transcript_of, transcript_of};
-ghost use Rattle.wire_texts.specs.WireText.{numbered};
+ghost use Rattle.number_rows.specs.Row.{numbered};
 
 use crate::lines::{push_row, push_stamped_row};
-use alpha_core::{Memory, PayloadText};
 use entries::{Row, StampedRow};
+use interference::Memory;
+use node_api::PayloadText;
+use number_rows::push_numbered;
 use std::alloc::{AllocError, Global};
-use wire_texts::push_numbered;
 
 // Appends words, a number and a line feed.
 fn push_header(text: &mut Vec<u8>, words: &[u8], nodes: u32) -> Result<(), AllocError>

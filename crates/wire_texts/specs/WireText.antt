@@ -1,12 +1,8 @@
 -- The text of a wire, for payloads that are written by a word and a number.
 use Rattle.std.specs.Prelude.{◌≡◌, ℕ, ◌<◌, ◌^◌, Option, Some, List, ◌++◌, codes}
-use Rattle.std.specs.Fmt.{decimal}
+use Rattle.number_rows.specs.Row.{numbered}
 use Rattle.alpha_core.specs.declared.wire.Wire.{Wire}
 use Rattle.alpha_core.specs.declared.wire.Wire.TheVariants.{Payload, Ack, Safe, Close}
-
--- words, and a number behind them
-abbrev pub numbered : List ℕ → ℕ → List ℕ
-numbered words number = words ++ decimal number
 
 -- a wire, with a space before each of its words; `word_of` and `number_of` give the words of a payload
 abbrev pub wire_text : {M : Type 0} → (M → List ℕ) → (M → ℕ) → Wire M → List ℕ

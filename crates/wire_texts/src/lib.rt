@@ -1,4 +1,4 @@
-//! The text of wires, and of numbers behind words, appended to bytes.
+//! The text of wires, appended to bytes.
 //!
 //! `event_texts` writes the wires that a link holds with it, and `transcripts` the wires of entries.
 //!
@@ -7,8 +7,6 @@
 //! ```
 #![tactic(auto)]
 
-mod numbered;
 mod wire;
 
-pub use numbered::push_numbered;
 pub use wire::push_wire;

@@ -3,8 +3,9 @@
 ghost use Rattle.std.specs.Prelude.{◌≡◌, ◌++◌, IfOk};
 ghost use Rattle.wire_texts.specs.WireText.{IsReadable, wire_text};
 
-use crate::numbered::push_numbered;
-use alpha_core::{PayloadText, Wire};
+use alpha_core::Wire;
+use node_api::PayloadText;
+use number_rows::push_numbered;
 use std::alloc::AllocError;
 
 /// Appends a wire, with a space before each of its words.

@@ -1,6 +1,6 @@
 //! A gate at which two workers meet.
 
-use byte_functions::Gate;
+use actor::Gate;
 use std::sync::Wait;
 use std::sync::atomic::{AtomicBool, AtomicU64, Ordering};
 use std::thread;

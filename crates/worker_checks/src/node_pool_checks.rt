@@ -3,7 +3,12 @@
 use crate::meeting::Meeting;
 use crate::runs::{BY_TWO, apart, ends_with, path, small, triangle};
 use crate::stealing::Stealing;
-use byte_functions::{Colouring, Gate, Network, OpenGate, Options, PoolFault, run_workers};
+use actor::{Gate, OpenGate};
+use colour_program::Colouring;
+use interference::Network;
+use node_pool::run_workers;
+use run_faults::PoolFault;
+use run_options::Options;
 use std::alloc::Global;
 use std::sync::Wait;
 use std::thread::Threads;

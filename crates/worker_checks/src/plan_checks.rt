@@ -3,7 +3,10 @@
 use crate::meeting::Meeting;
 use crate::node_pool_checks::PULSES;
 use crate::runs::BY_TWO;
-use byte_functions::{Colouring, Edition, plan_bytes, replay_bytes, run_bytes, transcript_bytes};
+use answers::replay_bytes;
+use byte_functions::{plan_bytes, run_bytes, transcript_bytes};
+use colour_program::Colouring;
+use run_options::Edition;
 use std::alloc::Global;
 use std::sync::Wait;
 use std::thread::Threads;

@@ -1,13 +1,18 @@
 //! Networks to run, and what is read off a run.
 
 ghost use Rattle.std.specs.Prelude.{◌≡◌, ◌<◌, ◌≤◌, length};
-ghost use Rattle.byte_functions.specs.interference.Net.{IsVertex, degree_of, vertices};
-ghost use Rattle.byte_functions.specs.gather_laws.Outcome.{row_in};
+ghost use Rattle.interference.specs.Net.{IsVertex, degree_of, vertices};
+ghost use Rattle.gather_laws.specs.Outcome.{row_in};
 
-use byte_functions::{
-    Colouring, Long, Network, OpenGate, Options, Outcome, Payload, PoolFault, Stamped, Wire,
-    run_workers,
-};
+use actor::OpenGate;
+use alpha_core::{Stamped, Wire};
+use colour_program::Colouring;
+use colour_rules::{Long, Payload};
+use interference::Network;
+use node_pool::run_workers;
+use outcomes::Outcome;
+use run_faults::PoolFault;
+use run_options::Options;
 use std::alloc::Global;
 use std::sync::Wait;
 use std::thread::Threads;

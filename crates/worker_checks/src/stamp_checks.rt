@@ -3,16 +3,21 @@
 
 use crate::replay_checks::MERGED;
 use crate::runs::{pair, small};
-use byte_functions::{
-    Counter, Entries, Entry, Network, OpenGate, Options, Outcome, ReplayRefused, StampFull,
-    StampedEntry, StampedRow, WholeRefused, Wire, order, replay_whole, rising, run_workers,
-    stamped_text,
-};
+use actor::OpenGate;
+use alpha_core::{Counter, StampFull, Wire};
+use entries::{Entries, Entry, StampedEntry, StampedRow};
 use event_machine::RunRefused;
+use interference::Network;
+use net_core::{ReplayRefused, WholeRefused, replay_whole};
+use node_pool::run_workers;
+use outcomes::Outcome;
+use run_options::Options;
+use stamps::{order, rising};
 use std::alloc::Global;
 use std::sync::Wait;
 use std::thread::Threads;
 use sync_rounds::{Best, Greatest};
+use transcripts::stamped_text;
 
 type Row = StampedRow<Best>;
 

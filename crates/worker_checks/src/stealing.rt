@@ -1,6 +1,6 @@
 //! A gate through which two workers come only if one steals.
 
-use byte_functions::Gate;
+use actor::Gate;
 use std::sync::Wait;
 use std::sync::atomic::{AtomicBool, Ordering};
 use std::thread;

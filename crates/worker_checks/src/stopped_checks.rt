@@ -2,14 +2,19 @@
 //! did.
 
 ghost use Rattle.std.specs.Prelude.{◌≡◌, ℕ, length};
-ghost use Rattle.byte_functions.specs.interference.Net.{IsVertex, count_of, degree_of, vertices};
-ghost use Rattle.byte_functions.specs.gather_laws.Outcome.{row_in};
+ghost use Rattle.interference.specs.Net.{IsVertex, count_of, degree_of, vertices};
+ghost use Rattle.gather_laws.specs.Outcome.{row_in};
 
 use crate::runs::{greeted, holds, of_one, run_of_one, triangle};
-use byte_functions::{
-    Colouring, Entries, Entry, Network, OpenGate, Options, Outcome, Payload, Stamped, StampedEntry,
-    Wire, run_workers,
-};
+use actor::OpenGate;
+use alpha_core::{Stamped, Wire};
+use colour_program::Colouring;
+use colour_rules::Payload;
+use entries::{Entries, Entry, StampedEntry};
+use interference::Network;
+use node_pool::run_workers;
+use outcomes::Outcome;
+use run_options::Options;
 use std::alloc::Global;
 use std::sync::Wait;
 use std::thread::Threads;

@@ -7,4 +7,3 @@ pub mod Out
 pub mod Pushed
 pub mod Steps
 pub mod Views
-pub mod deque_rule

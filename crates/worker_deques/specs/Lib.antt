@@ -1,3 +1,2 @@
 pub mod Dealt
 pub mod Places
-pub mod deque_rule

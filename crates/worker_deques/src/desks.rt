@@ -2,7 +2,7 @@
 
 ghost use Rattle.std.specs.Prelude.{◌≡◌, ◌<◌, ◌≤◌, ◌-◌, [], All, IfOk, map, vec_capacity, vec_len};
 ghost use Rattle.crossbeam_deque.specs.Handles.{view, worker_deque, worker_view};
-ghost use Rattle.deque_rule.specs.run_options.TheConstants.{MAX_WORKERS};
+ghost use Rattle.run_options.specs.declared.TheConstants.{MAX_WORKERS};
 ghost use Rattle.deque_rule.specs.Ledgers.{AreOut, all_shares, ledger};
 ghost use Rattle.deque_rule.specs.Deques.{deque_of};
 

@@ -6,7 +6,7 @@ ghost use Rattle.crossbeam_deque.specs.Handles.{view, worker_deque, worker_view}
 ghost use Rattle.deque_rule.specs.Ledgers.{AreDealt, AreSame, all_shares, in_hand, in_rows};
 ghost use Rattle.deque_rule.specs.Ledgers.{pushed_by, shares_of, taken_by, weigh};
 ghost use Rattle.deque_rule.specs.Deques.{deque_of};
-ghost use Rattle.deque_rule.specs.run_options.TheConstants.{MAX_WORKERS};
+ghost use Rattle.run_options.specs.declared.TheConstants.{MAX_WORKERS};
 
 use crate::desk::Desk;
 use crate::order::by_number;

@@ -28,7 +28,6 @@ mod order;
 mod place;
 mod promise;
 
-pub use deque_rule::{Guest, Ledger, Own, Task, Thief, give_back};
 pub use deques::{cut, deal, make_deques};
 pub use desk::Desk;
 pub use desks::make_desks;

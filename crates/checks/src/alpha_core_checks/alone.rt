@@ -1,9 +1,11 @@
 //! A node with one neighbour, whose calls a test makes by hand.
 
 ghost use Rattle.std.specs.Prelude.{◌≡◌, IfOk, length};
-ghost use Rattle.alpha_core.specs.interference.Net.{IsVertex, degree_of};
+ghost use Rattle.interference.specs.Net.{IsVertex, degree_of};
 
-use alpha_core::{AlphaNode, AlphaRefused, Memory, Network, NodeProgram, Wire};
+use alpha_core::{AlphaNode, AlphaRefused, Wire};
+use interference::{Memory, Network};
+use node_api::NodeProgram;
 use std::alloc::Global;
 
 /// What a test does with the node.

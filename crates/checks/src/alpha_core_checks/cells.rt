@@ -2,11 +2,12 @@
 //! asks for besides.
 
 ghost use Rattle.std.specs.Prelude.{◌≡◌, length};
-ghost use Rattle.alpha_core.specs.interference.Net.{IsVertex, degree_of};
+ghost use Rattle.interference.specs.Net.{IsVertex, degree_of};
 
 use crate::alpha_core_checks::alone::{Act, Played, ask, leaf, play, put_next};
 use crate::networks::edge;
-use alpha_core::{AlphaNode, AlphaRefused, Network, Wire};
+use alpha_core::{AlphaNode, AlphaRefused, Wire};
+use interference::Network;
 use std::alloc::Global;
 use std::process::Abort;
 use sync_rounds::{Best, Greatest};

@@ -2,13 +2,16 @@
 //! afterwards as its twin that got only those it took.
 
 ghost use Rattle.std.specs.Prelude.{◌≡◌, length};
-ghost use Rattle.alpha_core.specs.interference.Net.{IsVertex, degree_of};
+ghost use Rattle.interference.specs.Net.{IsVertex, degree_of};
 
 use crate::alpha_core_checks::alone::{Act, Played, leaf, play};
 use crate::networks::edge;
 use crate::told::Told;
-use alpha_core::{AlphaNode, AlphaRefused, Network, Refused, Wire};
-use colour_program::{Colouring, Payload};
+use alpha_core::{AlphaNode, AlphaRefused, Wire};
+use colour_program::Colouring;
+use colour_rules::Payload;
+use interference::Network;
+use node_api::Refused;
 use std::alloc::Global;
 
 // What comes to a node of a payload, and what it puts of one.

@@ -1,12 +1,14 @@
 //! Worked runs of one node.
 
 ghost use Rattle.std.specs.Prelude.{◌≡◌, ◌≤◌, length};
-ghost use Rattle.alpha_core.specs.interference.Net.{IsVertex, degree_of};
+ghost use Rattle.interference.specs.Net.{IsVertex, degree_of};
 
 use crate::alpha_core_checks::alone::{Act, Played, ask, leaf, play, put_next};
 use crate::counted::Counted;
 use crate::networks::edge;
-use alpha_core::{AlphaNode, AlphaRefused, Network, NodeProgram, Wire};
+use alpha_core::{AlphaNode, AlphaRefused, Wire};
+use interference::Network;
+use node_api::NodeProgram;
 use std::alloc::Global;
 use sync_rounds::{Best, Greatest};
 

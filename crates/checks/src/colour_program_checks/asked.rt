@@ -2,15 +2,15 @@
 //! since each place at which a node may be dropped costs proof.
 
 ghost use Rattle.std.specs.Prelude.{◌≡◌};
-ghost use Rattle.alpha_core.specs.interference.Net.{IsVertex, degree_of};
-ghost use Rattle.colour_program.specs.colour_rules.Node.{ports};
+ghost use Rattle.interference.specs.Net.{IsVertex, degree_of};
+ghost use Rattle.colour_rules.specs.Node.{ports};
 
 use crate::colour_program_checks::cells::{Cell, is_told};
 use crate::colour_program_checks::fed::made;
 use crate::colour_program_checks::refusals::{Refusal, refuses_then, takes_colour};
 use crate::colour_program_checks::twins::{GoneOn, goes_on_from, is_brought_to_rest};
-use alpha_core::Network;
 use colour_program::Colouring;
+use interference::Network;
 use std::alloc::Global;
 
 /// What is asked of a node and its twin, or of the node alone.

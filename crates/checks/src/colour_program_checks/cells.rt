@@ -1,16 +1,17 @@
 //! The table of what may come to a node: 96 cells, by phase, kind of payload and role of the port.
 
 ghost use Rattle.std.specs.Prelude.{◌≡◌};
-ghost use Rattle.colour_program.specs.colour_rules.Node.{ports};
+ghost use Rattle.colour_rules.specs.Node.{ports};
 
 use crate::colour_program_checks::asked::{Asked, holds_at};
 use crate::colour_program_checks::fed::{show, takes};
 use crate::colour_program_checks::twins::go_on_alike;
 use crate::networks::edge;
 use crate::told::Told;
-use alpha_core::{Network, Refused};
 use colour_program::Colouring;
-use colour_program::rules::{AFTER_HALT, WRONG_KIND, WRONG_ROLE};
+use colour_rules::rules::{AFTER_HALT, WRONG_KIND, WRONG_ROLE};
+use interference::Network;
+use node_api::Refused;
 use std::alloc::Global;
 use std::process::Abort;
 

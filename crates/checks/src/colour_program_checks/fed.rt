@@ -1,13 +1,15 @@
 //! A node made for a test, and fed by hand. A caller may skip pulses.
 
 ghost use Rattle.std.specs.Prelude.{◌≡◌, ◌≤◌, IfOk, length};
-ghost use Rattle.alpha_core.specs.interference.Net.{IsVertex, degree_of};
-ghost use Rattle.alpha_core.specs.node_api.Boxes.{nothing};
-ghost use Rattle.colour_program.specs.colour_rules.Node.{ports};
+ghost use Rattle.interference.specs.Net.{IsVertex, degree_of};
+ghost use Rattle.node_api.specs.Boxes.{nothing};
+ghost use Rattle.colour_rules.specs.Node.{ports};
 
 use crate::told::Told;
-use alpha_core::{Inbox, MAX_DEGREE, Memory, Network, NodeProgram, Outbox, Refused};
-use colour_program::{ColourNode, Colouring, Payload};
+use colour_program::Colouring;
+use colour_rules::{ColourNode, Payload};
+use interference::{MAX_DEGREE, Memory, Network};
+use node_api::{Inbox, NodeProgram, Outbox, Refused};
 use std::alloc::Global;
 
 /// The node of a vertex, which knows no port, in a box: to own a box costs less proof than to own what is in it.

@@ -1,18 +1,19 @@
 //! Refusals by value, by what is missing and by the node itself, and that they leave the node as it was.
 
 ghost use Rattle.std.specs.Prelude.{◌≡◌};
-ghost use Rattle.colour_program.specs.colour_rules.Node.{ports};
+ghost use Rattle.colour_rules.specs.Node.{ports};
 
 use crate::colour_program_checks::asked::{Asked, holds_at};
 use crate::colour_program_checks::fed::{show, show_alike, takes};
 use crate::networks::network;
 use crate::told::Told;
 use crate::told::Told::{Chosen, Colour, Hello, Label};
-use alpha_core::{Network, Refused};
 use colour_program::Colouring;
-use colour_program::rules::{
+use colour_rules::rules::{
     AFTER_HALT, COLOUR_RANGE, FOREST_RANGE, MISSING, WRONG_KIND, WRONG_ROLE,
 };
+use interference::Network;
+use node_api::Refused;
 use std::alloc::Global;
 use std::process::Abort;
 

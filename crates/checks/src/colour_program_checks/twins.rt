@@ -2,16 +2,17 @@
 //! and then both go on alike.
 
 ghost use Rattle.std.specs.Prelude.{◌≡◌};
-ghost use Rattle.colour_program.specs.colour_rules.Node.{ports};
+ghost use Rattle.colour_rules.specs.Node.{ports};
 
 use crate::colour_program_checks::asked::{Asked, holds_at};
 use crate::colour_program_checks::fed::{show, show_alike};
 use crate::networks::edge;
 use crate::told::Told;
 use crate::told::Told::{Chosen, Colour, Hello, Label};
-use alpha_core::{Network, Refused};
 use colour_program::Colouring;
-use colour_program::rules::{AFTER_HALT, COLOUR_RANGE, FOREST_RANGE, WRONG_KIND, WRONG_ROLE};
+use colour_rules::rules::{AFTER_HALT, COLOUR_RANGE, FOREST_RANGE, WRONG_KIND, WRONG_ROLE};
+use interference::Network;
+use node_api::Refused;
 use std::alloc::Global;
 use std::process::Abort;
 

@@ -1,4 +1,4 @@
-use Rattle.alpha_core.specs.node_api.Program.{last_pulse_on}
+use Rattle.node_api.specs.Program.{last_pulse_on}
 use Rattle.alpha_core.specs.Program.{sends}
 use Rattle.alpha_laws.proofs.Short.{short}
 use Rattle.alpha_laws.proofs.laws.legal_lists_are_short.Goals as goal

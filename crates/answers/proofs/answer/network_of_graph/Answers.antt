@@ -1,7 +1,7 @@
 use Rattle.std.proofs.Common.{◌∙◌, ap, length, subst, sym}
 use Rattle.std.proofs.lemmas.List.FromFn.{length-map-range_with_len}
 use Rattle.std.specs.Option.{unwrap_or}
-use Rattle.dimacs_col.specs.Pairs.{AreVertices}
+use Rattle.graph_limits.specs.Pairs.{AreVertices}
 use Rattle.dimacs_col.specs.Reading.{id_in}
 use Rattle.answers.proofs.answer.network_of_graph.Goals as goal
 

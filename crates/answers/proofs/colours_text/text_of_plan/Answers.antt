@@ -1,11 +1,11 @@
 use Rattle.std.proofs.Common.{◌≡◌, ◌∙◌, IfOk, List, ℕ, ap, map, subst}
-use Rattle.alpha_core.specs.interference.Net.{vertices}
-use Rattle.alpha_core.specs.node_api.Program.{last_pulse_on}
-use Rattle.alpha_core.specs.node_api.Run.{state_at}
+use Rattle.interference.specs.Net.{vertices}
+use Rattle.node_api.specs.Program.{last_pulse_on}
+use Rattle.node_api.specs.Run.{state_at}
 use Rattle.channel_plan.specs.PlanText.{plan_of}
-use Rattle.colour_program.specs.colour_rules.Node.{Node}
-use Rattle.colour_program.specs.colour_rules.Program.{colouring}
-use Rattle.colour_program.specs.colour_laws.Colours.{colours}
+use Rattle.colour_rules.specs.Node.{Node}
+use Rattle.colour_rules.specs.Program.{colouring}
+use Rattle.colour_laws.specs.Colours.{colours}
 use Rattle.answers.proofs.Ends.{at-vertices}
 use Rattle.answers.proofs.colours_text.text_of_plan.Goals as goal
 

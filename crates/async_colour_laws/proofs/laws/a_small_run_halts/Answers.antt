@@ -1,6 +1,6 @@
 use Rattle.std.proofs.Common.{refl}
 use Rattle.std.specs.Prelude.{◌≡◌}
-use Rattle.alpha_laws.specs.node_api.Run as sync
+use Rattle.node_api.specs.Run as sync
 use Rattle.alpha_laws.specs.Counts.{events_of_run}
 use Rattle.sync_rounds.specs.Spread.{spread}
 use Rattle.event_machine.specs.Step.{run}

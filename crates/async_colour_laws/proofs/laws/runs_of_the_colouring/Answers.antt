@@ -1,5 +1,5 @@
 use Rattle.alpha_laws.proofs.Runs.{runs}
-use Rattle.colour_laws.specs.colour_rules.Program.{colouring}
+use Rattle.colour_rules.specs.Program.{colouring}
 use Rattle.colour_laws.proofs.Rounds.{rounds_are_program}
 use Rattle.event_machine.proofs.KeptRuns.{reached_simulates}
 use Rattle.event_machine.proofs.Exactly.{runs-exactly}

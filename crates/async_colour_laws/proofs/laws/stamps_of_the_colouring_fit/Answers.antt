@@ -1,5 +1,5 @@
 use Rattle.std.proofs.Common.{arith}
-use Rattle.colour_laws.specs.colour_rules.Program.{colouring}
+use Rattle.colour_rules.specs.Program.{colouring}
 use Rattle.colour_laws.proofs.Rounds.{rounds_are_program}
 use Rattle.async_colour_laws.proofs.Stamped.{few-events, stamps-bounded}
 use Rattle.async_colour_laws.proofs.laws.stamps_of_the_colouring_fit.Goals as goal

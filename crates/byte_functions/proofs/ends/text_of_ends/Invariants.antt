@@ -1,5 +1,5 @@
 use Rattle.std.proofs.Common.{◌≡◌, flat_map, map, take}
-use Rattle.node_pool.specs.outcomes.Gathers.{gathered_of}
+use Rattle.outcomes.specs.Gathers.{gathered_of}
 use Rattle.byte_functions.specs.Ends.{gathered_end}
 use Rattle.byte_functions.proofs.ends.text_of_ends.Given as goal
 

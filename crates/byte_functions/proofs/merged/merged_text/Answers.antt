@@ -1,7 +1,7 @@
 use Rattle.std.proofs.Common.{◌≡◌, ◌∙◌, ◌++◌, ◌∷◌, [], ap, codes, map, rules, subst, sym}
 use Rattle.std.proofs.lemmas.List.{flat_map_more, length-map}
-use Rattle.answers.specs.transcripts.TranscriptText.{first_line_of, stamped_row_text, stamped_transcript_of}
-use Rattle.node_pool.specs.outcomes.Gathers.{gathered_of}
+use Rattle.transcripts.specs.TranscriptText.{first_line_of, stamped_row_text, stamped_transcript_of}
+use Rattle.outcomes.specs.Gathers.{gathered_of}
 use Rattle.stamps.specs.Merged.{IsMerge, list_of}
 use Rattle.byte_functions.proofs.Merge.{IsMerging, fewer, merging-done, merging-init, merging-step}
 use Rattle.byte_functions.proofs.merged.merged_text.Goals as goal

@@ -1,7 +1,7 @@
 use Rattle.std.proofs.Common.{length, map}
 use Rattle.std.specs.BinaryHeap.{heap_items}
 use Rattle.std.specs.List.{sum_by}
-use Rattle.node_pool.specs.outcomes.Gathers.{gathered_of}
+use Rattle.outcomes.specs.Gathers.{gathered_of}
 use Rattle.byte_functions.specs.Merge.{AreKeys}
 use Rattle.byte_functions.proofs.Merge.{HasMerged}
 use Rattle.byte_functions.proofs.merged.merged_text.Given as goal

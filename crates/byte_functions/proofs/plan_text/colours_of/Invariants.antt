@@ -1,5 +1,5 @@
 use Rattle.std.proofs.Common.{◌≡◌, map, take}
-use Rattle.node_pool.specs.outcomes.Gathers.{gathered_of}
+use Rattle.outcomes.specs.Gathers.{gathered_of}
 use Rattle.byte_functions.specs.Colours.{merged_of}
 use Rattle.byte_functions.proofs.plan_text.colours_of.Given as goal
 

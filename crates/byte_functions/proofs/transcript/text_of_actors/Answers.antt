@@ -4,9 +4,9 @@ use Rattle.std.proofs.lemmas.Iterator.Adapters.{YieldsList-from_vec}
 use Rattle.std.proofs.lemmas.Iterator.Consumers.{YieldsList-end}
 use Rattle.std.proofs.lemmas.List.{flat_map_more}
 use Rattle.std.proofs.lemmas.List.Folds.{flat_map-map}
-use Rattle.stamps.specs.entries.Rows.{bare_of, vertex_row}
-use Rattle.node_pool.specs.outcomes.Gathers.{gathered_of}
-use Rattle.answers.specs.transcripts.TranscriptText.{first_line, row_text}
+use Rattle.entries.specs.Rows.{bare_of, vertex_row}
+use Rattle.outcomes.specs.Gathers.{gathered_of}
+use Rattle.transcripts.specs.TranscriptText.{first_line, row_text}
 use Rattle.byte_functions.specs.Transcripts.{rows_in}
 use Rattle.byte_functions.proofs.transcript.text_of_actors.Goals as goal
 

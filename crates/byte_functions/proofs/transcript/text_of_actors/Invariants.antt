@@ -1,6 +1,6 @@
 use Rattle.std.proofs.Common.{◌≡◌, ◌++◌, flat_map}
-use Rattle.node_pool.specs.outcomes.Gathers.{gathered_of}
-use Rattle.answers.specs.transcripts.TranscriptText.{first_line, row_text}
+use Rattle.outcomes.specs.Gathers.{gathered_of}
+use Rattle.transcripts.specs.TranscriptText.{first_line, row_text}
 use Rattle.byte_functions.specs.Transcripts.{rows_in}
 use Rattle.byte_functions.proofs.transcript.text_of_actors.Given as goal
 

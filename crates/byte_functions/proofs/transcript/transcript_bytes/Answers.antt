@@ -1,8 +1,8 @@
 use Rattle.std.proofs.Common.{◌∙◌, All, ap, length, map, subst, sym, true}
 use Rattle.std.proofs.lemmas.List.{length-map}
-use Rattle.node_pool.specs.outcomes.Gathers.{gathered_of}
+use Rattle.outcomes.specs.Gathers.{gathered_of}
 use Rattle.stamps.specs.Stamps.{Rises}
-use Rattle.node_pool.specs.gather_laws.Merged.{WholeOutcomesReplay}
+use Rattle.gather_laws.specs.Merged.{WholeOutcomesReplay}
 use Rattle.byte_functions.specs.Transcripts.{IsTextIn}
 use Rattle.byte_functions.proofs.Recording.{all-rise, answered, nodes-count}
 use Rattle.byte_functions.proofs.transcript.transcript_bytes.Goals as goal

@@ -1,8 +1,8 @@
 use Rattle.std.proofs.Common.{◌∙◌, false, ap, sym, map}
 use Rattle.std.proofs.lemmas.Simd.{map-map}
-use Rattle.answers.specs.channel_plan.PlanText.{plan_of}
-use Rattle.answers.specs.colour_rules.Program.{colouring}
-use Rattle.node_pool.specs.outcomes.Gathers.{gathered_of}
+use Rattle.channel_plan.specs.PlanText.{plan_of}
+use Rattle.colour_rules.specs.Program.{colouring}
+use Rattle.outcomes.specs.Gathers.{gathered_of}
 use Rattle.answers.proofs.Plain.{is-network}
 use Rattle.byte_functions.specs.Colours.{merged_of}
 use Rattle.byte_functions.proofs.Working.{planned}

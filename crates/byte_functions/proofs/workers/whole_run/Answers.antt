@@ -1,7 +1,7 @@
 use Rattle.std.proofs.Common.{◌≡◌, subst, sym, true}
 use Rattle.std.specs.Prelude.{IfErr, IfOk}
-use Rattle.node_pool.specs.gather_laws.Outcome.{IsOutcome, is_whole}
-use Rattle.node_pool.specs.run_options.Ranges.{AreInRange}
+use Rattle.gather_laws.specs.Outcome.{IsOutcome, is_whole}
+use Rattle.run_options.specs.Ranges.{AreInRange}
 use Rattle.byte_functions.specs.Workers.{IsFaultOfRun, MayRun}
 use Rattle.byte_functions.proofs.Ran.{err-maps, may-run, ok-maps, whole-fault, whole-is, whole-outcome, whole-range}
 use Rattle.byte_functions.proofs.Working.{with_transcript, without_transcript}

@@ -1,8 +1,10 @@
 use Rattle.std.proofs.Common.{◌≡◌, ◌∙◌, false, All, ap, append-nil, inl, inr, refl, subst, sym}
 use Rattle.dimacs_col.specs.Lines.{lines_of}
 use Rattle.channel_plan.specs.Reading.{reading_of}
-use Rattle.channel_plan.specs.Split.{begins, plan_word}
-use Rattle.channel_plan.proofs.Splitting.{front-all, last-line, read-empty}
+use Rattle.dimacs_col.specs.Split.{begins}
+use Rattle.channel_plan.specs.Split.{plan_word}
+use Rattle.dimacs_col.proofs.Splitting.{front-all, last-line}
+use Rattle.channel_plan.proofs.Readings.{read-empty}
 use Rattle.channel_plan.proofs.split.split_plan.Goals as goal
 
 pub returns-in-Some-clause-network : goal.returns-in-Some-clause-network

@@ -1,7 +1,7 @@
 use Rattle.std.proofs.Common.{◌≡◌, ◌-◌, [], refl, sym, ap, ◌∙◌, arith}
 use Rattle.crossbeam_deque.specs.Handles.{stealer_deque, worker_deque, worker_view}
-use Rattle.worker_deques.specs.deque_rule.Ledgers.{all_shares, ledger, shares_of}
-use Rattle.worker_deques.proofs.deque_rule.Rule.{deals}
+use Rattle.deque_rule.specs.Ledgers.{all_shares, ledger, shares_of}
+use Rattle.deque_rule.proofs.Rule.{deals}
 use Rattle.worker_deques.proofs.Views.{as_many, carried}
 use Rattle.checks.proofs.deque_checks.begin.Goals as goal
 

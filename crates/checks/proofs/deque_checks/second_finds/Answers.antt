@@ -1,6 +1,6 @@
 use Rattle.std.proofs.Common.{◌≡◌, ◌<◌, ◌∙◌, ap, length, map, sym, arith}
 use Rattle.crossbeam_deque.specs.Handles.{stealer_deque}
-use Rattle.worker_deques.specs.deque_rule.Deques.{deque_of}
+use Rattle.deque_rule.specs.Deques.{deque_of}
 use Rattle.worker_deques.proofs.Holds.{holds_at}
 use Rattle.checks.proofs.deque_checks.second_finds.Goals as goal
 

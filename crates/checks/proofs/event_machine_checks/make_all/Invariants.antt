@@ -1,5 +1,5 @@
 use Rattle.std.proofs.Common.{◌≡◌}
-use Rattle.alpha_core.specs.interference.Net.{count_of, degree_of}
+use Rattle.interference.specs.Net.{count_of, degree_of}
 use Rattle.checks.proofs.event_machine_checks.make_all.Given as goal
 
 abbrev pub invariant-loop-event : goal.invariant-loop-event

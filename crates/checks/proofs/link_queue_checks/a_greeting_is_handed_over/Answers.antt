@@ -1,8 +1,8 @@
 use Rattle.std.proofs.Common.{[], ◌∷◌, subst, sym}
 use Rattle.alpha_core.specs.declared.wire.Wire.TheVariants.{Payload, Safe}
 use Rattle.link_rule.specs.Legal.{IsLegalOn, name_of}
-use Rattle.colour_program.specs.colour_rules.Program.{colouring}
-use Rattle.colour_program.specs.colour_rules.Payload.TheVariants.{Hello}
+use Rattle.colour_rules.specs.Program.{colouring}
+use Rattle.colour_rules.specs.declared.payload.Payload.TheVariants.{Hello}
 use Rattle.checks.specs.LinkRows.{pair_net}
 use Rattle.checks.proofs.Greeting.{hello_legal}
 use Rattle.checks.proofs.link_queue_checks.a_greeting_is_handed_over.Goals as goal

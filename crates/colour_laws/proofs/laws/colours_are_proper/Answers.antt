@@ -1,4 +1,4 @@
-use Rattle.node_api.specs.interference.Net.{forest_count_of}
+use Rattle.interference.specs.Net.{forest_count_of}
 use Rattle.colour_laws.proofs.Choices.{colours_unbarred, colours_within}
 use Rattle.colour_laws.proofs.Forests.{has_forest}
 use Rattle.colour_laws.proofs.Proper.{colours_proper}

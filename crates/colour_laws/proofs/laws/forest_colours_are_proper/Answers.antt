@@ -1,4 +1,4 @@
-use Rattle.node_api.specs.interference.Net.{id_of}
+use Rattle.interference.specs.Net.{id_of}
 use Rattle.forests.specs.Forests.{parent}
 use Rattle.colour_laws.proofs.Choices.{six_within, three_within}
 use Rattle.colour_laws.proofs.Forests.{has_forest}

@@ -1,8 +1,8 @@
 use Rattle.std.proofs.Common.{ℕ, ◌+◌, ◌-◌, ◌*◌, ◌≤◌, arith, mul-le-mul}
-use Rattle.node_api.below.dimacs_col.specs.declared.limits.TheConstants.{MAX_BARS}
-use Rattle.node_api.below.interference.specs.declared.limits.TheConstants.{MAX_DEGREE}
-use Rattle.node_api.specs.interference.Net.{Net, IsNetwork, forest_count_of, greatest_bars_of, greatest_degree_of}
-use Rattle.node_api.proofs.interference.Neighbours.{forest_count-within, greatest_bars-within, greatest_degree-within}
+use Rattle.graph_limits.specs.declared.limits.TheConstants.{MAX_BARS}
+use Rattle.interference.specs.declared.limits.TheConstants.{MAX_DEGREE}
+use Rattle.interference.specs.Net.{Net, IsNetwork, forest_count_of, greatest_bars_of, greatest_degree_of}
+use Rattle.interference.proofs.Neighbours.{forest_count-within, greatest_bars-within, greatest_degree-within}
 use Rattle.colour_rules.specs.declared.phase.TheConstants.{FIRST_MERGE}
 use Rattle.colour_laws.specs.declared.laws.TheConstants.{MAX_LAST_PULSE}
 use Rattle.colour_laws.proofs.laws.last_pulse_is_limited.Goals as goal

@@ -1,7 +1,7 @@
 use Rattle.std.proofs.Common.{arith}
 use Rattle.forest_merge.proofs.Proper.{merge-unbarred_few, merge-within_few}
 use Rattle.colour_laws.specs.Colours.{merging}
-use Rattle.node_api.specs.interference.Net.{bars_of}
+use Rattle.interference.specs.Net.{bars_of}
 use Rattle.forest_merge.specs.Merge.{merge}
 use Rattle.colour_laws.proofs.Choices.{few_taken, not_among}
 use Rattle.colour_laws.proofs.Forests.{has_forest}

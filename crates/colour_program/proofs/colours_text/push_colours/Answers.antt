@@ -1,6 +1,6 @@
 use Rattle.std.proofs.Common.{◌≡◌, ◌+◌, arith}
 use Rattle.colour_program.specs.ColoursText.{colour_text}
-use Rattle.wire_texts.proofs.Ranges.{texts-more}
+use Rattle.number_rows.proofs.Ranges.{texts-more}
 use Rattle.colour_program.proofs.colours_text.push_colours.Goals as goal
 
 pub loop-forest-preserved : goal.loop-forest-preserved

@@ -1,10 +1,10 @@
 use Rattle.std.proofs.Common.{◌≡◌, [], ◌∷◌, ◌++◌, length, sym, ap, ◌∙◌, arith}
 use Rattle.std.specs.List.{range_with_len}
 use Rattle.std.proofs.lemmas.List.FromFn.{length-map-range_with_len}
-use Rattle.alpha_laws.specs.interference.Net.{count_of}
-use Rattle.alpha_laws.specs.node_api.Program.{last_pulse_on}
-use Rattle.alpha_laws.specs.alpha_core.View.{Alpha}
-use Rattle.alpha_laws.specs.alpha_core.Program.{start_node}
+use Rattle.interference.specs.Net.{count_of}
+use Rattle.node_api.specs.Program.{last_pulse_on}
+use Rattle.alpha_core.specs.View.{Alpha}
+use Rattle.alpha_core.specs.Program.{start_node}
 use Rattle.event_machine.specs.State.{started_nodes}
 use Rattle.event_machine.proofs.Parts.{map-next}
 use Rattle.event_machine.proofs.state.started_nodes.Goals as goal

@@ -1,10 +1,10 @@
 use Rattle.std.proofs.Common.{◌≡◌, ◌+◌, [], arith}
 use Rattle.event_machine.specs.State.{node_of}
 use Rattle.event_texts.specs.Missing.{lacking_at}
-use Rattle.wire_texts.proofs.Ranges.{texts-more}
+use Rattle.number_rows.proofs.Ranges.{texts-more}
 use Rattle.std.proofs.Common.{◌∙◌, ap}
 use Rattle.std.specs.List.{flat_map, range_with_len}
-use Rattle.alpha_core.specs.interference.Net.{degree_of}
+use Rattle.interference.specs.Net.{degree_of}
 use Rattle.event_texts.proofs.Told.{at_end, err_says}
 use Rattle.event_texts.proofs.missing.lacking.Goals as goal
 

@@ -1,5 +1,5 @@
 use Rattle.std.proofs.Common.{◌++◌, ◌∙◌, ap, append_assoc, codes}
-use Rattle.wire_texts.specs.WireText.{numbered}
+use Rattle.number_rows.specs.Row.{numbered}
 use Rattle.event_texts.proofs.missing.push_last.Goals as goal
 
 pub returns : goal.returns

@@ -1,7 +1,7 @@
 -- The plan: an error says nothing; the text is what was appended, as the view of the node has it (last_told, lacks_told).
 use Rattle.std.proofs.Common.{◌≡◌, ◌∙◌, ◌++◌, ap, ap₂, codes, nat_eq}
 use Rattle.std.proofs.lemmas.Result.{IfOk-equal}
-use Rattle.alpha_core.specs.node_api.Program.{last_pulse_on}
+use Rattle.node_api.specs.Program.{last_pulse_on}
 use Rattle.alpha_core.specs.View.{is_halted}
 use Rattle.event_machine.specs.State.{node_of}
 use Rattle.event_texts.specs.Missing.{lack_text}

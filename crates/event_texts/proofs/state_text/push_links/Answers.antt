@@ -1,11 +1,10 @@
 use Rattle.std.proofs.Common.{◌≡◌, ◌+◌, arith}
-use Rattle.alpha_core.specs.interference.Net.{neighbour_of}
+use Rattle.interference.specs.Net.{neighbour_of, degree_of}
 use Rattle.event_machine.specs.State.{link_at}
 use Rattle.event_texts.specs.StateText.{link_text}
-use Rattle.wire_texts.proofs.Ranges.{texts-more}
+use Rattle.number_rows.proofs.Ranges.{texts-more}
 use Rattle.std.proofs.Common.{◌∙◌, ◌++◌, ap, append-nil, sym}
 use Rattle.std.specs.List.{flat_map, range_with_len}
-use Rattle.alpha_core.specs.interference.Net.{degree_of}
 use Rattle.event_texts.proofs.Told.{at_end, err_says}
 use Rattle.event_texts.proofs.state_text.push_links.Goals as goal
 

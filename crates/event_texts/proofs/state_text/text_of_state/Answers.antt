@@ -1,11 +1,11 @@
 use Rattle.std.proofs.Common.{◌≡◌, ◌+◌, ◌++◌, [], ℕ, List, arith}
 use Rattle.event_machine.specs.State.{node_of}
-use Rattle.alpha_core.specs.node_api.Program.{last_pulse_on}
+use Rattle.node_api.specs.Program.{last_pulse_on}
 use Rattle.event_texts.specs.StateText.{links_text, node_text}
-use Rattle.wire_texts.proofs.Ranges.{behind, texts-more}
+use Rattle.number_rows.proofs.Ranges.{behind, texts-more}
 use Rattle.std.proofs.Common.{◌∙◌, ap}
 use Rattle.std.specs.List.{flat_map, range_with_len}
-use Rattle.alpha_core.specs.interference.Net.{count_of}
+use Rattle.interference.specs.Net.{count_of}
 use Rattle.event_texts.proofs.Told.{at_end, err_says}
 use Rattle.event_texts.proofs.state_text.text_of_state.Goals as goal
 

@@ -5,9 +5,9 @@ use Rattle.std.proofs.lemmas.List.{take_all}
 use Rattle.std.proofs.lemmas.List.Elements.{All-same}
 use Rattle.std.proofs.lemmas.Map.Keys.{sorted_from_all_adjacent}
 use Rattle.std.specs.declared.cmp.Ordering.TheVariants.{Less}
-use Rattle.dimacs_col.specs.Pairs.{IsBarOf, bars_at, pair_cmp}
-use Rattle.dimacs_col.specs.declared.limits.TheConstants.{MAX_BARS}
-use Rattle.dimacs_col.proofs.Members.{pair_total}
+use Rattle.graph_limits.specs.Pairs.{IsBarOf, bars_at, pair_cmp}
+use Rattle.graph_limits.specs.declared.limits.TheConstants.{MAX_BARS}
+use Rattle.graph_limits.proofs.Pairs.{pair_total}
 use Rattle.interference.proofs.BarCounts.{bar_at, eq-no, eq-yes, next-after, run-is, run-within, fit-more}
 use Rattle.interference.proofs.bars.bars_fit.Goals.{then-not-is_bar-via-then-not-is_bar, then-not-is_bar-via-else-not-is_bar+then-not-comes_before}
 use Rattle.interference.proofs.bars.bars_fit.Goals.{then-next-last, else-next-last}

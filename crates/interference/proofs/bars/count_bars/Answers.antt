@@ -1,6 +1,6 @@
 use Rattle.std.proofs.Common.{cond, get_or, arith}
 use Rattle.std.proofs.lemmas.List.Sums.{sum_by-take-le}
-use Rattle.dimacs_col.specs.Pairs.{is_bar_at}
+use Rattle.graph_limits.specs.Pairs.{is_bar_at}
 use Rattle.interference.proofs.bars.count_bars.Goals as goal
 
 pub overflow_add-counts : goal.overflow_add-counts

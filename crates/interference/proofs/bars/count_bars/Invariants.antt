@@ -1,5 +1,5 @@
 use Rattle.std.proofs.Common.{◌≡◌, ◌≤◌, ℕ, slice_index, take}
-use Rattle.dimacs_col.specs.Pairs.{bars_at}
+use Rattle.graph_limits.specs.Pairs.{bars_at}
 use Rattle.interference.proofs.bars.count_bars.Given as goal
 
 abbrev pub invariant-loop-bar : goal.invariant-loop-bar

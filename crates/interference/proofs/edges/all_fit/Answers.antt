@@ -1,7 +1,7 @@
 use Rattle.std.proofs.Common.{Some, sym, refl, arith}
 use Rattle.std.proofs.lemmas.List.{take_all}
 use Rattle.std.proofs.lemmas.List.Elements.{All-more, All-same}
-use Rattle.dimacs_col.specs.Pairs.{FitsIn}
+use Rattle.graph_limits.specs.Pairs.{FitsIn}
 use Rattle.interference.proofs.edges.all_fit.Goals as goal
 
 pub loop-edge-preserved : goal.loop-edge-preserved

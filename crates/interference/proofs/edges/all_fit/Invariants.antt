@@ -1,5 +1,5 @@
 use Rattle.std.proofs.Common.{All, Some, take}
-use Rattle.dimacs_col.specs.Pairs.{FitsIn}
+use Rattle.graph_limits.specs.Pairs.{FitsIn}
 use Rattle.interference.proofs.edges.all_fit.Given as goal
 
 abbrev pub invariant-loop-edge : goal.invariant-loop-edge

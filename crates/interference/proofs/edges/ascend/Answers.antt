@@ -2,9 +2,9 @@ use Rattle.std.proofs.Common.{◌≡◌, ◌-◌, refl, arith, rules}
 use Rattle.std.proofs.lemmas.Bool.{both_ways, false≢true}
 use Rattle.std.proofs.lemmas.Map.Keys.{Less-from_sorted, sorted_from_all_adjacent}
 use Rattle.std.specs.declared.cmp.Ordering.TheVariants.{Less}
-use Rattle.dimacs_col.specs.Pairs.{pair_cmp}
+use Rattle.graph_limits.specs.Pairs.{pair_cmp}
 use Rattle.interference.specs.Filling.{edge_at}
-use Rattle.dimacs_col.proofs.Members.{pair_total}
+use Rattle.graph_limits.proofs.Pairs.{pair_total}
 use Rattle.interference.proofs.edges.ascend.Goals as goal
 
 pub returns-then-not-comes_before : goal.returns-then-not-comes_before

@@ -1,6 +1,6 @@
 use Rattle.std.proofs.Common.{◌≡◌, ℕ, ◌+◌, ◌<◌}
 use Rattle.std.specs.declared.cmp.Ordering.TheVariants.{Less}
-use Rattle.dimacs_col.specs.Pairs.{pair_cmp}
+use Rattle.graph_limits.specs.Pairs.{pair_cmp}
 use Rattle.interference.specs.Filling.{edge_at}
 use Rattle.interference.proofs.edges.ascend.Given as goal
 

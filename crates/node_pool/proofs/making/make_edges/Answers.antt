@@ -1,5 +1,5 @@
 use Rattle.std.proofs.Common.{◌≡◌, ◌<◌, ◌+◌, map, sym, subst, arith}
-use Rattle.outcomes.specs.interference.Net.{degree_of}
+use Rattle.interference.specs.Net.{degree_of}
 use Rattle.node_pool.specs.Makes.{AreMadeBefore}
 use Rattle.node_pool.proofs.Edges.{edge-was_made, vertex-made}
 use Rattle.node_pool.proofs.making.make_edges.Goals.{then-v-neighbour+in_ok-make_edge, else-v-neighbour}

@@ -1,6 +1,6 @@
 use Rattle.std.proofs.Common.{◌≡◌, ◌+◌, map, subst, ◌∙◌, arith}
 use Rattle.std.proofs.lemmas.List.{length-map}
-use Rattle.outcomes.specs.interference.Net.{count_of}
+use Rattle.interference.specs.Net.{count_of}
 use Rattle.node_pool.specs.Makes.{AreMadeBefore}
 use Rattle.node_pool.proofs.Edges.{all-made, none-made}
 use Rattle.node_pool.proofs.making.make_links.Goals as goal

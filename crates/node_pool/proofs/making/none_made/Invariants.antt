@@ -1,6 +1,6 @@
 use Rattle.std.proofs.Common.{◌≡◌, ◌≤◌, [], vec_capacity, vec_len}
 use Rattle.std.specs.Prelude.{All}
-use Rattle.outcomes.specs.interference.Net.{count_of}
+use Rattle.interference.specs.Net.{count_of}
 use Rattle.node_pool.proofs.making.none_made.Given as goal
 
 abbrev pub invariant-loop-v : goal.invariant-loop-v

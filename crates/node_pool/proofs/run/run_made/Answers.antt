@@ -1,11 +1,11 @@
 use Rattle.std.proofs.Common.{◌≡◌, ◌≤◌, Bool, true, false, if◌then◌else◌, Ok, Err, ap, map, refl, sym, ◌∙◌, subst}
 use Rattle.std.specs.Prelude.{All, Result}
-use Rattle.pool.specs.link_queue.Ends.{link_capacity}
+use Rattle.link_queue.specs.Ends.{link_capacity}
 use Rattle.outcomes.specs.Full.{some_full}
-use Rattle.outcomes.specs.interference.Net.{IsNetwork}
-use Rattle.outcomes.specs.gather_laws.Outcome.{IsOutcome}
-use Rattle.pool.specs.declared.fault.PoolFault.{PoolFault}
-use Rattle.pool.specs.declared.fault.PoolFault.TheVariants.{StampFull}
+use Rattle.interference.specs.Net.{IsNetwork}
+use Rattle.gather_laws.specs.Outcome.{IsOutcome}
+use Rattle.run_faults.specs.declared.fault.PoolFault.{PoolFault}
+use Rattle.run_faults.specs.declared.fault.PoolFault.TheVariants.{StampFull}
 use Rattle.node_pool.specs.Ends.{full_after}
 use Rattle.node_pool.specs.Makes.{AreMade}
 use Rattle.node_pool.proofs.MadeRows.{made_are_new, made_within}

@@ -1,5 +1,5 @@
 use Rattle.std.proofs.Common.{map}
-use Rattle.pool.specs.actor.Tables.{table_of}
+use Rattle.actor.specs.Tables.{table_of}
 use Rattle.node_pool.specs.Makes.{tables_of}
 use Rattle.node_pool.proofs.run.run_workers.Given as goal
 

@@ -2,8 +2,8 @@ use Rattle.std.proofs.Common.{◌≡◌, ◌-◌, ◌+◌, ◌++◌, length, map
 use Rattle.std.specs.Prelude.{reverse}
 use Rattle.std.specs.List.{range_with_len}
 use Rattle.std.proofs.lemmas.List.{length-map, length_push}
-use Rattle.outcomes.specs.interference.Net.{count_of, vertices}
-use Rattle.pool.specs.alpha_core.Program.{start_node}
+use Rattle.interference.specs.Net.{count_of, vertices}
+use Rattle.alpha_core.specs.Program.{start_node}
 use Rattle.node_pool.specs.News.{AreNewOf}
 use Rattle.node_pool.proofs.Growth.{all_more, all_none, last_says, rows_less}
 use Rattle.node_pool.proofs.Descent.{one_down}

@@ -1,8 +1,8 @@
 use Rattle.std.proofs.Common.{◌≡◌, ◌-◌, ◌≤◌, ◌++◌, ℕ, map, vec_len}
 use Rattle.std.specs.Prelude.{All, reverse}
 use Rattle.std.specs.List.{range_with_len}
-use Rattle.outcomes.specs.interference.Net.{vertices}
-use Rattle.pool.specs.alpha_core.Program.{start_node}
+use Rattle.interference.specs.Net.{vertices}
+use Rattle.alpha_core.specs.Program.{start_node}
 use Rattle.outcomes.specs.Rows.{row_at}
 use Rattle.node_pool.specs.News.{AreNewOf}
 use Rattle.node_pool.proofs.starting.start_nodes.Given as goal

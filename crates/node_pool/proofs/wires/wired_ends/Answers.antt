@@ -4,8 +4,8 @@ use Rattle.std.specs.Prelude.{get_or}
 use Rattle.std.proofs.lemmas.List.{length_push}
 use Rattle.std.proofs.lemmas.Iterator.Consumers.{YieldsList-turn}
 use Rattle.std.proofs.lemmas.Iterator.Adapters.{YieldsList-from_vec}
-use Rattle.outcomes.specs.interference.Net.{back_port_of, neighbour_of}
-use Rattle.pool.specs.link_queue.Ends.{put_list, taken_list}
+use Rattle.interference.specs.Net.{back_port_of, neighbour_of}
+use Rattle.link_queue.specs.Ends.{put_list, taken_list}
 use Rattle.node_pool.specs.News.{AreNewAt}
 use Rattle.node_pool.proofs.Growth.{all_more, both, handed, place_more}
 use Rattle.node_pool.proofs.MadeRows.{same_place}

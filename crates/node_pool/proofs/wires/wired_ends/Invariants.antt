@@ -1,8 +1,8 @@
 use Rattle.std.proofs.Common.{◌≡◌, ◌≤◌, ℕ, [], length, map, vec_capacity, vec_len}
 use Rattle.std.specs.Prelude.{All}
 use Rattle.std.specs.List.{range_with_len}
-use Rattle.outcomes.specs.interference.Net.{back_port_of, neighbour_of}
-use Rattle.pool.specs.link_queue.Ends.{put_list, taken_list}
+use Rattle.interference.specs.Net.{back_port_of, neighbour_of}
+use Rattle.link_queue.specs.Ends.{put_list, taken_list}
 use Rattle.node_pool.proofs.wires.wired_ends.Given as goal
 
 abbrev pub invariant-loop-ends : goal.invariant-loop-ends

@@ -2,7 +2,7 @@
 use Rattle.std.proofs.Common.{Some, map, sym, ap, ◌∙◌, arith, rules, map-id}
 use Rattle.std.proofs.lemmas.Iterator.Consumers.{YieldsList-end, YieldsList-turn}
 use Rattle.std.proofs.lemmas.Iterator.Adapters.{YieldsList-from_vec}
-use Rattle.actor.proofs.worker_deques.Views.{as_many}
+use Rattle.worker_deques.proofs.Views.{as_many}
 use Rattle.outcomes.proofs.ReadLists.{both_pushed}
 use Rattle.outcomes.proofs.cross.all_slots.Goals as goal
 

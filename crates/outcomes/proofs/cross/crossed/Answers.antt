@@ -1,7 +1,7 @@
 use Rattle.std.proofs.Common.{◌≡◌, ◌+◌, Some, length, map, sym, ap, ◌∙◌, arith}
 use Rattle.std.proofs.lemmas.List.{length-map, map-append}
 use Rattle.std.proofs.lemmas.Simd.{map-map}
-use Rattle.gather_laws.specs.alpha_laws.Net.{IsVertex, count_of}
+use Rattle.interference.specs.Net.{IsVertex, count_of}
 use Rattle.outcomes.proofs.Crosses.{starts_shape, starts_at, full, more_rows, more_at, less_left}
 use Rattle.outcomes.proofs.cross.crossed.Goals as goal
 

@@ -1,5 +1,5 @@
 use Rattle.std.proofs.Common.{◌≡◌, ◌<◌, ◌≤◌, ℕ, map, vec_len, vec_capacity, length}
-use Rattle.gather_laws.specs.alpha_laws.Net.{IsVertex, back_port_of, count_of, degree_of, neighbour_of}
+use Rattle.interference.specs.Net.{IsVertex, back_port_of, count_of, degree_of, neighbour_of}
 use Rattle.outcomes.specs.Rows.{HasShape, row_at, slot_at, thing_at}
 use Rattle.outcomes.proofs.cross.crossed.Given as goal
 

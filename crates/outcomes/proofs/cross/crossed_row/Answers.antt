@@ -1,6 +1,6 @@
 use Rattle.std.proofs.Common.{◌≡◌, ◌<◌, None, Some, length, map, refl, sym, ap, ◌∙◌, arith}
 use Rattle.std.specs.List.{range_with_len}
-use Rattle.gather_laws.specs.alpha_laws.Net.{back_port_of, degree_of, neighbour_of}
+use Rattle.interference.specs.Net.{back_port_of, degree_of, neighbour_of}
 use Rattle.outcomes.specs.Rows.{set_slot, slot_at}
 use Rattle.outcomes.proofs.Crosses.{out_shape, out_row, out_left, out_others}
 use Rattle.outcomes.proofs.cross.crossed_row.Goals as goal

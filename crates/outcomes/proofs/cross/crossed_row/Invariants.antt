@@ -1,6 +1,6 @@
 use Rattle.std.proofs.Common.{◌≡◌, ◌≢◌, ◌<◌, ◌≤◌, ℕ, Some, map, vec_len, vec_capacity}
 use Rattle.std.specs.List.{range_with_len}
-use Rattle.gather_laws.specs.alpha_laws.Net.{IsVertex, back_port_of, degree_of, neighbour_of}
+use Rattle.interference.specs.Net.{IsVertex, back_port_of, degree_of, neighbour_of}
 use Rattle.outcomes.specs.Rows.{HasShape, slot_at}
 use Rattle.outcomes.proofs.cross.crossed_row.Given as goal
 

@@ -1,15 +1,15 @@
 use Rattle.std.proofs.Common.{◌≡◌, ◌≤◌, ◌++◌, length, map, refl, sym, ◌∙◌, subst}
 use Rattle.std.specs.Prelude.{All}
 use Rattle.std.proofs.lemmas.Simd.{map-map}
-use Rattle.gather_laws.specs.alpha_laws.Net.{IsNetwork}
+use Rattle.interference.specs.Net.{IsNetwork}
 use Rattle.actor.proofs.Lists.{as_long}
 use Rattle.actor.specs.Node.{by_port, reacted_to}
 use Rattle.actor.specs.Written.{IsTranscript}
-use Rattle.actor.specs.stamps.Stamps.{bare_of}
+use Rattle.entries.specs.Rows.{bare_of}
 use Rattle.outcomes.specs.Rows.{AreCrossed, HasShape}
 use Rattle.actor.specs.HasStamps.{HasStamps}
-use Rattle.actor.specs.entries.Recorded.{entries_by}
-use Rattle.actor.specs.link_queue.Ends.{held_stamped, put_list, put_stamped, taken_list, taken_stamped}
+use Rattle.entries.specs.Recorded.{entries_by}
+use Rattle.link_queue.specs.Ends.{held_stamped, put_list, put_stamped, taken_list, taken_stamped}
 use Rattle.outcomes.proofs.Full.{all_refused}
 use Rattle.outcomes.proofs.Sides.{all_by}
 use Rattle.outcomes.specs.Meets.{history_of_met, put_of, taken_of}

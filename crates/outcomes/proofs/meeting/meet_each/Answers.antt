@@ -4,9 +4,9 @@ use Rattle.std.proofs.lemmas.List.{length-map, map-append}
 use Rattle.std.proofs.lemmas.List.Elements.{All-push, All-same}
 use Rattle.std.proofs.lemmas.Iterator.Consumers.{YieldsList-end, YieldsList-turn}
 use Rattle.std.proofs.lemmas.Iterator.Adapters.{YieldsList-from_vec}
-use Rattle.actor.specs.link_queue.Ends.{held_stamped, put_stamped, taken_stamped}
+use Rattle.link_queue.specs.Ends.{held_stamped, put_stamped, taken_stamped}
 use Rattle.outcomes.specs.Meets.{RowsAreMet, put_of}
-use Rattle.actor.proofs.worker_deques.Views.{as_many}
+use Rattle.worker_deques.proofs.Views.{as_many}
 use Rattle.outcomes.proofs.Meetings.{err_says}
 use Rattle.outcomes.proofs.MetRows.{one_row_met}
 use Rattle.outcomes.proofs.meeting.meet_each.Goals as goal

@@ -1,6 +1,6 @@
 use Rattle.std.proofs.Common.{◌≤◌, ℕ, length, map, vec_len, vec_capacity}
 use Rattle.std.specs.Prelude.{All}
-use Rattle.actor.specs.link_queue.Ends.{held_stamped, link_capacity, put_stamped, taken_stamped}
+use Rattle.link_queue.specs.Ends.{held_stamped, link_capacity, put_stamped, taken_stamped}
 use Rattle.outcomes.specs.Meets.{RowsAreMet}
 use Rattle.outcomes.proofs.meeting.meet_each.Given as goal
 

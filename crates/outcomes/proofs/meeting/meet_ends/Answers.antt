@@ -1,5 +1,5 @@
 use Rattle.std.proofs.Common.{ℕ, map, sym, ap, ◌∙◌, subst}
-use Rattle.actor.specs.link_queue.Ends.{put_stamped, taken_stamped}
+use Rattle.link_queue.specs.Ends.{put_stamped, taken_stamped}
 use Rattle.outcomes.specs.Meets.{AreMet}
 use Rattle.outcomes.proofs.Meetings.{as_long, err_says}
 use Rattle.outcomes.proofs.Sides.{firsts, seconds, same_each, ok_says}

@@ -3,8 +3,8 @@ use Rattle.std.proofs.lemmas.List.{map-append}
 use Rattle.std.proofs.lemmas.List.Elements.{All-push, All-same}
 use Rattle.std.proofs.lemmas.Iterator.Consumers.{YieldsList-turn}
 use Rattle.std.proofs.lemmas.Iterator.Adapters.{YieldsList-from_vec}
-use Rattle.actor.specs.link_queue.Ends.{held_stamped, put_stamped, taken_stamped}
-use Rattle.actor.proofs.worker_deques.Views.{as_many}
+use Rattle.link_queue.specs.Ends.{held_stamped, put_stamped, taken_stamped}
+use Rattle.worker_deques.proofs.Views.{as_many}
 use Rattle.outcomes.specs.Meets.{put_of}
 use Rattle.outcomes.proofs.MetRows.{one_met}
 use Rattle.outcomes.proofs.meeting.meet_row.Goals as goal

@@ -2,8 +2,8 @@
 use Rattle.std.proofs.Common.{◌<◌, length, map, refl, sym, ap, ◌∙◌, arith, rules, map-id}
 use Rattle.std.proofs.lemmas.Iterator.Consumers.{YieldsList-end, YieldsList-turn}
 use Rattle.std.proofs.lemmas.Iterator.Adapters.{YieldsList-from_vec}
-use Rattle.actor.specs.entries.Recorded.{entries_by}
-use Rattle.actor.proofs.worker_deques.Views.{as_many}
+use Rattle.entries.specs.Recorded.{entries_by}
+use Rattle.worker_deques.proofs.Views.{as_many}
 use Rattle.outcomes.proofs.ReadLists.{both_pushed}
 use Rattle.outcomes.proofs.taking_apart.apart.Given.{Over}
 use Rattle.outcomes.proofs.taking_apart.apart.Goals.{In-Some}

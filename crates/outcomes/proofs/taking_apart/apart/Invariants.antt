@@ -1,5 +1,5 @@
 use Rattle.std.proofs.Common.{◌≡◌, ◌≤◌, map, vec_len, vec_capacity}
-use Rattle.actor.specs.entries.Recorded.{entries_by}
+use Rattle.entries.specs.Recorded.{entries_by}
 use Rattle.outcomes.proofs.taking_apart.apart.Given as goal
 
 abbrev pub invariant-loop-node : goal.invariant-loop-node

@@ -1,11 +1,11 @@
 use Rattle.std.proofs.Common.{◌≡◌, ◌-◌, [], length, map, refl, sym, ap, ◌∙◌, arith, rules, vec_len}
 use Rattle.std.specs.List.{range_with_len}
-use Rattle.actor.specs.interference.Net.{count_of}
+use Rattle.interference.specs.Net.{count_of}
 use Rattle.crossbeam_deque.specs.Handles.{stealer_deque, view, worker_deque, worker_view}
-use Rattle.worker_deques.specs.deque_rule.Deques.{deque_of}
-use Rattle.worker_deques.specs.deque_rule.Ledgers.{all_shares, ledger, shares_of}
+use Rattle.deque_rule.specs.Deques.{deque_of}
+use Rattle.deque_rule.specs.Ledgers.{all_shares, ledger, shares_of}
 use Rattle.worker_deques.proofs.Holds.{dealt_on}
-use Rattle.worker_deques.proofs.deque_rule.Rule.{deals}
+use Rattle.deque_rule.proofs.Rule.{deals}
 use Rattle.worker_deques.proofs.Views.{as_many, carried}
 use Rattle.pool.proofs.Numbers.{as_many as many_nodes, from_one, from_the_last}
 use Rattle.pool.proofs.run.run_all.Goals as goal

@@ -4,7 +4,7 @@ use Rattle.std.proofs.lemmas.List.{length-map, length_push}
 use Rattle.std.proofs.lemmas.Iterator.Consumers.{YieldsList-end, YieldsList-turn}
 use Rattle.std.proofs.lemmas.Iterator.Adapters.{YieldsList-from_vec}
 use Rattle.crossbeam_deque.specs.Handles.{stealer_deque}
-use Rattle.worker_deques.specs.deque_rule.Deques.{deque_of}
+use Rattle.deque_rule.specs.Deques.{deque_of}
 use Rattle.worker_deques.proofs.Pushed.{image_pushed}
 use Rattle.pool.proofs.threads.start_all.Given.{Over}
 use Rattle.pool.proofs.threads.start_all.Goals.{In-Some}

@@ -1,10 +1,10 @@
 -- The neighbour of a port has that port; so the text has the lines of the neighbours up to the port.
 use Rattle.std.proofs.Common.{◌≡◌, ◌∙◌, ◌+◌, ◌<◌, ◌++◌, ℕ, List, Option, Some, ap, append-nil, flat_map, refl, subst, sym, take}
 use Rattle.std.proofs.lemmas.List.{flat_map_more, take_more}
-use Rattle.alpha_core.specs.interference.Net.{Net, IsNetwork, IsVertex, degree_of, neighbour_of, neighbours, port_to}
-use Rattle.alpha_core.proofs.interference.Neighbours.{port_to-is}
-use Rattle.alpha_core.specs.node_api.Boxes.{at_port}
-use Rattle.alpha_core.specs.node_api.Run.{outbox_at}
+use Rattle.interference.specs.Net.{Net, IsNetwork, IsVertex, degree_of, neighbour_of, neighbours, port_to}
+use Rattle.interference.proofs.Neighbours.{port_to-is}
+use Rattle.node_api.specs.Boxes.{at_port}
+use Rattle.node_api.specs.Run.{outbox_at}
 use Rattle.round_texts.specs.PutsText.{put_text, puts_text}
 use Rattle.round_texts.proofs.Quiet.{quiet_text}
 use Rattle.round_texts.proofs.puts.push_puts.Goals as goal

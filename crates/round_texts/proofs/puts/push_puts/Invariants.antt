@@ -1,7 +1,7 @@
 use Rattle.std.proofs.Common.{◌≡◌, ◌++◌, flat_map, take}
-use Rattle.alpha_core.specs.interference.Net.{neighbours, port_to}
-use Rattle.alpha_core.specs.node_api.Boxes.{at_port}
-use Rattle.alpha_core.specs.node_api.Run.{outbox_at}
+use Rattle.interference.specs.Net.{neighbours, port_to}
+use Rattle.node_api.specs.Boxes.{at_port}
+use Rattle.node_api.specs.Run.{outbox_at}
 use Rattle.round_texts.specs.PutsText.{put_text}
 use Rattle.round_texts.proofs.puts.push_puts.Given as goal
 

@@ -1,6 +1,6 @@
 use Rattle.std.proofs.Common.{◌≡◌, ◌+◌, ◌++◌, arith}
 use Rattle.round_texts.specs.RoundsText.{pulse_line, vertex_text}
-use Rattle.wire_texts.proofs.Ranges.{texts-more}
+use Rattle.number_rows.proofs.Ranges.{texts-more}
 use Rattle.round_texts.proofs.rounds.push_pulse.Goals as goal
 
 pub loop-i-preserved : goal.loop-i-preserved

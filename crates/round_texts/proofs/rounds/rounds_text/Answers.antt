@@ -1,7 +1,7 @@
 use Rattle.std.proofs.Common.{◌≡◌, ◌∙◌, ◌+◌, ◌++◌, ap, arith}
 use Rattle.sync_rounds.specs.Rounds.{AtPulse}
 use Rattle.round_texts.specs.RoundsText.{pulse_text}
-use Rattle.wire_texts.proofs.Ranges.{texts-more}
+use Rattle.number_rows.proofs.Ranges.{texts-more}
 use Rattle.round_texts.proofs.rounds.rounds_text.Goals as goal
 
 pub loop-done-preserved : goal.loop-done-preserved

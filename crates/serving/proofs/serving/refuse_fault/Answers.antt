@@ -1,5 +1,5 @@
 use Rattle.std.proofs.Common.{◌∙◌, ap, inl, subst}
-use Rattle.byte_functions.specs.answers.Faults.{fault_line}
+use Rattle.answers.specs.Faults.{fault_line}
 use Rattle.serving.specs.Serve.{IsReported}
 use Rattle.serving.specs.Streams.{writing}
 use Rattle.serving.proofs.serving.refuse_fault.Goals as goal

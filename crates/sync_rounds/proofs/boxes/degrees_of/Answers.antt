@@ -1,6 +1,6 @@
 use Rattle.std.proofs.Common.{◌+◌, ◌<◌, length, ◌∙◌, arith}
 use Rattle.std.proofs.lemmas.List.{length-set}
-use Rattle.node_api.proofs.interference.Neighbours.{degree-within}
+use Rattle.interference.proofs.Neighbours.{degree-within}
 use Rattle.sync_rounds.proofs.Resting.{degrees-more}
 use Rattle.sync_rounds.proofs.boxes.degrees_of.Goals as goal
 

@@ -1,5 +1,5 @@
 use Rattle.std.proofs.Common.{◌≡◌, ◌+◌, length}
-use Rattle.node_api.specs.interference.Net.{greatest_degree_of}
+use Rattle.interference.specs.Net.{greatest_degree_of}
 use Rattle.sync_rounds.specs.Rests.{HasDegrees}
 use Rattle.sync_rounds.proofs.boxes.degrees_of.Given as goal
 

@@ -2,8 +2,8 @@ use Rattle.std.proofs.Common.{◌≡◌, ◌+◌, ℕ, List, length, get_or, ref
 use Rattle.std.specs.Prelude.{Option, false}
 use Rattle.std.proofs.lemmas.List.{get_or_read, length_push}
 use Rattle.node_api.specs.Boxes.{nothing}
-use Rattle.node_api.specs.interference.Net.{degree_of, greatest_degree_of}
-use Rattle.node_api.proofs.interference.Neighbours.{degree-within, greatest_degree-within}
+use Rattle.interference.specs.Net.{degree_of, greatest_degree_of}
+use Rattle.interference.proofs.Neighbours.{degree-within, greatest_degree-within}
 use Rattle.sync_rounds.proofs.Bounds.{fewer, none_below, upto_greatest}
 use Rattle.sync_rounds.proofs.Resting.{outboxes-push}
 use Rattle.sync_rounds.proofs.boxes.outboxes_of.Goals as goal

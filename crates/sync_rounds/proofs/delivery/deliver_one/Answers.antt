@@ -1,7 +1,7 @@
 -- The neighbour has an inbox with a place for the port that leads back, which is empty; so this message moves one entry, whatever the
 -- outboxes are that send it and whichever ports were served before.
 use Rattle.std.proofs.Common.{ap, arith}
-use Rattle.node_api.specs.interference.Net.{degree_of}
+use Rattle.interference.specs.Net.{degree_of}
 use Rattle.sync_rounds.proofs.Messages.{free_at, delivered_at}
 use Rattle.sync_rounds.proofs.delivery.deliver_one.Goals as goal
 

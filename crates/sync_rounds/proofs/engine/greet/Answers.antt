@@ -1,6 +1,6 @@
 -- A node that was made greets (`started`), so its outbox is the run's, and what is in it goes to the neighbours.
 use Rattle.std.proofs.Common.{◌≡◌, ◌<◌, ℕ, length, set, ap, sym, ◌∙◌, subst}
-use Rattle.node_api.specs.interference.Net.{degree_of}
+use Rattle.interference.specs.Net.{degree_of}
 use Rattle.node_api.specs.Boxes.{nothing}
 use Rattle.node_api.specs.Program.{own_of}
 use Rattle.sync_rounds.specs.Rests.{HasOutboxes, sent_by}

@@ -1,6 +1,6 @@
 use Rattle.std.proofs.Common.{◌≡◌, ◌≤◌, ◌<◌, ◌+◌, ℕ, suc, [], Bool, false, length}
 use Rattle.std.specs.Prelude.{slice_index_or}
-use Rattle.node_api.specs.interference.Net.{count_of}
+use Rattle.interference.specs.Net.{count_of}
 use Rattle.node_api.specs.Boxes.{Mail, unread}
 use Rattle.node_api.specs.Program.{RestsUntil}
 use Rattle.node_api.specs.Run.{inbox_at, state_at}

@@ -1,6 +1,6 @@
 -- The node makes the run's next pulse (`stepped`), so its outbox is the run's, and what is in it goes to the neighbours.
 use Rattle.std.proofs.Common.{◌≡◌, ◌<◌, ◌+◌, ℕ, suc, length, set, ap, sym, ◌∙◌, arith, subst}
-use Rattle.node_api.specs.interference.Net.{degree_of}
+use Rattle.interference.specs.Net.{degree_of}
 use Rattle.node_api.specs.Boxes.{Mail, nothing}
 use Rattle.node_api.specs.Program.{RestsUntil}
 use Rattle.sync_rounds.specs.Rests.{HasOutboxes, sent_by}

@@ -1,5 +1,5 @@
 use Rattle.std.proofs.Common.{◌∙◌, sym}
-use Rattle.channel_plan.proofs.Readings.{line-cons, line-none}
+use Rattle.dimacs_col.proofs.Splitting.{line-cons, line-none}
 use Rattle.transcripts.proofs.Either.{stamped-blank, stamped-none, stamped-words}
 use Rattle.transcripts.proofs.editions.is_stamped.Goals as goal
 

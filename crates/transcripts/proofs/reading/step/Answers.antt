@@ -1,5 +1,5 @@
 use Rattle.std.proofs.Common.{◌∙◌, ◌++◌, ◌∷◌, [], ap, refl, sym}
-use Rattle.channel_plan.proofs.Readings.{line-cons, line-none}
+use Rattle.dimacs_col.proofs.Splitting.{line-cons, line-none}
 use Rattle.transcripts.specs.EntryLines.{header_of}
 use Rattle.transcripts.specs.EditionRows.{edition_word, row_in}
 use Rattle.transcripts.proofs.Readings.{header-right, header-wrong, known-blank, row-right, row-wrong}

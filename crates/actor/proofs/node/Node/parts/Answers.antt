@@ -2,7 +2,7 @@
 use Rattle.std.proofs.Common.{◌<◌, ap, subst, sym, true≢false, ◌∙◌}
 use Rattle.std.specs.Prelude.{IsSome}
 use Rattle.std.proofs.lemmas.Result.{IfOk-from_err}
-use Rattle.alpha_laws.specs.alpha_core.View.{can_pulse}
+use Rattle.alpha_core.specs.View.{can_pulse}
 use Rattle.actor.specs.declared.refused.TurnRefused.TheVariants.{Memory, StampFull}
 use Rattle.actor.proofs.Refusals.{same_refusal}
 use Rattle.actor.proofs.Unmoved.{blocked-after, still_unmoved}

@@ -2,13 +2,13 @@
 use Rattle.std.proofs.Common.{[], ◌∷◌, ◌++◌, ◌<◌, ◌^◌, length, refl, sym, ap, ◌∙◌, inl, inr, subst, arith, true≢false}
 use Rattle.std.specs.Prelude.{IsTrue}
 use Rattle.std.proofs.lemmas.Result.{IfOk-from_err}
-use Rattle.alpha_laws.specs.alpha_core.StampedWires.{last_stamp, wires_of}
+use Rattle.alpha_core.specs.StampedWires.{last_stamp, wires_of}
 use Rattle.link_queue.specs.Ends.{put_list, put_stamped}
 use Rattle.actor.proofs.Keeping.{count_puts, count_takes, kept-none-put, kept-put, kept-room, last_went, port_below}
 use Rattle.actor.proofs.Lists.{same_all, get_map, at_place, below_as_many}
 use Rattle.actor.proofs.Kept.{may_put, legal_by_name}
-use Rattle.alpha_laws.specs.interference.Net.{degree_of, neighbour_of}
-use Rattle.alpha_laws.specs.alpha_core.Program.{IsLegal}
+use Rattle.interference.specs.Net.{degree_of, neighbour_of}
+use Rattle.alpha_core.specs.Program.{IsLegal}
 use Rattle.actor.specs.HasStamps.{aside_stamp}
 use Rattle.actor.proofs.Refusals.{first_there, next_above, past_greater}
 use Rattle.actor.proofs.Stepping.{full-there, stepped-did, stepped-full, stepped-memory, stepped-not}

@@ -1,12 +1,12 @@
 use Rattle.std.proofs.Common.{[], sym, subst, ap, ◌∙◌, map}
-use Rattle.alpha_laws.specs.interference.Net.{IsNetwork, IsVertex, degree_of}
-use Rattle.alpha_laws.specs.node_api.Program.{last_pulse_on}
-use Rattle.alpha_laws.specs.alpha_core.Program.{start_node}
+use Rattle.interference.specs.Net.{IsNetwork, IsVertex, degree_of}
+use Rattle.node_api.specs.Program.{last_pulse_on}
+use Rattle.alpha_core.specs.Program.{start_node}
 use Rattle.alpha_laws.proofs.NodeLaws.{starts_keep}
 use Rattle.alpha_laws.specs.Kept.{NodeKept}
 use Rattle.alpha_laws.proofs.Runs.{runs}
-use Rattle.stamps.specs.entries.Recorded.{entries_by, is_on}
-use Rattle.stamps.specs.Stamps.{bare_of}
+use Rattle.entries.specs.Recorded.{entries_by, is_on}
+use Rattle.entries.specs.Rows.{bare_of}
 use Rattle.link_queue.specs.Ends.{put_list, put_stamped, taken_list, taken_stamped}
 use Rattle.actor.specs.Node.{by_port, links_in, links_out}
 use Rattle.actor.proofs.Lists.{none_at}

@@ -2,7 +2,7 @@
 use Rattle.std.proofs.Common.{◌+◌, length, refl, ap, ◌∙◌, sym, subst, arith, true≢false}
 use Rattle.std.specs.Prelude.{IsTrue, max}
 use Rattle.std.proofs.lemmas.Result.{IfOk-from_err}
-use Rattle.alpha_laws.specs.alpha_core.StampedWires.{wires_of}
+use Rattle.alpha_core.specs.StampedWires.{wires_of}
 use Rattle.link_queue.specs.Ends.{taken_list}
 use Rattle.actor.proofs.Keeping.{came, count_takes, kept-full, kept-none-came, kept-refused, kept-room, kept-took, last_came}
 use Rattle.actor.proofs.Lists.{below_as_many, same_all}

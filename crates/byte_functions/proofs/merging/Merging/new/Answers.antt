@@ -1,7 +1,7 @@
 use Rattle.std.proofs.Common.{◌∙◌, ◌++◌, ◌∷◌, [], arith, ap, length, map, rules, subst, sym, take}
 use Rattle.std.specs.BinaryHeap.{heap_items}
 use Rattle.std.proofs.lemmas.List.{length-map, length-take-le, map-append, take_more}
-use Rattle.node_pool.specs.outcomes.Gathers.{gathered_of}
+use Rattle.outcomes.specs.Gathers.{gathered_of}
 use Rattle.byte_functions.specs.Merge.{AreKeys, IsKeyAdded}
 use Rattle.byte_functions.proofs.Keys.{keys_more, no_keys}
 use Rattle.byte_functions.proofs.merging.Merging.new.Goals as goal

@@ -1,6 +1,6 @@
 use Rattle.std.proofs.Common.{◌≡◌, map, take}
 use Rattle.std.specs.BinaryHeap.{heap_items}
-use Rattle.node_pool.specs.outcomes.Gathers.{gathered_of}
+use Rattle.outcomes.specs.Gathers.{gathered_of}
 use Rattle.byte_functions.specs.Merge.{AreKeys}
 use Rattle.byte_functions.proofs.merging.Merging.new.Given as goal
 

@@ -1,7 +1,7 @@
 use Rattle.std.proofs.Common.{◌∙◌, ap, refl, sym}
 use Rattle.std.specs.Option.{option_map}
-use Rattle.channel_plan.proofs.Readings.{header-right, header-wrong, known-blank, line-cons, line-none, row-right}
-use Rattle.channel_plan.proofs.Readings.{row-wrong}
+use Rattle.channel_plan.proofs.Readings.{header-right, header-wrong, known-blank, row-right, row-wrong}
+use Rattle.dimacs_col.proofs.Splitting.{line-cons, line-none}
 use Rattle.channel_plan.specs.Reader.{known}
 use Rattle.channel_plan.proofs.reading.Reader.step.Goals as goal
 

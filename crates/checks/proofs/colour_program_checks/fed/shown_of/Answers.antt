@@ -1,9 +1,9 @@
 use Rattle.std.proofs.Common.{◌≡◌, ℕ, ap, subst}
 use Rattle.std.specs.Prelude.{List, Option, Result, Ok, Err, IfOk, MatchResult, OnErr, length}
-use Rattle.alpha_core.specs.node_api.Refused.{Refused}
-use Rattle.colour_program.specs.colour_rules.Payload.{Payload}
-use Rattle.colour_program.specs.colour_rules.Node.{Node, ports}
-use Rattle.colour_program.proofs.colour_rules.KeptPorts.{keeps}
+use Rattle.node_api.specs.declared.program.Refused.{Refused}
+use Rattle.colour_rules.specs.declared.payload.Payload.{Payload}
+use Rattle.colour_rules.specs.Node.{Node, ports}
+use Rattle.colour_rules.proofs.KeptPorts.{keeps}
 use Rattle.checks.proofs.colour_program_checks.fed.shown_of.Goals as goal
 
 abbrev Keeps : ℕ → Node × List (Option Payload) → Type 0

@@ -1,5 +1,5 @@
 use Rattle.std.proofs.Common.{◌≡◌}
-use Rattle.colour_program.specs.colour_rules.Node.{ports}
+use Rattle.colour_rules.specs.Node.{ports}
 use Rattle.checks.proofs.colour_program_checks.refusals.show_the_same.Given as goal
 
 abbrev pub invariant-loop-turn : goal.invariant-loop-turn

@@ -1,10 +1,10 @@
 use Rattle.std.proofs.Common.{◌≡◌, ℕ, List, Ok, ap, sym, ◌∙◌, subst}
 use Rattle.std.specs.Prelude.{Option, IsTrue, false}
 use Rattle.node_api.specs.Boxes.{HasFrom, nothing}
-use Rattle.colour_laws.specs.colour_rules.Payload.{Payload}
-use Rattle.colour_laws.specs.colour_rules.Node.{Node, ports}
-use Rattle.colour_laws.specs.colour_rules.Program.{next}
-use Rattle.colour_laws.proofs.colour_rules.Idling.{idle-waiting}
+use Rattle.colour_rules.specs.declared.payload.Payload.{Payload}
+use Rattle.colour_rules.specs.Node.{Node, ports}
+use Rattle.colour_rules.specs.Program.{next}
+use Rattle.colour_rules.proofs.Idling.{idle-waiting}
 use Rattle.node_api.proofs.Reading.{nothing-came}
 use Rattle.colour_program.proofs.colouring.ColouringNodeProgram.handle_messages.Goals as goal
 

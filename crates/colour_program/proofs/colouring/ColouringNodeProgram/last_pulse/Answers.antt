@@ -1,8 +1,8 @@
 use Rattle.std.proofs.Common.{rules, ◌+◌, ◌*◌, ◌^◌, ◌<◌, ◌≤◌, arith}
-use Rattle.node_api.below.dimacs_col.specs.declared.limits.TheConstants.{MAX_BARS}
-use Rattle.node_api.below.interference.specs.declared.limits.TheConstants.{MAX_DEGREE}
-use Rattle.node_api.specs.interference.Net.{greatest_degree_of, forest_count_of}
-use Rattle.node_api.proofs.interference.Neighbours.{greatest_bars-within, greatest_degree-within, forest_count-within}
+use Rattle.graph_limits.specs.declared.limits.TheConstants.{MAX_BARS}
+use Rattle.interference.specs.declared.limits.TheConstants.{MAX_DEGREE}
+use Rattle.interference.specs.Net.{greatest_degree_of, forest_count_of}
+use Rattle.interference.proofs.Neighbours.{greatest_bars-within, greatest_degree-within, forest_count-within}
 use Rattle.colour_program.proofs.Pulses.{pulses-few}
 use Rattle.colour_program.proofs.colouring.ColouringNodeProgram.last_pulse.Goals as goal
 use Rattle.colour_program.proofs.colouring.ColouringNodeProgram.last_pulse.Goals.{After-greatest_bars}

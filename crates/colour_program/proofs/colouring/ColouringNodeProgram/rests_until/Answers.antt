@@ -1,9 +1,9 @@
 -- The pulses at which the node waits are idle, and they begin at the next pulse at the latest.
 use Rattle.std.proofs.Common.{◌≡◌, ◌≤◌, Ok, arith, subst}
 use Rattle.node_api.specs.Boxes.{nothing}
-use Rattle.colour_laws.specs.colour_rules.Node.{Node, ports}
-use Rattle.colour_laws.specs.colour_rules.Program.{next}
-use Rattle.colour_laws.proofs.colour_rules.Idling.{idle-waiting}
+use Rattle.colour_rules.specs.Node.{Node, ports}
+use Rattle.colour_rules.specs.Program.{next}
+use Rattle.colour_rules.proofs.Idling.{idle-waiting}
 use Rattle.colour_program.proofs.colouring.ColouringNodeProgram.rests_until.Goals as goal
 
 pub returns-then-self-saturating_add : goal.returns-then-self-saturating_add

@@ -2,8 +2,8 @@
 use Rattle.std.proofs.Common.{◌≡◌, ◌∙◌, ◌++◌, ap, ap₂}
 use Rattle.std.proofs.lemmas.Result.{IfOk-equal}
 use Rattle.node_api.specs.Program.{Sizes, sizes_of}
-use Rattle.colour_laws.specs.colour_rules.Node.{Node, phase_of}
-use Rattle.colour_laws.specs.colour_rules.Phase.{Phase}
+use Rattle.colour_rules.specs.Node.{Node, phase_of}
+use Rattle.colour_rules.specs.declared.phase.Phase.{Phase}
 use Rattle.colour_program.specs.ColoursText.{node_text}
 use Rattle.colour_program.proofs.Sizes.{sizes_at}
 use Rattle.colour_program.proofs.colours_text.ColouringProgramText.push_lines.Goals as goal

@@ -1,10 +1,10 @@
 use Rattle.std.proofs.Common.{rules, ◌≡◌, ℕ, ◌+◌, ◌^◌, ◌<◌, ◌≤◌, List, length, replicate, refl, subst, ap, sym, ◌∙◌, arith}
 use Rattle.std.proofs.lemmas.List.{length-replicate}
-use Rattle.node_api.below.dimacs_col.specs.declared.limits.TheConstants.{MAX_BARS}
-use Rattle.node_api.below.interference.specs.declared.limits.TheConstants.{MAX_DEGREE}
-use Rattle.node_api.specs.interference.Net.{IsNetwork, Net, bars_of, greatest_bars_of, greatest_degree_of, forest_count_of}
+use Rattle.graph_limits.specs.declared.limits.TheConstants.{MAX_BARS}
+use Rattle.interference.specs.declared.limits.TheConstants.{MAX_DEGREE}
+use Rattle.interference.specs.Net.{IsNetwork, Net, bars_of, greatest_bars_of, greatest_degree_of, forest_count_of}
 use Rattle.node_api.specs.Program.{Sizes, own_of, sizes_of, span}
-use Rattle.node_api.proofs.interference.Neighbours.{bars-within, greatest_bars-within, greatest_degree-within, forest_count-within}
+use Rattle.interference.proofs.Neighbours.{bars-within, greatest_bars-within, greatest_degree-within, forest_count-within}
 use Rattle.forests.specs.declared.numbering.Role.TheVariants.{Unknown}
 use Rattle.colour_rules.specs.InForests.{before_in, colours_in}
 use Rattle.std.specs.Ordering.{nat_cmp}

@@ -2,7 +2,7 @@
 -- (Working.ready); then colours and those kept are the definition's (turned), the node is the definition's (worked) and
 -- keeps its invariant (stays), whether or not its children are told.
 use Rattle.std.proofs.Common.{◌≡◌, ◌≤◌, ℕ, List, length, ap, sym, ◌∙◌, subst}
-use Rattle.node_api.below.interference.specs.declared.limits.TheConstants.{MAX_DEGREE}
+use Rattle.interference.specs.declared.limits.TheConstants.{MAX_DEGREE}
 use Rattle.std.proofs.lemmas.List.FromFn.{length-map-range_with_len}
 use Rattle.forests.specs.declared.numbering.Role.{Role}
 use Rattle.colour_rules.specs.Node.{HasForests, Node}

@@ -1,8 +1,8 @@
 use Rattle.std.proofs.Common.{rules, ◌≤◌, arith}
-use Rattle.node_api.below.dimacs_col.specs.declared.limits.TheConstants.{MAX_BARS}
-use Rattle.node_api.below.interference.specs.declared.limits.TheConstants.{MAX_DEGREE}
-use Rattle.node_api.specs.interference.Net.{Net, IsNetwork, forest_count_of, greatest_degree_of}
-use Rattle.node_api.proofs.interference.Neighbours.{greatest_bars-within, greatest_degree-within, forest_count-within}
+use Rattle.graph_limits.specs.declared.limits.TheConstants.{MAX_BARS}
+use Rattle.interference.specs.declared.limits.TheConstants.{MAX_DEGREE}
+use Rattle.interference.specs.Net.{Net, IsNetwork, forest_count_of, greatest_degree_of}
+use Rattle.interference.proofs.Neighbours.{greatest_bars-within, greatest_degree-within, forest_count-within}
 use Rattle.colour_rules.proofs.phase.Schedule.of.Goals as goal
 
 fewer : (net : Net) → IsNetwork net → forest_count_of net ≤ MAX_DEGREE

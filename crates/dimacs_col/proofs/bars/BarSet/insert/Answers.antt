@@ -7,8 +7,8 @@ use Rattle.std.specs.BTreeSet.{insert_key}
 use Rattle.std.specs.Ordering.{nat_cmp}
 use Rattle.std.specs.Set.{is_member}
 use Rattle.dimacs_col.specs.Bag.{SameMembers}
-use Rattle.dimacs_col.specs.Pairs.{bars_at, pair_cmp, same_pair}
-use Rattle.dimacs_col.specs.declared.limits.TheConstants.{MAX_BARS}
+use Rattle.graph_limits.specs.Pairs.{bars_at, pair_cmp, same_pair}
+use Rattle.graph_limits.specs.declared.limits.TheConstants.{MAX_BARS}
 use Rattle.dimacs_col.proofs.Members.{member-push}
 use Rattle.dimacs_col.proofs.BarSets.{many-is, bars_at-more, counted-same, counted-more, was-new}
 use Rattle.dimacs_col.proofs.bars.BarSet.insert.Goals as goal

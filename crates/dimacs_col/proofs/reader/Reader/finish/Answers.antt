@@ -9,7 +9,7 @@ use Rattle.std.proofs.lemmas.Map.Views.{lookup-from_Contains}
 use Rattle.std.specs.Set.{is_member}
 use Rattle.std.proofs.lemmas.List.Elements.{Contains-get_or}
 use Rattle.dimacs_col.specs.Reading.{edges_of, bars_of}
-use Rattle.dimacs_col.specs.Pairs.{FitsIn, IsBarOf, IsVertexOf, same_pair}
+use Rattle.graph_limits.specs.Pairs.{FitsIn, IsBarOf, IsVertexOf, same_pair}
 use Rattle.dimacs_col.proofs.Lists.{edge_count-is}
 use Rattle.dimacs_col.proofs.Members.{same-members, member-from_Contains}
 use Rattle.dimacs_col.proofs.Edges.{small-nodes}

@@ -1,5 +1,5 @@
 use Rattle.std.proofs.Common.{◌∙◌, sym, ap, drop, Some, arith}
-use Rattle.dimacs_col.specs.declared.limits.TheConstants.{MAX_NODES}
+use Rattle.graph_limits.specs.declared.limits.TheConstants.{MAX_NODES}
 use Rattle.dimacs_col.specs.Lines.{field_at}
 use Rattle.dimacs_col.specs.State.{kept_number}
 use Rattle.dimacs_col.proofs.Verdicts.{field_at-drop, kept-from, kept-inside, none-from, verdict-problem}

@@ -1,6 +1,6 @@
 use Rattle.std.proofs.Common.{◌≡◌, map, replicate}
 use Rattle.std.specs.List.{range_with_len}
-use Rattle.alpha_laws.specs.interference.Net.{degree_of}
+use Rattle.interference.specs.Net.{degree_of}
 use Rattle.event_machine.specs.State.{no_link}
 use Rattle.event_machine.proofs.links.Links.new.Given as goal
 

@@ -1,7 +1,7 @@
 -- The plan: the vertex is one of the network's (vertex-is). If its node can't make a pulse nothing changes (kept_same); if it
 -- can, no node refuses its pulse (pulse_refused), and it is made as the definition makes it (pulsed).
 use Rattle.std.proofs.Common.{◌≡◌, ◌-◌, ◌<◌, Ok, set, refl, sym, ap, ◌∙◌, subst}
-use Rattle.alpha_laws.specs.interference.Net.{IsVertex}
+use Rattle.interference.specs.Net.{IsVertex}
 use Rattle.event_machine.specs.declared.event.Event.TheVariants.{Pulse}
 use Rattle.event_machine.specs.State.{NetView, state_in}
 use Rattle.event_machine.specs.Step.{is_vertex, step}

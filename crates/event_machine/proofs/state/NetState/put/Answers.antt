@@ -1,8 +1,8 @@
 -- The plan: the port is one of the network's (there-is), so the link is there. Without a wire to put, or if the link refuses
 -- it, nothing changes (in-place); the oldest wire of the port (oldest) is put as the definition puts it (put-in).
 use Rattle.std.proofs.Common.{◌≡◌, ◌<◌, ◌-◌, ◌∷◌, List, Ok, length, set, refl, sym, ap, ◌∙◌, subst}
-use Rattle.alpha_laws.specs.interference.Net.{IsVertex, degree_of}
-use Rattle.alpha_laws.specs.alpha_core.View.{port_at}
+use Rattle.interference.specs.Net.{IsVertex, degree_of}
+use Rattle.alpha_core.specs.View.{port_at}
 use Rattle.event_machine.specs.declared.event.Event.TheVariants.{Put}
 use Rattle.std.proofs.lemmas.Result.{err_from_is_err_and}
 use Rattle.event_machine.specs.State.{NetView, state_in}

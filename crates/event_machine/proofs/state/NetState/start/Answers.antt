@@ -1,5 +1,5 @@
 use Rattle.std.proofs.Common.{sym, subst}
-use Rattle.alpha_laws.specs.interference.Net.{IsNetwork}
+use Rattle.interference.specs.Net.{IsNetwork}
 use Rattle.event_machine.proofs.Held.{simulation}
 use Rattle.event_machine.proofs.Started.{keeps_started, view_started}
 use Rattle.event_machine.proofs.state.NetState.start.Goals as goal

@@ -3,7 +3,7 @@
 -- refuses it (take_refused).
 use Rattle.std.proofs.Common.{◌≡◌, ◌<◌, ◌-◌, ◌∷◌, List, Ok, set, refl, sym, ap, ◌∙◌, subst}
 use Rattle.std.specs.Prelude.{slice_get}
-use Rattle.alpha_laws.specs.interference.Net.{IsVertex, degree_of, neighbour_of}
+use Rattle.interference.specs.Net.{IsVertex, degree_of, neighbour_of}
 use Rattle.event_machine.specs.declared.event.Event.TheVariants.{Take}
 use Rattle.event_machine.specs.State.{HasLink, NetView, link_at, link_to, set_link, state_in, take_one}
 use Rattle.event_machine.specs.Step.{has_port, step}

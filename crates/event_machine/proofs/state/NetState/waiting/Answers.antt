@@ -1,5 +1,5 @@
 use Rattle.std.proofs.Common.{◌<◌, sym, subst}
-use Rattle.alpha_laws.specs.interference.Net.{IsVertex, degree_of}
+use Rattle.interference.specs.Net.{IsVertex, degree_of}
 use Rattle.event_machine.proofs.Held.{has_link}
 use Rattle.event_machine.proofs.state.NetState.waiting.Goals as goal
 

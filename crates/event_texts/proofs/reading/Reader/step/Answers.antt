@@ -1,5 +1,5 @@
 use Rattle.std.proofs.Common.{◌∙◌, refl, sym}
-use Rattle.channel_plan.proofs.Readings.{line-cons, line-none}
+use Rattle.dimacs_col.proofs.Splitting.{line-cons, line-none}
 use Rattle.event_texts.proofs.Readings.{known-blank, known-event, known-passed, known-wrong}
 use Rattle.event_texts.proofs.reading.Reader.step.Goals as goal
 

@@ -1,5 +1,5 @@
 use Rattle.std.proofs.Common.{◌≤◌, ◌<◌, ◌+◌, ◌*◌, arith, length}
-use Rattle.dimacs_col.specs.declared.limits.TheConstants.{MAX_EDGES}
+use Rattle.graph_limits.specs.declared.limits.TheConstants.{MAX_EDGES}
 use Rattle.interference.proofs.Packed.{neighbour_within, neighbour_reads, neighbour_vertex}
 use Rattle.interference.proofs.network.Network.neighbour.Goals as goal
 

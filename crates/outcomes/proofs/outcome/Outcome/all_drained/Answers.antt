@@ -1,5 +1,5 @@
 use Rattle.std.proofs.Common.{map, refl, sym, ap, ◌∙◌}
-use Rattle.actor.specs.alpha_core.View.{is_drained}
+use Rattle.alpha_core.specs.View.{is_drained}
 use Rattle.outcomes.specs.Gathers.{gathered_of}
 use Rattle.gather_laws.specs.Outcome.{all_drained}
 use Rattle.outcomes.proofs.Every.{all_passed, failed, fewer, passed}

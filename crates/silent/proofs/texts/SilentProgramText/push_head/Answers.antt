@@ -2,7 +2,7 @@ use Rattle.std.proofs.Common.{◌≡◌, ℕ, List, [], ◌∷◌, ◌++◌, ap,
 use Rattle.std.specs.Prelude.{codes}
 use Rattle.std.specs.Result.{IfOk}
 use Rattle.std.proofs.lemmas.List.{append_assoc}
-use Rattle.node_api.specs.interference.Net.{count_of, greatest_degree_of}
+use Rattle.interference.specs.Net.{count_of, greatest_degree_of}
 use Rattle.number_rows.specs.Row.{row}
 use Rattle.silent.proofs.texts.SilentProgramText.push_head.Goals as goal
 

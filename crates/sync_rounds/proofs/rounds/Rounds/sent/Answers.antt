@@ -1,5 +1,5 @@
 use Rattle.std.proofs.Common.{◌≡◌, ◌<◌, ◌∙◌, subst}
-use Rattle.node_api.specs.interference.Net.{IsVertex, degree_of}
+use Rattle.interference.specs.Net.{IsVertex, degree_of}
 use Rattle.node_api.specs.Boxes.{at_port}
 use Rattle.node_api.specs.Run.{outbox_at}
 use Rattle.sync_rounds.specs.Rounds.{AtPulse}

@@ -1,7 +1,7 @@
 -- A pulse that changes nothing leaves all as it is (`Still`); after a round all is at the next pulse.
 use Rattle.std.proofs.Common.{◌<◌, ℕ, suc, arith, subst}
 use Rattle.std.specs.Prelude.{slice_index_or}
-use Rattle.node_api.specs.interference.Net.{count_of}
+use Rattle.interference.specs.Net.{count_of}
 use Rattle.sync_rounds.specs.Rounds.{AreAt}
 use Rattle.sync_rounds.proofs.Bounds.{next_is}
 use Rattle.sync_rounds.proofs.Still.{still-inboxes, still-loud, still-nodes, still-rests}

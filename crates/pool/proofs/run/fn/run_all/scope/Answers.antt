@@ -1,8 +1,8 @@
 use Rattle.std.proofs.Common.{◌≡◌, map, subst, sym, ◌∙◌}
 use Rattle.std.specs.Prelude.{IfOk}
 use Rattle.crossbeam_deque.specs.Handles.{worker_deque}
-use Rattle.worker_deques.specs.deque_rule.Deques.{deque_of}
-use Rattle.pool.specs.declared.fault.PoolFault.TheVariants.{BadOptions, Memory, StampFull}
+use Rattle.deque_rule.specs.Deques.{deque_of}
+use Rattle.run_faults.specs.declared.fault.PoolFault.TheVariants.{BadOptions, Memory, StampFull}
 use Rattle.worker_deques.proofs.Each.{err_says}
 use Rattle.pool.proofs.run.fn.run_all.scope.Goals as goal
 

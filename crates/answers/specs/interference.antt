@@ -1,3 +1,0 @@
--- What crates above name of `interference`.
-pub use Rattle.alpha_core.specs.interference.Making
-pub use Rattle.alpha_core.specs.interference.Net

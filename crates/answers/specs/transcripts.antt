@@ -1,2 +1,0 @@
--- What crates above name of `transcripts`.
-pub use Rattle.transcripts.specs.TranscriptText

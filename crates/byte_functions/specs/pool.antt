@@ -1,2 +1,0 @@
--- What crates above name of `pool`.
-pub use Rattle.answers.specs.pool.PoolFault

@@ -1,2 +1,0 @@
--- What crates above name of `outcomes`.
-pub use Rattle.outcomes.specs.Gathers

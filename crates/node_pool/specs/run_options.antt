@@ -1,3 +1,0 @@
--- What crates above name of `run_options`.
-pub use Rattle.run_options.specs.Ranges
-pub use Rattle.run_options.specs.declared.Options

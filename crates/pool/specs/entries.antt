@@ -1,2 +1,0 @@
--- What crates above name of `entries`.
-pub use Rattle.actor.specs.entries.Entry
