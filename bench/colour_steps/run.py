@@ -16,7 +16,8 @@ import tempfile
 
 HERE = os.path.dirname(os.path.abspath(__file__))
 TOP = os.path.dirname(os.path.dirname(HERE))
-CRATES = {"colour_base": "", "cole_vishkin": "colour_base", "shift_down": "colour_base", "forest_merge": "colour_base"}
+CRATES = {"colour_base": "", "bit_sets": "", "cole_vishkin": "colour_base", "shift_down": "colour_base",
+          "forest_merge": "colour_base bit_sets"}
 TURNS = 15
 
 
@@ -40,7 +41,7 @@ def build(folder):
             dirs_exist_ok=True,
             ignore=shutil.ignore_patterns("out", "must-fail"),
         )
-    users = " ".join(name for name in CRATES if name != "colour_base")
+    users = " ".join(name for name, below in CRATES.items() if below)
     write(f"{folder}/crates.txt", "".join(f"{name}: {below}\n" for name, below in {**CRATES, "timed": users}.items()))
     write(f"{folder}/crates/timed/src/main.rt", text("proved.rs") + "\n" + text("loops.rs"))
     write(f"{folder}/plain/main.rs", text("plain.rs") + "\n" + text("loops.rs"))

@@ -18,8 +18,9 @@ HERE = os.path.dirname(os.path.abspath(__file__))
 TOP = os.path.dirname(os.path.dirname(HERE))
 CRATES = {
     "graph_limits": "",
+    "bit_sets": "",
     "interference": "graph_limits",
-    "node_api": "interference",
+    "node_api": "bit_sets interference",
     "sync_rounds": "node_api interference",
 }
 TURNS = 15

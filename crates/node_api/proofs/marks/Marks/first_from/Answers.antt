@@ -3,7 +3,8 @@ use Rattle.std.specs.Int.{trailing_zeros}
 use Rattle.std.proofs.lemmas.Bool.Decides.{nat_tests}
 use native.Mathlib.Decide.{dec_lt}
 use Prim.{yes, no}
-use Rattle.node_api.specs.Marks.{has_bit, is_marked, marks_in}
+use Rattle.bit_sets.specs.Words.{has_bit}
+use Rattle.node_api.specs.Marks.{is_marked, marks_in}
 use Rattle.node_api.proofs.Words.{length-marks_in, marks_in-at}
 use Rattle.node_api.proofs.Finding.{IsRest, rest-first, rest-next, none-here, found-later, found-marked, found-first}
 use Rattle.node_api.proofs.marks.Marks.first_from.Goals as goal
