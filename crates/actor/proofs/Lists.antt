@@ -4,7 +4,7 @@ use Rattle.std.proofs.Common.{Some, slice_get, arith}
 use Rattle.std.specs.Prelude.{All}
 use Rattle.std.specs.List.{range_with_len}
 use Rattle.std.proofs.Math.Seq.{map-set_same}
-use Rattle.std.proofs.lemmas.List.{map-set, set-get_or, get_or-map, get_or-set_same, get_or-set_other, length-map, length-append}
+use Rattle.std.proofs.lemmas.List.{map-set, set-get_or, get_or-map, get_or-set_same, get_or-set_other, length-map, length-append, set-set}
 use Rattle.std.proofs.lemmas.List.FromFn.{length-range_with_len, get_or-range_with_len}
 use Rattle.alpha_core.specs.declared.wire.Wire.{Wire}
 use Rattle.alpha_core.specs.declared.stamped.Stamped.{Stamped}
@@ -43,12 +43,7 @@ at_place f g xs n i x e lt is =
     get_map f xs i x (f x) within is ∙ ap (λ l. get_or l i (f x)) e
     ∙ get_or-map g (range_with_len 0 n) i 0 (f x) (omega (arith, length-range_with_len 0 n)) ∙ ap g at
 
-set_back : {A : Type 0} (xs : List A) (i : ℕ) (x y : A) → set (set xs i x) i y ≡ set xs i y
-set_back [] i x y = refl
-set_back (z ∷ zs) zero x y = refl
-set_back (z ∷ zs) (suc i) x y = ap (λ l. z ∷ l) (set_back zs i x y)
-
-take_front : {A : Type 0} (xs ys : List A) → take (length xs) (xs ++ ys) ≡ xs
+pub take_front : {A : Type 0} (xs ys : List A) → take (length xs) (xs ++ ys) ≡ xs
 take_front [] ys = refl
 take_front (x ∷ xs) ys = ap (λ l. x ∷ l) (take_front xs ys)
 
@@ -111,6 +106,6 @@ module _ {M : Type 0} where
         let longer = by_port (map f xs) i ++ (w ∷ []) in
         ap (λ l. set l aside.port (all_but_last (get_or l aside.port []))) (grows f xs i x y w lt is more)
         ∙ ap (λ k. set (set (map f xs) i longer) k (all_but_last (get_or (set (map f xs) i longer) k []))) port
-        ∙ set_back (map f xs) i longer _
+        ∙ set-set (map f xs) i longer _
         ∙ ap (λ z. set (map f xs) i z) (ap all_but_last (get_or-set_same (map f xs) i longer [] within) ∙ but_last-more (by_port (map f xs) i) w)
         ∙ set-get_or (map f xs) i []

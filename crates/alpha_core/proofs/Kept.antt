@@ -2,7 +2,7 @@
 use Rattle.std.proofs.Common.{◌≡◌, ℕ, zero, suc, ◌+◌, ◌<◌, ◌≤◌, Bool, true, false, not, List, [], ◌∷◌, map, length, get_or, set, replicate}
 use Rattle.std.proofs.Common.{refl, ap, sym, ◌∙◌, arith, cond, count_by, nat_lt, subst, ◌*◌}
 use Rattle.std.specs.Prelude.{All}
-use Rattle.std.proofs.lemmas.Bool.{and_parts}
+use Rattle.std.proofs.lemmas.Bool.{and_parts, lt-ltb, le-ltb}
 use Rattle.std.proofs.lemmas.Bool.Decides.{nat_tests}
 use Rattle.std.proofs.lemmas.List.{get_or-map, get_or-replicate, length-map, length-replicate, map-set}
 use Rattle.std.proofs.lemmas.List.Elements.{All-set}
@@ -31,12 +31,6 @@ pub not_bit : (b : Bool) → cond {A = ℕ} (not b) 1 0 + cond {A = ℕ} b 1 0 �
 not_bit true = refl
 not_bit false = refl
 
-pub lt-true : (a b : ℕ) → a < b → nat_lt a b ≡ true
-lt-true a b h = grind (arith, nat_tests)
-
-pub lt-false : (a b : ℕ) → b ≤ a → nat_lt a b ≡ false
-lt-false a b h = grind (arith, nat_tests)
-
 -- one safe more of a port: that of the pulse, or that of the next
 abbrev pub one_more : Kept → Kept
 one_more o = record { safes = o.safes + 1; waits = o.waits; closed = o.closed }
@@ -44,13 +38,13 @@ one_more o = record { safes = o.safes + 1; waits = o.waits; closed = o.closed }
 module _ (p : ℕ) (o : Kept) where
   pub safe-taken : (when : When) → o.safes ≡ p + safes_before when → marks_with p (one_more o) ≡ mark_safe when (marks_with p o)
   safe-taken Now e =
-      ap (λ b. record (marks_with p (one_more o)) { safe = b }) (lt-true p (o.safes + 1) (omega (arith, e)))
+      ap (λ b. record (marks_with p (one_more o)) { safe = b }) (lt-ltb p (o.safes + 1) (omega (arith, e)))
       ∙ ap (λ b. record (marks_with p o) { safe = true; early_safe = b })
-      (lt-false (p + 1) (o.safes + 1) (omega (arith, e)) ∙ sym (lt-false (p + 1) o.safes (omega (arith, e))))
+      (le-ltb (p + 1) (o.safes + 1) (omega (arith, e)) ∙ sym (le-ltb (p + 1) o.safes (omega (arith, e))))
   safe-taken Next e =
-      ap (λ b. record (marks_with p (one_more o)) { early_safe = b }) (lt-true (p + 1) (o.safes + 1) (omega (arith, e)))
+      ap (λ b. record (marks_with p (one_more o)) { early_safe = b }) (lt-ltb (p + 1) (o.safes + 1) (omega (arith, e)))
       ∙ ap (λ b. record (marks_with p o) { safe = b; early_safe = true })
-      (lt-true p (o.safes + 1) (omega (arith, e)) ∙ sym (lt-true p o.safes (omega (arith, e))))
+      (lt-ltb p (o.safes + 1) (omega (arith, e)) ∙ sym (lt-ltb p o.safes (omega (arith, e))))
 
 -- One port: `o` is kept of it.
 module _ (p : ℕ) (kept : List Kept) (v : AtPulse Marks) (is : record { pulse = p; ports = marks_in p kept } ≡ v) where
@@ -109,7 +103,7 @@ module _ (p : ℕ) (kept : List Kept) (v : AtPulse Marks) (is : record { pulse =
     now-counted at =
         let taken = safe-taken p o Now at in
         are-counted i o (one_more o) was h before (omega (arith, at), omega (arith, at)) refl
-        (omega (arith, ap (λ (x : Marks). cond {A = ℕ} x.safe 1 0) taken, ap (λ b. cond {A = ℕ} b 1 0) (lt-false p o.safes (omega (arith, at)))))
+        (omega (arith, ap (λ (x : Marks). cond {A = ℕ} x.safe 1 0) taken, ap (λ b. cond {A = ℕ} b 1 0) (le-ltb p o.safes (omega (arith, at)))))
         (omega (arith, ap (λ (x : Marks). cond {A = ℕ} x.early_safe 1 0) taken))
         refl
 
@@ -121,7 +115,7 @@ module _ (p : ℕ) (kept : List Kept) (v : AtPulse Marks) (is : record { pulse =
         (omega (
           arith,
           ap (λ (x : Marks). cond {A = ℕ} x.early_safe 1 0) taken,
-          ap (λ b. cond {A = ℕ} b 1 0) (lt-false (p + 1) o.safes (omega (arith, at))),
+          ap (λ b. cond {A = ℕ} b 1 0) (le-ltb (p + 1) o.safes (omega (arith, at))),
         ))
         refl
 
@@ -140,7 +134,7 @@ waits-counted p kept i o was h =
 module _ (p : ℕ) where
   advance-one : (o : Kept) → IsInStep p o → marks_with (p + 1) o ≡ advanced (marks_with p o)
   advance-one o step =
-      ap (λ b. record (marks_with p o) { safe = nat_lt (p + 1) o.safes; early_safe = b }) (lt-false (p + 1 + 1) o.safes (omega (arith, step.1)))
+      ap (λ b. record (marks_with p o) { safe = nat_lt (p + 1) o.safes; early_safe = b }) (le-ltb (p + 1 + 1) o.safes (omega (arith, step.1)))
 
   pub advance-all : (kept : List Kept) → All (IsInStep p) kept → marks_in (p + 1) kept ≡ map (λ m. advanced m) (marks_in p kept)
   advance-all [] step = refl

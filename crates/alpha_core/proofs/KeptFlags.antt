@@ -1,19 +1,19 @@
 -- The flags of a port as they are read off its safes since the pulse, and counts of flags against the number of ports.
 use Rattle.std.proofs.Common.{◌≡◌, ℕ, ◌+◌, ◌-◌, ◌<◌, ◌≤◌, Bool, List, length, get_or, refl, sym, ap, ◌∙◌, arith, count_by, nat_lt, ⊎_elim}
 use Rattle.std.specs.Prelude.{All}
-use Rattle.std.proofs.lemmas.Bool.{cases_lt}
+use Rattle.std.proofs.lemmas.Bool.{cases_lt, lt-ltb, le-ltb}
 use Rattle.std.proofs.lemmas.List.{length-map}
 use Rattle.std.proofs.lemmas.List.Sums.{count_by-le-length}
 use Rattle.alpha_core.specs.declared.marks.Kept.{Kept}
 use Rattle.alpha_core.specs.declared.marks.Marks.{Marks}
 use Rattle.alpha_core.specs.Rows.{AtPulse, IsInStep, marks_at, marks_in, marks_with}
-use Rattle.alpha_core.proofs.Kept.{lt-false, lt-true, seen, step-of}
+use Rattle.alpha_core.proofs.Kept.{seen, step-of}
 
 -- a bound of the safes since the pulse is one of all safes
 lt-since : (k p s m : ℕ) → p ≤ s → m ≡ p + k → nat_lt k (s - p) ≡ nat_lt m s
 lt-since k p s m le is = ⊎_elim
-    (λ lt. lt-true k (s - p) lt ∙ sym (lt-true m s (omega (arith, lt, le, is))))
-    (λ ge. lt-false k (s - p) ge ∙ sym (lt-false m s (omega (arith, ge, le, is))))
+    (λ lt. lt-ltb k (s - p) lt ∙ sym (lt-ltb m s (omega (arith, lt, le, is))))
+    (λ ge. le-ltb k (s - p) ge ∙ sym (le-ltb m s (omega (arith, ge, le, is))))
     (cases_lt k (s - p))
 
 pub flags-seen : (p : ℕ) (kept : List Kept) (v : AtPulse Marks) → record { pulse = p; ports = marks_in p kept } ≡ v → (i : ℕ) (o : Kept)

@@ -32,11 +32,11 @@ use Rattle.alpha_laws.proofs.NodePulses.{inbox_is, can_below}
 use Rattle.alpha_laws.proofs.Next.{next_reacts, next_pulse}
 
 -- what stands before and after an entry
-parts : {A : Type 0} (xs : List A) (x : A) → Contains xs x → (before : List A) × (after : List A) × (xs ≡ before ++ (x ∷ after))
-parts [] x (k, lt, e) = absurd (omega arith)
-parts (y ∷ xs) x has = ⊎_elim
+pub has_split : {A : Type 0} (xs : List A) (x : A) → Contains xs x → (before : List A) × (after : List A) × (xs ≡ before ++ (x ∷ after))
+has_split [] x (k, lt, e) = absurd (omega arith)
+has_split (y ∷ xs) x has = ⊎_elim
     (λ here. ([], xs, ap (λ z. z ∷ xs) here))
-    (λ more. let rest = parts xs x more in (y ∷ rest.0, rest.1, ap (λ l. y ∷ l) rest.2))
+    (λ more. let rest = has_split xs x more in (y ∷ rest.0, rest.1, ap (λ l. y ∷ l) rest.2))
     (contains_cons y xs x has)
 
 module _ {S M E : Type 0} {program : Program S M E} {net : Net} (ok : IsNetwork net) (runs : Runs program net) {nodes : ℕ → Node S M} {sent taken held : ℕ →
@@ -58,7 +58,7 @@ module _ {S M E : Type 0} {program : Program S M E} {net : Net} (ok : IsNetwork 
   complete : (v i : ℕ) (vertex : IsVertex net v) (lt : i < degree_of net v) → Contains (taken v i) Close →
       IsCompleteOn program net (neighbour_of net v i) v (taken v i)
   complete v i vertex lt has =
-      let at = parts (taken v i) Close has in
+      let at = has_split (taken v i) Close has in
       let all = (taken_is_legal v i vertex lt).close at.0 at.1 at.2 in (all.1, all.2)
 
   heard_is : (v q : ℕ) → IsVertex net v → q < (nodes v).view.pulse → heard_at net (taken v) v q ≡ inbox_at program net (suc q) v

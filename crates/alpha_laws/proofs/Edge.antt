@@ -30,7 +30,7 @@ use Rattle.std.proofs.Common.{
   eq-eqb,
 }
 use Rattle.std.specs.Prelude.{is_some, if◌then◌else◌, nat_eq}
-use Rattle.std.proofs.lemmas.Bool.{cases_eq}
+use Rattle.std.proofs.lemmas.Bool.{cases_eq, false_from_ne_true}
 use Rattle.alpha_core.specs.declared.wire.Wire.{Wire}
 use Rattle.alpha_core.specs.Wires.{acks_of, payloads_of}
 use Rattle.alpha_core.specs.Streams.{sent_pulse, sent_pulses}
@@ -38,7 +38,6 @@ use Rattle.alpha_core.specs.View.{Port, bit, safes_at}
 use Rattle.alpha_core.proofs.Wires.{acks-append, payloads-append}
 use Rattle.alpha_laws.proofs.Slots.{bit_le}
 use Rattle.alpha_laws.proofs.Cursor.{place, payloads_to, moves-append, place-grows, follows-rest, payloads_to-grows, length-counts}
-use Rattle.alpha_laws.proofs.Kept.{not_true}
 use Rattle.alpha_laws.specs.Position.{start_at, moves, Follows}
 use Rattle.alpha_laws.specs.Kept.{emitted_to, taken_to, Kept}
 
@@ -121,8 +120,8 @@ module _ {M : Type 0} {last : ℕ} {there back : ℕ → Option M} {p : ℕ} {sa
   one_of : there last ≡ None → bit said + bit port.waits + bit (nat_eq p last) ≤ 1
   one_of silent = ⊎_elim
       (λ same.
-      let unsaid : said ≡ false = not_true said (λ e. let lt = sender.before_last e in omega arith) in
-      let quiet : port.waits ≡ false = not_true port.waits (λ e. let some = sender.waiting e in let none : is_some (there p) ≡ false =
+      let unsaid : said ≡ false = false_from_ne_true said (λ e. let lt = sender.before_last e in omega arith) in
+      let quiet : port.waits ≡ false = false_from_ne_true port.waits (λ e. let some = sender.waiting e in let none : is_some (there p) ≡ false =
       ap (λ o. is_some o) (ap there same ∙ silent) in cc) in
       rw (unsaid, quiet, eq-eqb p last same) (omega arith))
       (λ ne. rw (ne_eqb p last ne) (omega (arith, bits said port.waits sender.quiet)))

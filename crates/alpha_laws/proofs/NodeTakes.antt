@@ -1,7 +1,7 @@
 -- A node keeps all its links as it puts and as it takes.
 use Rattle.std.proofs.Common.{◌≡◌, ℕ, ◌<◌, true, false, not, ◌&&◌, List, [], ◌∷◌, ◌++◌, drop, refl, sym, ap, ◌∙◌, append_assoc, subst, ⊎_elim}
 use Rattle.std.specs.Prelude.{nat_eq}
-use Rattle.std.proofs.lemmas.Bool.{cases_Bool, and_parts}
+use Rattle.std.proofs.lemmas.Bool.{cases_Bool, and_parts, false_from_ne_true}
 use Rattle.interference.specs.Net.{Net, degree_of, neighbour_of}
 use Rattle.node_api.specs.Program.{Program, last_pulse_on}
 use Rattle.node_api.specs.Run.{state_at}
@@ -11,7 +11,6 @@ use Rattle.alpha_core.specs.View.{Port, Node, new_port, port_at, set_port}
 use Rattle.alpha_core.specs.Table.{is_due}
 use Rattle.alpha_core.specs.Alpha.{takes, put_done, reacts}
 use Rattle.alpha_core.specs.Program.{sends}
-use Rattle.alpha_laws.proofs.Kept.{not_true}
 use Rattle.alpha_laws.proofs.NodeKept.{kept_out, inside, settles_kept, settles_speaks, settles_pulse, port_changes, none_waits-set}
 use Rattle.alpha_laws.proofs.TakesDue.{takes_kept}
 use Rattle.alpha_laws.specs.Position.{Allows}
@@ -70,7 +69,7 @@ module _ {S M E : Type 0} {program : Program S M E} {net : Net} {v : ℕ} {node 
           flag_payload p port q x = ⊎_elim (λ e. rw e refl) (λ e. rw e refl) (cases_Bool (nat_eq q p))
       by_kind (Ack q) ports due =
           let three = and_parts (not (port_at node.view i).closed && nat_eq q node.view.pulse) (port_at node.view i).waits due in
-          let unsaid : node.view.said ≡ false = not_true node.view.said (λ e. let quiet : (port_at node.view i).waits ≡ false =
+          let unsaid : node.view.said ≡ false = false_from_ne_true node.view.said (λ e. let quiet : (port_at node.view i).waits ≡ false =
           (kept.ports.each i lt).quiet e in let waits : (port_at node.view i).waits ≡ true = three.1 in cc) in
           record {
             ports = settles_kept ports unsaid;

@@ -24,7 +24,7 @@ reacts_pulse last view i (wire.Ack q) = settles_pulse last (set_port view i reco
 reacts_pulse last view i (wire.Safe q) = refl
 reacts_pulse last view i wire.Close = refl
 
-not_refused : {A : Type 0} (o : Option AlphaRefused) (x y : A) → unless_refused o x ≡ Ok y → x ≡ y
+pub not_refused : {A : Type 0} (o : Option AlphaRefused) (x y : A) → unless_refused o x ≡ Ok y → x ≡ y
 not_refused None x y e = cc
 not_refused (Some refused) x y e = absurd cc
 

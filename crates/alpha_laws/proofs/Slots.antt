@@ -1,13 +1,12 @@
 -- The slots of a port, and what one wire more does to them.
 use Rattle.std.proofs.Common.{◌≡◌, ℕ, suc, ◌≤◌, Bool, true, false, List, [], ◌∷◌, ◌++◌, Option, Some, None, refl, sym, ap, ◌∙◌, arith, ⊎_elim, ne_eqb, eq-eqb}
 use Rattle.std.specs.Prelude.{is_some}
-use Rattle.std.proofs.lemmas.Bool.{cases_eq}
+use Rattle.std.proofs.lemmas.Bool.{cases_eq, false_from_ne_true}
 use Rattle.alpha_core.specs.declared.wire.Wire.{Wire}
 use Rattle.alpha_core.specs.declared.wire.Wire.TheVariants.{Payload, Ack, Safe, Close}
 use Rattle.alpha_core.specs.Wires.{payload_at}
 use Rattle.alpha_core.specs.View.{Port, bit, safes_at}
 use Rattle.alpha_laws.proofs.Cursor.{moves-append, follows-more}
-use Rattle.alpha_laws.proofs.Kept.{not_true}
 use Rattle.alpha_laws.proofs.Passed.{at-early}
 use Rattle.alpha_laws.specs.Position.{start_at, move, moves, Allows, Follows}
 use Rattle.alpha_laws.specs.Kept.{paid_at, taken_to, Kept}
@@ -49,7 +48,7 @@ module _ {M : Type 0} {last : ℕ} {own other : ℕ → Option M} {p : ℕ} {sai
     (kept : Kept last own other p said port emitted taken) where
   -- before the safe of this pulse no early wire was taken
   pub no_early_safe : port.safe ≡ false → port.early_safe ≡ false
-  no_early_safe first = not_true port.early_safe (λ e. let both : port.safe ≡ true = kept.nested e in cc)
+  no_early_safe first = false_from_ne_true port.early_safe (λ e. let both : port.safe ≡ true = kept.nested e in cc)
 
   pub no_early : port.safe ≡ false → port.early ≡ None
   no_early first = kept.early ∙ at-early other last (suc p) start_at taken kept.takes

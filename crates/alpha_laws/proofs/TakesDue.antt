@@ -28,13 +28,12 @@ use Rattle.std.proofs.Common.{
   ne_eqb,
 }
 use Rattle.std.specs.Prelude.{if◌then◌else◌, nat_eq, nat_lt}
-use Rattle.std.proofs.lemmas.Bool.{cases_Bool, and_parts, leb-true, eqb-true}
+use Rattle.std.proofs.lemmas.Bool.{cases_Bool, and_parts, leb-true, eqb-true, false_from_ne_true}
 use Rattle.alpha_core.specs.declared.wire.Wire.{Wire}
 use Rattle.alpha_core.specs.declared.wire.Wire.TheVariants.{Payload, Ack, Safe, Close}
 use Rattle.alpha_core.specs.View.{Port, bit}
 use Rattle.alpha_core.specs.Table.{is_due, horizon}
 use Rattle.alpha_core.specs.Alpha.{takes, emit}
-use Rattle.alpha_laws.proofs.Kept.{not_true}
 use Rattle.alpha_laws.proofs.NodeKept.{kept_out}
 use Rattle.alpha_laws.proofs.Takes.{takes_safe, takes_early_safe, takes_close, takes_ack}
 use Rattle.alpha_laws.proofs.TakesPayload.{takes_payload, takes_early_payload}
@@ -87,7 +86,7 @@ module _ {M : Type 0} {last : ℕ} {own other : ℕ → Option M} {p : ℕ} {sai
   takes_kept (Ack q) due allowed =
       let three = and_parts (not port.closed && nat_eq q p) port.waits due in
       let is : q ≡ p = eqb-true q p (and_parts (not port.closed) (nat_eq q p) three.0).1 in
-      let unsaid : said ≡ false = not_true said (λ e. let quiet : port.waits ≡ false = kept.quiet e in let waits : port.waits ≡ true = three.1 in cc) in
+      let unsaid : said ≡ false = false_from_ne_true said (λ e. let quiet : port.waits ≡ false = kept.quiet e in let waits : port.waits ≡ true = three.1 in cc) in
       subst (λ r. Kept last own other p said (record port { waits = false }) (sent ++ port.out) (taken ++ (Ack r ∷ []))) (sym is)
       (takes_ack kept allowed three.1 unsaid)
   takes_kept (Safe q) due allowed =

@@ -1,5 +1,5 @@
 -- The number of a refused entry's line: the line is the entry (entry-at), whatever the refusal (refusal).
-use Rattle.std.proofs.Common.{◌≡◌, ◌≢◌, ◌++◌, ◌∷◌, [], ◌∙◌, ◌<◌, ℕ, zero, suc, Option, Some, None, Ok, List, ap, arith, codes, get_or, inl, length, map}
+use Rattle.std.proofs.Common.{◌≡◌, ◌≢◌, ◌++◌, ◌∷◌, [], ◌∙◌, ◌<◌, ℕ, Option, Some, None, Ok, List, ap, arith, codes, inl, length, map}
 use Rattle.std.proofs.Common.{refl, slice_get, slice_index_or, subst, sym, take}
 use Rattle.std.proofs.lemmas.List.{length-append}
 use Rattle.dimacs_col.specs.Lines.{Line}
@@ -39,11 +39,6 @@ none-is k index e = absurd cc
 get-at : {X : Type 0} (before : List X) (row : X) (after : List X) → slice_get (before ++ (row ∷ after)) (length before) ≡ Some row
 get-at [] row after = refl
 get-at (first ∷ before) row after = get-at before row after
-
-pub get-here : {X : Type 0} (xs : List X) (i : ℕ) (x : X) → i < length xs → x ≡ get_or xs i x → slice_get xs i ≡ Some x
-get-here [] i x lt is = absurd (omega arith)
-get-here (y ∷ xs) zero x lt is = ap (λ z. Some z) (sym is)
-get-here (y ∷ xs) (suc i) x lt is = get-here xs i x (omega arith) is
 
 take-at : {X : Type 0} (before after : List X) → take (length before) (before ++ after) ≡ before
 take-at [] after = refl

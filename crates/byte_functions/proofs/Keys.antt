@@ -1,23 +1,17 @@
 -- The keys of the first entries that the nodes have left: their order, how many there are, and one more.
 use Rattle.std.proofs.Common.{◌≡◌, ◌∙◌, ℕ, ◌+◌, ◌<◌, ◌≤◌, ◌==◌, Bool, true, false, cond, List, [], ◌∷◌, ◌++◌, length, get_or, refl, sym, ap, subst}
 use Rattle.std.proofs.Common.{arith, ⊎_elim, inl, inr}
-use Rattle.std.specs.Prelude.{◌⊎◌, count_by, nat_lt}
+use Rattle.std.specs.Prelude.{◌⊎◌, count_by}
 use Rattle.std.specs.BinaryHeap.{IsHeap, lt_by_cmp}
-use Rattle.std.specs.Ordering.{nat_cmp, is_lt}
 use Rattle.std.specs.List.Sorted.{IsPermutation}
-use Rattle.std.proofs.lemmas.Bool.{and_from, and_left, and_right, cases_Bool, cases_eq, cases_order, eq-eqb, eqb-true, ne_eqb, lt-ltb, ltb-true}
+use Rattle.std.proofs.lemmas.Bool.{and_from, and_left, and_right, cases_eq, cases_order, eq-eqb, eqb-true, ne_eqb, lt-ltb}
 use Rattle.std.proofs.lemmas.Bool.{true≢false}
 use Rattle.std.proofs.lemmas.List.{get_or_at, get_or_append_left, length-append}
 use Rattle.std.proofs.Math.ListN.{get_or-eq_default}
 use Rattle.std.proofs.lemmas.List.Sorted.{sum_by-IsPermutation, sum_by_pushed}
+use Rattle.stamps.proofs.Sorts.{not_lt, cmp_less}
 use Rattle.entries.specs.declared.rows.StampedEntry.{StampedEntry}
 use Rattle.byte_functions.specs.Merge.{AreKeys, IsKeyAdded, Key, is_key, key_cmp, keys_in, starts_at}
-
-not_lt : (a b : ℕ) → (a < b → ⊥) → nat_lt a b ≡ false
-not_lt a b never = ⊎_elim (λ t. absurd (never (ltb-true a b t))) (λ f. f) (cases_Bool (nat_lt a b))
-
-cmp_less : (a b : ℕ) → a < b → is_lt (nat_cmp a b) ≡ true
-cmp_less a b lt = let t = lt-ltb a b lt in rw t refl
 
 -- one pair is by its first part, and then by its second part, not after another
 abbrev pub NotAfter : ℕ → ℕ → ℕ → ℕ → Type 0

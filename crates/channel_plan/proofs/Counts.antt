@@ -20,7 +20,7 @@ pub contains-cases : (first : Row) (rows : List Row) (row : Row) → Contains (f
 contains-cases first rows row (zero, below, is) = inl is
 contains-cases first rows row (suc k, below, is) = inr (k, omega arith, is)
 
-same-vertex : (v : ℕ) → (v == v) ≡ true
+pub same-vertex : (v : ℕ) → (v == v) ≡ true
 same-vertex v = grind arith
 
 pub count-append : (before rows : List Row) (v : ℕ) → row_count (before ++ rows) v ≡ row_count before v + row_count rows v

@@ -11,6 +11,7 @@ use Rattle.std.proofs.lemmas.List.Elements.{recursion_from_All}
 use Rattle.std.proofs.lemmas.List.FromFn.{get_or-range_with_len, length-range_with_len}
 use Rattle.std.specs.List.{AllByRecursion, Contains, find}
 use Rattle.std.specs.Option.{option_map, option_or}
+use Rattle.dimacs_col.proofs.Verdicts.{none-from}
 use Rattle.interference.specs.Net.{IsNetwork, IsVertex, Net, count_of, neighbours, vertices}
 use Rattle.interference.proofs.Neighbours.{both-ways, neighbour-is_vertex, port-of}
 use Rattle.channel_plan.specs.Checked.{Channels, IsProper, channel_of, clash_among, clash_at, clashes, fault_of}
@@ -19,9 +20,9 @@ use Rattle.channel_plan.specs.Reading.{Row}
 use Rattle.channel_plan.specs.declared.plan.CheckFault.{CheckFault}
 use Rattle.channel_plan.specs.declared.plan.CheckFault.TheVariants.{Clash, Missing}
 use Rattle.channel_plan.proofs.Barred.{barred-channel, unbarred-channel}
-use Rattle.channel_plan.proofs.Counts.{channel-contains, contains-channel, count-append, count-some, counted}
+use Rattle.channel_plan.proofs.Counts.{channel-contains, contains-channel, count-append, count-some, counted, same-vertex}
 use Rattle.channel_plan.proofs.Counts.{none-count, row_count, some-count}
-use Rattle.channel_plan.proofs.Tables.{channel-push, none-from, or-nothing, row-good}
+use Rattle.channel_plan.proofs.Tables.{channel-push, or-nothing, row-good}
 
 -- ---- what is none
 or-none-both : {T : Type 0} (o p : Option T) → option_or o p ≡ None → (o ≡ None) × (p ≡ None)
@@ -137,9 +138,6 @@ one-at-most net before (row ∷ rows) v e =
         ap (λ b. option_or (channel_of before v) (cond b (Some row.1) None)) t in
         (λ h. rw t (more.0 (ap is_some (pushed ∙ or-nothing (channel_of before v)) ∙ h)), rw t more.1)
 
-same-number : (channel : ℕ) → (channel == channel) ≡ true
-same-number channel = grind arith
-
 one-from : (rows : List Row) (v : ℕ) → row_count rows v ≤ 1 → is_none (channel_of rows v) ≡ false → row_count rows v ≡ 1
 one-from rows v most some = let e = count-some rows v (not-false (is_some (channel_of rows v)) some) in omega arith
   where
@@ -159,7 +157,7 @@ no-clash net channels v w channel e hv hw below ev ew =
     let none = find-none (clashes channels v) (neighbours net v) (map-none (λ (u : ℕ). (v, u)) (find (clashes channels v) (neighbours net v)) at_v) in
     let no : clashes channels v w ≡ false = All-contains (λ u. clashes channels v u ≡ false) (neighbours net v) w
     (All-from_recursion (λ u. clashes channels v u ≡ false) (neighbours net v) none) hw in
-    let yes : clashes channels v w ≡ true = rw (lt-ltb v w below, ev, ew) (same-number channel) in
+    let yes : clashes channels v w ≡ true = rw (lt-ltb v w below, ev, ew) (same-vertex channel) in
     let wrong : true ≡ false = sym yes ∙ no in absurd cc
 
 pub proper-from : (net : Net) (rows : List Row) → IsNetwork net → fault_of net rows ≡ None → IsProper net rows
@@ -205,7 +203,7 @@ rows-right net before (row ∷ rows) is =
     let vertex = is.no_stranger row here in
     let one : row_count before row.0 + row_count (row ∷ rows) row.0 ≡ 1 = sym (count-append before (row ∷ rows) row.0) ∙
     counted (before ++ row ∷ rows) row.0 ∙ is.one_row row.0 vertex in
-    let own : row_count (row ∷ rows) row.0 ≡ 1 + row_count rows row.0 = rw (same-number row.0) refl in
+    let own : row_count (row ∷ rows) row.0 ≡ 1 + row_count rows row.0 = rw (same-vertex row.0) refl in
     let free = none-count before row.0 (omega (arith, one, own)) in
     let good = row-good net before row vertex (ap is_some free) (is.within row here) (not-barred net (before ++ row ∷ rows) row is here) in
     let left = rows-right net (before ++ row ∷ []) rows (subst (IsProper net) (sym (append_assoc before (row ∷ []) rows)) is) in

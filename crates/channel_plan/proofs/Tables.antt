@@ -7,6 +7,7 @@ use Rattle.std.proofs.lemmas.Bool.Decides.{nat_tests}
 use Rattle.std.proofs.lemmas.List.{at_drop_all, at_drop_more, get_or-replicate, get_or-set_other, get_or-set_same}
 use Rattle.std.proofs.lemmas.List.{length-replicate, length-set, take_more}
 use Rattle.std.specs.Option.{option_or}
+use Rattle.dimacs_col.proofs.Verdicts.{none-from}
 use Rattle.interference.specs.Net.{Net, IsVertex, count_of}
 use Rattle.channel_plan.specs.Checked.{IsFaultOfRow, IsTable, channel_of, is_barred, is_vertex, looked, most_channel, row_fault}
 use Rattle.channel_plan.specs.Checked.{rows_fault}
@@ -61,10 +62,6 @@ table-none net table is = record {
   size = ap length is ∙ length-replicate (count_of net) None;
   each = λ v h. ap (λ (xs : List (Option ℕ)). get_or xs (v - 1) None) is ∙ get_or-replicate (count_of net) (v - 1) None None (omega (arith, h.0, h.1));
 }
-
-pub none-from : (o : Option ℕ) → is_some o ≡ false → o ≡ None
-none-from None e = refl
-none-from (Some x) e = absurd cc
 
 pub or-nothing : (o : Option ℕ) → option_or o None ≡ o
 or-nothing None = refl

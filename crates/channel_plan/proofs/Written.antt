@@ -3,7 +3,7 @@ use Rattle.std.proofs.Common.{◌≡◌, ◌<◌, ◌≤◌, ◌+◌, ◌-◌, �
 use Rattle.std.proofs.Common.{Some, None, Ok, List, All, arith, ap, append_assoc, append-nil, codes, cond}
 use Rattle.std.proofs.Common.{get_or, length, map, refl, rules, sym, take}
 use Rattle.std.proofs.lemmas.Bool.{lt-ltb, ne_eqb}
-use Rattle.std.proofs.lemmas.Fmt.{decimal_is_IsNumeral, decimal_nonempty, digits_decimal}
+use Rattle.std.proofs.lemmas.Fmt.{decimal_nonempty, digits_decimal}
 use Rattle.std.proofs.lemmas.List.{length-append}
 use Rattle.std.proofs.lemmas.List.Elements.{All-append, All-cons, All-from_recursion, All-get_or, All-head, All-nil}
 use Rattle.std.proofs.lemmas.List.Elements.{All-tail, All-weaker}
@@ -13,11 +13,10 @@ use Rattle.std.specs.Fmt.{decimal}
 use Rattle.std.specs.List.{filter, slice_split}
 use Rattle.std.specs.Str.{all_ascii_digits}
 use Rattle.std.specs.Str.Lines.{strip_carriage_return}
-use Rattle.std.specs.Str.Parse.{digits_value}
 use Rattle.dimacs_col.specs.Lines.{Line, fields_of, is_blank, is_field, line_of, lines_of, small_number}
 use Rattle.channel_plan.specs.PlanText.{plan_of, rows_from}
 use Rattle.channel_plan.specs.Reading.{Row, known_after, read_from, reading_of, row_of, row_with, rows_of}
-use Rattle.dimacs_col.proofs.SmallNumbers.{small-digits}
+use Rattle.dimacs_col.proofs.SmallNumbers.{small-decimal}
 use Rattle.channel_plan.proofs.Readings.{read-one, then_read}
 
 -- ---- the digits of a number
@@ -37,12 +36,6 @@ each-digit (c ∷ cs) e = let p = tells_all_ascii_digits.parts c cs e in All-con
 
 pub digits-of : (n : ℕ) → n < 2 ^ 64 → All IsDigit (decimal n)
 digits-of n h = each-digit (decimal n) (digits_decimal own n h)
-
-pub small-decimal : (n : ℕ) → n < 2 ^ 32 → small_number (decimal n) ≡ Some n
-small-decimal n h =
-    let wide : n < 2 ^ 64 = omega arith in
-    let value : digits_value 10 (decimal n) ≡ n = (decimal_is_IsNumeral n wide).1 in
-    small-digits (decimal n) (decimal_nonempty n wide) (digits_decimal own n wide) (rw value h) ∙ ap Some value
 
 -- ---- the line of two numbers
 abbrev spaced_pair : ℕ → ℕ → List ℕ

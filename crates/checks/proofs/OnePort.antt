@@ -1,21 +1,16 @@
 -- Whatever a node does, it keeps as many ports as it has.
-use Rattle.std.proofs.Common.{◌≡◌, ℕ, suc, Bool, true, false, ◌&&◌, Option, Some, None, List, map, length, refl, sym, ap, ◌∙◌}
+use Rattle.std.proofs.Common.{◌≡◌, ℕ, suc, ◌&&◌, Option, List, map, length, sym, ap, ◌∙◌}
 use Rattle.std.specs.Prelude.{nat_lt, Result, Ok, Err, MatchResult, OnErr, if◌then◌else◌}
 use Rattle.std.proofs.lemmas.List.{length-map, length-set}
+use Rattle.alpha_laws.proofs.PulseAfter.{not_refused}
 use Rattle.alpha_core.specs.declared.wire.Wire.{Wire}
 use Rattle.alpha_core.specs.declared.wire.Wire.TheVariants.{Payload, Ack, Safe, Close}
 use Rattle.alpha_core.specs.declared.refused.AlphaRefused.{AlphaRefused}
 use Rattle.node_api.specs.declared.program.Refused.{Refused}
 use Rattle.alpha_core.specs.View.{View, Node, Alpha, port_at, none_waits, set_at}
-use Rattle.alpha_core.specs.Alpha.{reaction, reacts, takes, unless_refused, PulseRefused, pulse, pulsed, advances, emit, entering}
+use Rattle.alpha_core.specs.Alpha.{reaction, reacts, takes, PulseRefused, pulse, pulsed, advances, entering}
 use Rattle.alpha_core.specs.Table.{refusal_of}
-use Rattle.alpha_core.proofs.PortLists.{entering-length}
-
-said_length : {M : Type 0} (b : Bool) (view : View M)
-    → length (if b then record { pulse = view.pulse; said = true; ports = map (λ port. emit (Safe view.pulse) port) view.ports } else view).ports
-    ≡ length view.ports
-said_length true view = length-map view.ports _
-said_length false view = refl
+use Rattle.alpha_core.proofs.PortLists.{entering-length, settled-length}
 
 reacts_length : {M : Type 0} (last : ℕ) (view : View M) (i : ℕ) (w : Wire M) → length (reacts last view i w).ports ≡ length view.ports
 reacts_length last view i (Payload q x) = length-set view.ports i (takes view.pulse (port_at view i) (Payload q x))
@@ -23,19 +18,15 @@ reacts_length {M} last view i (Ack q) =
     let w : Wire M = Ack q in
     let port = takes view.pulse (port_at view i) w in
     let ports = set_at view.ports i port in
-    said_length (nat_lt view.pulse last && none_waits ports) record { pulse = view.pulse; said = view.said; ports = ports }
+    settled-length (nat_lt view.pulse last && none_waits ports) record { pulse = view.pulse; said = view.said; ports = ports }
     ∙ length-set view.ports i port
 reacts_length last view i (Safe q) = length-set view.ports i (takes view.pulse (port_at view i) (Safe q))
 reacts_length last view i Close = length-set view.ports i (takes view.pulse (port_at view i) Close)
 
-allowed : {A : Type 0} (refused : Option AlphaRefused) (x y : A) → unless_refused refused x ≡ Ok y → x ≡ y
-allowed (Some why) x y e = absurd cc
-allowed None x y e = cc
-
 -- a wire that is taken
 pub taken_length : {M : Type 0} (last : ℕ) (view next : View M) (i : ℕ) (w : Wire M) → reaction last view i w ≡ Ok next → length next.ports ≡ length view.ports
 taken_length last view next i w e =
-    sym (ap (λ v. length v.ports) (allowed (refusal_of last view.pulse view.said (port_at view i) w) (reacts last view i w) next e))
+    sym (ap (λ v. length v.ports) (not_refused (refusal_of last view.pulse view.said (port_at view i) w) (reacts last view i w) next e))
     ∙ reacts_length last view i w
 
 -- a pulse that is made

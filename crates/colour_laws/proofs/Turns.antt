@@ -2,9 +2,9 @@
 -- after it.
 use Rattle.std.proofs.Common.{◌≡◌, ℕ, suc, ◌+◌, ◌*◌, ◌<◌, ◌==◌, Bool, true, false, refl, ap, sym, ◌∙◌, arith}
 use Rattle.std.specs.Prelude.{if◌then◌else◌, map, Option, None}
-use Rattle.std.proofs.lemmas.Bool.Decides.{nat_tests}
 use Rattle.std.specs.Ordering.{nat_cmp}
 use Rattle.std.specs.FinSet.{FinSet, empty}
+use Rattle.std.proofs.lemmas.Bool.{eq-eqb}
 use Rattle.interference.specs.Net.{Net, IsNetwork, neighbours, neighbour_of, forest_count_of}
 use Rattle.node_api.specs.Program.{sizes_of}
 use Rattle.node_api.specs.Run.{inbox_from}
@@ -28,9 +28,6 @@ no_payload = None
 none_if : (b : Bool) → (if b then no_payload else no_payload) ≡ None
 none_if true = refl
 none_if false = refl
-
-same_test : (a b : ℕ) → a ≡ b → (a == b) ≡ true
-same_test a b h = grind (arith, nat_tests)
 
 module _ (net : Net) (ok : IsNetwork net) (forest : IsForest net) where
   pub work_goes : (p q : ℕ) → p ≡ q + 2 → q < 10 → HoldsAfter net p (state_while_reducing net q) (tells net q) →
@@ -59,7 +56,7 @@ module _ (net : Net) (ok : IsNetwork net) (forest : IsForest net) where
   -- the last step of a forest sends nothing
   pub silent_at_last : (f s v w : ℕ) → suc s ≡ steps (sizes_of net) → chose net f s w v ≡ None
   silent_at_last f s v w e =
-      let test : (suc s == steps (sizes_of net)) ≡ true = same_test (suc s) (steps (sizes_of net)) e in
+      let test : (suc s == steps (sizes_of net)) ≡ true = eq-eqb (suc s) (steps (sizes_of net)) e in
       ap (λ (d : Bool). if step_in net f w == s then (if d then None else tells_chosen f (colours_after net (suc f) w) (role_of net w v)) else None) test
       ∙ none_if (step_in net f w == s)
 

@@ -4,7 +4,7 @@ use Rattle.std.proofs.Common.{replicate, take, refl, ap, sym, ◌∙◌, arith, 
 use Rattle.std.specs.Prelude.{◌&&◌, ◌||◌, if◌then◌else◌, filter, nat_le, not}
 use Rattle.std.specs.Ordering.{nat_cmp}
 use Rattle.std.specs.FinSet.{FinSet, contains, contains-empty, contains-from_list_nat, empty, insert}
-use Rattle.std.proofs.lemmas.Bool.{cases_eq}
+use Rattle.std.proofs.lemmas.Bool.{cases_eq, and_left}
 use Rattle.std.proofs.lemmas.Bool.Decides.{nat_tests}
 use Rattle.std.proofs.lemmas.List.Folds.{list_any_more}
 use Rattle.colour_base.proofs.LeastKnown.{least-same}
@@ -84,13 +84,10 @@ bars-all limit bars n set whole has =
     (λ c. has c ∙ (ap (λ xs. is_among xs c && nat_le c limit) whole ∙ sym (contains-up_to limit bars c)))
 
 -- bars that are at most as many as the limit leave a colour free
-none_low : (a b : Bool) → a ≡ false → (a && b) ≡ false
-none_low a b h = rw h refl
-
 pub HasFree-bars : (limit : ℕ) (bars : List ℕ) → length bars ≤ limit → HasFree limit (contains (up_to limit bars))
 HasFree-bars limit bars few =
     let some : HasFree limit (is_among bars) = HasFree-few limit bars few in
-    (some.0, some.1, contains-up_to limit bars some.0 ∙ none_low (is_among bars some.0) (nat_le some.0 limit) some.2)
+    (some.0, some.1, contains-up_to limit bars some.0 ∙ and_left (is_among bars some.0) (nat_le some.0 limit) some.2)
 
 -- a node before it has heard anything: nothing is chosen, and these are barred
 module _ (limit : ℕ) (bars : List ℕ) (chosen barred : FinSet nat_cmp) (none : chosen ≡ empty) (are : barred ≡ up_to limit bars) where

@@ -1,7 +1,7 @@
 -- Whether a colour is left for a node, and what a node does at its turn.
 use Rattle.std.proofs.Common.{◌≡◌, ◌≢◌, ℕ, suc, ◌+◌, ◌*◌, ◌/◌, ◌%◌, ◌<◌, ◌≤◌, ◌==◌, Bool, true, false, [], refl, ap, sym, subst, ◌∙◌, arith}
 use Rattle.std.specs.Prelude.{if◌then◌else◌, not, nat_le, nat_lt, IsTrue, ◌↔◌, Option, Some, None, slice_index}
-use Rattle.std.proofs.lemmas.Bool.{lt-leb, eq-eqb, ne_eqb}
+use Rattle.std.proofs.lemmas.Bool.{lt-leb, eq-eqb, ne_eqb, not-true}
 use Rattle.std.proofs.lemmas.Nat.{div_below}
 use Rattle.std.proofs.lemmas.Bool.Decides.{nat_tests}
 use native.Mathlib.Decide.{dec_lt}
@@ -18,10 +18,6 @@ use Rattle.colour_rules.proofs.Pairs.{pair_test}
 not_both : (a b most : ℕ) → most < a → b < suc most → a ≡ b → ⊥
 not_both a b most high low e = omega arith
 
-not_true : (b : Bool) → not b ≡ true → b ≡ false
-not_true false h = refl
-not_true true h = absurd (cc)
-
 -- the least free colour is too high where none is free
 pub least_free_colour-high : (limit : ℕ) (is_taken : ℕ → Bool) (free : Bool) → (IsTrue free ↔ HasFree limit is_taken) →
     nat_lt limit (least_free_colour limit is_taken) ≡ not free
@@ -36,7 +32,7 @@ least_free_colour-high limit is_taken false h =
       | no within ↦
           let low : least_free_colour limit is_taken ≤ limit = omega arith in
           let holds : not (is_taken (least_free_colour limit is_taken)) ≡ true = least-holds (λ c. not (is_taken c)) (suc limit) (omega arith) in
-          let wrong : IsTrue false = h.1 (least_free_colour limit is_taken, low, not_true (is_taken (least_free_colour limit is_taken)) holds) in
+          let wrong : IsTrue false = h.1 (least_free_colour limit is_taken, low, not-true (is_taken (least_free_colour limit is_taken)) holds) in
           absurd (cc)
     ]
 
@@ -53,7 +49,7 @@ turn-rule false high none_free e h = absurd (cc)
 pub HasFree-low : (limit : ℕ) (is_taken : ℕ → Bool) → least_free_colour limit is_taken ≤ limit → HasFree limit is_taken
 HasFree-low limit is_taken low =
     let holds : not (is_taken (least_free_colour limit is_taken)) ≡ true = least-holds (λ c. not (is_taken c)) (suc limit) (omega arith) in
-    (least_free_colour limit is_taken, low, not_true (is_taken (least_free_colour limit is_taken)) holds)
+    (least_free_colour limit is_taken, low, not-true (is_taken (least_free_colour limit is_taken)) holds)
 
 -- the old colour at a step: the merged one at the first, and later the one from before
 pub old-first : (s old merged before : ℕ) → s ≡ 0 → old ≡ merged → old ≡ (if s == 0 then merged else before)

@@ -1,9 +1,10 @@
 -- The colours of the parents, heard one payload after another.
 use Rattle.std.proofs.Common.{◌≡◌, ◌≢◌, ℕ, zero, suc, ◌+◌, ◌-◌, ◌<◌, ◌≤◌, ◌==◌, Bool, true, false, List, ◌∷◌, length, refl, ap, sym, ◌∙◌, arith}
 use Rattle.std.proofs.Common.{drop, get_or}
-use Rattle.std.specs.Prelude.{if◌then◌else◌, Option, Some, None, IsSome}
+use Rattle.std.specs.Prelude.{if◌then◌else◌, Option, Some, None}
 use Rattle.std.proofs.lemmas.Bool.Decides.{nat_tests}
 use Rattle.std.proofs.lemmas.List.{drop_more, drop_all}
+use Rattle.node_api.proofs.Filled.{none_unless}
 use native.Mathlib.Decide.{dec_lt}
 use Prim.{yes, no}
 use Rattle.node_api.specs.Boxes.{Mail, Reads, HasFrom, at_port}
@@ -13,13 +14,9 @@ use Rattle.colour_rules.specs.declared.payload.Payload.{Payload}
 use Rattle.colour_rules.specs.declared.payload.Payload.TheVariants.{Colour}
 use Rattle.colour_rules.specs.Program.{HaveColours, is_up, colour_in, from_parent}
 
-none-unless : {X : Type 0} (x : Option X) → (IsSome x → ⊥) → x ≡ None
-none-unless None h = refl
-none-unless (Some x) h = absurd (h refl)
-
 -- where nothing is left to be read, nothing stands at the ports that are left
 pub none-past : (slots : List (Option Payload)) (cursor : ℕ) → (HasFrom slots cursor → ⊥) → (k : ℕ) → cursor ≤ k → k < length slots → at_port slots k ≡ None
-none-past slots cursor end k low h = none-unless (at_port slots k) (λ some. end (k, low, h, some))
+none-past slots cursor end k low h = none_unless (at_port slots k) (λ some. end (k, low, h, some))
 
 not_up : (f : ℕ) (role : Role) → ((g : ℕ) → role ≡ Up g → ⊥) → is_up f role ≡ false
 not_up f Unknown h = refl

@@ -6,6 +6,7 @@ use Rattle.std.proofs.lemmas.Bool.Decides.{nat_tests}
 use Rattle.std.proofs.lemmas.List.Folds.{list_any-append}
 use Rattle.std.proofs.lemmas.List.Elements.{All-cons}
 use Rattle.std.proofs.lemmas.List.Kept.{AllPairs-cons}
+use Rattle.std.proofs.lemmas.Bool.{or_parts}
 use Rattle.forest_merge.specs.Free.{is_among}
 use Rattle.forests.specs.Forests.{role_by}
 use Rattle.forests.specs.declared.numbering.Role.{Role}
@@ -56,16 +57,11 @@ pub record OnlyHellos (own : ℕ) (earlier : List ℕ) (slots : List (Option Pay
   pub fresh : All (λ n. is_among earlier n ≡ false) (ids_in slots)
   pub distinct : AllPairs (λ x y. x ≢ y) (ids_in slots)
 
-or_false : (a b : Bool) → (a || b) ≡ false → (a ≡ false) × (b ≡ false)
-or_false false false h = (refl, refl)
-or_false false true h = absurd (cc)
-or_false true b h = absurd (cc)
-
 -- what is not among more was not among fewer, and is none of those that came to them
 not_earlier : (earlier : List ℕ) (n m : ℕ) → is_among (earlier ++ (n ∷ [])) m ≡ false → (is_among earlier m ≡ false) × (n ≢ m)
 not_earlier earlier n m h =
-    let parts = or_false (is_among earlier m) (is_among (n ∷ []) m) (sym (list_any-append (λ x. x == m) earlier (n ∷ [])) ∙ h) in
-    let other : (n == m) ≡ false = (or_false (n == m) false parts.1).0 in
+    let parts = or_parts (is_among earlier m) (is_among (n ∷ []) m) (sym (list_any-append (λ x. x == m) earlier (n ∷ [])) ∙ h) in
+    let other : (n == m) ≡ false = (or_parts (n == m) false parts.1).0 in
     (parts.0, (let apart : n ≢ m = grind (arith, nat_tests) in apart))
 
 hellos-more : (own n : ℕ) (earlier : List ℕ) (slots : List (Option Payload)) → n ≢ own → is_among earlier n ≡ false →

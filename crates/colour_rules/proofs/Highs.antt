@@ -2,26 +2,15 @@
 use Rattle.std.proofs.Common.{◌≡◌, ℕ, zero, suc, ◌<◌, Bool, true, false, List, [], ◌∷◌, length, refl, arith}
 use Rattle.std.specs.Prelude.{◌||◌, slice_index}
 use Rattle.std.specs.List.{list_any}
-
-or-right : (a b : Bool) → b ≡ true → (a || b) ≡ true
-or-right true b e = refl
-or-right false b e = e
-
-or-left : (a b : Bool) → a ≡ true → (a || b) ≡ true
-or-left true b e = refl
-or-left false b e = absurd (cc)
-
-or-neither : (a b : Bool) → a ≡ false → b ≡ false → (a || b) ≡ false
-or-neither true b e f = absurd (cc)
-or-neither false b e f = f
+use Rattle.std.proofs.lemmas.Bool.{or_right, or_left, or_from}
 
 -- one that passes
 pub any-at : (test : ℕ → Bool) (xs : List ℕ) (i : ℕ) → i < length xs → test (slice_index xs i) ≡ true → list_any test xs ≡ true
 any-at test [] i h e = absurd (omega arith)
-any-at test (x ∷ xs) zero h e = or-left (test x) (list_any test xs) e
-any-at test (x ∷ xs) (suc i) h e = or-right (test x) (list_any test xs) (any-at test xs i (omega arith) e)
+any-at test (x ∷ xs) zero h e = or_left (test x) (list_any test xs) e
+any-at test (x ∷ xs) (suc i) h e = or_right (test x) (list_any test xs) (any-at test xs i (omega arith) e)
 
 -- none that passes
 pub any-none : (test : ℕ → Bool) (xs : List ℕ) → ((i : ℕ) → i < length xs → test (slice_index xs i) ≡ false) → list_any test xs ≡ false
 any-none test [] none = refl
-any-none test (x ∷ xs) none = or-neither (test x) (list_any test xs) (none 0 (omega arith)) (any-none test xs (λ i h. none (suc i) (omega arith)))
+any-none test (x ∷ xs) none = or_from (test x) (list_any test xs) (none 0 (omega arith)) (any-none test xs (λ i h. none (suc i) (omega arith)))

@@ -1,8 +1,9 @@
 -- What a node sends by the roles of its ports, one port after another.
-use Rattle.std.proofs.Common.{◌≡◌, ℕ, ◌<◌, ◌≤◌, Bool, true, false, ◌&&◌, List, [], ◌∷◌, length, refl, ap, sym, ◌∙◌, arith, get_or}
+use Rattle.std.proofs.Common.{◌≡◌, ℕ, ◌<◌, ◌≤◌, Bool, true, ◌&&◌, List, [], ◌∷◌, length, refl, ap, sym, ◌∙◌, arith, get_or}
 use Rattle.std.specs.Prelude.{if◌then◌else◌, map, replicate, Option, Some, None}
 use Rattle.std.specs.List.{list_all}
 use Rattle.std.proofs.lemmas.List.{ext_get_or, get_or-map, length-map, length-replicate}
+use Rattle.std.proofs.lemmas.Bool.{and_parts}
 use Rattle.node_api.specs.Boxes.{at_port, nothing}
 use Rattle.forests.specs.declared.numbering.Role.{Role}
 use Rattle.forests.specs.declared.numbering.Role.TheVariants.{Unknown}
@@ -25,17 +26,12 @@ told-all {tell = tell} {roles = roles} {out = out} told past =
     ext_get_or None out (map tell roles) (told.size ∙ sym (length-map roles tell))
     (λ k h. let within : k < length roles = omega (arith, told.size) in told.before k (omega arith) ∙ sym (get_or-map tell roles k Unknown None within))
 
-both : (one others : Bool) → (one && others) ≡ true → (one ≡ true) × (others ≡ true)
-both true true h = (refl, refl)
-both true false h = absurd cc
-both false others h = absurd cc
-
 -- ports that are all of a forest up to f are all told a colour that is chosen there
 all-told : (f c : ℕ) (roles : List Role) → list_all (is_merged f) roles ≡ true →
     replicate (length roles) (Some (Chosen c)) ≡ map (tells_chosen f c) roles
 all-told f c [] h = refl
 all-told f c (role ∷ roles) h =
-    let at = both (is_merged f role) (list_all (is_merged f) roles) h in
+    let at = and_parts (is_merged f role) (list_all (is_merged f) roles) h in
     ap (λ (b : Bool). (if b then Some (Chosen c) else None) ∷ replicate (length roles) (Some (Chosen c))) (sym at.0)
     ∙ ap (λ (rest : List (Option Payload)). tells_chosen f c role ∷ rest) (all-told f c roles at.1)
 

@@ -4,6 +4,7 @@ use Rattle.std.specs.Prelude.{if◌then◌else◌, ◌||◌, IfSome, Option, Som
 use Rattle.std.proofs.lemmas.Bool.Decides.{nat_tests}
 use Rattle.std.specs.List.{list_any}
 use Rattle.std.proofs.lemmas.List.FromFn.{get_or-map-range_with_len, length-map-range_with_len}
+use Rattle.std.proofs.lemmas.Bool.{or_parts}
 use Rattle.node_api.specs.Boxes.{at_port}
 use Rattle.forests.specs.declared.numbering.Role.{Role}
 use Rattle.forests.specs.declared.numbering.Role.TheVariants.{Unknown, Up, Down}
@@ -62,14 +63,10 @@ own-if : (b : Bool) (x : ℕ) → (if b then Some x else None) ≡ None → b �
 own-if true x e = absurd (cc)
 own-if false x e = refl
 
-neither-or : (b rest : Bool) → (b || rest) ≡ false → (b ≡ false) × (rest ≡ false)
-neither-or true rest e = absurd (cc)
-neither-or false rest e = (refl, e)
-
 none-of : (test : ℕ → Bool) (cs : List ℕ) → list_any test cs ≡ false → (i : ℕ) → i < length cs → test (slice_index cs i) ≡ false
 none-of test [] none i h = absurd (omega arith)
-none-of test (c ∷ cs) none zero h = (neither-or (test c) (list_any test cs) none).0
-none-of test (c ∷ cs) none (suc i) h = none-of test cs (neither-or (test c) (list_any test cs) none).1 i (omega arith)
+none-of test (c ∷ cs) none zero h = (or_parts (test c) (list_any test cs) none).0
+none-of test (c ∷ cs) none (suc i) h = none-of test cs (or_parts (test c) (list_any test cs) none).1 i (omega arith)
 
 module _ (node : Node) (reduction : Reduction) (slots : List (Option Payload)) (accepted : IsAccepted node (Work reduction) slots) where
   -- the node's own colours are 0 to 5 if they are shifted or dropped

@@ -1,6 +1,7 @@
 -- What the words may be declined with, if they ask for nothing, and that what they ask for is in range.
 use Rattle.std.proofs.Common.{◌≡◌, ◌≢◌, ◌⊎◌, inl, inr, ⊎_elim, subst, sym, refl, ap, ◌∙◌}
 use Rattle.std.proofs.Common.{true, List, [], ◌∷◌, Option, Some, None, is_some}
+use Rattle.std.proofs.lemmas.Option.{same_Some}
 use Rattle.clap.specs.Walk.{Row, Text}
 use Rattle.clap.specs.Simple.{subcommand_of}
 use Rattle.clap.specs.Faults.{fault_of}
@@ -18,9 +19,6 @@ use Rattle.command_line.proofs.KnownCommands.{IsKnownChoice, known}
 out_of_memory_is_no_help : OutOfMemory ≢ DisplayHelp
 out_of_memory_is_no_help same = cc
 
-some_is_same : (x y : Request) → Some x ≡ Some y → x ≡ y
-some_is_same x y e = cc
-
 -- what the words ask for is in range
 pub in_range : (program : Program) (words : List Text) (r : Request) → fault_of (line program) words ≡ []
     → choice_of (subcommand_of (line program) words) ≡ Some r
@@ -30,7 +28,7 @@ in_range program words r none e = go (subcommand_of (line program) words) (known
     go : (o : Option (Text × List Row)) → (is_some o ≡ true → IsKnownChoice o) → choice_of o ≡ Some r → IsInRange r
     go None known same = cc
     go (Some p) known same = ⊎_elim
-        (λ is. subst IsInRange (some_is_same is.0 r (sym is.1 ∙ same)) is.2)
+        (λ is. subst IsInRange (same_Some is.0 r (sym is.1 ∙ same)) is.2)
         (λ no. let both : None ≡ Some r = sym no.0 ∙ same in cc)
         (known refl)
 

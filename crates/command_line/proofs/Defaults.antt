@@ -3,7 +3,7 @@ use Rattle.std.proofs.Common.{◌≡◌, ◌∙◌, ◌||◌, ◌&&◌, ◌^◌,
 use Rattle.std.specs.Prelude.{nat_le, nat_lt, option_and_then, option_map, slice_get}
 use Rattle.std.specs.Str.{bytes_eq}
 use Rattle.std.specs.Str.Parse.{digits_value, without_leading_plus}
-use Rattle.std.proofs.lemmas.Bool.{leb-true, lt-ltb}
+use Rattle.std.proofs.lemmas.Bool.{leb-true, lt-ltb, or_right}
 use Rattle.std.proofs.lemmas.Slice.Eq.{bytes_eq-Decides}
 use Rattle.clap.specs.Values.{read_as, reading_of}
 use Rattle.clap.specs.Kinds.{value_kinds, values_kinds}
@@ -23,10 +23,6 @@ use Rattle.command_line.proofs.Passing.{AllPassed, Passed, split}
 or_more : (b x y : Bool) → (x ≡ true → y ≡ true) → (b || x) ≡ true → (b || y) ≡ true
 or_more true x y f h = refl
 or_more false x y f h = f h
-
-or_right : (b x : Bool) → x ≡ true → (b || x) ≡ true
-or_right true x h = refl
-or_right false x h = h
 
 row_stays : (id k : Text) (s : ValueSource) (values : List Text) (missing rows : List Row) → has_row k rows ≡ true
     → has_row k (at_row id (more_values s values) missing rows) ≡ true

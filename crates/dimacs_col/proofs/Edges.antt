@@ -28,7 +28,7 @@ use Rattle.std.proofs.Common.{
 }
 use Rattle.std.specs.Option.{IfSome}
 use Rattle.std.specs.Set.{is_member, distinct_count}
-use Rattle.std.proofs.lemmas.Bool.{ltb-false}
+use Rattle.std.proofs.lemmas.Bool.{ltb-false, ne_eqb}
 use Rattle.dimacs_col.specs.Lines.{Line, number_of, field_at}
 use Rattle.dimacs_col.specs.Kinds.{kind_of_word}
 use Rattle.dimacs_col.specs.Reading.{verdict, nodes_of, edges_of, edge_count, first_of, id_in, ids_of, bars_of, number_after}
@@ -42,7 +42,7 @@ use Rattle.dimacs_col.specs.declared.kind.Kind.TheVariants.{Edge}
 use Rattle.dimacs_col.proofs.Lists.{AllGood-push, nodes_of-same, edges_of-push, edge_count-of, ids_of-same, bars_of-same}
 use Rattle.dimacs_col.proofs.Members.{member-push, members-push}
 use Rattle.graph_limits.proofs.Pairs.{same_pair-exact}
-use Rattle.dimacs_col.proofs.Verdicts.{verdict-edge, outside-any, kept-from, kept-inside, inside, differ}
+use Rattle.dimacs_col.proofs.Verdicts.{verdict-edge, outside-any, kept-from, kept-inside, inside}
 
 edge-nodes : (word : List ℕ) (fields : Line) → kind_of_word word ≡ Edge → nodes_of ((word ∷ fields) ∷ []) ≡ None
 unfolding nodes_of
@@ -144,7 +144,7 @@ put-verdict before word fields r nodes v w edges large p e =
     let read = put-read before word fields r nodes v w edges p in
     let count = edge_count-of edges (before ++ (word ∷ fields) ∷ []) (put-members before word fields r nodes v w edges p) in
     verdict-edge before word fields nodes v w false false large p.edge.kind (sym p.edge.knows.nodes_are ∙
-    p.edge.nodes_is) read.first read.second (inside nodes v w p.first_low p.first_high p.second_low p.second_high) (differ v w p.apart)
+    p.edge.nodes_is) read.first read.second (inside nodes v w p.first_low p.first_high p.second_low p.second_high) (ne_eqb v w p.apart)
     (ap (nat_lt MAX_EDGES) (sym count) ∙ e)
 
 pub told-large : (before : List Line) (word : List ℕ) (fields : Line) (r : Reader) (nodes v w : ℕ) (edges : List (ℕ × ℕ)) →

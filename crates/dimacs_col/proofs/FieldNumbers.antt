@@ -1,7 +1,7 @@
 -- Which number a field is, from what std reads of it, and whether it is an identifier.
 use Rattle.std.proofs.Common.{◌≡◌, ◌≢◌, ◌<◌, ◌^◌, ◌∙◌, ℕ, Bool, true, false, Option, Some, None, Result, Ok, Err, MatchOption, MatchResult, List, [], ◌∷◌}
-use Rattle.std.proofs.Common.{suc, zero, inl, inr, ap, arith, get_or, length, nat_lt, refl, subst, sym, if◌then◌else◌, option_and_then}
-use Rattle.std.proofs.lemmas.Bool.{cases_lt, lt-ltb, le-ltb}
+use Rattle.std.proofs.Common.{suc, zero, ap, arith, get_or, length, nat_lt, refl, subst, sym, if◌then◌else◌, option_and_then}
+use Rattle.std.proofs.lemmas.Bool.{lt-ltb, le-ltb, ltb-true}
 use Rattle.std.proofs.lemmas.Fmt.{IsAscii-from_digits}
 use Rattle.std.proofs.lemmas.Str.{IsUtf8-from_ascii}
 use Rattle.std.proofs.lemmas.Str.Parse.{IsNumeralModel, numerals_by_value, parse_plain, tells_all_ascii_digits}
@@ -12,7 +12,7 @@ use Rattle.std.specs.List.{slice_get}
 use Rattle.dimacs_col.specs.Lines.{Line, field_at, identifier_in, identifier_of, is_field, is_identifier, number_of}
 use Rattle.dimacs_col.specs.declared.fields.IdentifierField.TheVariants.{NoNumber, TooGreat, Value}
 
-own : IsNumeralModel (λ ds. all_ascii_digits ds ≡ true) (digits_value 10)
+pub own : IsNumeralModel (λ ds. all_ascii_digits ds ≡ true) (digits_value 10)
 own = numerals_by_value (λ ds. all_ascii_digits ds ≡ true) tells_all_ascii_digits
 
 pub number-empty : (field : List ℕ) → length field ≡ 0 → number_of field ≡ None
@@ -47,14 +47,6 @@ pub unsigned-is : {A E : Type 0} (now : A → List ℕ) (field : List ℕ) (rest
 unsigned-is now field rest (Ok s) is plain = (is.0, plain)
 unsigned-is now field rest (Err e) is plain = number-text field is.0
 
-ltb-lt : (a b : ℕ) → nat_lt a b ≡ true → a < b
-ltb-lt a b e = elim (cases_lt a b) [
-  | inl less ↦ less
-  | inr more ↦
-      let no : nat_lt a b ≡ false = le-ltb a b (omega arith) in
-      let wrong : true ≡ false = sym e ∙ no in absurd cc
-]
-
 -- the number of so many binary digits that a field is
 abbrev below : ℕ → List ℕ → Option ℕ
 below k field = option_and_then (λ n. if nat_lt n (2 ^ k) then Some n else None) (number_of field)
@@ -72,7 +64,7 @@ below-none k field never = by-field (is_field field) (all_ascii_digits field) (n
     by-field false d l t e m = rw t refl
     by-field true false l t e m = rw (t, e) refl
     by-field true true false t e m = rw (t, e, m) refl
-    by-field true true true t e m = absurd (never (e, ltb-lt 0 (length field) t, ltb-lt (digits_value 10 field) (2 ^ k) m))
+    by-field true true true t e m = absurd (never (e, ltb-true 0 (length field) t, ltb-true (digits_value 10 field) (2 ^ k) m))
 
 pub parsed : {E : Type 0} (k : ℕ) (field bs : List ℕ) (r : Result ℕ E) → bs ≡ field → get_or field 0 0 ≢ 43 → ParsesUnsigned k 10 bs r →
     result_ok r ≡ below k field

@@ -16,4 +16,4 @@ pub mod SmallNumbers
 pub mod Parts
 pub mod Splitting
 pub mod Blank
-mod Refused
+pub mod Refused

@@ -2,13 +2,16 @@
 use Rattle.std.proofs.Common.{◌≡◌, ◌<◌, ◌≤◌, ◌+◌, ◌-◌, ◌*◌, ◌^◌, ◌∙◌, ℕ, Bool, true, false, Some, None, List, length}
 use Rattle.std.proofs.Common.{take, drop, get_or, refl, sym, ap, arith, nat_lt}
 use Rattle.std.proofs.lemmas.Bool.{lt-ltb, le-ltb}
+use Rattle.std.proofs.lemmas.Fmt.{decimal_is_IsNumeral, decimal_nonempty, digits_decimal}
 use Rattle.std.proofs.lemmas.Int.Digits.{digits_value_more}
 use Rattle.std.proofs.lemmas.List.{take_all, drop_all}
 use Rattle.std.proofs.lemmas.Str.Parse.{digits_value-take-le}
 use Rattle.std.specs.Char.{is_ascii_digit}
+use Rattle.std.specs.Fmt.{decimal}
 use Rattle.std.specs.Str.{all_ascii_digits}
 use Rattle.std.specs.Str.Parse.{digits_value}
 use Rattle.dimacs_col.specs.Lines.{number_of, is_field, small_number}
+use Rattle.dimacs_col.proofs.FieldNumbers.{own}
 use Rattle.dimacs_col.proofs.Numbers.{digit_value-is, digit-range}
 
 -- a field with another byte is no number
@@ -59,3 +62,10 @@ small-end field i value all some low v e =
 pub small-empty : (field : List ℕ) → length field ≡ 0 → small_number field ≡ None
 unfolding number_of
 small-empty field none = let here : nat_lt 0 (length field) ≡ false = le-ltb 0 (length field) (omega (arith, none)) in rw here refl
+
+-- a number as it is written
+pub small-decimal : (n : ℕ) → n < 2 ^ 32 → small_number (decimal n) ≡ Some n
+small-decimal n h =
+    let wide : n < 2 ^ 64 = omega arith in
+    let value : digits_value 10 (decimal n) ≡ n = (decimal_is_IsNumeral n wide).1 in
+    small-digits (decimal n) (decimal_nonempty n wide) (digits_decimal own n wide) (rw value h) ∙ ap Some value

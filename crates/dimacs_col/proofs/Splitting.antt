@@ -4,19 +4,16 @@ use Rattle.std.proofs.Common.{Some, None, drop, All, Bool, Bor, ◌<◌, ◌||�
 use Rattle.std.specs.List.{slice_get}
 use Rattle.std.specs.Str.{bytes_eq}
 use Rattle.std.proofs.lemmas.List.Elements.{All-append, All-cons, All-nil}
+use Rattle.std.proofs.lemmas.Bool.{or_right}
 use Rattle.dimacs_col.specs.Lines.{Line, fields_of, line_of, lines_of}
 use Rattle.dimacs_col.specs.Split.{begins, is_one_of, lines_before, lines_from, words_in}
-
-or-true : (b c : Bool) → c ≡ true → (b || c) ≡ true
-or-true true c e = refl
-or-true false c e = e
 
 -- a field that is the word at an index
 pub one-at : (field : List ℕ) (words : List (Bor (List ℕ))) (i : ℕ) (d : Bor (List ℕ)) → i < length words → bytes_eq field (get_or words i d).now ≡ true →
     is_one_of field (words_in words) ≡ true
 one-at field [] i d lt e = absurd (omega arith)
 one-at field (word ∷ words) zero d lt e = rw e refl
-one-at field (word ∷ words) (suc i) d lt e = or-true (bytes_eq field word.now) (is_one_of field (words_in words)) (one-at field words i d (omega arith) e)
+one-at field (word ∷ words) (suc i) d lt e = or_right (bytes_eq field word.now) (is_one_of field (words_in words)) (one-at field words i d (omega arith) e)
 
 module _ (words : List (List ℕ)) where
   before-one : (line : Line) (lines : List Line) → begins words line ≡ false → lines_before words (line ∷ lines) ≡ line ∷ lines_before words lines

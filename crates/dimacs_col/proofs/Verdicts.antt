@@ -34,7 +34,7 @@ use Rattle.dimacs_col.specs.Kinds.{kind_of_word, kind_of, is_format}
 use Rattle.dimacs_col.specs.Reading.{verdict, first_of, nodes_of, edge_count, has_id, bar_count, number_after}
 use Rattle.std.specs.List.{slice_get}
 use Rattle.std.proofs.lemmas.List.{get_or-drop}
-use Rattle.std.proofs.lemmas.Bool.{le-ltb, ne_eqb}
+use Rattle.std.proofs.lemmas.Bool.{le-ltb}
 use Rattle.std.specs.Option.{is_some}
 use Rattle.dimacs_col.specs.State.{kept, kept_number}
 use Rattle.dimacs_col.specs.declared.kind.Kind.TheVariants.{Skipped, Problem, Edge, Identifier, Bar, Unknown}
@@ -147,6 +147,3 @@ none-from (Some n) e = absurd cc
 pub outside-any : (nodes m n v w : ℕ) → nodes ≤ MAX_NODES → v ≡ kept m → w ≡ kept n → (0 < v → v ≤ nodes → 0 < w → w ≤ nodes → ⊥) →
     (is_outside nodes m || is_outside nodes n) ≡ true
 outside-any nodes m n v w small a b bad = grind (arith, nat_tests)
-
-pub differ : (m n : ℕ) → (m ≡ n → ⊥) → (m == n) ≡ false
-differ m n e = ne_eqb m n e

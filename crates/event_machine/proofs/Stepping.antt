@@ -2,6 +2,7 @@
 use Rattle.std.proofs.Common.{◌≡◌, ℕ, ◌<◌, inl, inr, Bool, true, false, List, [], ◌∷◌, ◌++◌, length, Result, Ok, Err, refl, sym, ap, ◌∙◌, arith}
 use Rattle.std.specs.Prelude.{if◌then◌else◌}
 use Rattle.std.proofs.lemmas.List.{append-nil, length-append}
+use Rattle.std.proofs.lemmas.Bool.{false_from_ne_true}
 use Rattle.interference.specs.Net.{Net, IsNetwork}
 use Rattle.node_api.specs.Program.{Program, last_pulse_on}
 use Rattle.alpha_core.specs.declared.wire.Wire.{Wire}
@@ -19,10 +20,6 @@ use Rattle.event_machine.proofs.NetKept.{NetKept, all_kept, vertex_from, vertex_
 
 false-true : {A : Type 0} {b : Bool} → b ≡ false → b ≡ true → A
 false-true e f = let wrong : false ≡ true = sym e ∙ f in absurd cc
-
-not-true : (b : Bool) → (b ≡ true → ⊥) → b ≡ false
-not-true true never = absurd (never refl)
-not-true false never = refl
 
 -- what a step comes to, in the relations
 abbrev pub Stepped : {S M E : Type 0} → Program S M E → Net → State S M → Event → Result (State S M) StepRefused → Type 0
@@ -119,14 +116,14 @@ module _ {S M E : Type 0} (program : Program S M E) (net : Net) (state : State S
   not-there (Pulse v) never =
       let node = node_of program net state v in
       ap (λ b. if b then (if can_pulse (last_pulse_on program net) node.view then Ok (after_pulse program net state v node) else Err NotReady) else Err NoSuch)
-      (not-true (is_vertex net v) (λ e. never (vertex_from net v e)))
+      (false_from_ne_true (is_vertex net v) (λ e. never (vertex_from net v e)))
   not-there (Put v i) never =
       let node = node_of program net state v in
-      ap (λ b. if b then after_put state v i node (port_at node.view i).out else Err NoSuch) (not-true (has_port net v i) (λ e. never (port_from net v i e)))
+      ap (λ b. if b then after_put state v i node (port_at node.view i).out else Err NoSuch) (false_from_ne_true (has_port net v i) (λ e. never (port_from net v i e)))
   not-there (Take v i) never =
       let node = node_of program net state v in
       ap (λ b. if b then after_take (last_pulse_on program net) net state v i node (link_to net state.links v i).held else Err NoSuch)
-      (not-true (has_port net v i) (λ e. never (port_from net v i e)))
+      (false_from_ne_true (has_port net v i) (λ e. never (port_from net v i e)))
 
   nothing-in : {A : Type 0} (l : List A) → (0 < length l → ⊥) → l ≡ []
   nothing-in [] never = refl
@@ -137,7 +134,7 @@ module _ {S M E : Type 0} (program : Program S M E) (net : Net) (state : State S
       let node = node_of program net state v in
       ap (λ b. if b then (if can_pulse (last_pulse_on program net) node.view then Ok (after_pulse program net state v node) else Err NotReady) else Err
       NoSuch) (vertex_is net v vertex)
-      ∙ ap (λ b. if b then Ok (after_pulse program net state v node) else Err NotReady) (not-true (can_pulse (last_pulse_on program net) node.view) never)
+      ∙ ap (λ b. if b then Ok (after_pulse program net state v node) else Err NotReady) (false_from_ne_true (can_pulse (last_pulse_on program net) node.view) never)
   not-yet (Put v i) there never =
       let node = node_of program net state v in
       ap (λ b. if b then after_put state v i node (port_at node.view i).out else Err NoSuch) (port_is net v i there.0 there.1)

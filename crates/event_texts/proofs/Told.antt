@@ -1,9 +1,8 @@
 -- What an error says of a text, and what the parts of a text that a function appends come to.
 use Rattle.std.proofs.Common.{◌≡◌, ◌∙◌, ◌≤◌, ◌<◌, ◌+◌, ℕ, suc, arith, true, false, nat_eq, ap, ap₂, sym, refl}
 use Rattle.std.proofs.Common.{List, [], ◌∷◌, ◌++◌, append-nil, codes, get_or, length, take}
-use Rattle.std.specs.Prelude.{Result, Ok, Err, IfOk, Bool, if◌then◌else◌}
+use Rattle.std.specs.Prelude.{Bool, if◌then◌else◌}
 use Rattle.std.specs.List.{flat_map}
-use Rattle.std.specs.Result.{IsErrAnd}
 use Rattle.std.proofs.lemmas.List.{get_or_default}
 use Rattle.std.proofs.lemmas.List.Concat.{flat_map-append}
 use Rattle.interference.specs.Net.{Net}
@@ -12,11 +11,6 @@ use Rattle.event_machine.proofs.Parts.{take-split}
 use Rattle.event_texts.specs.Missing.{lack_text, lacking, last_text, pulse_text, safe_words}
 use Rattle.event_texts.specs.declared.missing.Lack.TheVariants.{Ack, Safe}
 use Rattle.number_rows.proofs.Ranges.{behind}
-
--- an error says nothing of a good answer
-pub err_says : {X E : Type 0} (Q : E → Type 0) (P : X → Type 0) (r : Result X E) → IsErrAnd r Q → IfOk r P
-err_says Q P (Ok x) is = absurd is
-err_says Q P (Err e) is = tt
 
 -- why a vertex doesn't make its next pulse
 module _ {M : Type 0} (net : Net) (last v : ℕ) (view : View M) (text : List ℕ) (p : ℕ) (pulse : p ≡ view.pulse) (halted : Bool)

@@ -1,5 +1,5 @@
 -- The parents of a vertex are its higher neighbours, each in the forest of its place.
-use Rattle.std.proofs.Common.{◌≡◌, ◌≢◌, ◌↔◌, ℕ, zero, suc, ◌<◌, ◌≤◌, Bool, true, false, length, get_or, refl, ap, sym, ◌∙◌, arith, subst, Some, inl, inr}
+use Rattle.std.proofs.Common.{◌≡◌, ◌≢◌, ◌↔◌, ℕ, zero, suc, ◌<◌, ◌≤◌, Bool, true, length, get_or, refl, ap, sym, ◌∙◌, arith, subst, Some, inl, inr}
 use Rattle.std.specs.Prelude.{nat_lt, count_by}
 use Rattle.std.specs.List.{Contains}
 use Rattle.std.proofs.lemmas.Bool.{cases_order, ltb-true, lt-ltb, le-ltb}
@@ -14,9 +14,6 @@ use Rattle.forests.proofs.Orders.{order-moves, order-ascends, ascending-apart}
 use Rattle.forests.proofs.Places.{place-at}
 use Rattle.forests.proofs.Highers.{higher-apart, length-up}
 use Rattle.forests.proofs.Ranks.{rank-at, count-moved, count-filtered}
-
-some-same : {X : Type 0} (x y : X) → Some x ≡ Some y → x ≡ y
-some-same x y e = cc
 
 -- ---- the higher neighbours, in order
 module _ (net : Net) (v w : ℕ) where

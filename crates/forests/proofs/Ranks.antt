@@ -4,15 +4,12 @@ use Rattle.std.specs.Prelude.{cond, filter, nat_lt, count_by, ◌&&◌}
 use Rattle.std.specs.List.{All}
 use Rattle.std.specs.List.Sorted.{IsPermutation}
 use Rattle.std.proofs.lemmas.Bool.{lt-ltb, le-ltb}
-use Rattle.std.proofs.lemmas.List.Elements.{All-weaker, All-head, All-tail}
+use Rattle.std.proofs.lemmas.List.Elements.{All-weaker}
 use Rattle.std.proofs.lemmas.List.Sums.{length-filter}
 use Rattle.std.proofs.lemmas.List.Sorted.{sum_by-IsPermutation}
+use Rattle.interference.proofs.BarCounts.{filter-none}
 use Rattle.forests.specs.Order.{IsAscendingBy}
 use Rattle.forests.proofs.Orders.{pairs-head, pairs-tail}
-
-filter-none : {X : Type 0} (test : X → Bool) (xs : List X) → All (λ x. test x ≡ false) xs → filter test xs ≡ []
-filter-none test [] none = refl
-filter-none test (x ∷ xs) none = rw (All-head (λ y. test y ≡ false) x xs none) (filter-none test xs (All-tail (λ y. test y ≡ false) x xs none))
 
 lower-count : {X : Type 0} (key : X → ℕ) (xs : List X) (k : ℕ) (d : X) → IsAscendingBy key xs → k < length xs →
     length (filter (λ x. nat_lt (key x) (key (get_or xs k d))) xs) ≡ k

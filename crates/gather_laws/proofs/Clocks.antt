@@ -1,10 +1,11 @@
 -- The stamps of merged rows are those that the counters give: a wire that was taken was put before.
 use Rattle.std.proofs.Common.{◌≡◌, ℕ, suc, ◌<◌, ◌≤◌, ◌==◌, true, List, [], ◌∷◌, ◌++◌, length, get_or, refl, sym, ap, ◌∙◌, ⊎_elim}
-use Rattle.std.proofs.Common.{zero, arith, subst, Ok, Err}
-use Rattle.std.specs.Prelude.{All, max, Result, MatchResult, ◌&&◌}
+use Rattle.std.proofs.Common.{zero, arith, subst}
+use Rattle.std.specs.Prelude.{All, max, ◌&&◌}
 use Rattle.std.proofs.lemmas.Bool.{eq-eqb}
 use Rattle.std.proofs.lemmas.List.{get_or_append_left, get_or_at, length-append, length-map, map-append}
 use Rattle.std.proofs.lemmas.List.Elements.{All-cons, All-head, All-nil, All-tail, All-weaker, All-get_or}
+use Rattle.gather_laws.proofs.Steps.{matched}
 use Rattle.interference.specs.Net.{Net, IsNetwork, IsVertex, count_of, degree_of, neighbour_of, neighbours, port_to, back_port_of}
 use Rattle.interference.proofs.Members.{place_of-is}
 use Rattle.interference.proofs.Neighbours.{at-back_port, back-of-back_port}
@@ -59,10 +60,6 @@ module _ {M : Type 0} where
       past k = refl
   first_part zero s (x ∷ xs) ys all lt low = refl
   first_part (suc k) s (x ∷ xs) ys all lt low = first_part k s xs ys all (omega (arith, lt)) low
-
-matched : {A B : Type 0} (r : Result A B) (P : A → Type 0) → MatchResult r P (λ _. ⊥) → (x : A) × (r ≡ Ok x) × P x
-matched (Ok x) P is = (x, refl, is)
-matched (Err e) P is = absurd is
 
 module _ {S M E : Type 0} (program : Program S M E) (net : Net) (v : ℕ) where
   -- a take is by a port

@@ -61,7 +61,7 @@ pub record Made {S M E : Type 0} (program : Program S M E) (net : Net) (nodes : 
   pub writes : row_of program net state (event_of net row) ≡ Some row
   pub left : Left program net nodes links rows next
 
-matched : {A B : Type 0} (r : Result A B) (P : A → Type 0) → MatchResult r P (λ _. ⊥) → (x : A) × (r ≡ Ok x) × P x
+pub matched : {A B : Type 0} (r : Result A B) (P : A → Type 0) → MatchResult r P (λ _. ⊥) → (x : A) × (r ≡ Ok x) × P x
 matched (Ok x) P is = (x, refl, is)
 matched (Err e) P is = absurd is
 

@@ -1,11 +1,11 @@
 -- Counts of bars: how many of a list pass a test, and what is known of the bars before one in an ascending list.
 use Rattle.std.proofs.Common.{◌≡◌, ◌≢◌, inl, inr, ℕ, suc, ◌+◌, ◌-◌, ◌<◌, ◌≤◌, ◌==◌, Bool, true, false, cond, List, [], ◌∷◌, Some, length}
-use Rattle.std.proofs.Common.{take, get_or, nat_lt, refl, sym, ap, ◌∙◌, subst, arith}
+use Rattle.std.proofs.Common.{take, get_or, refl, sym, ap, ◌∙◌, subst, arith}
 use Rattle.std.specs.List.{All, count_by, filter}
 use Rattle.std.specs.Ordering.{nat_cmp}
 use Rattle.std.specs.declared.cmp.Ordering.TheVariants.{Less, Equal, Greater}
 use Rattle.std.specs.Cmp.{nat_cmp_is}
-use Rattle.std.proofs.lemmas.Bool.{cases_eq, cases_order}
+use Rattle.std.proofs.lemmas.Bool.{cases_eq, cases_order, eq-eqb}
 use Rattle.std.proofs.lemmas.Bool.Decides.{nat_tests}
 use Rattle.std.proofs.lemmas.List.{length-take-le, get_or-take, get_or_default}
 use Rattle.std.proofs.lemmas.List.Elements.{All-more, All-tail}
@@ -16,17 +16,9 @@ use Rattle.graph_limits.specs.Pairs.{IsBarOf, is_bar_at, bars_at, pair_cmp}
 use Rattle.graph_limits.specs.declared.limits.TheConstants.{MAX_BARS}
 
 -- ---- tests and orders of numbers
-pub eq-yes : (a b : ℕ) → a ≡ b → (a == b) ≡ true
-eq-yes a b e = grind (arith, nat_tests)
 
 pub eq-no : (a b : ℕ) → a ≢ b → (a == b) ≡ false
 eq-no a b e = grind (arith, nat_tests)
-
-pub nat_lt-yes : (a b : ℕ) → a < b → nat_lt a b ≡ true
-nat_lt-yes a b e = grind (arith, nat_tests)
-
-pub nat_lt-no : (a b : ℕ) → b ≤ a → nat_lt a b ≡ false
-nat_lt-no a b e = grind (arith, nat_tests)
 
 -- of two pairs in order, the first has no greater first entry, and where these are equal a lesser second one
 pub pairs-before : (p q : ℕ × ℕ) → pair_cmp p q ≡ Less → (p.0 ≤ q.0) × (p.0 ≡ q.0 → p.1 < q.1)
@@ -97,10 +89,10 @@ module _ (nodes : ℕ) (bars : List (ℕ × ℕ)) (last : ℕ × ℕ) (count i :
 
   pub run-is : (new : ℕ) → pair_cmp last next ≡ Less → new ≡ cond (next.0 == last.0) (count + 1) 1 → new ≡ bars_at (take (i + 1) bars) next.0
   run-is new less is =
-      let more = count_by_more_yes (is_bar_at next.0) bars i (0, 0) inside (eq-yes next.0 next.0 refl) in
+      let more = count_by_more_yes (is_bar_at next.0) bars i (0, 0) inside (eq-eqb next.0 next.0 refl) in
       elim (cases_eq next.0 last.0) [
         | inl same ↦
-            let passed = eq-yes next.0 last.0 same in
+            let passed = eq-eqb next.0 last.0 same in
             let old : count ≡ bars_at (take i bars) next.0 = rw same so_far.count_is in
             is ∙ rw passed (omega (arith, more, old))
         | inr other ↦

@@ -4,7 +4,7 @@ use Rattle.std.proofs.Common.{◌≡◌, ℕ, zero, suc, ◌+◌, ◌-◌, ◌<�
 use Rattle.std.proofs.Common.{drop, get_or, slice_index, sum, fold, max, nat_lt, refl, sym, ap, ◌∙◌, arith}
 use Rattle.std.specs.List.{All, EachIndex, count_by, filter, range_with_len}
 use Rattle.std.specs.List.Sorted.{IsStrictlySortedBy}
-use Rattle.std.proofs.lemmas.Bool.{cases_order}
+use Rattle.std.proofs.lemmas.Bool.{cases_order, lt-ltb, le-ltb, eq-eqb}
 use Rattle.std.proofs.lemmas.List.{length-map, take-map, drop-map, same_lists, get_or_default}
 use Rattle.std.proofs.lemmas.List.FromFn.{length-map-range_with_len, get_or-map-range_with_len}
 use Rattle.std.proofs.lemmas.List.Sums.{count_by-le-length, sum_by-le, sum_by_more}
@@ -18,7 +18,7 @@ use Rattle.interference.specs.Net.{longest}
 use Rattle.interference.specs.Rows.{rows, AreRows}
 use Rattle.interference.proofs.RowsLemmas.{row_at}
 use Rattle.interference.proofs.BarLists.{length-barred_at}
-use Rattle.interference.proofs.BarCounts.{count-no, count-none, count-yes, eq-no, eq-yes, filter-none, nat_lt-no, nat_lt-yes, pairs-before}
+use Rattle.interference.proofs.BarCounts.{count-no, count-none, count-yes, eq-no, filter-none, pairs-before}
 use Rattle.interference.proofs.Packing.{length-rows}
 use Rattle.interference.proofs.Starting.{greatest_of_rows}
 
@@ -37,23 +37,23 @@ bars_below-next (b ∷ bs) v =
       | inl same ↦ omega (
         arith,
         more,
-        count-no low b bs (nat_lt-no b.0 v (omega arith)),
-        count-yes high b bs (nat_lt-yes b.0 (v + 1) (omega arith)),
-        count-yes (is_bar_at v) b bs (eq-yes b.0 v same),
+        count-no low b bs (le-ltb b.0 v (omega arith)),
+        count-yes high b bs (lt-ltb b.0 (v + 1) (omega arith)),
+        count-yes (is_bar_at v) b bs (eq-eqb b.0 v same),
       )
       | inr side ↦ elim side [
         | inl lt ↦ omega (
           arith,
           more,
-          count-yes low b bs (nat_lt-yes b.0 v lt),
-          count-yes high b bs (nat_lt-yes b.0 (v + 1) (omega arith)),
+          count-yes low b bs (lt-ltb b.0 v lt),
+          count-yes high b bs (lt-ltb b.0 (v + 1) (omega arith)),
           count-no (is_bar_at v) b bs (eq-no b.0 v (omega arith)),
         )
         | inr gt ↦ omega (
           arith,
           more,
-          count-no low b bs (nat_lt-no b.0 v (omega arith)),
-          count-no high b bs (nat_lt-no b.0 (v + 1) (omega arith)),
+          count-no low b bs (le-ltb b.0 v (omega arith)),
+          count-no high b bs (le-ltb b.0 (v + 1) (omega arith)),
           count-no (is_bar_at v) b bs (eq-no b.0 v (omega arith)),
         )
       ]
@@ -72,12 +72,12 @@ bars-together (b ∷ bs) v sorted =
     let more = bars-together bs v (sorted_tail pair_cmp b bs sorted) in
     elim (cases_order b.0 v) [
       | inl same ↦
-          let none : bars_below bs v ≡ 0 = count-none low bs (λ k d below. nat_lt-no _ v (omega (arith, after k d below))) in
+          let none : bars_below bs v ≡ 0 = count-none low bs (λ k d below. le-ltb _ v (omega (arith, after k d below))) in
           let here : take (bars_at bs v) bs ≡ filter (is_bar_at v) bs = rw none at more in
-          rw (count-no low b bs (nat_lt-no b.0 v (omega arith)), none, count-yes (is_bar_at v) b bs (eq-yes b.0 v same), eq-yes b.0 v same)
+          rw (count-no low b bs (le-ltb b.0 v (omega arith)), none, count-yes (is_bar_at v) b bs (eq-eqb b.0 v same), eq-eqb b.0 v same)
           (ap (λ rest. b ∷ rest) here)
       | inr side ↦ elim side [
-        | inl lt ↦ rw (count-yes low b bs (nat_lt-yes b.0 v lt), count-no (is_bar_at v) b bs (eq-no b.0 v (omega arith)), eq-no b.0 v (omega arith)) more
+        | inl lt ↦ rw (count-yes low b bs (lt-ltb b.0 v lt), count-no (is_bar_at v) b bs (eq-no b.0 v (omega arith)), eq-no b.0 v (omega arith)) more
         | inr gt ↦
             let others : All (λ bar. is_bar_at v bar ≡ false) bs = λ k d below. eq-no _ v (omega (arith, after k d below)) in
             rw (
@@ -92,7 +92,7 @@ bars-together (b ∷ bs) v sorted =
 -- ---- the starts
 pub sum-is_below : (n : ℕ) (bars : List (ℕ × ℕ)) (counts : List ℕ) → length counts ≡ n + 1 → ((v : ℕ) → v ≤ n → slice_index counts v ≡ bars_at bars v) →
     (w : ℕ) → w ≤ n + 1 → sum (take w counts) ≡ bars_below bars w
-sum-is_below n bars counts size each zero low = sym (count-none (λ bar. nat_lt bar.0 0) bars (λ k d below. nat_lt-no _ 0 (omega arith)))
+sum-is_below n bars counts size each zero low = sym (count-none (λ bar. nat_lt bar.0 0) bars (λ k d below. le-ltb _ 0 (omega arith)))
 sum-is_below n bars counts size each (suc w) low =
     let next : suc w ≡ w + 1 = omega arith in
     rw next (omega (

@@ -145,3 +145,10 @@ module _ (net : Net) (ok : IsNetwork net) where
       let a : higher_count net v ≤ degree_of net v = higher_count-within v in
       let b : degree_of net v ≤ greatest_degree_of net = degree-within v in
       omega (arith, a, b))
+
+  -- at most as many forests as a vertex may have neighbours
+  pub forest_count-limited : forest_count_of net ≤ MAX_DEGREE
+  forest_count-limited =
+      let few : greatest_degree_of net ≤ MAX_DEGREE = greatest_degree-within in
+      let within : forest_count_of net ≤ greatest_degree_of net = forest_count-within in
+      omega arith

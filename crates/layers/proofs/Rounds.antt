@@ -2,6 +2,7 @@
 use Rattle.std.proofs.Common.{◌≡◌, ℕ, zero, suc, ◌<◌, List, refl, ap, sym, subst, ◌∙◌, arith, inl, inr, true, replicate}
 use Rattle.std.specs.Prelude.{Option, Some, None, Result, Ok}
 use Rattle.std.proofs.lemmas.List.{get_or-map, get_or-replicate}
+use Rattle.std.proofs.lemmas.Bool.{cases_Bool}
 use Rattle.interference.specs.Net.{Net, IsNetwork, IsVertex, count_of, degree_of, neighbours, neighbour_of, port_to}
 use Rattle.node_api.specs.Boxes.{at_port}
 use Rattle.node_api.specs.Run.{node_at, inbox_from, after}
@@ -12,7 +13,7 @@ use Rattle.layers.specs.Layered.{Layered}
 use Rattle.layers.specs.Layering.{is_due, layered_after, layering, next_from, sends, with_sent}
 use Rattle.layers.specs.LayeringLaws.{comes, layering_ports, said}
 use Rattle.layers.proofs.Heard.{Hears, hears}
-use Rattle.layers.proofs.Steps.{sends-due, sends-undue, true-or-false}
+use Rattle.layers.proofs.Steps.{sends-due, sends-undue}
 
 module _ (net : Net) (ok : IsNetwork net) where
   abbrev pub node : ℕ → ℕ → Layered × List (Option Hops)
@@ -64,7 +65,7 @@ module _ (net : Net) (ok : IsNetwork net) where
       → is_due (node p (neighbour_of net v k)).0.layer p ≡ true
   due-if p v k x vertex below at =
       let s : Layered = (node p (neighbour_of net v k)).0 in
-      elim (true-or-false (is_due s.layer p)) [
+      elim (cases_Bool (is_due s.layer p)) [
         | inl due ↦ due
         | inr undue ↦ let none : None ≡ Some x = sym (there p v k None vertex below (sends-undue p s undue)) ∙ at in absurd (cc)
       ]

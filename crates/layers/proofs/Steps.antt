@@ -1,5 +1,5 @@
 -- Steps of the layers: what a node sends at a pulse, and what it is after a pulse at which nothing came.
-use Rattle.std.proofs.Common.{◌≡◌, ℕ, ◌<◌, refl, arith, Bool, true, false, inl, inr, replicate}
+use Rattle.std.proofs.Common.{◌≡◌, ℕ, ◌<◌, refl, arith, true, false, replicate}
 use Rattle.std.specs.Prelude.{Some, None, ◌⊎◌}
 use Rattle.std.proofs.lemmas.Bool.Decides.{nat_tests}
 use Rattle.node_api.specs.Boxes.{nothing}
@@ -7,10 +7,6 @@ use Rattle.layers.specs.declared.layer.Layer.{Layer}
 use Rattle.layers.specs.declared.layer.Layer.TheVariants.{Unreached, Root, Away}
 use Rattle.layers.specs.Layered.{Layered}
 use Rattle.layers.specs.Layering.{is_due, layer_after, sends}
-
-pub true-or-false : (b : Bool) → (b ≡ true) ⊎ (b ≡ false)
-true-or-false true = inl refl
-true-or-false false = inr refl
 
 -- before the last pulse it sends at the pulse of its distance alone
 pub sends-due : (p : ℕ) (s : Layered) → p < s.last → is_due s.layer p ≡ true → sends p s ≡ replicate s.degree (Some (record { 0 = p }))

@@ -1,9 +1,9 @@
 -- A check fed one wire more.
-use Rattle.std.proofs.Common.{◌≡◌, ℕ, suc, zero, ◌+◌, ◌<◌, ◌≤◌, Bool, true, false, List, [], ◌∷◌, ◌++◌, length, take, drop, refl, sym, ap, ◌∙◌, arith, subst}
-use Rattle.std.proofs.Common.{◌⊎◌, inl, inr, ⊎_elim, append_assoc, append-nil, lt-ltb}
-use Rattle.std.specs.Prelude.{Contains, IsTrue, ◌↔◌, ◌&&◌, not, nat_eq, nat_lt, nat_le, MatchBool}
-use Rattle.std.proofs.lemmas.List.Elements.{Contains-append_left, Contains-append_right, Contains-append_cases, Contains-push}
-use Rattle.std.proofs.lemmas.Bool.{eqb-true, eq-eqb, cases_Bool}
+use Rattle.std.proofs.Common.{◌≡◌, ℕ, ◌+◌, ◌<◌, ◌≤◌, Bool, true, false, List, [], ◌∷◌, ◌++◌, take, drop, refl, sym, ap, ◌∙◌, arith, subst}
+use Rattle.std.proofs.Common.{◌⊎◌, ⊎_elim, append-nil, lt-ltb}
+use Rattle.std.specs.Prelude.{Contains, IsTrue, ◌↔◌, ◌&&◌, not, MatchBool}
+use Rattle.std.proofs.lemmas.List.Elements.{Contains-append_left, Contains-push}
+use Rattle.std.proofs.lemmas.Bool.{eqb-true, eq-eqb, ltb-true, leb-true, le-leb, and_parts, and_from}
 use Rattle.alpha_core.specs.declared.wire.Wire.{Wire}
 use Rattle.alpha_core.specs.declared.wire.Wire.TheVariants.{Payload, Ack, Safe, Close}
 use Rattle.alpha_core.specs.Wires.{acks_of, payloads_of, safes_of}
@@ -26,13 +26,6 @@ new_come {M} last = record {
   closed = ((λ e. absurd cc), λ c. absurd (contains_nil {A = Wire M} Close c));
 }
 
-both : (a b : Bool) → (a && b) ≡ true → (a ≡ true) × (b ≡ true)
-both true b e = (refl, e)
-both false b e = absurd cc
-
-joined : (a b : Bool) → a ≡ true → b ≡ true → (a && b) ≡ true
-joined a b e f = rw (e, f) refl
-
 not_true : (b : Bool) → not b ≡ true → b ≡ true → ⊥
 not_true true e f = absurd cc
 not_true false e f = absurd cc
@@ -41,44 +34,32 @@ no_true : (b : Bool) → (b ≡ true → ⊥) → not b ≡ true
 no_true true n = absurd (n refl)
 no_true false n = refl
 
-lt_of : (a b : ℕ) → nat_lt a b ≡ true → a < b
-lt_of a b e = grind (arith, e)
-
-le_of : (a b : ℕ) → nat_le a b ≡ true → a ≤ b
-le_of a b e = grind (arith, e)
-
-of_lt : (a b : ℕ) → a < b → nat_lt a b ≡ true
-of_lt a b e = lt-ltb a b e
-
-of_le : (a b : ℕ) → a ≤ b → nat_le a b ≡ true
-of_le a b e = grind (arith, e)
-
 module _ {M : Type 0} (p : Progress) (ws : List (Wire M)) (fed : HasCome p ws) where
   -- what the check allows may follow
   may : (w : Wire M) → may_come p w ≡ true → MayFollow p.last ws w
   may (Payload q x) e =
-      let e1 = both _ _ e in
-      let e2 = both _ _ e1.1 in
+      let e1 = and_parts _ _ e in
+      let e2 = and_parts _ _ e1.1 in
       let same = eqb-true q p.safes e1.0 in
-      (same ∙ fed.safes, lt_of q p.last e2.1, λ c. not_true p.paid e2.0 (fed.paid.1 (subst (λ n. Contains (payloads_of ws) n) same c)))
-  may (Ack q) e = let e1 = both _ _ e in (lt_of q p.last e1.1, (fed.acks q).0 (le_of p.next_ack q e1.0))
-  may (Safe q) e = let e1 = both _ _ e in (eqb-true q p.safes e1.0 ∙ fed.safes, lt_of q p.last e1.1)
+      (same ∙ fed.safes, ltb-true q p.last e2.1, λ c. not_true p.paid e2.0 (fed.paid.1 (subst (λ n. Contains (payloads_of ws) n) same c)))
+  may (Ack q) e = let e1 = and_parts _ _ e in (ltb-true q p.last e1.1, (fed.acks q).0 (leb-true p.next_ack q e1.0))
+  may (Safe q) e = let e1 = and_parts _ _ e in (eqb-true q p.safes e1.0 ∙ fed.safes, ltb-true q p.last e1.1)
   may Close e = sym fed.safes ∙ eqb-true p.safes p.last e
 
   may_not : (w : Wire M) → MayFollow p.last ws w → may_come p w ≡ true
   may_not (Payload q x) m =
       let same : q ≡ p.safes = m.0 ∙ sym fed.safes in
-      joined _ _ (eq-eqb q p.safes same) (joined _ _ (no_true p.paid (λ e. m.2 (subst (λ n. Contains (payloads_of ws) n) (sym same) (fed.paid.0 e))))
-      (of_lt q p.last m.1))
-  may_not (Ack q) m = joined _ _ (of_le p.next_ack q ((fed.acks q).1 m.1)) (of_lt q p.last m.0)
-  may_not (Safe q) m = joined _ _ (eq-eqb q p.safes (m.0 ∙ sym fed.safes)) (of_lt q p.last m.1)
+      and_from _ _ (eq-eqb q p.safes same) (and_from _ _ (no_true p.paid (λ e. m.2 (subst (λ n. Contains (payloads_of ws) n) (sym same) (fed.paid.0 e))))
+      (lt-ltb q p.last m.1))
+  may_not (Ack q) m = and_from _ _ (le-leb p.next_ack q ((fed.acks q).1 m.1)) (lt-ltb q p.last m.0)
+  may_not (Safe q) m = and_from _ _ (eq-eqb q p.safes (m.0 ∙ sym fed.safes)) (lt-ltb q p.last m.1)
   may_not Close m = eq-eqb p.safes p.last (fed.safes ∙ m)
 
   pub goes-may : (w : Wire M) → goes_on p w ≡ true → (Contains ws Close → ⊥) × MayFollow p.last ws w
-  goes-may w e = let e1 = both _ _ e in ((λ c. not_true p.closed e1.0 (fed.closed.1 c)), may w e1.1)
+  goes-may w e = let e1 = and_parts _ _ e in ((λ c. not_true p.closed e1.0 (fed.closed.1 c)), may w e1.1)
 
   pub may-goes : (w : Wire M) → IsInOrder p.last (ws ++ w ∷ []) → goes_on p w ≡ true
-  may-goes w h = let l = order-last p.last ws w h in joined _ _ (no_true p.closed (λ e. l.0 (fed.closed.0 e))) (may_not w l.1)
+  may-goes w h = let l = order-last p.last ws w h in and_from _ _ (no_true p.closed (λ e. l.0 (fed.closed.0 e))) (may_not w l.1)
 
   closed_same : (w : Wire M) → (w ≡ Close → ⊥) → IsTrue p.closed ↔ Contains (ws ++ w ∷ []) Close
   closed_same w other = (

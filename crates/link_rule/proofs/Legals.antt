@@ -1,13 +1,12 @@
 -- Legal lists are in order, and a close completes them.
-use Rattle.std.proofs.Common.{◌≡◌, ℕ, suc, zero, ◌+◌, ◌<◌, ◌≤◌, Bool, true, false, List, [], ◌∷◌, ◌++◌, Option, Some, None, length, take, drop, refl, sym, ap}
+use Rattle.std.proofs.Common.{◌≡◌, ℕ, suc, zero, ◌+◌, ◌<◌, ◌≤◌, false, List, [], ◌∷◌, ◌++◌, Option, Some, None, refl, sym, ap}
 use Rattle.std.proofs.Common.{◌∙◌, arith, subst, ◌⊎◌, inl, inr, ⊎_elim, append_assoc, append-nil}
 use Rattle.std.specs.Prelude.{Contains, is_some, ◌↔◌}
-use Rattle.std.proofs.lemmas.List.{take-append-drop}
-use Rattle.std.proofs.lemmas.List.Elements.{Contains-append_left, Contains-append_right, Contains-append_cases, Contains-push}
+use Rattle.alpha_laws.proofs.Claims.{has_split}
 use Rattle.alpha_core.specs.declared.wire.Wire.{Wire}
 use Rattle.alpha_core.specs.declared.wire.Wire.TheVariants.{Payload, Ack, Safe, Close}
 use Rattle.alpha_core.specs.Wires.{data_of, acks_of, payloads_of, safes_of}
-use Rattle.alpha_core.specs.Streams.{payload_wire, sent_pulse, rounds, stream, sent_pulses, Begins, Legal}
+use Rattle.alpha_core.specs.Streams.{payload_wire, sent_pulse, rounds, stream, sent_pulses, Legal}
 use Rattle.alpha_core.proofs.Wires.{acks-append, begins_rest, data-append, legal-front}
 use Rattle.alpha_laws.specs.Position.{Position, move, moves, start_at, Allows, Follows}
 use Rattle.alpha_laws.proofs.Complete.{data-payloads}
@@ -15,16 +14,10 @@ use Rattle.alpha_laws.proofs.Cursor.{moves-append, follows-front, follows-rest, 
 use Rattle.alpha_laws.proofs.Listed.{pulses_below}
 use Rattle.link_rule.specs.Order.{MayFollow, IsInOrder}
 use Rattle.alpha_laws.specs.Simulates.{IsComplete}
-use Rattle.link_rule.proofs.Orders.{contains_nil, contains_one, contains_snoc}
 
 -- after n safes
 abbrev at_pulse : ℕ → Position
 at_pulse n = record { safes = n; paid = false; closed = false }
-
-pub has_split : {A : Type 0} (xs : List A) (x : A) → Contains xs x → (front : List A) × (back : List A) × (xs ≡ front ++ (x ∷ back))
-has_split [] x c = absurd (contains_nil x c)
-has_split (y ∷ ys) x (zero, lt, e) = ([], ys, ap (λ z. z ∷ ys) e)
-has_split (y ∷ ys) x (suc k, lt, e) = let more = has_split ys x (k, omega arith, e) in (y ∷ more.0, more.1, ap (λ l. y ∷ l) more.2)
 
 -- pulses rise
 module _ {M : Type 0} (answers : ℕ → Option M) where

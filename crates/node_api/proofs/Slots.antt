@@ -4,6 +4,7 @@ use Rattle.std.proofs.Common.{refl, ap, sym, subst, ◌∙◌, arith, inl, inr}
 use Rattle.std.specs.Prelude.{Option, Some, None, IsSome, is_some, IsTrue, slice_get, ◌⊎◌, if◌then◌else◌}
 use Rattle.std.proofs.lemmas.List.{same_lists, get_or-replicate, get_or_default, get_or_past, length-replicate}
 use Rattle.std.proofs.lemmas.List.FromFn.{get_or-map-range_with_len, length-map-range_with_len}
+use Rattle.std.proofs.lemmas.Bool.{cases_Bool}
 use native.Mathlib.Decide.{dec_lt}
 use Prim.{yes, no}
 use Rattle.node_api.specs.Marks.{count_marks, is_marked}
@@ -27,10 +28,6 @@ pub get-below : {M : Type 0} (xs : List M) (k : ℕ) → k < length xs → IsSom
 get-below [] k h = absurd (omega arith)
 get-below (x ∷ xs) zero h = refl
 get-below (x ∷ xs) (suc k) h = get-below xs k (omega arith)
-
-either_mark : (b : Bool) → (b ≡ true) ⊎ (b ≡ false)
-either_mark true = inl refl
-either_mark false = inr refl
 
 module _ {M : Type 0} where
   pub length-slots_of : (marks : List Bool) (slots : List M) → length (slots_of marks slots) ≡ length marks
@@ -61,7 +58,7 @@ module _ {M : Type 0} where
 
   pub some-marked : (marks : List Bool) (slots : List M) (k : ℕ) → IsSome (at_port (slots_of marks slots) k) → is_marked marks k ≡ true
   some-marked marks slots k some =
-      elim (either_mark (is_marked marks k)) [
+      elim (cases_Bool (is_marked marks k)) [
         | inl marked ↦ marked
         | inr free ↦ absurd (some_or_none (at_port (slots_of marks slots) k) some (at-unmarked marks slots k free))
       ]
@@ -77,7 +74,7 @@ module _ {M : Type 0} where
   pub none-unmarked : (marks : List Bool) (slots : List M) (k : ℕ) → AreMade marks (length slots) → k < length marks →
       at_port (slots_of marks slots) k ≡ None → is_marked marks k ≡ false
   none-unmarked marks slots k made below none =
-      elim (either_mark (is_marked marks k)) [
+      elim (cases_Bool (is_marked marks k)) [
         | inl marked ↦ absurd (some_or_none (at_port (slots_of marks slots) k) (marked-some marks slots k made below marked) none)
         | inr free ↦ free
       ]

@@ -1,6 +1,7 @@
 -- What is made is what the nodes start with.
 use Rattle.std.specs.Prelude.{All, Option}
 use Rattle.std.proofs.Common.{◌≡◌, ℕ, zero, suc, ◌-◌, ◌<◌, ◌≤◌, List, [], ◌∷◌, map, get_or, sym, ap, subst, ◌∙◌, arith, Some, slice_get}
+use Rattle.std.proofs.lemmas.Option.{same_Some}
 use Rattle.atomic_table.specs.Seated.{TableId}
 use Rattle.interference.specs.Net.{Net, IsNetwork, IsVertex, degree_of, neighbour_of, back_port_of}
 use Rattle.link_queue.specs.declared.link.Link.{Link}
@@ -31,9 +32,6 @@ pub same_place : (net : Net) (tables : List (List TableId)) (v w i j : ℕ) (tab
 same_place net tables v w i j table name vertex port place =
     subst (λ u. IsEndAt net tables u i table name) (sym vertex) (subst (λ p. IsEndAt net tables w p table name) (sym port) place)
 
-some-same : {A : Type 0} (x y : A) → Some x ≡ Some y → x ≡ y
-some-same x y e = cc
-
 module _ {P T : Type 0} (net : Net) (capacity : ℕ) (links : List (Link P T)) (rows : List (List (PortEnds P T)))
     (made : AreMade net capacity links rows) where
   -- The ends of links that were made are new ends of a run that picks the links' queues. The end that takes is of the link
@@ -58,7 +56,7 @@ module _ {P T : Type 0} (net : Net) (capacity : ℕ) (links : List (Link P T)) (
         let far = there (row_at rows (neighbour_of net v i)) (back_port_of net v i)
         (omega (arith, ok.symmetric v i vertex lt, made.shape.row (neighbour_of net v i) other)) in
         let theirs = made.ends.each (neighbour_of net v i) (back_port_of net v i) far.0 other far.1 in
-        let one = some-same mine.back.0 theirs.out.0
+        let one = same_Some mine.back.0 theirs.out.0
         (sym mine.back.1.0 ∙ ap (slice_get links) (made.ends.joined v i ends far.0 vertex lt at far.1) ∙ theirs.out.1.0) in
         record {
           put_place = record { vertex = vertex.0; queue = put_queue v i ends at; named = mine.out.1.1.named };

@@ -15,10 +15,6 @@ past_end [] i le = drop-nil i
 past_end (x ∷ xs) zero le = absurd (omega arith)
 past_end (x ∷ xs) (suc i) le = past_end xs i (omega arith)
 
--- fewer are left after one more
-pub fewer : (n i : ℕ) → i < n → n - (i + 1) < n - i
-fewer n i lt = omega arith
-
 -- what a word for every thing says of a row, of which the things before place i have passed
 module _ {A B : Type 0} (every : List B → Bool) (test : B → Bool) (none : every [] ≡ true)
     (more : (x : B) (xs : List B) → every (x ∷ xs) ≡ test x && every xs) (f : A → B) (row : List A) (i : ℕ)

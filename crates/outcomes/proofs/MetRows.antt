@@ -1,17 +1,14 @@
 -- A row of links whose ends have met, and one more.
-use Rattle.std.proofs.Common.{◌≡◌, ◌-◌, List, [], ◌∷◌, ◌++◌, length, map, take, refl, sym, ap, ◌∙◌, arith}
+use Rattle.std.proofs.Common.{◌≡◌, ◌-◌, List, [], ◌∷◌, ◌++◌, length, map, take, sym, ap, ◌∙◌, arith}
 use Rattle.std.specs.Prelude.{All, Option}
 use Rattle.std.proofs.lemmas.List.{length-append, map-append}
 use Rattle.std.proofs.lemmas.List.Elements.{All-nil, All-push, All-same}
+use Rattle.actor.proofs.Lists.{take_front}
 use Rattle.alpha_core.specs.declared.stamped.Stamped.{Stamped}
 use Rattle.link_rule.specs.declared.name.LinkName.{LinkName}
 use Rattle.link_queue.specs.declared.met.Met.{Met}
 use Rattle.link_queue.specs.Ends.{HasMet, held_stamped}
 use Rattle.outcomes.specs.Meets.{AreMet, RowsAreMet, put_of, taken_of}
-
-take_front : {A : Type 0} (xs ys : List A) → take (length xs) (xs ++ ys) ≡ xs
-take_front [] ys = refl
-take_front (x ∷ xs) ys = ap (λ l. x ∷ l) (take_front xs ys)
 
 module _ {T : Type 0} where
   -- what was taken is what the end that takes says

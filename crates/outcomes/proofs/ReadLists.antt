@@ -4,6 +4,7 @@ use Rattle.std.proofs.Common.{Some, None, slice_get}
 use Rattle.std.specs.List.{range_with_len}
 use Rattle.std.proofs.lemmas.List.{get_or-map, length-map, map-append}
 use Rattle.std.proofs.lemmas.List.FromFn.{length-range_with_len, get_or-range_with_len}
+use Rattle.interference.proofs.Members.{range-more}
 
 module _ {A : Type 0} where
   pub some_at : (xs : List A) (j : ℕ) → get_or (map Some xs) j None ≡ slice_get xs j
@@ -38,15 +39,11 @@ at_range g n i d lt =
     let at : get_or (range_with_len 0 n) i 0 ≡ i = omega (arith, get_or-range_with_len 0 n i 0 lt) in
     get_or-map g (range_with_len 0 n) i 0 d (omega (arith, length-range_with_len 0 n)) ∙ ap g at
 
-range_more : (a n : ℕ) → range_with_len a (suc n) ≡ range_with_len a n ++ (a + n) ∷ []
-range_more a zero = ap (λ k. k ∷ []) (omega arith)
-range_more a (suc n) = ap (λ l. a ∷ l) (range_more (a + 1) n ∙ ap (λ k. range_with_len (a + 1) n ++ k ∷ []) (omega arith))
-
 pub range_next : {B : Type 0} (g : ℕ → B) (n : ℕ) → map g (range_with_len 0 (n + 1)) ≡ map g (range_with_len 0 n) ++ g n ∷ []
 range_next g n =
     let more : n + 1 ≡ suc n = omega arith in
     let last : 0 + n ≡ n = omega arith in
-    ap (λ k. map g (range_with_len 0 k)) more ∙ ap (map g) (range_more 0 n) ∙ map-append g (range_with_len 0 n) ((0 + n) ∷ [])
+    ap (λ k. map g (range_with_len 0 k)) more ∙ ap (map g) (range-more 0 n) ∙ map-append g (range_with_len 0 n) ((0 + n) ∷ [])
     ∙ ap (λ k. map g (range_with_len 0 n) ++ g k ∷ []) last
 
 -- a list and one with the same images still have them after a push to each

@@ -1,7 +1,7 @@
 -- A row beside another, thing after thing.
 use Rattle.std.proofs.Common.{◌≡◌, ℕ, zero, suc, ◌+◌, ◌<◌, ◌≤◌, List, [], ◌∷◌, ◌++◌, length, map, take, drop, set, get_or, sym, ap, ◌∙◌, subst, arith}
 use Rattle.std.proofs.Common.{Some, None, slice_get}
-use Rattle.std.specs.Prelude.{Option, All, Result, Ok, Err, IfOk}
+use Rattle.std.specs.Prelude.{Option, All}
 use Rattle.std.proofs.lemmas.List.{get_or_default, get_or-map, get_or-set_other, length-map, map-append}
 use Rattle.std.proofs.lemmas.Simd.{map-map}
 
@@ -46,8 +46,3 @@ same_each f g (x ∷ xs) e (suc k) d lt = same_each f g xs (ap (λ l. drop 1 l) 
 -- what holds of what f gives of each thing
 pub all_by : {A B : Type 0} (P : B → Type 0) (f : A → B) (xs : List A) → All P (map f xs) → All (λ x. P (f x)) xs
 all_by P f xs h k d lt = subst P (get_or-map f xs k d (f d) lt) (h k (f d) (omega (arith, length-map xs f)))
-
--- what follows from what a good answer says
-pub ok_says : {A B : Type 0} {P Q : A → Type 0} (r : Result A B) → ((x : A) → P x → Q x) → IfOk r P → IfOk r Q
-ok_says (Ok x) f said = f x said
-ok_says (Err e) f said = said

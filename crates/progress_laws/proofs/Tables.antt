@@ -1,13 +1,8 @@
 -- Two entries of a table that are written one after the other.
-use Rattle.std.proofs.Common.{◌≡◌, ℕ, zero, suc, ◌-◌, ◌<◌, List, [], ◌∷◌, length, get_or, set, refl, sym, ap, ◌∙◌, subst, arith, ⊎_elim}
+use Rattle.std.proofs.Common.{◌≡◌, ℕ, ◌-◌, ◌<◌, List, [], ◌∷◌, length, get_or, set, sym, ap, ◌∙◌, subst, arith, ⊎_elim}
 use Rattle.std.proofs.lemmas.Bool.{cases_eq}
-use Rattle.std.proofs.lemmas.List.{get_or-set_same, get_or-set_other, set_comm}
+use Rattle.std.proofs.lemmas.List.{get_or-set_same, get_or-set_other, set_comm, set-set}
 use Rattle.event_machine.specs.State.{Link, HasLink, no_link, link_at, set_link}
-
-set-twice : {A : Type 0} (l : List A) (i : ℕ) (a b : A) → set (set l i a) i b ≡ set l i b
-set-twice [] i a b = refl
-set-twice (x ∷ xs) zero a b = refl
-set-twice (x ∷ xs) (suc i) a b = ap (λ l. x ∷ l) (set-twice xs i a b)
 
 -- an entry becomes what a function makes of it
 abbrev becomes : {A : Type 0} → ℕ → (A → A) → A → List A → List A
@@ -16,7 +11,7 @@ becomes i g d l = set l i (g (get_or l i d))
 becomes-same : {A : Type 0} (l : List A) (i : ℕ) (g h : A → A) (d : A) → i < length l → becomes i h d (becomes i g d l) ≡ set l i (h (g (get_or l i d)))
 becomes-same l i g h d lt =
     ap (λ x. set (set l i (g (get_or l i d))) i (h x)) (get_or-set_same l i (g (get_or l i d)) d lt)
-    ∙ set-twice l i (g (get_or l i d)) (h (g (get_or l i d)))
+    ∙ set-set l i (g (get_or l i d)) (h (g (get_or l i d)))
 
 becomes-both : {A : Type 0} (l : List A) (i j : ℕ) (g h : A → A) (d : A) → i < length l → j < length l
     → (i ≡ j → h (g (get_or l i d)) ≡ g (h (get_or l i d))) → becomes j h d (becomes i g d l) ≡ becomes i g d (becomes j h d l)

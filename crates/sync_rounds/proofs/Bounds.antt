@@ -62,7 +62,3 @@ had_turn i end n k past is low = omega arith
 
 pub last_turn : (i end n : ℕ) → end ≤ i → i ≤ end → end ≡ n → i ≡ n
 last_turn i end n past within is = omega arith
-
--- fewer are left after one more
-pub fewer : (n i : ℕ) → i < n → n - (i + 1) < n - i
-fewer n i low = omega arith

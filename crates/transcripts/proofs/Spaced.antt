@@ -69,7 +69,3 @@ lines-spaced w ws rest h hs =
     let plain = All-weaker IsPlain (λ x. (x == 10) ≡ false) (λ x high. ne_eqb x 10 (omega (arith, high))) (spaced w ws) (plain-spaced w ws h hs) in
     ap (map line_of) (slice_split_at (λ byte. byte == 10) (spaced w ws) 10 rest plain refl)
     ∙ ap (λ l. l ∷ map line_of (slice_split (λ byte. byte == 10) rest)) (line-spaced w ws h hs)
-
-pub lines-end : lines_of [] ≡ [] ∷ []
-unfolding lines_of fields_of
-lines-end = refl

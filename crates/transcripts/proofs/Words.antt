@@ -8,12 +8,13 @@ use Rattle.std.proofs.lemmas.Fmt.{decimal_is_IsNumeral_wide}
 use Rattle.std.proofs.lemmas.List.{get_or_past}
 use Rattle.std.proofs.lemmas.List.Elements.{All-cons, All-get_or, All-nil, All-weaker}
 use Rattle.std.proofs.lemmas.Str.{IsUtf8-from_ascii}
-use Rattle.std.proofs.lemmas.Str.Parse.{IsNumeralModel, numerals_by_value, tells_all_ascii_digits}
+use Rattle.std.proofs.lemmas.Str.Parse.{tells_all_ascii_digits}
 use Rattle.std.specs.Char.{IsAsciiAlphabetic}
 use Rattle.std.specs.Fmt.{decimal}
 use Rattle.std.specs.Str.{IsAscii, all_ascii_digits}
-use Rattle.std.specs.Str.Parse.{digits_value}
-use Rattle.dimacs_col.specs.Lines.{number_of, small_number}
+use Rattle.dimacs_col.proofs.SmallNumbers.{small-decimal}
+use Rattle.dimacs_col.proofs.FieldNumbers.{own}
+use Rattle.dimacs_col.specs.Lines.{number_of}
 use Rattle.alpha_core.specs.declared.wire.Wire.{Wire}
 use Rattle.alpha_core.specs.declared.wire.Wire.TheVariants.{Payload, Ack, Safe, Close}
 use Rattle.entries.specs.declared.entry.Entry.{Entry}
@@ -28,8 +29,6 @@ use Rattle.transcripts.proofs.Payloads.{payload-text}
 use Rattle.transcripts.proofs.Spaced.{IsSeen, IsWord, spaced}
 
 -- ---- numbers
-own : IsNumeralModel (λ ds. all_ascii_digits ds ≡ true) (digits_value 10)
-own = numerals_by_value (λ ds. all_ascii_digits ds ≡ true) tells_all_ascii_digits
 
 seen-digits : (ds : List ℕ) → all_ascii_digits ds ≡ true → All IsSeen ds
 seen-digits [] e = All-nil IsSeen
@@ -58,10 +57,6 @@ stamp-decimal n h =
 
 pub stamp-word : (n : ℕ) → n < 2 ^ 64 → IsWord (decimal n)
 stamp-word n h = number-word n (omega (arith, h))
-
-pub small-decimal : (n : ℕ) → n < 2 ^ 32 → small_number (decimal n) ≡ Some n
-small-decimal n h =
-    ap (option_and_then (λ k. if nat_lt k (2 ^ 32) then Some k else None)) (number-decimal n (omega (arith, h))) ∙ rw (lt-ltb n (2 ^ 32) h) refl
 
 pub small-word : (n : ℕ) → n < 2 ^ 32 → IsWord (decimal n)
 small-word n h = number-word n (omega (arith, h))

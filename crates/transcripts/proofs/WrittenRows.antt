@@ -5,13 +5,15 @@ use Rattle.std.proofs.Common.{arith, ap, append-nil, append_assoc, codes, flat_m
 use Rattle.std.proofs.lemmas.List.Elements.{All-cons, All-head, All-nil, All-tail}
 use Rattle.std.specs.Fmt.{decimal}
 use Rattle.std.specs.Str.{bytes_eq}
+use Rattle.dimacs_col.proofs.SmallNumbers.{small-decimal}
+use Rattle.dimacs_col.proofs.Splitting.{last-line}
 use Rattle.dimacs_col.specs.Lines.{Line, lines_of}
 use Rattle.transcripts.specs.EntryLines.{header_of, only}
 use Rattle.transcripts.specs.Reading.{Contents, known_after, read_from}
 use Rattle.transcripts.specs.TranscriptText.{first_line_of, text_of}
 use Rattle.transcripts.proofs.Readings.{header-right, read-one, row-right, then_read}
-use Rattle.transcripts.proofs.Spaced.{IsWord, lines-end, lines-spaced, spaced}
-use Rattle.transcripts.proofs.Words.{small-decimal, small-word}
+use Rattle.transcripts.proofs.Spaced.{IsWord, lines-spaced, spaced}
+use Rattle.transcripts.proofs.Words.{small-word}
 
 literal-first : IsWord (codes "transcript")
 literal-first = (omega arith, grind (arith, rules))
@@ -40,7 +42,7 @@ module _ {R : Type 0} (edition : List ℕ) (row_of : Line → Option R) (line_te
   row_lines (row ∷ rows) = (first row ∷ others row) ∷ row_lines rows
 
   lines-of : (rows : List R) → All IsReadable rows → lines_of (flat_map line_text rows) ≡ row_lines rows
-  lines-of [] h = lines-end
+  lines-of [] h = last-line
   lines-of (row ∷ rows) h =
       line-is row (flat_map line_text rows) (All-head IsReadable row rows h)
       ∙ ap (λ ls. (first row ∷ others row) ∷ ls) (lines-of rows (All-tail IsReadable row rows h))

@@ -1,6 +1,7 @@
 use Rattle.std.proofs.Common.{◌∙◌, ap, sym}
+use Rattle.node_api.proofs.SlotCursor.{get-read}
 use Rattle.answers.specs.ReplayAnswers.{words_text}
-use Rattle.answers.proofs.RefusedLines.{get-here, index-within, is-told}
+use Rattle.answers.proofs.RefusedLines.{index-within, is-told}
 use Rattle.answers.proofs.replaying.told.Goals as goal
 
 -- the refused entry is one of the entries
@@ -22,7 +23,7 @@ returns-in-Ok-words_of g c =
       index = c.in-Some.index;
       is_index = is;
       row = row;
-      is_row = get-here c.args.rows.now c.in-Some.index row within c.index-rows-index.is;
+      is_row = get-read c.args.rows.now c.in-Some.index row within c.index-rows-index.is;
       reached = reached;
       is_replay = c.in-Ok.ensures.accepts;
       words = c.in-Ok-words_of.words;

@@ -1,8 +1,8 @@
 use Rattle.std.proofs.Common.{ℕ, ◌+◌, ◌-◌, ◌*◌, ◌≤◌, arith, mul-le-mul}
 use Rattle.graph_limits.specs.declared.limits.TheConstants.{MAX_BARS}
 use Rattle.interference.specs.declared.limits.TheConstants.{MAX_DEGREE}
-use Rattle.interference.specs.Net.{Net, IsNetwork, forest_count_of, greatest_bars_of, greatest_degree_of}
-use Rattle.interference.proofs.Neighbours.{forest_count-within, greatest_bars-within, greatest_degree-within}
+use Rattle.interference.specs.Net.{forest_count_of, greatest_bars_of, greatest_degree_of}
+use Rattle.interference.proofs.Neighbours.{greatest_bars-within, greatest_degree-within, forest_count-limited}
 use Rattle.colour_rules.specs.declared.phase.TheConstants.{FIRST_MERGE}
 use Rattle.colour_laws.specs.declared.laws.TheConstants.{MAX_LAST_PULSE}
 use Rattle.colour_laws.proofs.laws.last_pulse_is_limited.Goals as goal
@@ -15,13 +15,7 @@ limited forests degree bars few low lower =
     let most : forests * (3 * (degree + bars + 1)) ≤ MAX_DEGREE * (3 * (MAX_DEGREE + MAX_BARS + 1)) = mul-le-mul few steps in
     omega arith
 
-fewer : (net : Net) → IsNetwork net → forest_count_of net ≤ MAX_DEGREE
-fewer net ok =
-    let few : greatest_degree_of net ≤ MAX_DEGREE = greatest_degree-within net ok in
-    let within : forest_count_of net ≤ greatest_degree_of net = forest_count-within net ok in
-    omega arith
-
 pub returns : goal.returns
 returns c = λ net ok.
-    limited (forest_count_of net) (greatest_degree_of net) (greatest_bars_of net) (fewer net ok) (greatest_degree-within net ok)
+    limited (forest_count_of net) (greatest_degree_of net) (greatest_bars_of net) (forest_count-limited net ok) (greatest_degree-within net ok)
     (greatest_bars-within net ok)

@@ -1,4 +1,4 @@
-use Rattle.event_texts.proofs.Told.{err_says}
+use Rattle.dimacs_col.proofs.Refused.{err_says}
 use Rattle.event_texts.proofs.missing.push_lacking.Goals as goal
 
 pub returns-in_err-push : goal.returns-in_err-push

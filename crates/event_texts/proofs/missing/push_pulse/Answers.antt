@@ -1,11 +1,12 @@
 -- The plan: an error says nothing; the text is what was appended, as the view of the node has it (last_told, lacks_told).
 use Rattle.std.proofs.Common.{◌≡◌, ◌∙◌, ◌++◌, ap, ap₂, codes, nat_eq}
 use Rattle.std.proofs.lemmas.Result.{IfOk-equal}
+use Rattle.dimacs_col.proofs.Refused.{err_says}
 use Rattle.node_api.specs.Program.{last_pulse_on}
 use Rattle.alpha_core.specs.View.{is_halted}
 use Rattle.event_machine.specs.State.{node_of}
 use Rattle.event_texts.specs.Missing.{lack_text}
-use Rattle.event_texts.proofs.Told.{err_says, lacks_told, last_told, words_none, words_some}
+use Rattle.event_texts.proofs.Told.{lacks_told, last_told, words_none, words_some}
 use Rattle.event_texts.proofs.missing.push_pulse.Goals as goal
 
 pub returns-then-halted : goal.returns-then-halted

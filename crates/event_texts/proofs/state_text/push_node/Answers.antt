@@ -1,4 +1,4 @@
-use Rattle.event_texts.proofs.Told.{err_says}
+use Rattle.dimacs_col.proofs.Refused.{err_says}
 use Rattle.event_texts.proofs.state_text.push_node.Goals as goal
 
 pub returns-in_err-push_numbered : goal.returns-in_err-push_numbered

@@ -1,7 +1,8 @@
 use Rattle.std.proofs.Common.{◌++◌, ◌∙◌, ap, append-nil, sym}
+use Rattle.dimacs_col.proofs.Refused.{err_says}
 use Rattle.alpha_core.specs.declared.wire.Wire.{Wire}
 use Rattle.wire_texts.specs.WireText.{wire_text}
-use Rattle.event_texts.proofs.Told.{err_says, rows_more}
+use Rattle.event_texts.proofs.Told.{rows_more}
 use Rattle.event_texts.proofs.state_text.push_wires.Goals as goal
 
 pub loop-wire-init : goal.loop-wire-init

@@ -1,6 +1,6 @@
 -- The plan: while the bars fit (FitSoFar), one that doesn't, or one too many of a vertex, refutes the whole list.
 use Rattle.std.proofs.Common.{◌≡◌, ◌==◌, ◌+◌, ◌≤◌, Some, cond, sym, refl, rules, subst, arith}
-use Rattle.std.proofs.lemmas.Bool.{both_ways, false≢true}
+use Rattle.std.proofs.lemmas.Bool.{both_ways, false≢true, eq-eqb}
 use Rattle.std.proofs.lemmas.List.{take_all}
 use Rattle.std.proofs.lemmas.List.Elements.{All-same}
 use Rattle.std.proofs.lemmas.Map.Keys.{sorted_from_all_adjacent}
@@ -8,7 +8,7 @@ use Rattle.std.specs.declared.cmp.Ordering.TheVariants.{Less}
 use Rattle.graph_limits.specs.Pairs.{IsBarOf, bars_at, pair_cmp}
 use Rattle.graph_limits.specs.declared.limits.TheConstants.{MAX_BARS}
 use Rattle.graph_limits.proofs.Pairs.{pair_total}
-use Rattle.interference.proofs.BarCounts.{bar_at, eq-no, eq-yes, next-after, run-is, run-within, fit-more}
+use Rattle.interference.proofs.BarCounts.{bar_at, eq-no, next-after, run-is, run-within, fit-more}
 use Rattle.interference.proofs.bars.bars_fit.Goals.{then-not-is_bar-via-then-not-is_bar, then-not-is_bar-via-else-not-is_bar+then-not-comes_before}
 use Rattle.interference.proofs.bars.bars_fit.Goals.{then-next-last, else-next-last}
 use Rattle.interference.proofs.bars.bars_fit.Goals as goal
@@ -38,7 +38,7 @@ returns-then-count-gt-MAX_BARS c = (
       let bar = bar_at c.args.bars.now c.loop-bar.bar-index in
       let after : pair_cmp last bar ≡ Less = rw c.from.ensures at (c.comes_before.ensures.0 (search rules)) in
       let is : c.if-next-last.count ≡ cond (bar.0 == last.0) (c.loop-bar.count + 1) 1 = elim c.if-next-last.branch [
-        | then-next-last w ↦ rw (w.count-is, eq-yes bar.0 last.0 w.if-next-last.true) refl
+        | then-next-last w ↦ rw (w.count-is, eq-eqb bar.0 last.0 w.if-next-last.true) refl
         | else-next-last w ↦ rw (w.count-is, eq-no bar.0 last.0 w.if-next-last.false) refl
       ] in
       let counted = run-is c.args.nodes c.args.bars.now last c.loop-bar.count c.loop-bar.bar-index c.loop-bar.invariant (omega arith) c.if-next-last.count after
@@ -54,7 +54,7 @@ loop-bar-preserved c =
     let bar = bar_at c.args.bars.now c.loop-bar.bar-index in
     let after : pair_cmp last bar ≡ Less = rw c.from.ensures at (c.comes_before.ensures.0 (search rules)) in
     let is : c.if-next-last.count ≡ cond (bar.0 == last.0) (c.loop-bar.count + 1) 1 = elim c.if-next-last.branch [
-      | then-next-last w ↦ rw (w.count-is, eq-yes bar.0 last.0 w.if-next-last.true) refl
+      | then-next-last w ↦ rw (w.count-is, eq-eqb bar.0 last.0 w.if-next-last.true) refl
       | else-next-last w ↦ rw (w.count-is, eq-no bar.0 last.0 w.if-next-last.false) refl
     ] in
     let counted = run-is c.args.nodes c.args.bars.now last c.loop-bar.count c.loop-bar.bar-index c.loop-bar.invariant (omega arith) c.if-next-last.count after

@@ -1,7 +1,7 @@
-use Rattle.std.proofs.Common.{nat_eq, length, refl}
+use Rattle.std.proofs.Common.{nat_eq, length, refl, falls}
 use Rattle.outcomes.specs.Meets.{history_of_met}
 use Rattle.gather_laws.specs.Outcome.{none_held}
-use Rattle.outcomes.proofs.Every.{all_passed, failed, fewer, no_wires, passed}
+use Rattle.outcomes.proofs.Every.{all_passed, failed, no_wires, passed}
 use Rattle.outcomes.proofs.outcome.none_held.Goals as goal
 
 pub loop-met-init : goal.loop-met-init
@@ -18,7 +18,7 @@ returns-then-not-is_empty g c = record {
 }
 
 pub loop-met-smaller : goal.loop-met-smaller
-loop-met-smaller g c = fewer _ _ c.loop-met-test.true
+loop-met-smaller g c = falls _ _ c.loop-met-test.true
 
 pub loop-met-preserved : goal.loop-met-preserved
 loop-met-preserved g c =

@@ -1,8 +1,8 @@
 -- There is room for an inbox of each vertex.
-use Rattle.std.proofs.Common.{ℕ, ◌+◌, List, length, ap, sym, ◌∙◌, subst}
+use Rattle.std.proofs.Common.{ℕ, ◌+◌, List, length, ap, sym, ◌∙◌, subst, falls}
 use Rattle.node_api.specs.Boxes.{Mail, nothing, unread}
 use Rattle.sync_rounds.specs.Lists.{Lists, empty_inbox}
-use Rattle.sync_rounds.proofs.Bounds.{fewer, last_turn, none_below}
+use Rattle.sync_rounds.proofs.Bounds.{last_turn, none_below}
 use Rattle.sync_rounds.proofs.Received.{Lists-push}
 use Rattle.sync_rounds.proofs.boxes.inboxes_of.Goals as goal
 
@@ -13,7 +13,7 @@ pub new-requires : goal.new-requires
 new-requires g c = record { degree = c.degree.ensures.limit }
 
 pub loop-i-smaller : goal.loop-i-smaller
-loop-i-smaller g c = fewer _ _ c.loop-i-test.true
+loop-i-smaller g c = falls _ _ c.loop-i-test.true
 
 pub loop-i-preserved : goal.loop-i-preserved
 loop-i-preserved g c =

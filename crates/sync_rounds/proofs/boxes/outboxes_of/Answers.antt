@@ -1,10 +1,10 @@
-use Rattle.std.proofs.Common.{◌≡◌, ◌+◌, ℕ, List, length, get_or, refl, ap, sym, ◌∙◌, subst, arith}
+use Rattle.std.proofs.Common.{◌≡◌, ◌+◌, ℕ, List, length, get_or, refl, ap, sym, ◌∙◌, subst, arith, falls}
 use Rattle.std.specs.Prelude.{Option, false}
 use Rattle.std.proofs.lemmas.List.{get_or_read, length_push}
 use Rattle.node_api.specs.Boxes.{nothing}
 use Rattle.interference.specs.Net.{degree_of, greatest_degree_of}
 use Rattle.interference.proofs.Neighbours.{degree-within, greatest_degree-within}
-use Rattle.sync_rounds.proofs.Bounds.{fewer, none_below, upto_greatest}
+use Rattle.sync_rounds.proofs.Bounds.{none_below, upto_greatest}
 use Rattle.sync_rounds.proofs.Resting.{outboxes-push}
 use Rattle.sync_rounds.proofs.boxes.outboxes_of.Goals as goal
 
@@ -23,7 +23,7 @@ index-requires g c =
     c.in_ok-occurs.ensures.size c.in_ok-occurs.occurs.ok.0
 
 pub loop-degree-smaller : goal.loop-degree-smaller
-loop-degree-smaller g c = fewer _ _ c.loop-degree-test.true
+loop-degree-smaller g c = falls _ _ c.loop-degree-test.true
 
 pub loop-degree-preserved : goal.loop-degree-preserved
 loop-degree-preserved g c =

@@ -1,8 +1,8 @@
-use Rattle.std.proofs.Common.{map, refl, sym, ap, ◌∙◌}
+use Rattle.std.proofs.Common.{map, refl, sym, ap, ◌∙◌, falls}
 use Rattle.alpha_core.specs.View.{is_drained}
 use Rattle.outcomes.specs.Gathers.{gathered_of}
 use Rattle.gather_laws.specs.Outcome.{all_drained}
-use Rattle.outcomes.proofs.Every.{all_passed, failed, fewer, passed}
+use Rattle.outcomes.proofs.Every.{all_passed, failed, passed}
 use Rattle.outcomes.proofs.outcome.Outcome.all_drained.Goals as goal
 
 pub loop-actor-init : goal.loop-actor-init
@@ -25,7 +25,7 @@ returns-then-not-drained g c = record {
 }
 
 pub loop-actor-smaller : goal.loop-actor-smaller
-loop-actor-smaller g c = fewer _ _ c.loop-actor-test.true
+loop-actor-smaller g c = falls _ _ c.loop-actor-test.true
 
 pub loop-actor-preserved : goal.loop-actor-preserved
 loop-actor-preserved g c =

@@ -1,7 +1,7 @@
-use Rattle.std.proofs.Common.{map, refl, sym, ap, ◌∙◌}
+use Rattle.std.proofs.Common.{map, refl, sym, ap, ◌∙◌, falls}
 use Rattle.outcomes.specs.Meets.{history_of_met}
 use Rattle.gather_laws.specs.Outcome.{all_empty, none_held}
-use Rattle.outcomes.proofs.Every.{all_passed, failed, fewer, passed}
+use Rattle.outcomes.proofs.Every.{all_passed, failed, passed}
 use Rattle.outcomes.proofs.outcome.Outcome.all_empty.Goals as goal
 
 pub loop-row-init : goal.loop-row-init
@@ -20,7 +20,7 @@ returns-then-not-none_held g c = record {
 }
 
 pub loop-row-smaller : goal.loop-row-smaller
-loop-row-smaller g c = fewer _ _ c.loop-row-test.true
+loop-row-smaller g c = falls _ _ c.loop-row-test.true
 
 pub loop-row-preserved : goal.loop-row-preserved
 loop-row-preserved g c =
