@@ -1,10 +1,12 @@
 -- What a node of the colouring keeps, and which phase of the rounds a pulse is in.
-use Rattle.std.specs.Prelude.{ℕ, ◌+◌, ◌-◌, ◌*◌, ◌/◌, ◌%◌, ◌<◌, ◌≤◌, ◌==◌, ⊤, if◌then◌else◌, nat_le, nat_lt}
+use Rattle.std.specs.Prelude.{◌≡◌, ℕ, ◌+◌, ◌-◌, ◌*◌, ◌/◌, ◌%◌, ◌<◌, ◌≤◌, ◌==◌, ⊤, if◌then◌else◌, nat_le, nat_lt}
 use Rattle.std.specs.Prelude.{List, filter, length, map, replicate, Option, Some, IfSome, slice_index, slice_index_or}
 use Rattle.std.specs.Ordering.{nat_cmp}
 use Rattle.std.specs.FinSet.{FinSet, contains, empty, from_list}
 use Rattle.node_api.specs.Program.{Own, Sizes, span}
-use Rattle.forest_merge.specs.Free.{least_free_colour}
+use Rattle.graph_limits.specs.declared.limits.TheConstants.{MAX_BARS}
+use Rattle.interference.specs.declared.limits.TheConstants.{MAX_DEGREE}
+use Rattle.forest_merge.specs.Free.{HasFree, least_free_colour}
 use Rattle.forests.specs.Forests.{forest}
 use Rattle.forests.specs.declared.numbering.Role.{Role}
 use Rattle.forests.specs.declared.numbering.Role.TheVariants.{Unknown}
@@ -72,6 +74,23 @@ HasForests n roles = (port : ℕ) → port < length roles → IsIn n (slice_inde
 -- every number of a list is below n
 abbrev pub AreBelow : ℕ → List ℕ → Type 0
 AreBelow n numbers = (i : ℕ) → i < length numbers → slice_index numbers i < n
+
+-- what holds of a node's parts at every pulse
+pub record IsNode (sizes : Sizes) (roles : List Role) (colours before : List ℕ) (colour_before merged : ℕ)
+    (barred : FinSet nat_cmp) : Type 0 where
+  pub degree_fits : sizes.greatest_degree ≤ MAX_DEGREE
+  pub bars_fit : sizes.greatest_bars ≤ MAX_BARS
+  pub forests_fit : sizes.forests ≤ MAX_DEGREE
+  pub ports_fit : length roles ≤ MAX_DEGREE
+  pub known : HasForests sizes.forests roles
+  -- a colour in each forest, and one before the last shift, which is 0 to 5
+  pub each_colour : length colours ≡ sizes.forests
+  pub each_before : length before ≡ sizes.forests
+  pub six : AreBelow 6 before
+  pub before_low : colour_before ≤ span sizes
+  pub merged_low : merged ≤ span sizes
+  -- the barred colours leave one free
+  pub free : HasFree (span sizes) (contains barred)
 
 -- how many steps the merging of one forest takes: one for each pair of a three-colour and an old colour
 abbrev pub steps : Sizes → ℕ

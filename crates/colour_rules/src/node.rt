@@ -36,13 +36,10 @@ pub struct ColourNode {
 }
 
 impl Model for ColourNode {
-    ghost use Rattle.std.specs.Prelude.{◌≡◌, ◌+◌, ◌<◌, ◌≤◌, length};
-    ghost use Rattle.std.specs.FinSet.{contains};
-    ghost use Rattle.forest_merge.specs.Free.{HasFree};
-    ghost use Rattle.graph_limits.specs.declared.limits.TheConstants.{MAX_BARS};
-    ghost use Rattle.interference.specs.declared.limits.TheConstants.{MAX_DEGREE};
+    ghost use Rattle.std.specs.Prelude.{◌<◌};
+    ghost use Rattle.node_api.specs.Program.{Sizes, span};
     ghost use Rattle.colour_rules.specs.InForests.{before_in, colours_in};
-    ghost use Rattle.colour_rules.specs.Node.{AreBelow, HasForests, Node};
+    ghost use Rattle.colour_rules.specs.Node.{IsNode, Node};
     ghost use Rattle.colour_rules.specs.Stored.{node_code};
     ghost use Rattle.colour_rules.specs.Taken.{barred_in, chosen_in, room_of};
 
@@ -67,13 +64,15 @@ impl Model for ColourNode {
       barred = barred_in a.taken;
     } };
 
-    ghost invariant = { λ a. (a.greatest_degree ≤ MAX_DEGREE) × (a.forests ≤ MAX_DEGREE)
-        × (length a.roles.items ≤ MAX_DEGREE)
-        × (length (colours_in a.id a.colours) ≡ a.forests) × (length (before_in a.colours) ≡ a.forests)
-        × HasForests a.forests a.roles.items × AreBelow 6 (before_in a.colours)
-        × (a.colour_before ≤ a.greatest_degree + a.greatest_bars) × (a.merged ≤ a.greatest_degree + a.greatest_bars)
-        × HasFree (a.greatest_degree + a.greatest_bars) (contains (barred_in a.taken)) × (a.greatest_bars ≤ MAX_BARS)
-        × (a.greatest_degree + a.greatest_bars < room_of a.taken) };
+    ghost invariant = { λ a.
+        let sizes : Sizes = record {
+          nodes = a.nodes;
+          greatest_degree = a.greatest_degree;
+          greatest_bars = a.greatest_bars;
+          forests = a.forests;
+        } in
+        IsNode sizes a.roles.items (colours_in a.id a.colours) (before_in a.colours) a.colour_before a.merged (barred_in a.taken)
+        × (span sizes < room_of a.taken) };
 }
 
 impl ColourNode {

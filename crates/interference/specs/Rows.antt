@@ -1,7 +1,8 @@
 -- Lists of neighbours and of barred colours, each packed into one list.
 use Rattle.std.specs.Prelude.{◌≡◌, ℕ, ◌+◌, ◌-◌, ◌*◌, ◌<◌, ◌≤◌, List, [], ◌∷◌, length, slice_index, take, drop}
 use Rattle.graph_limits.specs.declared.limits.TheConstants.{MAX_EDGES}
-use Rattle.interference.specs.Net.{Net, IsNetwork, IsVertex, degree_of, back_port_of}
+use Rattle.interference.specs.Net.{Net, IsNetwork, IsVertex, back_port_of, degree_of}
+use Rattle.interference.specs.Net.{forest_count_of, greatest_bars_of, greatest_degree_of}
 
 -- the parts of a list between one start and the next
 abbrev pub rows : List ℕ → List ℕ → List (List ℕ)
@@ -35,3 +36,11 @@ pub record HasBacks (starts backs : List ℕ) (net : Net) : Type 0 where
   pub size : (v port : ℕ) → IsVertex net v → port < degree_of net v → slice_index starts (v - 1) + port < length backs
   pub back : (v port : ℕ) → IsVertex net v → port < degree_of net v →
       slice_index backs (slice_index starts (v - 1) + port) ≡ back_port_of net v port
+
+-- all that a network keeps: its packed lists, and its greatest degree, forest count and greatest number of bars
+pub record IsStored (ids starts ports backs bar_starts bars : List ℕ) (degree forests most : ℕ) : Type 0 where
+  pub packed : IsPacked ids starts ports bar_starts bars
+  pub backs_lead : HasBacks starts backs (net_from ids starts ports bar_starts bars)
+  pub degree_is : degree ≡ greatest_degree_of (net_from ids starts ports bar_starts bars)
+  pub forests_are : forests ≡ forest_count_of (net_from ids starts ports bar_starts bars)
+  pub most_is : most ≡ greatest_bars_of (net_from ids starts ports bar_starts bars)

@@ -5,7 +5,7 @@ ghost use Rattle.interference.specs.Net.{Net, IsBarred, IsNetwork, IsVertex, bar
 ghost use Rattle.interference.specs.Net.{degree_of, id_of, neighbours};
 ghost use Rattle.interference.specs.Net.{back_port_of, neighbour_of};
 ghost use Rattle.interference.specs.Net.{forest_count_of, greatest_bars_of, greatest_degree_of};
-ghost use Rattle.interference.specs.Rows.{IsPacked, HasBacks, net_from};
+ghost use Rattle.interference.specs.Rows.{IsStored, net_from};
 
 use crate::bars::PackedBars;
 use crate::fault::Memory;
@@ -28,22 +28,16 @@ pub struct Network {
 }
 
 impl Model for Network {
-    ghost use Rattle.std.specs.Prelude.{◌≡◌, List, ℕ};
-    ghost use Rattle.interference.specs.Net.{Net, forest_count_of, greatest_bars_of, greatest_degree_of};
-    ghost use Rattle.interference.specs.Rows.{IsPacked, HasBacks, net_from};
+    ghost use Rattle.interference.specs.Net.{Net};
+    ghost use Rattle.interference.specs.Rows.{IsStored, net_from};
 
     ghost Value = { Net };
 
     ghost view = { λ a. net_from a.ids.items a.starts.items a.ports.items
         a.bars.starts.items a.bars.colours.items };
 
-    ghost invariant = { λ a.
-        let net = net_from a.ids.items a.starts.items a.ports.items a.bars.starts.items a.bars.colours.items in
-        IsPacked a.ids.items a.starts.items a.ports.items a.bars.starts.items a.bars.colours.items
-        × HasBacks a.starts.items a.backs.items net
-        × (a.greatest_degree ≡ greatest_degree_of net)
-        × (a.forest_count ≡ forest_count_of net)
-        × (a.bars.greatest ≡ greatest_bars_of net) };
+    ghost invariant = { λ a. IsStored a.ids.items a.starts.items a.ports.items a.backs.items
+        a.bars.starts.items a.bars.colours.items a.greatest_degree a.forest_count a.bars.greatest };
 }
 
 impl Network {
@@ -57,15 +51,8 @@ impl Network {
         greatest_degree: u32,
         forest_count: u32,
     ) -> Network
-        requires packed { IsPacked ids.items starts.items ports.items bars.starts.items bars.colours.items }
-        requires backs { HasBacks starts.items backs.items
-            (net_from ids.items starts.items ports.items bars.starts.items bars.colours.items) }
-        requires degree { greatest_degree ≡ greatest_degree_of
-            (net_from ids.items starts.items ports.items bars.starts.items bars.colours.items) }
-        requires forests { forest_count ≡ forest_count_of
-            (net_from ids.items starts.items ports.items bars.starts.items bars.colours.items) }
-        requires bars { bars.greatest ≡ greatest_bars_of
-            (net_from ids.items starts.items ports.items bars.starts.items bars.colours.items) }
+        requires { IsStored ids.items starts.items ports.items backs.items
+            bars.starts.items bars.colours.items greatest_degree forest_count bars.greatest }
         ensures { result ≡ net_from ids.items starts.items ports.items bars.starts.items bars.colours.items }
     {
         Network {

@@ -17,32 +17,24 @@ forest_count-forest_count-requires c =
     rw (c.deref-3.ensures.value, c.deref-4.ensures.value)
     (_, _, is_packed c.args.nodes c.args.edges.now _ _ _ filled c.args.ids.now c.requires.ids c.args.bars.now _ _ _ c.in_ok-bars.ensures c.requires.network)
 
-pub from_parts-requires-clause-packed : goal.from_parts-requires-clause-packed
-from_parts-requires-clause-packed c =
-    let filled = filled-by (goal.at.from_parts-requires-clause-packed c).After-deref-3 in
-    rw c.in_ok-ids.ensures.items (is_packed c.args.nodes c.args.edges.now _ _ _ filled c.args.ids.now c.requires.ids c.args.bars.now _ _ _
-    c.in_ok-bars.ensures c.requires.network)
-
-pub from_parts-requires-clause-backs : goal.from_parts-requires-clause-backs
-from_parts-requires-clause-backs c =
-    let filled = filled-by (goal.at.from_parts-requires-clause-backs c).After-deref-3 in
-    rw c.in_ok-ids.ensures.items (has_backs c.args.nodes c.args.edges.now _ _ _ filled c.args.ids.now c.requires.ids _ _)
-
-pub from_parts-requires-clause-degree : goal.from_parts-requires-clause-degree
-from_parts-requires-clause-degree c =
+pub from_parts-requires : goal.from_parts-requires
+from_parts-requires c =
     let starts = c.starts_of-starts.result.items in
     let ports = c.in_ok-ports.ports.items in
-    let filled = filled-by (goal.at.from_parts-requires-clause-degree c).After-deref-3 in
-    c.greatest-greatest_degree.ensures ∙ ap (fold max 0) c.deref.ensures.value
-    ∙ greatest_is c.args.nodes c.args.edges.now c.args.degrees.items (rows starts ports) c.requires.edges c.requires.degrees
-    (omega (arith, length-rows starts ports, filled.are.sizes)) (row_is c.args.nodes c.args.edges.now starts ports c.in_ok-ports.backs.items filled)
-
-pub from_parts-requires-clause-forests : goal.from_parts-requires-clause-forests
-from_parts-requires-clause-forests c =
-    c.forest_count-forest_count.ensures ∙ rw (c.deref-3.ensures.value, c.deref-4.ensures.value, c.in_ok-ids.ensures.items) refl
-
-pub from_parts-requires-clause-bars : goal.from_parts-requires-clause-bars
-from_parts-requires-clause-bars c = c.in_ok-bars.ensures.greatest_is
+    let filled = filled-by (goal.at.from_parts-requires c).After-deref-3 in
+    record {
+      packed =
+          rw c.in_ok-ids.ensures.items (is_packed c.args.nodes c.args.edges.now _ _ _ filled c.args.ids.now c.requires.ids c.args.bars.now _ _ _
+          c.in_ok-bars.ensures c.requires.network);
+      backs_lead = rw c.in_ok-ids.ensures.items (has_backs c.args.nodes c.args.edges.now _ _ _ filled c.args.ids.now c.requires.ids _ _);
+      degree_is =
+          c.greatest-greatest_degree.ensures ∙ ap (fold max 0) c.deref.ensures.value
+          ∙ greatest_is c.args.nodes c.args.edges.now c.args.degrees.items (rows starts ports) c.requires.edges c.requires.degrees
+          (omega (arith, length-rows starts ports, filled.are.sizes)) (row_is c.args.nodes c.args.edges.now starts ports c.in_ok-ports.backs.items filled);
+      forests_are =
+          c.forest_count-forest_count.ensures ∙ rw (c.deref-3.ensures.value, c.deref-4.ensures.value, c.in_ok-ids.ensures.items) refl;
+      most_is = c.in_ok-bars.ensures.greatest_is;
+    }
 
 pub returns : goal.returns
 returns c =

@@ -17,11 +17,11 @@ old_is c =
     (elim c.if-step-eq0.branch [
       | then-step-eq0 w ↦ (
         old-first c.args.step c.if-step-eq0.old inside.merged inside.colour_before w.if-step-eq0.true w.old-is,
-        subst (λ (n : ℕ). n ≤ most) (sym w.old-is) c.self.invariant.8,
+        subst (λ (n : ℕ). n ≤ most) (sym w.old-is) c.self.invariant.0.merged_low,
       )
       | else-step-eq0 w ↦ (
         old-later c.args.step c.if-step-eq0.old inside.merged inside.colour_before w.if-step-eq0.false w.old-is,
-        subst (λ (n : ℕ). n ≤ most) (sym w.old-is) c.self.invariant.7,
+        subst (λ (n : ℕ). n ≤ most) (sym w.old-is) c.self.invariant.0.before_low,
       )
     ])
 
@@ -31,7 +31,7 @@ own_is c = c.own-three.ensures ∙ ap (λ (n : Node). slice_index n.colours c.ar
 
 pub own-three-requires : goal.own-three-requires
 own-three-requires c =
-    subst (λ (n : ℕ). c.args.forest < n) (sym (c.self.invariant.4 ∙ ap (λ (n : Node). n.sizes.forests) c.self.view_is)) c.requires.forest
+    subst (λ (n : ℕ). c.args.forest < n) (sym (c.self.invariant.0.each_before ∙ ap (λ (n : Node). n.sizes.forests) c.self.view_is)) c.requires.forest
 
 pub span-requires : goal.span-requires
 span-requires c = tt

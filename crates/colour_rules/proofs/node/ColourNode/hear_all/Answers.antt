@@ -51,7 +51,7 @@ add_all-requires-clause-colours c port colour came =
     chosen-within node c.args.forest 1 slots c.requires.ports
     (passed-fine node c.args.forest slots c.requires.ports passed 1 (omega arith)) port colour here in
     let most : span node.sizes < room_of c.self.inside.taken =
-    subst (λ (n : Node). span n.sizes < room_of c.self.inside.taken) c.self.view_is c.self.invariant.11 in
+    subst (λ (n : Node). span n.sizes < room_of c.self.inside.taken) c.self.view_is c.self.invariant.1 in
     omega (arith, low, most)
 
 pub take_next-requires-clause-more : goal.take_next-requires-clause-more
@@ -78,7 +78,7 @@ pub add-requires : goal.add-requires
 add-requires c =
     let taken : IsTaken c.args.self.now c.args.forest c.args.inbox.now c.in-Some.first c.take_next.new.inbox = c.in-Some.ensures.taken in
     within_room c.in-Some.first (span c.args.self.now.sizes) (room_of c.self.inside.taken) taken.low
-    (subst (λ (n : Node). span n.sizes < room_of c.self.inside.taken) c.self.view_is c.self.invariant.11)
+    (subst (λ (n : Node). span n.sizes < room_of c.self.inside.taken) c.self.view_is c.self.invariant.1)
 
 pub invariant_of-self : goal.invariant_of-self
 invariant_of-self c = invariant-taken c.self.inside c.add.new.self c.self.invariant c.add.ensures.barred c.add.ensures.room

@@ -45,7 +45,7 @@ pub loop-self-init : goal.loop-self-init
 loop-self-init c =
     record {
       same = refl;
-      room = c.self.invariant.11;
+      room = c.self.invariant.1;
       node = ap (λ (node : Node). with_roles node c.self.inside.roles.items) c.self.view_is;
       roles =
           labelled-start c.args.self.now.roles c.self.inside.roles.items c.args.inbox.now.slots c.args.inbox.now.cursor
@@ -60,7 +60,7 @@ invariant_of-self c =
     let all = labelled_roles (goal.at.invariant_of-self c).After-loop-self in
     valid-inside c.loop-self.self-inside _ (c.loop-self.invariant.node ∙ ap (with_roles node) all)
     (valid-roles node (all_labelled node.roles slots) valid (length-labelled node.roles slots c.requires.ports)
-    (labelled-in node.sizes.forests node.roles slots c.requires.ports valid.5 c.requires.labels)) c.loop-self.invariant.room
+    (labelled-in node.sizes.forests node.roles slots c.requires.ports valid.known c.requires.labels)) c.loop-self.invariant.room
 
 pub next-payload-requires : goal.next-payload-requires
 next-payload-requires c = record { more = c.has_next.ensures.more.0 c.loop-self-test.true }

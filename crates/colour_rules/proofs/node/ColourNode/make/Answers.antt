@@ -96,8 +96,22 @@ invariant_of-result c =
     c.in_ok-taken.ensures.barred count in
     let merged : c.least_free.result ≤ degree + bars =
     subst (λ (colour : ℕ). colour ≤ degree + bars) (sym c.least_free.ensures)
-    (least_free_colour-at_most (degree + bars) (is_taken_in c.in_ok-taken.taken) free) in
-    (d, e, search rules, size, kept_size, known, low, omega arith, merged, unbarred, b, c.in_ok-taken.ensures.room)
+    (least_free_colour-at_most (degree + bars) (is_taken_in c.in_ok-taken.taken) free) in (
+      record {
+        degree_fits = d;
+        bars_fit = b;
+        forests_fit = e;
+        ports_fit = search rules;
+        known = known;
+        each_colour = size;
+        each_before = kept_size;
+        six = low;
+        before_low = omega arith;
+        merged_low = merged;
+        free = unbarred;
+      },
+      c.in_ok-taken.ensures.room,
+    )
 
 pub returns : goal.returns
 returns c =

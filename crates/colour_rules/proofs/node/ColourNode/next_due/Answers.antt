@@ -10,7 +10,7 @@ pub returns-clause-idle : goal.returns-clause-idle
 returns-clause-idle c s later below =
     let node : Node = c.args.self.now in
     let low : node.colour_before ≤ span node.sizes =
-    subst (λ (n : Node). n.colour_before ≤ span n.sizes) c.self.view_is c.self.invariant.7 in
+    subst (λ (n : Node). n.colour_before ≤ span n.sizes) c.self.view_is c.self.invariant.0.before_low in
     let three : c.own-three.result ≡ slice_index node.colours c.args.forest =
     c.own-three.ensures ∙ ap (λ (n : Node). slice_index n.colours c.args.forest) c.self.view_is in
     let wide : c.from-width.result ≡ span node.sizes = c.from-width.ensures ∙ c.span.ensures in

@@ -18,9 +18,9 @@ invariant_of-self c =
     let size : length roles ≡ inside.roles.len = search rules in
     let as_many : length roles ≡ length inside.roles.items = search rules in
     let is : (with_items inside.roles roles).items ≡ roles = with_items_is inside.roles roles size in
-    let old : IsValid (the_view inside) = valid-seen inside (the_view inside) refl c.self.invariant in
-    let v =
-    valid-roles (the_view inside) (with_items inside.roles roles).items old
-    (ap (λ (rs : List Role). length rs) is ∙ as_many)
-    (subst (HasForests inside.forests) (sym (is ∙ c.number_up.ensures.numbered)) (oriented-in inside.id ids inside.forests few)) in
-    (v.0, v.1, v.2, v.3, v.4, v.5, v.6, v.7, v.8, v.9, v.10, c.self.invariant.11)
+    let old : IsValid (the_view inside) = valid-seen inside (the_view inside) refl c.self.invariant in (
+      valid-roles (the_view inside) (with_items inside.roles roles).items old
+          (ap (λ (rs : List Role). length rs) is ∙ as_many)
+          (subst (HasForests inside.forests) (sym (is ∙ c.number_up.ensures.numbered)) (oriented-in inside.id ids inside.forests few)),
+      c.self.invariant.1,
+    )

@@ -4,7 +4,9 @@ use Rattle.node_api.specs.Boxes.{nothing}
 use Rattle.colour_rules.specs.InForests.{before_in}
 use Rattle.colour_rules.specs.Node.{AreBelow, Node, ports}
 use Rattle.colour_rules.specs.declared.payload.Payload.{Payload}
+use Rattle.colour_rules.specs.contracts.node.ColourNode.{the_view}
 use Rattle.colour_rules.proofs.KeptPorts.{length-labelled}
+use Rattle.colour_rules.proofs.Valid.{valid-colours}
 use Rattle.colour_rules.proofs.node.ColourNode.seed.Goals as goal
 
 pub tell_colours-requires : goal.tell_colours-requires
@@ -29,19 +31,12 @@ pub invariant_of-self : goal.invariant_of-self
 invariant_of-self c =
     let inside = c.self.inside in
     let i = c.self.invariant in
+    let v = i.0 in
     let before = c.seed.ensures.before in (
-      i.0,
+      valid-colours (the_view inside) _ _ v
+          (ap length (c.seed.ensures.colours inside.id) ∙ length-replicate (length (before_in inside.colours)) inside.id ∙ v.each_before)
+          (ap length before ∙ v.each_before) (subst (AreBelow 6) (sym before) v.six),
       i.1,
-      i.2,
-      ap length (c.seed.ensures.colours inside.id) ∙ length-replicate (length (before_in inside.colours)) inside.id ∙ i.4,
-      ap length before ∙ i.4,
-      i.5,
-      subst (AreBelow 6) (sym before) i.6,
-      i.7,
-      i.8,
-      i.9,
-      i.10,
-      i.11,
     )
 
 pub returns-clause-slots : goal.returns-clause-slots

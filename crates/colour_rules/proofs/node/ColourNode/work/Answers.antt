@@ -20,12 +20,12 @@ turn_all-requires-clause-brought c =
     let node = c.args.self.now in
     let slots = c.args.inbox.now.slots in
     let v : IsValid node = valid-seen c.self.inside node c.self.view_is c.self.invariant in
-    let size : length node.before ≡ node.sizes.forests = v.4 in
+    let size : length node.before ≡ node.sizes.forests = v.each_before in
     let came : BringColours (length node.before) node.roles slots =
     record {
-      few = subst (λ (n : ℕ). n ≤ MAX_DEGREE) (sym size) v.1;
+      few = subst (λ (n : ℕ). n ≤ MAX_DEGREE) (sym size) v.forests_fit;
       ports = c.requires.accepted.size;
-      known = subst (λ (n : ℕ). HasForests n node.roles) (sym size) v.5;
+      known = subst (λ (n : ℕ). HasForests n node.roles) (sym size) v.known;
       colours = λ port f h up. let b = brought node c.args.reduction slots c.requires.accepted port f h up in (b.0, b.1);
     } in
     subst (λ (roles : List Role). BringColours (length (before_in c.self.inside.colours)) roles slots) (sym c.deref.ensures.value)
@@ -39,7 +39,7 @@ turn_all-requires-clause-ready c =
     let inside = the_view c.self.inside in
     subst (λ (roles : List Role). AreReady c.args.reduction inside.colours inside.before (λ f. from_parent f roles slots)) (sym c.deref.ensures.value)
     (subst (λ (n : Node). AreReady c.args.reduction n.colours n.before (λ f. from_parent f n.roles slots)) (sym c.self.view_is)
-    (λ f h. ready node c.args.reduction slots c.requires.accepted v.6 (v.4 ∙ sym v.3) f h))
+    (λ f h. ready node c.args.reduction slots c.requires.accepted v.six (v.each_before ∙ sym v.each_colour) f h))
 
 -- the colours after the turn, and those kept beside them
 turned : (c : After-turn_all) → (colours_in c.self.inside.id c.turn_all.new.self ≡ next_colours c.args.self.now c.args.reduction c.args.inbox.now.slots) ×
@@ -52,8 +52,8 @@ turned c =
       c.turn_all.ensures.colours
           ∙ (ap (λ (roles : List Role). turned_all c.args.reduction inside.colours inside.before (λ f. from_parent f roles slots)) c.deref.ensures.value
           ∙ ap (λ (n : Node). turned_all c.args.reduction n.colours n.before (λ f. from_parent f n.roles slots)) c.self.view_is
-          ∙ colours-are node c.args.reduction v.3 slots),
-      c.turn_all.ensures.before ∙ (ap (λ (n : Node). kept_all c.args.reduction n.colours n.before) c.self.view_is ∙ kept-are node c.args.reduction v.3),
+          ∙ colours-are node c.args.reduction v.each_colour slots),
+      c.turn_all.ensures.before ∙ (ap (λ (n : Node). kept_all c.args.reduction n.colours n.before) c.self.view_is ∙ kept-are node c.args.reduction v.each_colour),
     )
 
 worked : (c : After-turn_all) → record (the_view c.self.inside) {
@@ -82,17 +82,13 @@ stays c =
     subst IsValid (sym (worked c))
     (valid-colours node (next_colours node c.args.reduction c.args.inbox.now.slots) (next_kept node c.args.reduction) valid
     (length-map-range_with_len _ 0 node.sizes.forests) (length-map-range_with_len _ 0 node.sizes.forests)
-    (kept-below node c.args.reduction c.args.inbox.now.slots c.requires.accepted valid.6 (valid.4 ∙ sym valid.3) valid.3))
+    (kept-below node c.args.reduction c.args.inbox.now.slots c.requires.accepted valid.six (valid.each_before ∙ sym valid.each_colour) valid.each_colour))
 
 pub invariant_of-self : goal.invariant_of-self
-invariant_of-self c =
-    let v = stays (goal.at.invariant_of-self c).After-turn_all in
-    (v.0, v.1, v.2, v.3, v.4, v.5, v.6, v.7, v.8, v.9, v.10, c.self.invariant.11)
+invariant_of-self c = (stays (goal.at.invariant_of-self c).After-turn_all, c.self.invariant.1)
 
 pub invariant_of-self-else-not-is_last : goal.invariant_of-self-else-not-is_last
-invariant_of-self-else-not-is_last c =
-    let v = stays (goal.at.invariant_of-self-else-not-is_last c).After-turn_all in
-    (v.0, v.1, v.2, v.3, v.4, v.5, v.6, v.7, v.8, v.9, v.10, c.self.invariant.11)
+invariant_of-self-else-not-is_last c = (stays (goal.at.invariant_of-self-else-not-is_last c).After-turn_all, c.self.invariant.1)
 
 pub returns-then-not-is_last-clause-node : goal.returns-then-not-is_last-clause-node
 returns-then-not-is_last-clause-node c =

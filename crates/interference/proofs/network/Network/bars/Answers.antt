@@ -3,5 +3,5 @@ use Rattle.interference.proofs.network.Network.bars.Goals as goal
 
 pub returns : goal.returns
 returns c = let s = c.self.inside in
-    rw c.deref.ensures.value (bars_read s.ids.items s.starts.items s.ports.items s.bars.starts.items s.bars.colours.items c.self.invariant.0 c.args.self.now
+    rw c.deref.ensures.value (bars_read s.ids.items s.starts.items s.ports.items s.bars.starts.items s.bars.colours.items c.self.invariant.packed c.args.self.now
     c.self.view_is c.args.v c.requires _ _ c.index-2.ensures c.index.ensures)
