@@ -35,8 +35,7 @@ use Rattle.actor.proofs.Kept.{legal_of_name}
 use Rattle.actor.proofs.Recorded.{bare-written, same-stamped, same-written}
 use Rattle.actor.proofs.Lists.{as_long, at_place, below_as_many, below_same, same_all}
 use Rattle.actor.proofs.Queued.{parts_of}
-use Rattle.actor.proofs.Steps.{aside_is, full_not_refused, full_stamp, none_and_some, pulsed, put_one, refused_is, refused_not_full, took_one}
-use Rattle.actor.proofs.Steps.{took_refused}
+use Rattle.actor.proofs.Steps.{aside_is, full_not_refused, full_stamp, none_and_some, pulsed, put_one, refused_is, refused_not_full, took_one, took_refused}
 use Rattle.actor.proofs.Writes.{wrote_one_put, wrote_pulsed, wrote_refused, wrote_taken}
 
 -- The end x, of port i, is y now: its list has the wire w more, with stamp s, or nothing more.

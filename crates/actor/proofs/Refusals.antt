@@ -1,6 +1,5 @@
 -- What a turn that ended early says of why.
-use Rattle.std.proofs.Common.{◌≡◌, ℕ, ◌+◌, ◌<◌, ◌≤◌, List, [], ◌∷◌, length, sym, ◌∙◌, arith}
-use Rattle.std.proofs.Common.{Some, Ok, Err, slice_get}
+use Rattle.std.proofs.Common.{◌≡◌, ℕ, ◌+◌, ◌<◌, ◌≤◌, List, [], ◌∷◌, length, sym, ◌∙◌, arith, Some, Ok, Err, slice_get}
 use Rattle.std.specs.Prelude.{Result, IfErr, IsErrAnd, max}
 use Rattle.actor.specs.declared.refused.TurnRefused.{TurnRefused}
 use Rattle.actor.specs.declared.refused.TurnRefused.TheVariants.{Memory, StampFull}

@@ -1,6 +1,5 @@
 -- What one call on an end, or on the node alone, leaves of the entries of a node with its ends.
-use Rattle.std.proofs.Common.{◌≡◌, ℕ, ◌<◌, List, [], ◌∷◌, ◌++◌, length, map, set, get_or, if◌then◌else◌, sym, subst, arith}
-use Rattle.std.proofs.Common.{Some, None, Ok, slice_get}
+use Rattle.std.proofs.Common.{◌≡◌, ℕ, ◌<◌, List, [], ◌∷◌, ◌++◌, length, map, set, get_or, if◌then◌else◌, sym, subst, arith, Some, None, Ok, slice_get}
 use Rattle.std.specs.Prelude.{Bool, Option, IsTrue}
 use Rattle.interference.specs.Net.{Net, IsNetwork, IsVertex, degree_of, neighbour_of}
 use Rattle.node_api.specs.Program.{Program, last_pulse_on}

@@ -1,7 +1,6 @@
 -- What a node emits keeps a safe behind each payload, so that an out-list with room has at most one payload.
-use Rattle.std.proofs.Common.{◌≡◌, ℕ, suc, zero, ◌<◌, ◌≤◌, ◌+◌, Bool, true, false, Option, Some, None, List, [], ◌∷◌, ◌++◌, map, length, get_or, set}
-use Rattle.std.proofs.Common.{refl, sym, ap, arith}
-use Rattle.std.proofs.Common.{drop, subst, replicate}
+use Rattle.std.proofs.Common.{◌≡◌, ℕ, suc, zero, ◌<◌, ◌≤◌, ◌+◌, Bool, true, false, Option, Some, None, List, [], ◌∷◌, ◌++◌, map, length, get_or, set, refl, sym}
+use Rattle.std.proofs.Common.{ap, arith, drop, subst, replicate}
 use Rattle.std.specs.Prelude.{nat_eq, nat_lt, ◌&&◌, if◌then◌else◌}
 use Rattle.std.proofs.lemmas.Bool.{and_parts, leb-true}
 use Rattle.alpha_core.specs.declared.wire.Wire.{Wire}

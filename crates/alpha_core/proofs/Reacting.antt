@@ -1,6 +1,5 @@
 -- What a payload that is due finds at its port, and the reaction to a wire that isn't refused.
-use Rattle.std.proofs.Common.{◌≡◌, ℕ, suc, ◌+◌, ◌<◌, ◌≤◌, Bool, true, false, ◌&&◌, Option, Some, None, refl, sym, ap, ◌∙◌, arith}
-use Rattle.std.proofs.Common.{eq-eqb, ne_eqb, ⊎_elim}
+use Rattle.std.proofs.Common.{◌≡◌, ℕ, suc, ◌+◌, ◌<◌, ◌≤◌, Bool, true, false, ◌&&◌, Option, Some, None, refl, sym, ap, ◌∙◌, arith, eq-eqb, ne_eqb, ⊎_elim}
 use Rattle.std.specs.Prelude.{is_some, nat_eq, nat_lt, if◌then◌else◌, Ok}
 use Rattle.std.proofs.lemmas.Bool.{cases_eq, and_parts, or_parts, eqb-true, leb-true, ltb-true, not-true}
 use Rattle.alpha_core.specs.declared.wire.Wire.{Wire}

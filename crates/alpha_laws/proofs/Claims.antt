@@ -1,6 +1,6 @@
 -- What is kept says what is claimed: nodes that keep their links simulate the synchronous run.
 use Rattle.std.proofs.Common.{◌≡◌, ℕ, suc, ◌+◌, ◌<◌, ◌≤◌, List, [], ◌∷◌, ◌++◌, length, get_or, refl, sym, ap, ◌∙◌, arith, subst, ⊎_elim}
-use Rattle.std.specs.Prelude.{Contains}
+use Rattle.std.specs.Prelude.{Contains, IsOk}
 use Rattle.std.specs.List.{range_with_len}
 use Rattle.std.proofs.lemmas.List.{length-append, length-map, get_or-map, same_lists}
 use Rattle.std.proofs.lemmas.List.FromFn.{length-range_with_len, get_or-range_with_len}
@@ -13,18 +13,15 @@ use Rattle.alpha_core.specs.Wires.{payload_at}
 use Rattle.alpha_core.specs.Streams.{Legal}
 use Rattle.alpha_core.specs.View.{Node, port_at}
 use Rattle.alpha_core.specs.Program.{sends}
-use Rattle.alpha_core.proofs.Wires.{legal-front}
-use Rattle.alpha_laws.specs.Simulates.{Simulates, taken_over, emitted_at}
+use Rattle.alpha_core.proofs.Wires.{legal-front, begins_from}
+use Rattle.alpha_laws.specs.Simulates.{Simulates, taken_over, emitted_at, heard_at, IsCompleteOn}
 use Rattle.alpha_laws.proofs.EachPort.{none_from, out_from}
 use Rattle.alpha_laws.proofs.Lawful.{legal_emitted}
 use Rattle.alpha_laws.proofs.Runs.{Runs}
 use Rattle.alpha_laws.proofs.Across.{mine, theirs, whole', near_at, two_in_flight}
 use Rattle.alpha_laws.specs.Position.{start_at}
 use Rattle.alpha_laws.specs.Kept.{AllKept}
-use Rattle.std.specs.Prelude.{IsOk}
 use Rattle.alpha_core.specs.declared.wire.Wire.TheVariants.{Close}
-use Rattle.alpha_core.proofs.Wires.{begins_from}
-use Rattle.alpha_laws.specs.Simulates.{heard_at, IsCompleteOn}
 use Rattle.alpha_laws.proofs.Listed.{contains_cons, safe_below}
 use Rattle.alpha_laws.proofs.PortClaims.{port_fits}
 use Rattle.alpha_laws.proofs.Heard.{passed_at, heard}

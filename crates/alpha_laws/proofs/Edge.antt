@@ -1,34 +1,6 @@
 -- Two neighbours who keep their links: how far apart they are, what lies between them, and that the next wire is due.
-use Rattle.std.proofs.Common.{
-  ◌≡◌,
-  ℕ,
-  suc,
-  ◌+◌,
-  ◌*◌,
-  ◌≤◌,
-  Bool,
-  true,
-  false,
-  List,
-  [],
-  ◌++◌,
-  Option,
-  Some,
-  None,
-  length,
-  refl,
-  sym,
-  ap,
-  ◌∙◌,
-  add-one,
-  add-zero,
-  append-nil,
-  length-append,
-  arith,
-  ⊎_elim,
-  ne_eqb,
-  eq-eqb,
-}
+use Rattle.std.proofs.Common.{◌≡◌, ℕ, suc, ◌+◌, ◌*◌, ◌≤◌, Bool, true, false, List, [], ◌++◌, Option, Some, None, length, refl, sym, ap, ◌∙◌, add-one, add-zero}
+use Rattle.std.proofs.Common.{append-nil, length-append, arith, ⊎_elim, ne_eqb, eq-eqb}
 use Rattle.std.specs.Prelude.{is_some, if◌then◌else◌, nat_eq}
 use Rattle.std.proofs.lemmas.Bool.{cases_eq, false_from_ne_true}
 use Rattle.alpha_core.specs.declared.wire.Wire.{Wire}

@@ -4,11 +4,10 @@ use Rattle.interference.specs.Net.{Net, IsNetwork, IsVertex, degree_of, neighbou
 use Rattle.node_api.specs.Program.{Program, last_pulse_on}
 use Rattle.node_api.specs.Run.{outbox_at, state_at}
 use Rattle.alpha_core.specs.declared.wire.Wire.{Wire}
-use Rattle.alpha_core.specs.View.{Node, port_at}
+use Rattle.alpha_core.specs.View.{Node, port_at, can_pulse, inbox_of}
 use Rattle.alpha_laws.proofs.Runs.{Runs}
 use Rattle.alpha_laws.specs.Kept.{AllKept}
 use Rattle.std.proofs.lemmas.List.{append_cancel_left}
-use Rattle.alpha_core.specs.View.{can_pulse, inbox_of}
 use Rattle.alpha_core.specs.Alpha.{reaction, reacts, unless_refused, pulse, pulsed, entering, advances}
 use Rattle.alpha_core.proofs.Due.{due-taken}
 use Rattle.alpha_laws.specs.Simulates.{sent_to}

@@ -1,32 +1,6 @@
 -- A node keeps all its links as it starts and as it makes its next pulse.
-use Rattle.std.proofs.Common.{
-  ◌≡◌,
-  ℕ,
-  suc,
-  ◌<◌,
-  ◌≤◌,
-  true,
-  false,
-  not,
-  List,
-  [],
-  ◌++◌,
-  map,
-  Option,
-  None,
-  length,
-  get_or,
-  replicate,
-  refl,
-  sym,
-  ap,
-  ◌∙◌,
-  append_assoc,
-  arith,
-  subst,
-  ⊎_elim,
-  eq-eqb,
-}
+use Rattle.std.proofs.Common.{◌≡◌, ℕ, suc, ◌<◌, ◌≤◌, true, false, not, List, [], ◌++◌, map, Option, None, length, get_or, replicate, refl, sym, ap, ◌∙◌}
+use Rattle.std.proofs.Common.{append_assoc, arith, subst, ⊎_elim, eq-eqb}
 use Rattle.std.specs.Prelude.{nat_eq}
 use Rattle.std.proofs.lemmas.Bool.{cases_eq, and_parts}
 use Rattle.std.proofs.lemmas.List.{get_or-map, length-map, same_lists, get_or-replicate, length-replicate}

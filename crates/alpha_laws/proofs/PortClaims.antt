@@ -1,32 +1,6 @@
 -- What is kept of a port says that the port fits.
-use Rattle.std.proofs.Common.{
-  ◌≡◌,
-  ℕ,
-  ◌+◌,
-  ◌<◌,
-  ◌≤◌,
-  Bool,
-  true,
-  false,
-  List,
-  [],
-  ◌∷◌,
-  ◌++◌,
-  Option,
-  Some,
-  None,
-  refl,
-  sym,
-  ap,
-  ◌∙◌,
-  add-one,
-  add-zero,
-  append_assoc,
-  append-nil,
-  arith,
-  subst,
-  ⊎_elim,
-}
+use Rattle.std.proofs.Common.{◌≡◌, ℕ, ◌+◌, ◌<◌, ◌≤◌, Bool, true, false, List, [], ◌∷◌, ◌++◌, Option, Some, None, refl, sym, ap, ◌∙◌, add-one, add-zero}
+use Rattle.std.proofs.Common.{append_assoc, append-nil, arith, subst, ⊎_elim}
 use Rattle.std.specs.Prelude.{is_some, if◌then◌else◌, nat_eq, Contains}
 use Rattle.std.proofs.lemmas.Bool.{cases_lt, cases_Bool}
 use Rattle.std.proofs.lemmas.List.Elements.{Contains-append_left, Contains-append_right}

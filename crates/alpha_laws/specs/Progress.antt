@@ -1,6 +1,5 @@
 -- What nodes that simulate the synchronous run can still do, and what they are once nothing is left to be done.
-use Rattle.std.specs.Prelude.{◌≡◌, ◌⊎◌, ◌↔◌, ℕ, ◌<◌, ◌≤◌, true, false, IsTrue, None}
-use Rattle.std.specs.Prelude.{List, [], ◌++◌, length, replicate}
+use Rattle.std.specs.Prelude.{◌≡◌, ◌⊎◌, ◌↔◌, ℕ, ◌<◌, ◌≤◌, true, false, IsTrue, None, List, [], ◌++◌, length, replicate}
 use Rattle.interference.specs.Net.{Net, IsVertex, degree_of, neighbour_of, back_port_of}
 use Rattle.node_api.specs.Program.{Program, last_pulse_on}
 use Rattle.node_api.specs.Run.{last_state}

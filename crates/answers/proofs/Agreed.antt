@@ -1,6 +1,5 @@
 -- The plan of `plain`, behind its network, is proper, and has no fault.
-use Rattle.std.proofs.Common.{◌≡◌, ◌++◌, ◌∷◌, [], inl, inr, ◌∙◌, ℕ, Some, None, Ok, Err, List, append-nil, arith, ap, codes, map, refl}
-use Rattle.std.proofs.Common.{subst, sym}
+use Rattle.std.proofs.Common.{◌≡◌, ◌++◌, ◌∷◌, [], inl, inr, ◌∙◌, ℕ, Some, None, Ok, Err, List, append-nil, arith, ap, codes, map, refl, subst, sym}
 use Rattle.dimacs_col.specs.Lines.{Line, lines_of}
 use Rattle.dimacs_col.specs.Reading.{Graph, IsGraph}
 use Rattle.dimacs_col.proofs.Unique.{graph-or_fault, one-graph}

@@ -22,8 +22,7 @@ use Rattle.entries.specs.declared.rows.Row.{Row}
 use Rattle.entries.specs.declared.rows.StampedRow.{StampedRow}
 use Rattle.transcripts.proofs.Either.{stamped-have-lines}
 use Rattle.answers.specs.ReplayAnswers.{HasLine, IsEntryTold, IsFaultOfTranscript, IsStampedLine, IsStampedRefusal, IsStampedTold, IsToldAs, bare_rows}
-use Rattle.answers.specs.ReplayAnswers.{SaysWhyNot, StopsThere, fault_at}
-use Rattle.answers.specs.ReplayAnswers.{first_line_in, last_of, line_at, transcript_in}
+use Rattle.answers.specs.ReplayAnswers.{SaysWhyNot, StopsThere, fault_at, first_line_in, last_of, line_at, transcript_in}
 use Rattle.answers.specs.declared.replaying.ReplayFault.{ReplayFault}
 use Rattle.answers.specs.declared.replaying.ReplayFault.TheVariants as fault
 use Rattle.answers.proofs.RefusedLines.{entry-at, not-memory, says-there, told-as}

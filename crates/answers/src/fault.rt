@@ -1,8 +1,7 @@
 //! Why a text has no answer.
 
 ghost use Rattle.std.specs.Prelude.{◌≡◌};
-ghost use Rattle.answers.specs.declared.fault.PlanFault.TheVariants.{Check, Col, Event, Net, Memory, Pool};
-ghost use Rattle.answers.specs.declared.fault.PlanFault.TheVariants.{Replay};
+ghost use Rattle.answers.specs.declared.fault.PlanFault.TheVariants.{Check, Col, Event, Net, Memory, Pool, Replay};
 
 use crate::replaying::ReplayFault;
 use channel_plan::CheckFault;

@@ -1,6 +1,5 @@
 -- Clashes among the vertices that are left, and a table beside the rows that it was made of.
-use Rattle.std.proofs.Common.{◌≡◌, ◌<◌, ◌≤◌, ◌+◌, ◌-◌, ◌∙◌, ℕ, Bool, Option, Some, None, List, arith, ap, cond, drop}
-use Rattle.std.proofs.Common.{get_or, is_none, length}
+use Rattle.std.proofs.Common.{◌≡◌, ◌<◌, ◌≤◌, ◌+◌, ◌-◌, ◌∙◌, ℕ, Bool, Option, Some, None, List, arith, ap, cond, drop, get_or, is_none, length}
 use Rattle.std.proofs.lemmas.List.{at_drop_all, at_drop_more}
 use Rattle.std.proofs.lemmas.List.FromFn.{get_or-range_with_len, length-range_with_len}
 use Rattle.std.specs.List.{find}

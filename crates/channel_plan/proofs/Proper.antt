@@ -1,13 +1,11 @@
 -- A plan without a fault is proper, and a proper plan has no fault.
 -- Without a fault each row is good after those before it, so a vertex has at most one row; none is missing,
 -- so it has one; and no two neighbours have one channel in the table, which is the channel of their rows.
-use Rattle.std.proofs.Common.{◌≡◌, ◌<◌, ◌≤◌, ◌+◌, ◌-◌, ◌++◌, ◌∷◌, [], inl, inr, ◌==◌, ◌&&◌, ◌∙◌, ℕ, Bool, true, false}
-use Rattle.std.proofs.Common.{Option, Some, None, List, All, arith, ap, append_assoc, cond, get_or, if◌then◌else◌}
-use Rattle.std.proofs.Common.{is_none, is_some, nat_lt, not, refl, subst, sym}
+use Rattle.std.proofs.Common.{◌≡◌, ◌<◌, ◌≤◌, ◌+◌, ◌-◌, ◌++◌, ◌∷◌, [], inl, inr, ◌==◌, ◌&&◌, ◌∙◌, ℕ, Bool, true, false, Option, Some, None, List, All, arith, ap}
+use Rattle.std.proofs.Common.{append_assoc, cond, get_or, if◌then◌else◌, is_none, is_some, nat_lt, not, refl, subst, sym}
 use Rattle.std.proofs.lemmas.Bool.{cases_order, eqb-true, lt-ltb, ltb-false}
 use Rattle.std.proofs.lemmas.Bool.Decides.{nat_tests}
-use Rattle.std.proofs.lemmas.List.Elements.{All-contains, All-from_recursion, Contains-append_right, Contains-get_or}
-use Rattle.std.proofs.lemmas.List.Elements.{recursion_from_All}
+use Rattle.std.proofs.lemmas.List.Elements.{All-contains, All-from_recursion, Contains-append_right, Contains-get_or, recursion_from_All}
 use Rattle.std.proofs.lemmas.List.FromFn.{get_or-range_with_len, length-range_with_len}
 use Rattle.std.specs.List.{AllByRecursion, Contains, find}
 use Rattle.std.specs.Option.{option_map, option_or}
@@ -20,8 +18,7 @@ use Rattle.channel_plan.specs.Reading.{Row}
 use Rattle.channel_plan.specs.declared.plan.CheckFault.{CheckFault}
 use Rattle.channel_plan.specs.declared.plan.CheckFault.TheVariants.{Clash, Missing}
 use Rattle.channel_plan.proofs.Barred.{barred-channel, unbarred-channel}
-use Rattle.channel_plan.proofs.Counts.{channel-contains, contains-channel, count-append, count-some, counted, same-vertex}
-use Rattle.channel_plan.proofs.Counts.{none-count, row_count, some-count}
+use Rattle.channel_plan.proofs.Counts.{channel-contains, contains-channel, count-append, count-some, counted, same-vertex, none-count, row_count, some-count}
 use Rattle.channel_plan.proofs.Tables.{channel-push, or-nothing, row-good}
 
 -- ---- what is none

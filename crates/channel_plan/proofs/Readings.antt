@@ -1,12 +1,10 @@
 -- What is known after one more line of a plan text.
-use Rattle.std.proofs.Common.{◌≡◌, ◌+◌, ◌++◌, ◌∷◌, [], ◌∙◌, ℕ, IfErr, Option, Some, None, Result, Ok, Err, List}
-use Rattle.std.proofs.Common.{false, true, ap, refl, sym}
+use Rattle.std.proofs.Common.{◌≡◌, ◌+◌, ◌++◌, ◌∷◌, [], ◌∙◌, ℕ, IfErr, Option, Some, None, Result, Ok, Err, List, false, true, ap, refl, sym}
 use Rattle.dimacs_col.specs.Lines.{Line}
 use Rattle.channel_plan.specs.Reader.{IsSyntaxFault}
 use Rattle.channel_plan.specs.Reading.{IsFaultOfReading, Row, is_header, known_after, read_at_end, read_from, reading_of, row_of}
 use Rattle.channel_plan.specs.declared.plan.CheckFault.{CheckFault}
-use Rattle.channel_plan.specs.declared.plan.CheckFault.TheVariants.{Barred, Clash, Memory, Missing, Stranger, Syntax, TooHigh}
-use Rattle.channel_plan.specs.declared.plan.CheckFault.TheVariants.{Twice}
+use Rattle.channel_plan.specs.declared.plan.CheckFault.TheVariants.{Barred, Clash, Memory, Missing, Stranger, Syntax, TooHigh, Twice}
 
 -- ---- one line
 pub known-blank : (known : Option (List Row)) (line : Line) → line ≡ [] → known_after known line ≡ Some known

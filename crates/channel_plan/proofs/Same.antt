@@ -1,18 +1,15 @@
 -- The table of the rows of a plan shows what the rows do, and the fault of a plan is the first of its parts.
-use Rattle.std.proofs.Common.{◌≡◌, ◌∷◌, [], ℕ, Bool, Option, Some, None, List, All, ap, ap₂, get_or, is_none, nat_lt}
-use Rattle.std.proofs.Common.{refl, ◌&&◌}
+use Rattle.std.proofs.Common.{◌≡◌, ◌∷◌, [], ℕ, Bool, Option, Some, None, List, All, ap, ap₂, get_or, is_none, nat_lt, refl, ◌&&◌}
 use Rattle.std.proofs.lemmas.List.Elements.{Contains-get_or, recursion_from_All}
 use Rattle.std.specs.List.{AllByRecursion, find}
 use Rattle.std.specs.Option.{option_map}
 use Rattle.interference.specs.Net.{IsNetwork, IsVertex, Net, neighbours, vertices}
 use Rattle.interference.proofs.Neighbours.{neighbour-is_vertex}
-use Rattle.channel_plan.specs.Checked.{Channels, IsFaultOfPlan, IsFaultOfRow, IsTable, channel_of, clash_among}
-use Rattle.channel_plan.specs.Checked.{clash_at, clashes, fault_of, first_clash, first_missing, looked, rows_fault}
-use Rattle.channel_plan.specs.Checked.{same_channel}
+use Rattle.channel_plan.specs.Checked.{Channels, IsFaultOfPlan, IsFaultOfRow, IsTable, channel_of, clash_among, clash_at, clashes, fault_of, first_clash}
+use Rattle.channel_plan.specs.Checked.{first_missing, looked, rows_fault, same_channel}
 use Rattle.channel_plan.specs.Reading.{Row}
 use Rattle.channel_plan.specs.declared.plan.CheckFault.{CheckFault}
-use Rattle.channel_plan.specs.declared.plan.CheckFault.TheVariants.{Barred, Clash, Memory, Missing, Stranger, Syntax, TooHigh}
-use Rattle.channel_plan.specs.declared.plan.CheckFault.TheVariants.{Twice}
+use Rattle.channel_plan.specs.declared.plan.CheckFault.TheVariants.{Barred, Clash, Memory, Missing, Stranger, Syntax, TooHigh, Twice}
 use Rattle.channel_plan.proofs.Proper.{vertices-are}
 
 find-same : (p q : ℕ → Bool) (xs : List ℕ) → AllByRecursion (λ x. p x ≡ q x) xs → find p xs ≡ find q xs

@@ -1,20 +1,16 @@
 -- The table of the rows so far, and what is wrong with the next row.
-use Rattle.std.proofs.Common.{◌≡◌, ◌≢◌, ◌<◌, ◌≤◌, ◌+◌, ◌-◌, ◌++◌, ◌∷◌, [], ◌⊎◌, ◌==◌, ◌∙◌, ℕ, Bool, true, false}
-use Rattle.std.proofs.Common.{Option, Some, None, List, arith, ap, get_or, if◌then◌else◌, is_some, length, refl, set}
-use Rattle.std.proofs.Common.{sym, replicate, take, drop}
+use Rattle.std.proofs.Common.{◌≡◌, ◌≢◌, ◌<◌, ◌≤◌, ◌+◌, ◌-◌, ◌++◌, ◌∷◌, [], ◌⊎◌, ◌==◌, ◌∙◌, ℕ, Bool, true, false, Option, Some, None, List, arith, ap, get_or}
+use Rattle.std.proofs.Common.{if◌then◌else◌, is_some, length, refl, set, sym, replicate, take, drop}
 use Rattle.std.proofs.lemmas.Bool.{le-ltb, lt-ltb, eqb-true, eqb-false}
 use Rattle.std.proofs.lemmas.Bool.Decides.{nat_tests}
-use Rattle.std.proofs.lemmas.List.{at_drop_all, at_drop_more, get_or-replicate, get_or-set_other, get_or-set_same}
-use Rattle.std.proofs.lemmas.List.{length-replicate, length-set, take_more}
+use Rattle.std.proofs.lemmas.List.{at_drop_all, at_drop_more, get_or-replicate, get_or-set_other, get_or-set_same, length-replicate, length-set, take_more}
 use Rattle.std.specs.Option.{option_or}
 use Rattle.dimacs_col.proofs.Verdicts.{none-from}
 use Rattle.interference.specs.Net.{Net, IsVertex, count_of}
-use Rattle.channel_plan.specs.Checked.{IsFaultOfRow, IsTable, channel_of, is_barred, is_vertex, looked, most_channel, row_fault}
-use Rattle.channel_plan.specs.Checked.{rows_fault}
+use Rattle.channel_plan.specs.Checked.{IsFaultOfRow, IsTable, channel_of, is_barred, is_vertex, looked, most_channel, row_fault, rows_fault}
 use Rattle.channel_plan.specs.Reading.{Row}
 use Rattle.channel_plan.specs.declared.plan.CheckFault.{CheckFault}
-use Rattle.channel_plan.specs.declared.plan.CheckFault.TheVariants.{Barred, Clash, Memory, Missing, Stranger, Syntax, TooHigh}
-use Rattle.channel_plan.specs.declared.plan.CheckFault.TheVariants.{Twice}
+use Rattle.channel_plan.specs.declared.plan.CheckFault.TheVariants.{Barred, Clash, Memory, Missing, Stranger, Syntax, TooHigh, Twice}
 
 channel-cons : (first row : Row) (rows : List Row) (w : ℕ) (b : Bool) → (first.0 == w) ≡ b →
     channel_of (rows ++ row ∷ []) w ≡ option_or (channel_of rows w) (if row.0 == w then Some row.1 else None) →

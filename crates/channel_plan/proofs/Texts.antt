@@ -5,8 +5,7 @@ use Rattle.std.proofs.lemmas.Slice.Eq.{bytes_eq-Decides}
 use Rattle.std.specs.List.{filter}
 use Rattle.dimacs_col.specs.Lines.{Line, has_fields}
 use Rattle.channel_plan.specs.Reading.{IsPlanText, Row, is_header, read_from, row_of}
-use Rattle.channel_plan.proofs.Readings.{header-right, header-wrong, known-blank, read-one, row-right, row-wrong}
-use Rattle.channel_plan.proofs.Readings.{then_read}
+use Rattle.channel_plan.proofs.Readings.{header-right, header-wrong, known-blank, read-one, row-right, row-wrong, then_read}
 
 -- ---- from a reading
 -- the rows that lines add to those before them

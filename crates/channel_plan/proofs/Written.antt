@@ -1,12 +1,10 @@
 -- The plan of some colours is read as its rows: each row is a line of two numbers.
-use Rattle.std.proofs.Common.{◌≡◌, ◌<◌, ◌≤◌, ◌+◌, ◌-◌, ◌*◌, ◌^◌, ◌++◌, ◌∷◌, [], ◌==◌, ◌∙◌, ℕ, true, false}
-use Rattle.std.proofs.Common.{Some, None, Ok, List, All, arith, ap, append_assoc, append-nil, codes, cond}
-use Rattle.std.proofs.Common.{get_or, length, map, refl, rules, sym, take}
+use Rattle.std.proofs.Common.{◌≡◌, ◌<◌, ◌≤◌, ◌+◌, ◌-◌, ◌*◌, ◌^◌, ◌++◌, ◌∷◌, [], ◌==◌, ◌∙◌, ℕ, true, false, Some, None, Ok, List, All, arith, ap, append_assoc}
+use Rattle.std.proofs.Common.{append-nil, codes, cond, get_or, length, map, refl, rules, sym, take}
 use Rattle.std.proofs.lemmas.Bool.{lt-ltb, ne_eqb}
 use Rattle.std.proofs.lemmas.Fmt.{decimal_nonempty, digits_decimal}
 use Rattle.std.proofs.lemmas.List.{length-append}
-use Rattle.std.proofs.lemmas.List.Elements.{All-append, All-cons, All-from_recursion, All-get_or, All-head, All-nil}
-use Rattle.std.proofs.lemmas.List.Elements.{All-tail, All-weaker}
+use Rattle.std.proofs.lemmas.List.Elements.{All-append, All-cons, All-from_recursion, All-get_or, All-head, All-nil, All-tail, All-weaker}
 use Rattle.std.proofs.lemmas.List.Splits.{slice_split_at, slice_split_none}
 use Rattle.std.proofs.lemmas.Str.Parse.{IsNumeralModel, numerals_by_fold, tells_all_ascii_digits}
 use Rattle.std.specs.Fmt.{decimal}

@@ -1,5 +1,5 @@
 -- The reading of a plan text: the line `plan`, and then a row a line.
-use Rattle.std.specs.Prelude.{ℕ, ◌+◌, ◌≡◌, Bool, false, true, Option, Some, None, Result, Ok, Err, List, [], ◌∷◌}
+use Rattle.std.specs.Prelude.{ℕ, ◌+◌, ◌≡◌, Bool, false, Option, Some, None, Result, Ok, Err, List, [], ◌∷◌}
 use Rattle.std.specs.Prelude.{◌++◌, ◌==◌, if◌then◌else◌, codes, filter, map, option_map}
 use Rattle.std.specs.Str.{bytes_eq}
 use Rattle.dimacs_col.specs.Lines.{Line, has_fields, small_number}

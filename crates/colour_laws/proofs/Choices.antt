@@ -1,17 +1,16 @@
 -- The place at which a node chooses, and what it chooses.
-use Rattle.std.proofs.Common.{◌≡◌, length, ℕ, zero, suc, ◌+◌, ◌*◌, ◌<◌, ◌≤◌, ◌==◌, Bool, true, false, List, [], ◌∷◌, refl, ap, sym, ◌∙◌, arith}
+use Rattle.std.proofs.Common.{◌≡◌, length, ℕ, zero, suc, ◌+◌, ◌*◌, ◌<◌, ◌≤◌, ◌==◌, Bool, true, false, List, [], ◌∷◌, refl, ap, sym, ◌∙◌, arith, inl, inr}
 use Rattle.std.specs.Prelude.{Option, if◌then◌else◌, ◌&&◌, ◌||◌, map, filter, nat_lt, nat_le}
 use Rattle.std.specs.List.{Contains}
 use Rattle.std.proofs.lemmas.Bool.Decides.{nat_tests}
 use Rattle.std.proofs.Math.Nat.{mul-le-mul_right}
-use Rattle.std.proofs.lemmas.Bool.{cases_order}
-use Rattle.std.proofs.Common.{inl, inr}
+use Rattle.std.proofs.lemmas.Bool.{cases_order, lt-ltb, le-ltb, ltb-true}
 use Rattle.interference.specs.Net.{Net, IsBarred, IsVertex, bars_of, degree_of, id_of, neighbour_of, neighbours, span_of}
 use Rattle.node_api.specs.Program.{sizes_of}
 use Rattle.colour_base.specs.Forest.{IsProper, IsWithin}
 use Rattle.cole_vishkin.specs.Digits.{HasDigits}
 use Rattle.cole_vishkin.specs.declared.step.TheConstants.{IDENTIFIER_DIGITS}
-use Rattle.colour_laws.specs.Colours.{three}
+use Rattle.colour_laws.specs.Colours.{three, is_barred, merging, colours_after}
 use Rattle.forest_merge.specs.Merge.{Merging, looked_at, is_looked_at, is_before}
 use Rattle.forest_merge.specs.Free.{colours_to, is_among, least_free_colour}
 use Rattle.cole_vishkin.specs.BitStep.{six}
@@ -23,14 +22,10 @@ use Rattle.forest_merge.proofs.Proper.{merge-unbarred_few, merge-within_few}
 use Rattle.forest_merge.proofs.Taken.{HasFree-few, is_among-at}
 use Rattle.colour_rules.specs.Node.{steps}
 use Rattle.colour_rules.specs.Table.{is_merged}
-use Rattle.colour_laws.specs.Colours.{is_barred, merging, colours_after}
 use Rattle.colour_laws.proofs.Expected.{step_in, is_heard, heard, among, IsForest}
-use Rattle.forests.specs.Forests.{role_of}
-use Rattle.std.proofs.lemmas.Bool.{lt-ltb, le-ltb, ltb-true}
-use Rattle.forests.specs.Forests.{number}
+use Rattle.forests.specs.Forests.{role_of, number, parent}
 use Rattle.forests.specs.declared.numbering.Role.{Role}
 use Rattle.forests.specs.declared.numbering.Role.TheVariants.{Unknown, Up, Down}
-use Rattle.forests.specs.Forests.{parent}
 use Rattle.colour_rules.proofs.Pairs.{same_bool}
 
 -- what is not among these is none of them

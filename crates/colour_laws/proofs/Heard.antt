@@ -3,7 +3,7 @@
 use Rattle.std.proofs.Common.{◌≡◌, ℕ, suc, ◌==◌, Bool, true, false, List, [], ◌∷◌, refl, ap, sym, ◌∙◌, arith, inl, inr}
 use Rattle.std.specs.Prelude.{if◌then◌else◌, ◌||◌, map, filter, Option, Some, None, nat_lt, nat_le}
 use Rattle.std.proofs.lemmas.Bool.Decides.{nat_tests}
-use Rattle.std.proofs.lemmas.Bool.{cases_order}
+use Rattle.std.proofs.lemmas.Bool.{cases_order, lt-ltb, le-ltb}
 use Rattle.std.specs.Ordering.{nat_cmp}
 use Rattle.std.specs.FinSet.{FinSet, empty, insert, contains, from_list, contains-empty, contains-from_list_nat}
 use Rattle.forest_merge.proofs.Sets.{contains-insert_colour, same_colours}
@@ -15,7 +15,6 @@ use Rattle.colour_laws.specs.Colours.{colours_after}
 use Rattle.colour_laws.proofs.Expected.{step_in, heard, among}
 use Rattle.forests.specs.Forests.{number}
 use Rattle.colour_rules.proofs.Pairs.{same_bool}
-use Rattle.std.proofs.lemmas.Bool.{lt-ltb, le-ltb}
 
 -- Whether one of two, as a function that does not unfold by itself.
 unfoldable pub or : Bool → Bool → Bool

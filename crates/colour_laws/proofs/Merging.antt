@@ -8,7 +8,7 @@ use Rattle.std.specs.Ordering.{nat_cmp}
 use Rattle.std.specs.FinSet.{contains, from_list, contains-from_list_nat}
 use Rattle.interference.specs.Net.{Net, IsNetwork, IsVertex, bars_of, id_of, neighbours, forest_count_of, span_of}
 use Rattle.node_api.specs.Program.{sizes_of, span, Sizes}
-use Rattle.colour_laws.specs.Colours.{three}
+use Rattle.colour_laws.specs.Colours.{three, colours_after, is_barred}
 use Rattle.colour_base.proofs.LeastKnown.{least-same}
 use Rattle.forest_merge.specs.Free.{is_among, least_free_colour}
 use Rattle.forest_merge.proofs.Barred.{HasFree-beside, least_free_colour-at_most}
@@ -24,10 +24,8 @@ use Rattle.colour_rules.specs.Choice.{gathered, chooses, free_for}
 use Rattle.colour_rules.specs.Refusals.{first_refusal, port_rule, own_rule}
 use Rattle.colour_rules.specs.Program.{next, tells_chosen, silent}
 use Rattle.colour_rules.specs.declared.phase.Phase.TheVariants.{Merge}
-use Rattle.colour_laws.specs.Colours.{colours_after, is_barred}
 use Rattle.colour_laws.proofs.Expected.{stages, step_in, is_heard, heard, merged_by, state_before_choice, state_after_choice, chose, among, IsForest}
-use Rattle.forests.specs.Forests.{role_of}
-use Rattle.forests.specs.Forests.{parent}
+use Rattle.forests.specs.Forests.{role_of, parent}
 use Rattle.std.proofs.lemmas.Simd.{map-map}
 use Rattle.colour_laws.proofs.Sound.{stages_are_three}
 use Rattle.colour_laws.proofs.Ports.{in_forest, accepted}

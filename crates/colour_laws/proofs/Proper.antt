@@ -6,19 +6,16 @@ use Rattle.std.proofs.lemmas.List.{get_or_default}
 use Rattle.interference.specs.Net.{Net, IsNetwork, IsVertex, id_of, neighbours, degree_of, neighbour_of, forest_count_of, port_to}
 use Rattle.forest_merge.specs.Merge.{IsNumbered, merge}
 use Rattle.colour_base.specs.Forest.{IsProper}
-use Rattle.colour_laws.specs.Colours.{three}
+use Rattle.colour_laws.specs.Colours.{three, merging, colours_after, colours}
 use Rattle.forest_merge.proofs.Proper.{merge-proper}
 use Rattle.shift_down.proofs.StepLemmas.{three-proper}
 use Rattle.cole_vishkin.proofs.StepLemmas.{bit_steps-proper}
 use Rattle.cole_vishkin.specs.BitStep.{six}
-use Rattle.forests.specs.Forests.{number}
+use Rattle.forests.specs.Forests.{number, role_of, parent}
 use Rattle.colour_laws.proofs.Choices.{few_taken, number_up, number_down, number-same}
 use Rattle.forests.specs.declared.numbering.Role.{Role}
 use Rattle.forests.specs.declared.numbering.Role.TheVariants.{Unknown, Up, Down}
-use Rattle.colour_laws.specs.Colours.{merging, colours_after, colours}
 use Rattle.colour_laws.proofs.Expected.{IsForest}
-use Rattle.forests.specs.Forests.{role_of}
-use Rattle.forests.specs.Forests.{parent}
 use Rattle.interference.proofs.Members.{place_of-is}
 use Rattle.colour_laws.proofs.Forests.{has_forest}
 

@@ -3,7 +3,7 @@ use Rattle.std.proofs.Common.{◌≡◌, ◌≢◌, ℕ, zero, suc, ◌+◌, ◌
 use Rattle.std.specs.Prelude.{if◌then◌else◌, map, not, replicate, Option, Some, None, Ok, nat_lt, count_by}
 use Rattle.std.specs.List.{range_with_len}
 use Rattle.std.proofs.lemmas.Bool.Decides.{nat_tests}
-use Rattle.std.proofs.lemmas.Bool.{cases_order}
+use Rattle.std.proofs.lemmas.Bool.{cases_order, lt-ltb, le-ltb}
 use Rattle.interference.specs.Net.{Net, IsNetwork, IsVertex, bars_of, id_of, neighbours, degree_of, neighbour_of, forest_count_of, place_of, span_of}
 use Rattle.node_api.specs.Program.{own_of, sizes_of}
 use Rattle.node_api.proofs.Runs.{node_at-none}
@@ -22,11 +22,9 @@ use Rattle.colour_rules.specs.declared.phase.Phase.TheVariants.{Orient, Seed}
 use Rattle.colour_rules.proofs.Greets.{same-for_all}
 use Rattle.colour_laws.specs.Colours.{colours, colours_after, is_barred}
 use Rattle.colour_laws.proofs.Expected.{barred_of, stages, by_forest, state_while_reducing, tells, IsForest, IsOriented, Fresh}
-use Rattle.forests.specs.Forests.{role_of}
+use Rattle.forests.specs.Forests.{role_of, role_by, number, up}
 use Rattle.colour_laws.proofs.Lists.{map-members}
 use Rattle.std.proofs.lemmas.Simd.{map-map}
-use Rattle.std.proofs.lemmas.Bool.{lt-ltb, le-ltb}
-use Rattle.forests.specs.Forests.{role_by, number, up}
 use Rattle.colour_laws.proofs.Forests.{role_by-is}
 use Rattle.colour_laws.proofs.Ports.{accepted, ports_none}
 use Rattle.colour_laws.proofs.Stands.{at, HoldsAfter, NothingRefused, stand_next, fine_next, comes}

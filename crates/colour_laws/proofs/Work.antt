@@ -19,8 +19,7 @@ use Rattle.colour_rules.specs.Refusals.{port_rule, ports_refusal, own_rule}
 use Rattle.colour_rules.specs.Program.{done, next, is_last, is_up, colour_in, from_parent, next_colours, next_kept, tells_colour, with_colours}
 use Rattle.colour_rules.specs.declared.phase.Phase.TheVariants.{Work}
 use Rattle.colour_laws.proofs.Expected.{stages, by_forest, state_while_reducing, tells, IsForest}
-use Rattle.forests.specs.Forests.{role_of}
-use Rattle.forests.specs.Forests.{parent}
+use Rattle.forests.specs.Forests.{role_of, parent}
 use Rattle.colour_laws.proofs.Lists.{map-members, inbox_is, range-members, any-none}
 use Rattle.colour_laws.proofs.Sound.{Sound, sound}
 use Rattle.colour_laws.proofs.Ports.{ports_none, from_nobody, from_somebody, port_up, same_forest, in_forest, phase_work, sent_if, no_own_rule, accepted}

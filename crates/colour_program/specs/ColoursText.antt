@@ -1,6 +1,5 @@
 -- The texts of the colouring: the first line of its rounds, its phases, colours and choices, and a node's channel.
-use Rattle.std.specs.Prelude.{ℕ, ◌+◌, ◌/◌, ◌%◌, ◌==◌, if◌then◌else◌, List, [], ◌∷◌, ◌++◌, codes, flat_map}
-use Rattle.std.specs.Prelude.{slice_index}
+use Rattle.std.specs.Prelude.{ℕ, ◌+◌, ◌/◌, ◌%◌, ◌==◌, if◌then◌else◌, List, [], ◌∷◌, ◌++◌, codes, flat_map, slice_index}
 use Rattle.std.specs.List.{range_with_len}
 use Rattle.std.proofs.Common.{arith, rules}
 use Rattle.interference.specs.Net.{Net, count_of, forest_count_of, greatest_bars_of, greatest_degree_of}

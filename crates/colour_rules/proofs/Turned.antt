@@ -8,8 +8,7 @@ use Rattle.std.proofs.lemmas.List.FromFn.{fill_by_all}
 use Rattle.colour_rules.specs.declared.phase.Reduction.{Reduction}
 use Rattle.colour_rules.specs.declared.colours.InForest.{InForest}
 use Rattle.colour_rules.specs.declared.colours.InForests.{InForests}
-use Rattle.colour_rules.specs.InForests.{AreTurned, IsReadyAt, before_in, befores_of, blank, colour_by}
-use Rattle.colour_rules.specs.InForests.{colours_by, colours_in, in_forest, turned_in}
+use Rattle.colour_rules.specs.InForests.{AreTurned, IsReadyAt, before_in, befores_of, blank, colour_by, colours_by, colours_in, in_forest, turned_in}
 use Rattle.colour_rules.specs.Program.{AreReady, IsReady, turned, turned_all, kept, kept_all}
 
 if-false : {A : Type 0} (b : Bool) (x y : A) → b ≡ false → (if b then x else y) ≡ y

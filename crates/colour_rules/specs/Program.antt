@@ -1,7 +1,6 @@
 -- What a node makes of a pulse, where nothing is refused, and the node program of the rounds.
-use Rattle.std.specs.Prelude.{◌≡◌, ◌≢◌, ℕ, suc, ◌<◌, ◌≤◌, ◌==◌, Bool, false, if◌then◌else◌}
-use Rattle.std.specs.Prelude.{List, [], ◌∷◌, length, map, replicate, slice_index, slice_index_or}
-use Rattle.std.specs.Prelude.{Option, Some, None, IfSome, Result, Ok, Err}
+use Rattle.std.specs.Prelude.{◌≡◌, ◌≢◌, ℕ, suc, ◌<◌, ◌≤◌, ◌==◌, Bool, false, if◌then◌else◌, List, [], ◌∷◌, length, map}
+use Rattle.std.specs.Prelude.{replicate, slice_index, slice_index_or, Option, Some, None, IfSome, Result, Ok, Err}
 use Rattle.std.specs.List.{range_with_len}
 use Rattle.interference.specs.declared.limits.TheConstants.{MAX_DEGREE}
 use Rattle.node_api.specs.Program.{Program}

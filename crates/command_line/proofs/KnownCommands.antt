@@ -16,9 +16,7 @@ use Rattle.command_line.proofs.Passing.{split}
 use Rattle.command_line.proofs.Played.{HasWord, play_found, play_rules}
 use Rattle.command_line.proofs.Played as both
 use Rattle.command_line.proofs.RunOptions.{run_found, run_rules, transcript_found, transcript_rules}
-use Rattle.command_line.specs.Asked.{FoundNamesNoProgram, IsInRange}
-use Rattle.command_line.specs.Asked.{IsPlayInRange, choice_of, has_transcript, named, played}
-use Rattle.command_line.specs.Asked.{run_of, transcript_with}
+use Rattle.command_line.specs.Asked.{FoundNamesNoProgram, IsInRange, IsPlayInRange, choice_of, has_transcript, named, played, run_of, transcript_with}
 use Rattle.command_line.specs.declared.programs.NodeProgramName.{NodeProgramName}
 use Rattle.command_line.specs.declared.program.Program.{Program}
 use Rattle.command_line.specs.declared.program.Program.TheVariants.{Forestplan, Forestplay}

@@ -6,14 +6,10 @@ use Rattle.std.specs.Option.{option_map_or}
 use Rattle.std.specs.Str.{chars}
 use Rattle.clap.specs.Kinds.{Kinds, or_else}
 use Rattle.clap.specs.Lexer.{short_of}
-use Rattle.clap.specs.Walk.{Held, Outcome, Rule, Text, Waiting, after_flag, arg_by_id, arg_by_long}
-use Rattle.clap.specs.Walk.{arg_by_short, attached_value, bundle_met, bundle_step}
-use Rattle.clap.specs.Walk.{done, flag_met, idle, long_met, long_or_other, option, option_met, option_word, plain, plain_word}
-use Rattle.clap.specs.Walk.{positional, reacted, refused}
-use Rattle.clap.specs.Walk.{settled, settled_rows, short_met, short_or_plain, takes_values}
-use Rattle.clap.specs.Walk.{used_by_id, waits}
-use Rattle.clap.specs.Faults.{bundle_fault, bundle_step_fault, flag_word_fault, flags_fault, long_fault, option_fault}
-use Rattle.clap.specs.Faults.{react_fault, settle_fault, short_fault}
+use Rattle.clap.specs.Walk.{Held, Outcome, Rule, Text, Waiting, after_flag, arg_by_id, arg_by_long, arg_by_short, attached_value, bundle_met, bundle_step, done}
+use Rattle.clap.specs.Walk.{flag_met, idle, long_met, long_or_other, option, option_met, option_word, plain, plain_word, positional, reacted, refused, settled}
+use Rattle.clap.specs.Walk.{settled_rows, short_met, short_or_plain, takes_values, used_by_id, waits}
+use Rattle.clap.specs.Faults.{bundle_fault, bundle_step_fault, flag_word_fault, flags_fault, long_fault, option_fault, react_fault, settle_fault, short_fault}
 use Rattle.clap.specs.Faults.{use_fault}
 use Rattle.clap.specs.declared.error.kind.ErrorKind.TheVariants.{TooManyValues}
 use Rattle.clap.specs.declared.builder.value_parser.ValueParser.{ValueParser}

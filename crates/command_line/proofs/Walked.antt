@@ -6,14 +6,11 @@ use Rattle.std.specs.Str.{bytes_eq}
 use Rattle.clap.specs.Kinds.{or_else}
 use Rattle.clap.specs.Lexer.{long_of}
 use Rattle.clap.specs.Simple.{Shape}
-use Rattle.clap.specs.Walk.{Held, Names, Row, Rule, Step, Text, Waiting, Walk, after_step, arg_by_index}
-use Rattle.clap.specs.Walk.{is_pending, long_or_other, next, nothing_held}
-use Rattle.clap.specs.Walk.{positional_held, pushed, rows_after}
-use Rattle.clap.specs.Walk.{settled, subcommand, subcommand_met, subcommand_or_other, takes_several}
-use Rattle.clap.specs.Walk.{to_positional, trailing, value, walk, walk_from, walked, walked_from, with_default, word_met}
-use Rattle.clap.specs.Faults.{defaults_fault, flag_word_fault, level_fault, other_fault}
-use Rattle.clap.specs.Faults.{positional_fault, settle_fault, step_fault, stray_fault}
-use Rattle.clap.specs.Faults.{turn_fault, walk_fault, word_fault}
+use Rattle.clap.specs.Walk.{Held, Names, Row, Rule, Step, Text, Waiting, Walk, after_step, arg_by_index, is_pending, long_or_other, next, nothing_held}
+use Rattle.clap.specs.Walk.{positional_held, pushed, rows_after, settled, subcommand, subcommand_met, subcommand_or_other, takes_several, to_positional}
+use Rattle.clap.specs.Walk.{trailing, value, walk, walk_from, walked, walked_from, with_default, word_met}
+use Rattle.clap.specs.Faults.{defaults_fault, flag_word_fault, level_fault, other_fault, positional_fault, settle_fault, step_fault, stray_fault, turn_fault}
+use Rattle.clap.specs.Faults.{walk_fault, word_fault}
 use Rattle.clap.specs.declared.builder.value_parser.ValueParser.{ValueParser}
 use Rattle.command_line.proofs.Passing.{AllPassed, Expected, default_all, split}
 use Rattle.command_line.proofs.Used.{long_or_other_all, settled_all}

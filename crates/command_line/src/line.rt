@@ -4,9 +4,8 @@ ghost use Rattle.std.specs.Prelude.{◌≡◌, IfOk, false};
 ghost use Rattle.clap.specs.Words.{app_of, new_app, with_subcommand};
 ghost use Rattle.clap.specs.declared.builder.command.Command.TheViews.{out-Command};
 ghost use Rattle.command_line.specs.Line.{line, plan_command, play_command, run_command, transcript_command};
-ghost use Rattle.command_line.specs.Line.{without_commands};
-ghost use Rattle.command_line.specs.Line.{with_network_commands, with_plan_commands, with_play_commands};
-ghost use Rattle.command_line.specs.Line.{with_worker_commands};
+ghost use Rattle.command_line.specs.Line.{without_commands, with_network_commands, with_plan_commands};
+ghost use Rattle.command_line.specs.Line.{with_play_commands, with_worker_commands};
 ghost use Rattle.command_line.specs.RunOptions.{with_edition, with_run_options};
 
 use crate::help;

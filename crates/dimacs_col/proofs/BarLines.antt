@@ -1,6 +1,5 @@
 -- What a reader knows after one more bar line, and what is told of one.
-use Rattle.std.proofs.Common.{◌≡◌, ◌<◌, ◌≤◌, ◌++◌, ℕ, Bool, true, false, cond, Some, None, List, [], ◌∷◌, not, nat_lt}
-use Rattle.std.proofs.Common.{refl, sym, ◌∙◌, ap, subst}
+use Rattle.std.proofs.Common.{◌≡◌, ◌<◌, ◌≤◌, ◌++◌, ℕ, Bool, true, false, cond, Some, None, List, [], ◌∷◌, not, nat_lt, refl, sym, ◌∙◌, ap, subst}
 use Rattle.std.specs.List.{filter}
 use Rattle.std.specs.Set.{is_member, distinct_count}
 use Rattle.dimacs_col.specs.Bag.{SameMembers}

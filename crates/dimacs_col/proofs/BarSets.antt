@@ -3,8 +3,8 @@ use Rattle.std.proofs.Common.{◌≡◌, ◌+◌, ◌<◌, inl, inr, Some, ◌++
 use Rattle.std.proofs.Common.{List, [], ◌∷◌, not, nat_lt, refl, sym, ◌∙◌, ap, arith}
 use Rattle.std.specs.List.{filter, count_by}
 use Rattle.std.specs.List.Sorted.{IsStrictlySortedBy}
-use Rattle.std.specs.BTreeSet.{insert_key}
-use Rattle.std.specs.Ordering.{is_eq}
+use Rattle.std.specs.BTreeSet.{insert_key, BTreeSet}
+use Rattle.std.specs.Ordering.{is_eq, nat_cmp}
 use Rattle.std.specs.Set.{is_member, distinct_count}
 use Rattle.std.specs.declared.cmp.Ordering.{Ordering}
 use Rattle.std.specs.declared.cmp.Ordering.TheVariants.{Less, Equal, Greater}
@@ -12,10 +12,8 @@ use Rattle.std.proofs.lemmas.List.Kept.{IsStrictlySortedBy-filter}
 use Rattle.std.proofs.lemmas.List.Sums.{length-filter, sum_by-cons}
 use Rattle.std.proofs.lemmas.Map.Made.{is_member-filter}
 use Rattle.std.specs.BTreeMap.{BTreeMap, Updates}
-use Rattle.std.specs.BTreeSet.{BTreeSet}
 use Rattle.std.specs.Cmp.{unsigned_ties}
 use Rattle.std.specs.Option.{unwrap_or}
-use Rattle.std.specs.Ordering.{nat_cmp}
 use Rattle.std.proofs.lemmas.Bool.{cases_eq, eq-eqb, ne_eqb}
 use Rattle.dimacs_col.specs.Bag.{SameMembers}
 use Rattle.dimacs_col.specs.BarSets.{IsCounted, count_in}

@@ -1,14 +1,11 @@
 -- An empty line behind the lines of a network text says nothing.
-use Rattle.std.proofs.Common.{◌≡◌, ◌↔◌, ◌++◌, ◌∷◌, [], inl, inr, ◌∙◌, ℕ, Some, None, List, append_assoc}
-use Rattle.std.proofs.Common.{ap, refl, subst, sym}
+use Rattle.std.proofs.Common.{◌≡◌, ◌↔◌, ◌++◌, ◌∷◌, [], inl, inr, ◌∙◌, ℕ, Some, None, List, append_assoc, ap, refl, subst, sym}
 use Rattle.std.specs.List.{Contains}
 use Rattle.dimacs_col.specs.Lines.{Line}
 use Rattle.dimacs_col.specs.Reading.{AllGood, Graph, IsFault, IsFirstFault, IsGraph, bars_of, edges_of, id_in, ids_of, nodes_of, verdict}
 use Rattle.dimacs_col.specs.declared.fault.ColFault.{ColFault}
-use Rattle.dimacs_col.specs.declared.fault.ColFault.TheVariants.{NoProblem, SecondProblem, EdgeBeforeProblem}
-use Rattle.dimacs_col.specs.declared.fault.ColFault.TheVariants.{BadField, VertexRange, SelfLoop, TooLarge}
-use Rattle.dimacs_col.specs.declared.fault.ColFault.TheVariants.{UnknownLine, EarlyLine, NumberRange, IdTwice, ChannelRange, TooManyBars}
-use Rattle.dimacs_col.specs.declared.fault.ColFault.TheVariants.{Memory}
+use Rattle.dimacs_col.specs.declared.fault.ColFault.TheVariants.{NoProblem, SecondProblem, EdgeBeforeProblem, BadField, VertexRange, SelfLoop, TooLarge}
+use Rattle.dimacs_col.specs.declared.fault.ColFault.TheVariants.{UnknownLine, EarlyLine, NumberRange, IdTwice, ChannelRange, TooManyBars, Memory}
 use Rattle.dimacs_col.proofs.Lists.{bars_of-same, edges_of-same, ids_of-same, last-or-before, nodes_of-same}
 use Rattle.dimacs_col.proofs.Verdicts.{verdict-skipped}
 use Rattle.dimacs_col.specs.Split.{AreLinesBefore, lines_before}

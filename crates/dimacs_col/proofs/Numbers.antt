@@ -1,33 +1,6 @@
 -- Numbers that stop at the greatest `u32`.
-use Rattle.std.proofs.Common.{
-  ◌≡◌,
-  ◌<◌,
-  ◌≤◌,
-  ◌+◌,
-  ◌-◌,
-  ◌*◌,
-  ◌&&◌,
-  ◌∙◌,
-  sym,
-  suc,
-  zero,
-  ℕ,
-  Bool,
-  true,
-  false,
-  Some,
-  None,
-  List,
-  [],
-  ◌∷◌,
-  length,
-  drop,
-  get_or,
-  refl,
-  arith,
-  add-one,
-  ap,
-}
+use Rattle.std.proofs.Common.{◌≡◌, ◌<◌, ◌≤◌, ◌+◌, ◌-◌, ◌*◌, ◌&&◌, ◌∙◌, sym, suc, zero, ℕ, Bool, true, false, Some, None, List, [], ◌∷◌, length, drop, get_or}
+use Rattle.std.proofs.Common.{refl, arith, add-one, ap}
 use Rattle.std.proofs.lemmas.List.{drop_all}
 use Rattle.std.proofs.Math.Seq.{drop-cons}
 use Rattle.std.proofs.lemmas.Bool.{lt-ltb, le-ltb, leb-true, and_parts}
@@ -35,8 +8,7 @@ use lib.Dec.{leb}
 use Rattle.std.specs.Str.{all_ascii_digits}
 use Rattle.std.specs.Str.Parse.{digits_value_after}
 use Rattle.std.specs.Char.{digit_value, is_ascii_digit}
-use Rattle.dimacs_col.specs.Lines.{Line, number_of, is_field}
-use Rattle.dimacs_col.specs.Lines.{field_at}
+use Rattle.dimacs_col.specs.Lines.{Line, number_of, is_field, field_at}
 use Rattle.dimacs_col.specs.Kinds.{is_format}
 use Rattle.std.specs.List.{slice_get}
 use Rattle.dimacs_col.specs.State.{kept, kept_number}

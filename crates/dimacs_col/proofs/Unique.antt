@@ -5,10 +5,9 @@ use Rattle.std.proofs.Common.{◌≡◌, ◌≢◌, ◌++◌, ◌⊎◌, inl, in
 use Rattle.std.specs.Set.{is_member}
 use Rattle.std.specs.List.{Contains, AllByRecursion}
 use Rattle.std.specs.List.Sorted.{IsStrictlySortedBy}
-use Rattle.std.specs.Cmp.{both_ways}
+use Rattle.std.specs.Cmp.{both_ways, unsigned_ties}
 use Rattle.std.specs.Map.{keys_of}
 use Rattle.std.specs.Ordering.{is_eq, nat_cmp, ordering_reverse}
-use Rattle.std.specs.Cmp.{unsigned_ties}
 use Rattle.std.proofs.lemmas.Bool.{cases_eq, eq-eqb, ne_eqb}
 use Rattle.std.proofs.lemmas.Cmp.{nat_cmp_total}
 use Rattle.std.proofs.lemmas.Map.Lookups.{exact_unsigned}
@@ -19,22 +18,8 @@ use Rattle.dimacs_col.specs.Reading.{AllGood, Graph, id_in, nodes_of, verdict, I
 use Rattle.graph_limits.specs.Pairs.{pair_cmp, same_pair}
 use Rattle.dimacs_col.specs.Bag.{SameMembers}
 use Rattle.dimacs_col.specs.declared.fault.ColFault.{ColFault}
-use Rattle.dimacs_col.specs.declared.fault.ColFault.TheVariants.{
-  NoProblem,
-  SecondProblem,
-  EdgeBeforeProblem,
-  BadField,
-  VertexRange,
-  SelfLoop,
-  TooLarge,
-  UnknownLine,
-  EarlyLine,
-  NumberRange,
-  IdTwice,
-  ChannelRange,
-  TooManyBars,
-  Memory,
-}
+use Rattle.dimacs_col.specs.declared.fault.ColFault.TheVariants.{NoProblem, SecondProblem, EdgeBeforeProblem, BadField, VertexRange, SelfLoop, TooLarge}
+use Rattle.dimacs_col.specs.declared.fault.ColFault.TheVariants.{UnknownLine, EarlyLine, NumberRange, IdTwice, ChannelRange, TooManyBars, Memory}
 use Rattle.graph_limits.proofs.Pairs.{pair_total, same_pair-laws, same_pair-exact}
 use Rattle.dimacs_col.proofs.Members.{members-from_Contains}
 

@@ -1,35 +1,9 @@
 -- The verdict of a line, from what the reader finds on it.
-use Rattle.std.proofs.Common.{
-  ◌≡◌,
-  ◌<◌,
-  ◌≤◌,
-  ◌+◌,
-  ◌++◌,
-  ◌⊎◌,
-  ◌||◌,
-  ◌&&◌,
-  ◌==◌,
-  not,
-  nat_lt,
-  ℕ,
-  Bool,
-  true,
-  false,
-  Option,
-  Some,
-  None,
-  List,
-  [],
-  ◌∷◌,
-  refl,
-  ap,
-  arith,
-  drop,
-}
+use Rattle.std.proofs.Common.{◌≡◌, ◌<◌, ◌≤◌, ◌+◌, ◌++◌, ◌⊎◌, ◌||◌, ◌&&◌, ◌==◌, not, nat_lt, ℕ, Bool, true, false, Option, Some, None, List, [], ◌∷◌, refl, ap}
+use Rattle.std.proofs.Common.{arith, drop}
 use Rattle.std.proofs.lemmas.Bool.Decides.{nat_tests}
 use Rattle.graph_limits.specs.declared.limits.TheConstants.{MAX_NODES, MAX_EDGES, MAX_CHANNEL, MAX_BARS}
-use Rattle.dimacs_col.specs.Lines.{Line, is_channel, is_identifier, number_of}
-use Rattle.dimacs_col.specs.Lines.{field_at}
+use Rattle.dimacs_col.specs.Lines.{Line, is_channel, is_identifier, number_of, field_at}
 use Rattle.dimacs_col.specs.Kinds.{kind_of_word, kind_of, is_format}
 use Rattle.dimacs_col.specs.Reading.{verdict, first_of, nodes_of, edge_count, has_id, bar_count, number_after}
 use Rattle.std.specs.List.{slice_get}
@@ -38,8 +12,7 @@ use Rattle.std.proofs.lemmas.Bool.{le-ltb}
 use Rattle.std.specs.Option.{is_some}
 use Rattle.dimacs_col.specs.State.{kept, kept_number}
 use Rattle.dimacs_col.specs.declared.kind.Kind.TheVariants.{Skipped, Problem, Edge, Identifier, Bar, Unknown}
-use Rattle.dimacs_col.specs.declared.fault.ColFault.TheVariants.{VertexRange, SelfLoop, TooLarge, UnknownLine, NumberRange, IdTwice}
-use Rattle.dimacs_col.specs.declared.fault.ColFault.TheVariants.{ChannelRange, TooManyBars}
+use Rattle.dimacs_col.specs.declared.fault.ColFault.TheVariants.{VertexRange, SelfLoop, TooLarge, UnknownLine, NumberRange, IdTwice, ChannelRange, TooManyBars}
 
 pub verdict-skipped : (before : List Line) (line : Line) → kind_of line ≡ Skipped → verdict before line ≡ None
 unfolding verdict

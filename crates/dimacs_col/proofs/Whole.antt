@@ -7,22 +7,8 @@ use Rattle.dimacs_col.specs.Lines.{Line, line_of}
 use Rattle.dimacs_col.specs.Reading.{AllGood, IsFault, IsFirstFault, verdict}
 use Rattle.dimacs_col.specs.State.{IsVerdict}
 use Rattle.dimacs_col.specs.declared.fault.ColFault.{ColFault}
-use Rattle.dimacs_col.specs.declared.fault.ColFault.TheVariants.{
-  NoProblem,
-  SecondProblem,
-  EdgeBeforeProblem,
-  BadField,
-  VertexRange,
-  SelfLoop,
-  TooLarge,
-  UnknownLine,
-  EarlyLine,
-  NumberRange,
-  IdTwice,
-  ChannelRange,
-  TooManyBars,
-  Memory,
-}
+use Rattle.dimacs_col.specs.declared.fault.ColFault.TheVariants.{NoProblem, SecondProblem, EdgeBeforeProblem, BadField, VertexRange, SelfLoop, TooLarge}
+use Rattle.dimacs_col.specs.declared.fault.ColFault.TheVariants.{UnknownLine, EarlyLine, NumberRange, IdTwice, ChannelRange, TooManyBars, Memory}
 
 pub map-twice : {A B C : Type 0} (f : B → C) (g : A → B) (xs : List A) → map f (map g xs) ≡ map (λ x. f (g x)) xs
 map-twice f g [] = refl

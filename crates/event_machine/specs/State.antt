@@ -1,21 +1,6 @@
 -- The state of a network of nodes: each node, and of each direction of a link what was put on it and what was taken.
-use Rattle.std.specs.Prelude.{
-  ℕ,
-  ◌-◌,
-  ◌<◌,
-  ◌≤◌,
-  List,
-  [],
-  ◌∷◌,
-  ◌++◌,
-  length,
-  map,
-  take,
-  drop,
-  replicate,
-  slice_index_or,
-  slice_set,
-}
+use Rattle.std.specs.Prelude.{ℕ, ◌-◌, ◌<◌, ◌≤◌, List, [], ◌∷◌, ◌++◌, length, map, take, drop, replicate, slice_index_or}
+use Rattle.std.specs.Prelude.{slice_set}
 use Rattle.interference.specs.Net.{Net, vertices, degree_of, neighbour_of, back_port_of}
 use Rattle.node_api.specs.Program.{Program, last_pulse_on}
 use Rattle.alpha_core.specs.declared.wire.Wire.{Wire}

@@ -1,6 +1,5 @@
 -- What is known after one more line of events.
-use Rattle.std.proofs.Common.{◌≡◌, ◌+◌, ◌++◌, ◌∷◌, [], ◌∙◌, ℕ, Option, Some, None, Result, Ok, Err, List, true, false, append_assoc, ap, refl, sym}
-use Rattle.std.proofs.lemmas.List.{append-nil}
+use Rattle.std.proofs.Common.{◌≡◌, ◌+◌, ◌++◌, ◌∷◌, [], ◌∙◌, ℕ, Option, Some, None, Result, Ok, Err, List, true, false, ap, refl, sym}
 use Rattle.dimacs_col.specs.Lines.{Line}
 use Rattle.event_machine.specs.declared.event.Event.{Event}
 use Rattle.event_texts.specs.EventLines.{event_of}

@@ -1,5 +1,5 @@
 -- What an event that isn't possible lacks, and what one that is possible writes down: the words behind a refusal's line
-use Rattle.std.specs.Prelude.{ℕ, suc, ◌+◌, Bool, not, nat_eq, if◌then◌else◌, Option, Some, None}
+use Rattle.std.specs.Prelude.{ℕ, ◌+◌, Bool, not, nat_eq, if◌then◌else◌, Option, Some, None}
 use Rattle.std.specs.Prelude.{List, [], ◌∷◌, ◌++◌, codes, flat_map, length, slice_get, slice_index_or}
 use Rattle.std.specs.List.{range_with_len}
 use Rattle.interference.specs.Net.{Net, degree_of, neighbour_of}

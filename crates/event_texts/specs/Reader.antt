@@ -1,6 +1,5 @@
 -- What the reader of events refuses.
-use Rattle.std.specs.Prelude.{◌≡◌, ℕ, Err}
-use Rattle.std.specs.Prelude.{List}
+use Rattle.std.specs.Prelude.{◌≡◌, ℕ, Err, List}
 use Rattle.dimacs_col.specs.Lines.{Line}
 use Rattle.event_texts.specs.Reading.{script_of}
 use Rattle.event_texts.specs.declared.fault.EventFault.{EventFault}

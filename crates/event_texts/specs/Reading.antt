@@ -1,7 +1,6 @@
 -- The reading of the events of a text, each with the number of its line.
-use Rattle.std.specs.Prelude.{◌≡◌, ℕ, ◌+◌, Bool, false, true, not, if◌then◌else◌, Option}
-use Rattle.std.specs.Prelude.{Some, None, option_map, Result, Ok, Err}
-use Rattle.std.specs.Prelude.{List, [], ◌∷◌, ◌++◌, filter, map}
+use Rattle.std.specs.Prelude.{◌≡◌, ℕ, ◌+◌, Bool, false, true, not, if◌then◌else◌, Option, Some, None, option_map}
+use Rattle.std.specs.Prelude.{Result, Ok, Err, List, [], ◌∷◌, ◌++◌, filter, map}
 use Rattle.dimacs_col.specs.Kinds.{is_comment}
 use Rattle.dimacs_col.specs.Lines.{Line}
 use Rattle.event_machine.specs.declared.event.Event.{Event}

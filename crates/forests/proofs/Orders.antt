@@ -10,15 +10,8 @@ use Rattle.std.proofs.lemmas.Bool.Decides.{nat_tests}
 use Rattle.std.proofs.lemmas.Bool.{cases_order}
 use Rattle.std.proofs.lemmas.List.Elements.{All-cons, All-weaker}
 use Rattle.std.proofs.lemmas.List.Kept.{AllPairs-cons}
-use Rattle.std.proofs.lemmas.List.Sorted.{
-  IsPermutation-refl,
-  IsPermutation-cons,
-  IsPermutation-trans,
-  IsPermutation-sym,
-  IsPermutation-swap,
-  Contains-permutation,
-  All-permutation,
-}
+use Rattle.std.proofs.lemmas.List.Sorted.{IsPermutation-refl, IsPermutation-cons, IsPermutation-trans, IsPermutation-sym, IsPermutation-swap}
+use Rattle.std.proofs.lemmas.List.Sorted.{Contains-permutation, All-permutation}
 use Rattle.interference.proofs.Members.{Contains-tail}
 use Rattle.forests.specs.Order.{put_in_order, in_order, IsAscendingBy, HasDistinctKeys}
 

@@ -10,23 +10,8 @@ use Rattle.node_api.specs.Program.{Program}
 use Rattle.alpha_core.specs.View.{Alpha, is_drained}
 use Rattle.alpha_laws.specs.Progress.{CanMove, IsWhole}
 use Rattle.alpha_laws.proofs.Moves.{moves}
-use Rattle.gather_laws.specs.Outcome.{
-  History,
-  Gathered,
-  Outcome,
-  IsOutcome,
-  all_drained,
-  all_empty,
-  alpha_in,
-  held_on,
-  is_whole,
-  link_in,
-  no_history,
-  node_in,
-  none_held,
-  row_in,
-  start_of,
-}
+use Rattle.gather_laws.specs.Outcome.{History, Gathered, Outcome, IsOutcome, all_drained, all_empty, alpha_in, held_on, is_whole, link_in, no_history, node_in}
+use Rattle.gather_laws.specs.Outcome.{none_held, row_in, start_of}
 use Rattle.gather_laws.proofs.Whole.{link_splits}
 
 -- what holds of each entry of a list holds of every one

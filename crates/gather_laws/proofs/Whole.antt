@@ -11,25 +11,8 @@ use Rattle.alpha_core.specs.View.{Alpha, is_drained}
 use Rattle.alpha_laws.specs.Progress.{IsWhole, Splits}
 use Rattle.alpha_laws.proofs.Across.{over}
 use Rattle.alpha_laws.proofs.Whole.{complete}
-use Rattle.gather_laws.specs.Outcome.{
-  History,
-  Gathered,
-  Outcome,
-  IsOutcome,
-  all_drained,
-  all_empty,
-  alpha_in,
-  held_on,
-  is_whole,
-  link_in,
-  no_history,
-  node_in,
-  none_held,
-  put_by,
-  row_in,
-  start_of,
-  taken_by,
-}
+use Rattle.gather_laws.specs.Outcome.{History, Gathered, Outcome, IsOutcome, all_drained, all_empty, alpha_in, held_on, is_whole, link_in, no_history, node_in}
+use Rattle.gather_laws.specs.Outcome.{none_held, put_by, row_in, start_of, taken_by}
 use Rattle.gather_laws.specs.Whole.{IsCompleteRun}
 
 -- what holds of every entry of a list holds of each

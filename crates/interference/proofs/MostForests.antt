@@ -1,29 +1,6 @@
 -- The forest count of packed lists, one vertex more.
-use Rattle.std.proofs.Common.{
-  All,
-  ◌≡◌,
-  ℕ,
-  zero,
-  suc,
-  ◌+◌,
-  ◌-◌,
-  ◌<◌,
-  ◌≤◌,
-  max,
-  count_by,
-  nat_lt,
-  List,
-  [],
-  length,
-  take,
-  drop,
-  get_or,
-  slice_index,
-  sym,
-  ap,
-  ◌∙◌,
-  arith,
-}
+use Rattle.std.proofs.Common.{All, ◌≡◌, ℕ, zero, suc, ◌+◌, ◌-◌, ◌<◌, ◌≤◌, max, count_by, nat_lt, List, [], length, take, drop, get_or, slice_index, sym, ap}
+use Rattle.std.proofs.Common.{◌∙◌, arith}
 use Rattle.std.proofs.lemmas.List.Elements.{All-same, All-from_get_or}
 use Rattle.interference.specs.Net.{IsVertex, neighbours, higher_count, greatest_from}
 use Rattle.interference.specs.declared.limits.TheConstants.{MAX_DEGREE}

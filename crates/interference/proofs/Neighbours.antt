@@ -6,25 +6,8 @@ use Rattle.std.proofs.lemmas.List.{get_or_default, get_or_past}
 use Rattle.std.proofs.lemmas.List.Elements.{Contains-get_or}
 use Rattle.std.proofs.lemmas.List.Sums.{count_by-le-length}
 use Rattle.std.specs.Prelude.{nat_lt}
-use Rattle.interference.specs.Net.{
-  Net,
-  id_bound,
-  IsNetwork,
-  IsVertex,
-  count_of,
-  id_of,
-  neighbours,
-  degree_of,
-  neighbour_of,
-  port_to,
-  back_port_of,
-  greatest_degree_of,
-  bar_count_of,
-  bars_of,
-  greatest_bars_of,
-  higher_count,
-  forest_count_of,
-}
+use Rattle.interference.specs.Net.{Net, id_bound, IsNetwork, IsVertex, count_of, id_of, neighbours, degree_of, neighbour_of, port_to, back_port_of}
+use Rattle.interference.specs.Net.{greatest_degree_of, bar_count_of, bars_of, greatest_bars_of, higher_count, forest_count_of}
 use Rattle.graph_limits.specs.declared.limits.TheConstants.{MAX_BARS}
 use Rattle.interference.specs.declared.limits.TheConstants.{MAX_DEGREE}
 use Rattle.interference.proofs.Members.{place_of-below, place_of-is, Contains-place_of}

@@ -1,27 +1,6 @@
 -- What a row of a packed list is.
-use Rattle.std.proofs.Common.{
-  ◌≡◌,
-  ℕ,
-  zero,
-  suc,
-  ◌+◌,
-  ◌-◌,
-  ◌<◌,
-  ◌≤◌,
-  List,
-  [],
-  ◌∷◌,
-  length,
-  get_or,
-  take,
-  drop,
-  refl,
-  arith,
-  length-drop,
-  length-take,
-  get_or-take,
-  get_or-drop,
-}
+use Rattle.std.proofs.Common.{◌≡◌, ℕ, zero, suc, ◌+◌, ◌-◌, ◌<◌, ◌≤◌, List, [], ◌∷◌, length, get_or, take, drop, refl, arith, length-drop, length-take}
+use Rattle.std.proofs.Common.{get_or-take, get_or-drop}
 use Rattle.interference.specs.Rows.{rows}
 
 pub row_at : (starts xs : List ℕ) (i : ℕ) → suc i < length starts →

@@ -3,9 +3,8 @@
 ghost use Rattle.std.specs.Prelude.{◌*◌, ◌<◌, ◌≡◌, ◌≤◌, List, length, ℕ};
 ghost use Rattle.interference.specs.Counts.{degree_sum_of, edge_count_of, sum_over_ports};
 ghost use Rattle.interference.specs.Making.{EdgesFit, network_of};
-ghost use Rattle.interference.specs.Net.{IsEdge, IsNetwork, IsVertex, Net};
-ghost use Rattle.interference.specs.Net.{back_port_of, degree_of, neighbour_of, port_to};
-ghost use Rattle.interference.specs.Net.{bar_count_of, count_of, forest_count_of, greatest_bars_of};
+ghost use Rattle.interference.specs.Net.{IsEdge, IsNetwork, IsVertex, Net, back_port_of, degree_of, neighbour_of};
+ghost use Rattle.interference.specs.Net.{port_to, bar_count_of, count_of, forest_count_of, greatest_bars_of};
 ghost use Rattle.interference.specs.Net.{greatest_degree_of, higher_count};
 ghost use Rattle.graph_limits.specs.declared.limits.TheConstants.{MAX_BARS};
 ghost use Rattle.interference.specs.declared.limits.TheConstants.{MAX_DEGREE};

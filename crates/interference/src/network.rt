@@ -1,10 +1,9 @@
 //! A network in packed lists, and how it is read.
 
 ghost use Rattle.std.specs.Prelude.{◌≡◌, ◌↔◌, ◌<◌, ◌≤◌, ◌+◌, ◌-◌, IfOk, IsTrue, length};
-ghost use Rattle.interference.specs.Net.{Net, IsBarred, IsNetwork, IsVertex, bars_of, count_of};
-ghost use Rattle.interference.specs.Net.{degree_of, id_of, neighbours};
-ghost use Rattle.interference.specs.Net.{back_port_of, neighbour_of};
-ghost use Rattle.interference.specs.Net.{forest_count_of, greatest_bars_of, greatest_degree_of};
+ghost use Rattle.interference.specs.Net.{Net, IsBarred, IsNetwork, IsVertex, bars_of, count_of, degree_of, id_of};
+ghost use Rattle.interference.specs.Net.{neighbours, back_port_of, neighbour_of, forest_count_of, greatest_bars_of};
+ghost use Rattle.interference.specs.Net.{greatest_degree_of};
 ghost use Rattle.interference.specs.Rows.{IsStored, net_from};
 
 use crate::bars::PackedBars;

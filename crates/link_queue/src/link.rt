@@ -9,9 +9,8 @@ ghost use Rattle.alpha_core.specs.StampedWires.{StampsRise, last_stamp, wires_of
 ghost use Rattle.link_queue.specs.Queued.{stamped_of};
 ghost use Rattle.link_queue.specs.Rule.{end_view, has_close};
 ghost use Rattle.link_queue.specs.Ends.{AreAsBefore, HasMet, IsNewPutEnd, IsNewTakeEnd, IsPutEndOf, IsTakeEndOf};
-ghost use Rattle.link_queue.specs.Ends.{StaysPutEnd, StaysTakeEnd, WasEmpty, WasFull, held_stamped};
-ghost use Rattle.link_queue.specs.Ends.{link_capacity, put_list, put_name, put_stamped, take_name, taken_list};
-ghost use Rattle.link_queue.specs.Ends.{taken_stamped};
+ghost use Rattle.link_queue.specs.Ends.{StaysPutEnd, StaysTakeEnd, WasEmpty, WasFull, held_stamped, link_capacity};
+ghost use Rattle.link_queue.specs.Ends.{put_list, put_name, put_stamped, take_name, taken_list, taken_stamped};
 
 use crate::ends::{PutEnd, PutSide, TakeEnd, TakeSide};
 use crate::met::{Full, Met};

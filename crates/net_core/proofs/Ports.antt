@@ -1,6 +1,5 @@
 -- The neighbours of a vertex rise by port, and where a search among them ends.
-use Rattle.std.proofs.Common.{◌≡◌, ◌<◌, ◌≤◌, inl, inr, ℕ, length, get_or, ap, arith, subst, sym}
-use Rattle.std.proofs.Common.{◌∙◌, List, Result, Ok, Err, MatchResult, nat_cmp}
+use Rattle.std.proofs.Common.{◌≡◌, ◌<◌, ◌≤◌, inl, inr, ℕ, length, get_or, ap, arith, subst, sym, ◌∙◌, List, Result, Ok, Err, MatchResult, nat_cmp}
 use Rattle.std.proofs.lemmas.Bool.{cases_order, cases_lt}
 use Rattle.std.proofs.lemmas.List.Sorted.{searched}
 use Rattle.std.specs.List.Sorted.{IsBinarySearchResult}

@@ -1,6 +1,5 @@
 -- One entry more behind a replay.
-use Rattle.std.proofs.Common.{◌≡◌, ◌+◌, ◌<◌, ◌∙◌, ℕ, suc, Some, List, [], ◌∷◌, ◌++◌, take, length, get_or, Result, Ok, Err}
-use Rattle.std.proofs.Common.{ap, arith, refl, sym, subst}
+use Rattle.std.proofs.Common.{◌≡◌, ◌+◌, ◌<◌, ◌∙◌, ℕ, suc, Some, List, [], ◌∷◌, ◌++◌, take, length, get_or, Result, Ok, Err, ap, arith, refl, sym, subst}
 use Rattle.std.proofs.lemmas.List.{map-append}
 use Rattle.interference.specs.Net.{Net}
 use Rattle.node_api.specs.Program.{Program}

@@ -3,8 +3,7 @@ use Rattle.std.proofs.Common.{◌≡◌, ◌≢◌, ℕ, zero, suc, ◌+◌, ◌
 use Rattle.std.proofs.Common.{cond, refl, ap, sym, ◌∙◌, arith, inl, inr}
 use Rattle.std.specs.Prelude.{Some, None, slice_get, slice_set, if◌then◌else◌}
 use Rattle.std.proofs.lemmas.Bool.{cases_eq}
-use Rattle.std.proofs.lemmas.List.{same_lists, get_or-set_other, get_or-set_same, get_or_default}
-use Rattle.std.proofs.lemmas.List.{length-set}
+use Rattle.std.proofs.lemmas.List.{same_lists, get_or-set_other, get_or-set_same, get_or_default, length-set}
 use Rattle.node_api.specs.Marks.{count_marks, is_marked}
 use Rattle.node_api.proofs.Counting.{count-cons, count-some}
 use Rattle.node_api.specs.Slots.{slot_of, slots_of, AreMade, IsRead}

@@ -1,6 +1,5 @@
 -- The link out of a vertex by a port, as the rows of links have it.
-use Rattle.std.proofs.Common.{◌≡◌, ℕ, ◌-◌, ◌<◌, ◌≤◌, List, [], length, map, get_or, refl, sym, ap, ◌∙◌, arith}
-use Rattle.std.proofs.Common.{Fits, w32, w64}
+use Rattle.std.proofs.Common.{◌≡◌, ℕ, ◌-◌, ◌<◌, ◌≤◌, List, [], length, map, get_or, refl, sym, ap, ◌∙◌, arith, Fits, w32, w64}
 use Rattle.std.proofs.lemmas.List.{get_or-map, length-map}
 
 -- the place of the row of a vertex is a `usize`

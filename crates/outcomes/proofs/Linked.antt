@@ -1,7 +1,6 @@
 -- What nodes that were gathered say of themselves and of their ends, and what was made of them and of their links. What the links say
 -- was put and taken, by vertex and port, is what the ends of the nodes said.
-use Rattle.std.proofs.Common.{◌≡◌, ℕ, ◌-◌, ◌<◌, List, [], ◌++◌, length, map, get_or, sym, ap, ◌∙◌, arith}
-use Rattle.std.proofs.Common.{Some, slice_get}
+use Rattle.std.proofs.Common.{◌≡◌, ℕ, ◌-◌, ◌<◌, List, [], ◌++◌, length, map, get_or, sym, ap, ◌∙◌, arith, Some, slice_get}
 use Rattle.std.specs.Prelude.{All, Bool, Option}
 use Rattle.std.proofs.lemmas.List.{length-map}
 use Rattle.interference.specs.Net.{Net, IsNetwork, IsVertex, degree_of, neighbour_of, back_port_of, vertices}

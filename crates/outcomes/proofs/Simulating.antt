@@ -32,23 +32,8 @@ use Rattle.gather_laws.proofs.MetNodes.{met_written}
 use Rattle.gather_laws.proofs.Merged.{runs_merge}
 use Rattle.gather_laws.proofs.Whole.{split_wires}
 use Rattle.outcomes.proofs.Rows.{get_map, get_field, length-nodes}
-use Rattle.outcomes.proofs.Linked.{
-  AreGathered,
-  alpha_is,
-  entries_at,
-  here,
-  many,
-  put_is,
-  puts_at,
-  puts_here,
-  row_long,
-  row_there,
-  split_is,
-  taken_here,
-  taken_is,
-  takens_at,
-  takens_here,
-}
+use Rattle.outcomes.proofs.Linked.{AreGathered, alpha_is, entries_at, here, many, put_is, puts_at, puts_here, row_long, row_there, split_is, taken_here}
+use Rattle.outcomes.proofs.Linked.{taken_is, takens_at, takens_here}
 use Rattle.outcomes.proofs.Stamping.{have_met}
 
 module _ {S M E A X Y : Type 0} {program : Program S M E} {net : Net} {nodes : List A} {vertex : A → ℕ} {alpha : A → Alpha S M}

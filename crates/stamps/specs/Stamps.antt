@@ -9,7 +9,6 @@ use Rattle.alpha_core.specs.declared.wire.Wire.{Wire}
 use Rattle.entries.specs.declared.entry.Entry.{Entry}
 use Rattle.entries.specs.declared.entry.Entry.TheVariants.{Pulse, Put, Take}
 use Rattle.entries.specs.declared.rows.StampedEntry.{StampedEntry}
-use Rattle.entries.specs.Rows.{bare_of}
 
 module _ {M : Type 0} where
   -- the wire that an entry put, if its neighbour is one of these, with the stamp of the entry

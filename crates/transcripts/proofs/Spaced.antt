@@ -1,6 +1,5 @@
 -- Words that are parted by one space are the fields of their line, and such lines the lines of their text.
-use Rattle.std.proofs.Common.{◌≡◌, ◌<◌, ◌≤◌, ◌-◌, ◌++◌, ◌∷◌, [], ◌==◌, ◌∙◌, ℕ, false, List, All, arith, ap, cond}
-use Rattle.std.proofs.Common.{get_or, length, map, refl, take}
+use Rattle.std.proofs.Common.{◌≡◌, ◌<◌, ◌≤◌, ◌-◌, ◌++◌, ◌∷◌, [], ◌==◌, ◌∙◌, ℕ, false, List, All, arith, ap, cond, get_or, length, map, refl, take}
 use Rattle.std.proofs.lemmas.Bool.{lt-ltb, ne_eqb}
 use Rattle.std.proofs.lemmas.List.{length-append}
 use Rattle.std.proofs.lemmas.List.Elements.{All-append, All-cons, All-get_or, All-head, All-tail, All-weaker}

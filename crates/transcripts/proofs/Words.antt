@@ -1,8 +1,7 @@
 -- The words of an entry's line. They are words (words-of), their text is the line (text-of), and they are read as the entry
 -- (reads-row).
-use Rattle.std.proofs.Common.{◌≡◌, ◌<◌, ◌^◌, ◌++◌, ◌∷◌, [], ◌∙◌, ℕ, true, Option, Some, None, List, All, inl, inr}
-use Rattle.std.proofs.Common.{arith, ap, append_assoc, codes, get_or, length, nat_lt, refl, option_and_then, option_map}
-use Rattle.std.proofs.Common.{if◌then◌else◌, rules}
+use Rattle.std.proofs.Common.{◌≡◌, ◌<◌, ◌^◌, ◌++◌, ◌∷◌, [], ◌∙◌, ℕ, true, Option, Some, None, List, All, inl, inr, arith, ap, append_assoc, codes, get_or}
+use Rattle.std.proofs.Common.{length, nat_lt, refl, option_and_then, option_map, if◌then◌else◌, rules}
 use Rattle.std.proofs.lemmas.Bool.{lt-ltb, cases_lt}
 use Rattle.std.proofs.lemmas.Fmt.{decimal_is_IsNumeral_wide}
 use Rattle.std.proofs.lemmas.List.{get_or_past}

@@ -1,6 +1,5 @@
 -- Lists that grow side by side.
-use Rattle.std.proofs.Common.{◌≡◌, ℕ, List, [], ◌∷◌, ◌++◌, map, ap, sym, ◌∙◌}
-use Rattle.std.proofs.Common.{◌+◌, arith}
+use Rattle.std.proofs.Common.{◌≡◌, ℕ, List, [], ◌∷◌, ◌++◌, map, ap, sym, ◌∙◌, ◌+◌, arith}
 use Rattle.std.proofs.lemmas.List.{map-append}
 use Rattle.deque_rule.specs.declared.ledger.Ledger.{Ledger}
 use Rattle.deque_rule.specs.Ledgers.{ledger, in_rows, total, weigh}

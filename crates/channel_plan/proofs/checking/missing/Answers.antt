@@ -1,6 +1,5 @@
-use Rattle.std.proofs.Common.{◌≡◌, ◌+◌, ◌<◌, ◌≤◌, ◌∙◌, ap, arith, not, sym, true, false}
+use Rattle.std.proofs.Common.{◌≡◌, ◌+◌, ◌<◌, ◌≤◌, ◌∙◌, ap, arith, not, sym, true, false, is_none}
 use Rattle.interference.specs.Net.{count_of}
-use Rattle.std.proofs.Common.{is_none}
 use Rattle.channel_plan.specs.Checked.{looked}
 use Rattle.channel_plan.proofs.Finding.{look-next, missing-end, missing-more}
 use Rattle.channel_plan.proofs.checking.missing.Goals as goal

@@ -4,8 +4,7 @@ use Rattle.interference.proofs.Neighbours.{greatest_bars-within, greatest_degree
 use Rattle.channel_plan.specs.Checked.{channel_of, looked}
 use Rattle.channel_plan.proofs.Tables.{row-barred, row-good, row-high, row-stranger, row-twice, table-put}
 use Rattle.channel_plan.proofs.checking.put_row.Goals as goal
-use Rattle.channel_plan.proofs.checking.put_row.Goals.{then-v-eq0-via-then-v-eq0}
-use Rattle.channel_plan.proofs.checking.put_row.Goals.{then-v-eq0-via-else-v-eq0+then-v-nodes}
+use Rattle.channel_plan.proofs.checking.put_row.Goals.{then-v-eq0-via-then-v-eq0, then-v-eq0-via-else-v-eq0+then-v-nodes}
 
 pub returns-then-v-eq0-clause-fault : goal.returns-then-v-eq0-clause-fault
 returns-then-v-eq0-clause-fault c = λ before table.

@@ -1,8 +1,7 @@
-use Rattle.std.proofs.Common.{◌≡◌, ◌+◌, [], arith}
+use Rattle.std.proofs.Common.{◌≡◌, ◌+◌, [], arith, ◌∙◌, ap}
 use Rattle.event_machine.specs.State.{node_of}
 use Rattle.event_texts.specs.Missing.{lacking_at}
 use Rattle.number_rows.proofs.Ranges.{texts-more}
-use Rattle.std.proofs.Common.{◌∙◌, ap}
 use Rattle.std.specs.List.{flat_map, range_with_len}
 use Rattle.dimacs_col.proofs.Refused.{err_says}
 use Rattle.interference.specs.Net.{degree_of}

@@ -1,7 +1,6 @@
-use Rattle.std.proofs.Common.{◌≡◌, ◌+◌, arith}
+use Rattle.std.proofs.Common.{◌≡◌, ◌+◌, arith, ◌∙◌, ◌++◌, ap, length, refl}
 use Rattle.event_texts.specs.Missing.{name_text}
 use Rattle.number_rows.proofs.Ranges.{texts-more}
-use Rattle.std.proofs.Common.{◌∙◌, ◌++◌, ap, length, refl}
 use Rattle.std.specs.List.{flat_map, range_with_len}
 use Rattle.dimacs_col.proofs.Refused.{err_says}
 use Rattle.event_texts.proofs.Told.{at_end}

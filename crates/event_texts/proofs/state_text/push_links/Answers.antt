@@ -1,9 +1,8 @@
-use Rattle.std.proofs.Common.{◌≡◌, ◌+◌, arith}
+use Rattle.std.proofs.Common.{◌≡◌, ◌+◌, arith, ◌∙◌, ◌++◌, ap, append-nil, sym}
 use Rattle.interference.specs.Net.{neighbour_of, degree_of}
 use Rattle.event_machine.specs.State.{link_at}
 use Rattle.event_texts.specs.StateText.{link_text}
 use Rattle.number_rows.proofs.Ranges.{texts-more}
-use Rattle.std.proofs.Common.{◌∙◌, ◌++◌, ap, append-nil, sym}
 use Rattle.std.specs.List.{flat_map, range_with_len}
 use Rattle.dimacs_col.proofs.Refused.{err_says}
 use Rattle.event_texts.proofs.Told.{at_end}

@@ -1,9 +1,8 @@
-use Rattle.std.proofs.Common.{◌≡◌, ◌+◌, ◌++◌, [], ℕ, List, arith}
+use Rattle.std.proofs.Common.{◌≡◌, ◌+◌, ◌++◌, [], ℕ, List, arith, ◌∙◌, ap}
 use Rattle.event_machine.specs.State.{node_of}
 use Rattle.node_api.specs.Program.{last_pulse_on}
 use Rattle.event_texts.specs.StateText.{links_text, node_text}
 use Rattle.number_rows.proofs.Ranges.{behind, texts-more}
-use Rattle.std.proofs.Common.{◌∙◌, ap}
 use Rattle.std.specs.List.{flat_map, range_with_len}
 use Rattle.dimacs_col.proofs.Refused.{err_says}
 use Rattle.interference.specs.Net.{count_of}

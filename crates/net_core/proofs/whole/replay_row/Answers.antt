@@ -1,8 +1,6 @@
-use Rattle.std.proofs.Common.{◌≡◌, ◌∙◌, ap, subst, sym, take}
-use Rattle.event_machine.specs.Step.{step}
+use Rattle.std.proofs.Common.{◌≡◌, ◌∙◌, ap, subst, take}
 use Rattle.net_core.specs.declared.refused.WholeRefused.TheVariants.{Replay}
 use Rattle.net_core.specs.Replays.{IsMade, WhyNot, at_entry}
-use Rattle.net_core.specs.Rows.{event_of}
 use Rattle.stamps.specs.Table.{IsTableOf}
 use Rattle.net_core.proofs.WholeReplays.{rows-more, stamped-next, stops-entry, stops-stamp}
 use Rattle.net_core.proofs.whole.replay_row.Goals as goal

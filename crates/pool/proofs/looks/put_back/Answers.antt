@@ -1,5 +1,4 @@
-use Rattle.std.proofs.Common.{◌-◌, map, sym, ◌∙◌, arith}
-use Rattle.std.proofs.Common.{◌∷◌}
+use Rattle.std.proofs.Common.{◌-◌, map, sym, ◌∙◌, arith, ◌∷◌}
 use Rattle.crossbeam_deque.specs.Handles.{view, worker_view}
 use Rattle.worker_deques.proofs.Out.{finished}
 use Rattle.pool.proofs.InHand.{gave_back}

@@ -1,5 +1,4 @@
-use Rattle.std.proofs.Common.{◌-◌, ap, map}
-use Rattle.std.proofs.Common.{◌∷◌}
+use Rattle.std.proofs.Common.{◌-◌, ap, map, ◌∷◌}
 use Rattle.crossbeam_deque.specs.Handles.{view, worker_view}
 use Rattle.worker_deques.proofs.Out.{turned}
 use Rattle.pool.proofs.looks.turn_in_hand.Goals as goal

@@ -1,7 +1,6 @@
 use Rattle.std.proofs.Common.{rules, ◌≡◌, false, List, replicate, ap, ◌∙◌}
 use Rattle.colour_rules.specs.declared.colours.InForest.{InForest}
-use Rattle.colour_rules.specs.InForests.{befores_of, colour_by, colours_by}
-use Rattle.colour_rules.specs.InForests.{blank}
+use Rattle.colour_rules.specs.InForests.{befores_of, colour_by, colours_by, blank}
 use Rattle.colour_rules.proofs.Turned.{map-same}
 use Rattle.colour_rules.proofs.colours.InForests.make.Goals as goal
 

@@ -1,7 +1,7 @@
 -- The plan: the port is one of the network's (there-is), so the link that leads to it is there (link-there), and it is the
 -- one that the definition names (link-is). Its oldest wire (oldest) is taken as the definition takes it (taken-in); no node
 -- refuses it (take_refused).
-use Rattle.std.proofs.Common.{◌≡◌, ◌<◌, ◌-◌, ◌∷◌, List, Ok, set, refl, sym, ap, ◌∙◌, subst}
+use Rattle.std.proofs.Common.{◌≡◌, ◌<◌, ◌-◌, ◌∷◌, List, Ok, set, sym, ap, ◌∙◌, subst}
 use Rattle.std.specs.Prelude.{slice_get}
 use Rattle.interference.specs.Net.{IsVertex, degree_of, neighbour_of}
 use Rattle.event_machine.specs.declared.event.Event.TheVariants.{Take}
