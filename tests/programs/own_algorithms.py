@@ -9,6 +9,7 @@ import os
 import random
 import re
 import tempfile
+import textwrap
 
 from lab.definitions.colours import Network
 from lab.definitions.nodes import synchronous_run
@@ -224,6 +225,13 @@ class OwnAlgorithms(Case):
         ):
             got = self.told(text)
             self.note(first, got[0] == 0 and got[1].startswith(first), got)
+        with open(os.path.join(TOP, "docs", "learn", "OWN_ALGORITHM.md"), encoding="utf-8") as page, open(SET,
+                                                                                              encoding="utf-8") as file:
+            block = page.read().partition("Of an independent set:\n\n")[2].partition("\n\n## ")[0]
+            text = file.read() + "\n" + textwrap.dedent(block) + "\n"
+        for change, first in ((("", ""), "every schedule of path"), (('"set in"', '"set out"'), "broken after")):
+            got = self.told(text.replace(*change), network="path.col")
+            self.note(f"the function of the page, {change}", got[0] == 0 and got[1].startswith(first), got)
         for returned in ("None", "7", "''"):
             got = self.told(FLOOD + f"def right(results, neighbours):\n    return {returned}\n")
             said = "it must be True, False, or what isn't right in words"
