@@ -5,6 +5,7 @@ import os
 import sys
 
 MODULES = {
+    "completion": "completion",
     "prove": "prove",
     "prove-crate": "prove_crate",
     "install": "install",
@@ -27,9 +28,17 @@ def main():
 
 def command_of(name):
     """The command of this name, which takes its words from `sys.argv`: a function that returns the status."""
-    if sys.argv[1:] == ["--version"]:
+    if sys.argv[1:] == ["--version"] or name == "--version":
         return importlib.import_module("lab.version").main
+    if name in ("-h", "--help"):
+        return help_text
     return importlib.import_module(f"build.{MODULES[name]}").main if name in MODULES else refuse_name
+
+
+def help_text():
+    print("Proves, builds, installs and copies what is in this tree.\n\nusage: python3 build NAME [words]\n\n"
+          f"NAME is one of {', '.join(MODULES)}.\n`python3 build NAME --help` says more of each.")
+    return 0
 
 
 def refuse_name():

@@ -7,7 +7,7 @@ import subprocess
 import sys
 import tempfile
 
-from build import kit, manuals, readme
+from build import completion, kit, manuals, readme
 from lab import sums, version
 from lab.workshop.class_files import IS_CLASS, class_files, finish_class
 
@@ -15,10 +15,7 @@ TOP = os.path.dirname(os.path.dirname(os.path.realpath(__file__)))
 
 # What is copied, each at the path that it has here.
 PROGRAMS = ("forestplan", "forestplay")
-SCRIPTS = (
-    "picture", "network", "channels", "explore", "check-transcript", "replay", "simulate", "sheet", "studio",
-    "transcript-to", "workshop",
-)
+COMMANDS = (*PROGRAMS, "forestlab")
 FOLDERS = ("examples", "docs", "lab")
 FILES = ("README.md", "CHANGELOG.md", "LICENSE-MIT", "LICENSE-APACHE")
 
@@ -26,15 +23,14 @@ HELP = """\
 Copies forestplan and what belongs to it into a folder, so that it runs there
 without the toolchain and without this tree.
 
-The folder gets the layout of this tree: in bin/ the two programs and the scripts
-picture, network, channels, explore, check-transcript, replay, simulate, sheet, studio,
-transcript-to and workshop, and their modules, the examples, a README of what is there,
-the pages and lessons, the licences, and a manual page for each command. So the lessons' commands
-work in it as they do here; with its bin/ on the PATH they work anywhere without the
-bin/ before them. VERSION says what it was made from, and SHA256SUMS has a sum of each
-file: sha256sum -c SHA256SUMS. The programs need the C library alone, the scripts bash
-and Python 3. One such folder serves every machine of the same kind: copy it with
-cp -r, or bin/pack makes one archive of it.
+The folder gets the layout of this tree: in bin/ the two programs and forestlab, its
+modules, the examples, a README of what is there, the pages and lessons, the licences,
+a manual page for each of the three, and what completes their words in bash and zsh. With
+its bin/ on the PATH the lessons' commands work in it as they do here. VERSION says what it
+was made from, and SHA256SUMS has a sum of each file: sha256sum -c SHA256SUMS. The
+programs need the C library alone, forestlab bash and Python 3. One such folder serves
+every machine of the same kind: copy it with cp -r, or `python3 build pack` makes one
+archive of it.
 
 With --class it is the folder of a class that writes the nodes itself: without the right
 nodes, the definitions and the commands that are written with them, and the answers.
@@ -49,12 +45,12 @@ put there and this one doesn't is removed; all else in it stays. If it can't be 
 to the end, as on a full disk, the folder stays as it was.
 
 Status: 0 done, 1 the folder can't be written, 2 the command line is refused; if the
-programs can't be built, what bin/forestplan ends with.
+programs can't be built, what `forestplan` ends with.
 
 Example:
-  bin/install ~/forestplan
+  python3 build install ~/forestplan
   cd ~/forestplan
-  bin/forestplan plain < examples/triangle.col
+  forestplan plain < examples/triangle.col
 """
 
 
@@ -82,7 +78,7 @@ def files_to_copy(is_class):
     if is_class:
         yield from ((os.path.join(TOP, path), path) for path in class_files(TOP))
         return
-    yield from ((os.path.join(TOP, "bin", name), os.path.join("bin", name)) for name in SCRIPTS)
+    yield os.path.join(TOP, "bin", "forestlab"), os.path.join("bin", "forestlab")
     yield from ((os.path.join(TOP, name), name) for name in FILES)
     for folder in FOLDERS:
         for at, below, names in os.walk(os.path.join(TOP, folder)):
@@ -113,10 +109,11 @@ def make(room, is_class=False):
         shutil.copy(source, os.path.join(room, path))
     if not is_class:
         with open(os.path.join(TOP, "README.md"), encoding="utf-8") as file:
-            write(os.path.join(room, "README.md"), readme.installed(file.read(), {*PROGRAMS, *SCRIPTS}))
-    for path in sorted(os.listdir(os.path.join(room, "bin"))):
-        page = os.path.join(room, "share", "man", "man1", f"{path}.1")
-        write(page, manuals.page_of(path, os.path.join(room, "bin", path)))
+            write(os.path.join(room, "README.md"), readme.installed(file.read()))
+    for name in COMMANDS:
+        page = os.path.join(room, "share", "man", "man1", f"{name}.1")
+        write(page, manuals.page_of(name, os.path.join(room, "bin", name)))
+    completion.write_to(os.path.join(room, "share"), os.path.join(room, "bin"))
     if is_class:
         finish_class(room)
     write(os.path.join(room, "VERSION"), version_text(is_class))
@@ -149,7 +146,8 @@ def install(folder, is_class=False):
 
 
 def main():
-    words = argparse.ArgumentParser(prog="install", usage="install [--class] DIR", description=HELP, epilog=MORE_HELP,
+    words = argparse.ArgumentParser(prog="python3 build install", usage="python3 build install [--class] DIR",
+                                    description=HELP, epilog=MORE_HELP,
                                     formatter_class=argparse.RawDescriptionHelpFormatter)
     words.add_argument("dir", metavar="DIR", help="a folder; it is made if it isn't there")
     words.add_argument("--class", dest="is_class", action="store_true", help="what students may see, and nothing else")

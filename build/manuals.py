@@ -3,8 +3,9 @@ import os
 import re
 import subprocess
 
-# The scripts that have commands of their own, each in a line of their help.
-WITH_COMMANDS = ("picture", "network")
+COMMANDS_OF = ("forestplan", "forestplay", "forestlab")
+# What of forestlab has commands of its own, each in a line of the help.
+WITH_COMMANDS = ("forestlab", "forestlab picture", "forestlab network", "forestlab transcript")
 
 
 def help_of(program, *words):
@@ -24,11 +25,10 @@ def commands_of(name, text):
     listed = re.search(r"^Commands:\n((?:  .*\n)+)", text, re.M)
     if listed:
         return re.findall(r"^  ([a-z]+) ", listed.group(1), re.M)
-    return (
-        re.findall(r"^  ([a-z]+) (?:[A-Z]+ )* *[a-z]", text.partition("positional arguments:")[0], re.M)
-        if name in WITH_COMMANDS
-        else []
-    )
+    if name not in WITH_COMMANDS:
+        return []
+    before = re.split("positional arguments:|^Example", text, flags=re.M)[0]
+    return re.findall(r"^  ([a-z]+) (?:[A-Z]+ )* *[a-z]", before, re.M)
 
 
 def as_roff(text):
@@ -44,11 +44,17 @@ def purpose_of(text):
     return sentence[:1].lower() + sentence[1:]
 
 
+def sections(name, program, *words):
+    """(heading, help) of a command and of those below it."""
+    text = help_of(program, *words)
+    yield " ".join([name, *words]), text
+    for command in commands_of(" ".join([name, *words]), text):
+        yield from sections(name, program, *words, command)
+
+
 def page_of(name, program):
     """The manual page of a program or script that can be run."""
-    text = help_of(program)
+    (_, text), *below = sections(name, program)
     page = f'.TH "{name.upper()}" 1 "" "forestplan" "User Commands"\n.SH NAME\n{name} \\- {purpose_of(text)}\n'
     page += ".SH DESCRIPTION\n" + as_roff(text)
-    for command in commands_of(name, text):
-        page += f'.SH "{name.upper()} {command.upper()}"\n' + as_roff(help_of(program, command))
-    return page
+    return page + "".join(f'.SH "{heading.upper()}"\n' + as_roff(said) for heading, said in below)

@@ -38,7 +38,7 @@ Status: 0 done, 1 it can't be made (one line on standard error says why), 2 the 
 line is refused.
 
 Example:
-  bin/new-program echoes
+  python3 build new-program echoes
 """
 
 
@@ -100,7 +100,8 @@ def add_line(name, top):
 
 
 def main():
-    words = argparse.ArgumentParser(prog="new-program", usage="new-program NAME", description=HELP, epilog=MORE_HELP,
+    words = argparse.ArgumentParser(prog="python3 build new-program", usage="python3 build new-program NAME",
+                                    description=HELP, epilog=MORE_HELP,
                                     formatter_class=argparse.RawDescriptionHelpFormatter)
     words.add_argument("name", metavar="NAME", help="the program's name, a word of small letters")
     name = words.parse_args().name

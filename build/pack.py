@@ -12,14 +12,14 @@ from lab import sums
 from lab.workshop.class_files import IS_CLASS
 
 HELP = """\
-Packs a folder that bin/install made into one archive, and its sum into a file beside it.
+Packs a folder that python3 build install made into one archive, and its sum into a file beside it.
 
 The archive has what SHA256SUMS of the folder lists, and no file besides; a file that
 has changed since it was installed is refused. The same folder makes the same archive,
 and another one isn't replaced; that of a class has `-class` in its name.
 Unpacked, it is such a folder again, and needs no build:
-  tar xf forestplan-0.4.0-linux-x86_64.tar.gz
-  forestplan-0.4.0-linux-x86_64/bin/forestplan plain < net.col
+  tar xf forestplan-0.5.0-linux-x86_64.tar.gz
+  forestplan-0.5.0-linux-x86_64/bin/forestplan plain < net.col
 """
 
 MORE_HELP = """\
@@ -27,7 +27,7 @@ Status: 0 done, 1 the folder isn't as it was installed, or the archive can't be 
 2 the command line is refused.
 
 Example:
-  bin/install /tmp/made && bin/pack /tmp/made .
+  python3 build install /tmp/made && python3 build pack /tmp/made .
 """
 
 
@@ -68,14 +68,15 @@ def write(folder, name, to):
 
 
 def main():
-    words = argparse.ArgumentParser(prog="pack", usage="pack FOLDER [TO]", description=HELP, epilog=MORE_HELP,
+    words = argparse.ArgumentParser(prog="python3 build pack", usage="python3 build pack FOLDER [TO]",
+                                    description=HELP, epilog=MORE_HELP,
                                     formatter_class=argparse.RawDescriptionHelpFormatter)
-    words.add_argument("folder", metavar="FOLDER", help="a folder that bin/install made")
+    words.add_argument("folder", metavar="FOLDER", help="a folder that python3 build install made")
     words.add_argument("to", metavar="TO", nargs="?", default=".", help="the folder of the archive; default: this one")
     asked = words.parse_args()
     listed = sums.read(asked.folder)
     if not listed:
-        words.error(f"{asked.folder} has no {sums.NAME}: it isn't what bin/install makes")
+        words.error(f"{asked.folder} has no {sums.NAME}: it isn't what python3 build install makes")
     changed = [path for path, known in listed.items() if sums.of(os.path.join(asked.folder, path)) != known]
     if changed:
         print(f"pack: {len(changed)} files aren't as they were installed, first: {changed[0]}", file=sys.stderr)

@@ -5,23 +5,20 @@ import re
 SECTION = """\
 ## In this folder
 
-    bin/forestplan plan < examples/triangle.col     prints the plan
+    PATH=$PWD/bin:$PATH
+    forestplan plan < examples/triangle.col     prints the plan
 
-The programs need no toolchain, the scripts bash and Python 3. With `bin/` on the PATH the commands work anywhere, and
-`man` finds their pages. VERSION says from which commit the folder was made, and SHA256SUMS has a sum of each file. What
-a page says of `crates/`, `bench/`, `tests/`, the toolchain, and of scripts that `bin/` here lacks, is about the
-repository of that commit.
+The programs need no toolchain, `forestlab` bash and Python 3. With `bin/` on the PATH the commands work anywhere, and
+`man` finds their pages; `source share/forestlab.bash` completes their words in bash and zsh. VERSION says from which
+commit the folder was made, and SHA256SUMS has a sum of each file. What a page says of `crates/`, `bench/`, `tests/`,
+the toolchain and `python3 build` is about the repository of that commit.
 
 """
 
 
-def installed(text: str, commands: set[str]) -> str:
-    """The text of README as it is in a folder with these commands in its bin/."""
+def installed(text: str) -> str:
+    """The text of README as it is in a folder."""
     text, count = re.subn(r"^## Two commands\n.*?(?=^Command \| )", lambda _: SECTION, text, flags=re.M | re.S)
     if count != 1:
         raise ValueError("README.md has no section `Two commands` before its table of commands")
-    text = text.replace("./forestplan", "bin/forestplan")
-    rows = re.findall(r"^`bin/([\w-]+)[^`]*` \| .*\n", text, re.M)
-    for name in {row for row in rows if row not in commands}:
-        text = re.sub(rf"^`bin/{name}[^`]*` \| .*\n", "", text, flags=re.M)
-    return text
+    return text.replace("./forestplan", "forestplan")

@@ -30,8 +30,8 @@ MORE_HELP = """\
 Status: 0 done, 1 it can't be copied, 2 the command line is refused.
 
 Examples:
-  bin/vendor ~/mine sync_rounds           a node program, run round by round
-  bin/vendor ~/mine node_pool --build     one that runs on worker threads
+  python3 build vendor ~/mine sync_rounds           a node program, run round by round
+  python3 build vendor ~/mine node_pool --build     one that runs on worker threads
 """
 
 
@@ -98,8 +98,9 @@ def vendor(top, crates, replaces):
 
 
 def main():
-    words = argparse.ArgumentParser(prog="vendor", usage="vendor DIR CRATE .. [options]", description=HELP,
-                                    epilog=MORE_HELP, formatter_class=argparse.RawDescriptionHelpFormatter)
+    words = argparse.ArgumentParser(prog="python3 build vendor", usage="python3 build vendor DIR CRATE .. [options]",
+                                    description=HELP, epilog=MORE_HELP,
+                                    formatter_class=argparse.RawDescriptionHelpFormatter)
     words.add_argument("dir", metavar="DIR", help="the top of the other repository")
     words.add_argument("crates", metavar="CRATE", nargs="+", help="crates of crates.txt")
     words.add_argument("--replace", action="store_true", help="crates that say something else are replaced")

@@ -1,7 +1,7 @@
 #!/usr/bin/env python3
 """Tries the wrong bodies of crates/NAME/wrong-bodies/ against the prover, and prints each that is proved all the same.
 
-  wrong-bodies [-j JOBS] [--minutes N] [--since REV | CRATE ..]      default: every crate that has a folder
+  python3 build wrong-bodies [-j JOBS] [--minutes N] [--since REV | CRATE ..]    default: every crate that has a folder
   crates/NAME/wrong-bodies/
 
 Each crates/CRATE/wrong-bodies/NAME.edit is a change of code that turns the meaning of a function, in the form of the
@@ -14,7 +14,8 @@ crates.txt a crate whose contracts or definitions (src/, specs/) differ from it.
 after that time.
 
 A proof of the right body may name a value or a goal that the edit takes away. Then the check fails for that name, which
-says little of the contract; such an edit counts as refused, and is printed as WEAK. Change it so that it keeps the name.
+says little of the contract; such an edit counts as refused, and is printed as WEAK. Change it so that it keeps the
+name.
 
 The last line is 'N refused, M PROVED, K not run'. The status is 0 only if every edit was tried and refused. It takes
 about 20 seconds an edit, so it is run by hand, with --since before each change is handed in; `./test` doesn't call it.
@@ -132,7 +133,8 @@ def try_all(rt, crates, jobs, end):
 def main():
     summary, _, more = __doc__.partition("\n")
     words = argparse.ArgumentParser(
-        description=summary, epilog=more, formatter_class=argparse.RawDescriptionHelpFormatter
+        prog="python3 build wrong-bodies", description=summary, epilog=more,
+        formatter_class=argparse.RawDescriptionHelpFormatter,
     )
     words.add_argument(
         "-j", "--jobs", type=int, default=prove.jobs_with_room(), help="how many lists are tried side by side"

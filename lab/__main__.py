@@ -1,48 +1,101 @@
-"""The door of the commands that are written in Python: `python3 -S lab NAME [arguments]`, as the scripts of bin/ call
-it. How a command ends in place of a traceback is in door.py."""
+"""The command `forestlab`: bin/forestlab calls `python3 -S lab COMMAND [words]`. How a command ends in place of a
+traceback is in door.py."""
 import importlib
 import os
 import sys
+from typing import NamedTuple
 
-# What each command's module is; its `main` takes the arguments and returns the status.
-COMMANDS = {
-    "channels": "lab.networks.channels",
-    "check-transcript": "lab.transcripts.check",
-    "explore": "lab.schedules.explore",
-    "network": "lab.networks.network",
-    "picture": "lab.pictures.picture",
-    "sheet": "lab.pictures.sheet",
-    "simulate": "lab.schedules.simulate",
-    "studio": "lab.studio.studio",
-    "transcript-to": "lab.transcripts.to",
-    "workshop": "lab.workshop.workshop",
+
+class Command(NamedTuple):
+    """`main` of `module` takes the words after the command and returns the status; `does` is its line of help."""
+
+    module: str
+    does: str
+
+
+# By what a reader wants, in the order of the help text.
+READERS = {
+    "To see": {
+        "studio": Command("lab.studio.studio", "opens a page in the browser: draw a network, and everything moves"),
+        "picture": Command("lab.pictures.picture", "draws plans, rounds and runs, and makes pages that play them"),
+        "network": Command("lab.networks.network", "makes networks, reads other forms, says what one is"),
+        "channels": Command("lab.networks.channels", "puts real channel numbers in place of a plan's"),
+    },
+    "To run": {
+        "simulate": Command("lab.schedules.simulate", "makes a run without a clock, by a seed or a list of events"),
+        "explore": Command("lab.schedules.explore", "plays every order of events of up to four nodes"),
+    },
+    "To judge": {
+        "transcript": Command("lab.transcripts.transcript", "checks, replays and converts transcripts"),
+    },
+    "To teach": {
+        "workshop": Command("lab.workshop.workshop", "runs students' nodes, and has the proved programs judge them"),
+        "sheet": Command("lab.pictures.sheet", "prints question sheets, and their answers"),
+    },
 }
+COMMANDS = {name: command for commands in READERS.values() for name, command in commands.items()}
 # What scripts ask for besides.
 INNER = {"watch": "lab.watch"}
+HELP = """\
+Draws, runs, judges and teaches what forestplan computes.
+
+usage: forestlab COMMAND [words]
+
+{commands}
+`forestlab COMMAND --help` says more of each, and `forestlab --version` which version
+this is. These commands are Python over slow definitions: tested, not proved. The
+proved programs are `forestplan` and `forestplay`, and a command that asks one says so.
+
+A NETWORK is a file, - for standard input, the name of an example (petersen), or a kind
+with its size (path5, ring7, star4, complete4, grid3x4, queen5x5). -o FILE writes to a
+file that stays as it was if something goes wrong. The same --seed gives the same result.
+
+Status: 0 done, and right where something is judged; 1 what was given can't be read, or
+isn't right; 2 the command line is refused; 130 stopped by Ctrl-C.
+"""
 
 
 def main():
     # Run as a folder, its own place comes first where modules are looked for; the package's is one above.
     sys.path[0] = os.path.dirname(os.path.dirname(os.path.realpath(__file__)))
-    name, words = sys.argv[1] if len(sys.argv) > 1 else "lab", sys.argv[2:]
+    name, words = sys.argv[1] if len(sys.argv) > 1 else "", sys.argv[2:]
     # `version NAME` is what the script of another name says.
-    called = words[0] if name == "version" and words else name
+    called = words[0] if name == "version" and words else name if name in COMMANDS else "forestlab"
     return importlib.import_module("lab.door").run(called, lambda: command_of(name, words))
 
 
 def command_of(name, words):
     """The command of this name with its words: a function that returns the status."""
-    if name == "version" or name in COMMANDS and words == ["--version"]:
+    if name in ("version", "--version") or name in COMMANDS and words == ["--version"]:
         return importlib.import_module("lab.version").main
-    module = COMMANDS.get(name) or INNER.get(name)
+    if name in ("-h", "--help"):
+        return help_text
+    module = COMMANDS[name].module if name in COMMANDS else INNER.get(name)
     if module is None:
-        return refuse_name
+        return lambda: refused(f"{f'there is no command {name}' if name else 'a command is missing'}; try --help")
+    if not is_there(module):
+        return lambda: refused(f"{name} isn't in this folder of a class; your teacher's folder has it, and "
+                               "docs/pictures the lessons' pictures")
     main = importlib.import_module(module).main
     return lambda: main(words)
 
 
-def refuse_name():
-    print(f"lab: a command is wanted: {', '.join(COMMANDS)}", file=sys.stderr)
+def is_there(module):
+    """Whether this folder has a module: that of a class lacks those that solve its assignment."""
+    return os.path.isfile(os.path.join(sys.path[0], *module.split(".")) + ".py")
+
+
+def help_text():
+    lines = []
+    for reader, commands in READERS.items():
+        found = [f"  {name:<12}{command.does}" for name, command in commands.items() if is_there(command.module)]
+        lines += [reader, *found] if found else []
+    sys.stdout.write(HELP.format(commands="".join(line + "\n" for line in lines)))
+    return 0
+
+
+def refused(what):
+    print(f"forestlab: {what}", file=sys.stderr)
     return 2
 
 

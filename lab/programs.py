@@ -33,7 +33,7 @@ def program_file(name):
     """The program's file; refused if it isn't built."""
     path = built(name)
     if path is None:
-        raise Wrong(f"{name} isn't built: a first call of it, as `bin/{name} {FIRST[name]} < examples/two.col`, proves "
+        raise Wrong(f"{name} isn't built: a first call of it, as `{name} {FIRST[name]} < examples/two.col`, proves "
                     "and builds it in 16 to 33 minutes")
     return path
 

@@ -2,3 +2,5 @@
 import os
 
 TOP = os.path.dirname(os.path.dirname(os.path.abspath(__file__)))
+# The command of all that is written in Python.
+FORESTLAB = os.path.join(TOP, "bin", "forestlab")

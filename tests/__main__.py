@@ -7,7 +7,7 @@ a test has one or many.
 NAME is a module, a class or a test as --list prints them, a folder of tests/, or a
 word of a test's name. Without NAME all tests run.
 
-The programs are those that `rt ci`, or ./forestplan and bin/forestplay, have built. It
+The programs are those that `rt ci`, or ./forestplan and forestplay, have built. It
 needs a C compiler, `cc`. What is in tests/by_hand/ has to be called by hand."""
 import argparse
 import contextlib
@@ -75,7 +75,7 @@ def what_is_missing(chosen, programs):
         return ""
     for path in programs:
         if not os.access(path, os.X_OK):
-            return f"{os.path.relpath(path)} isn't built: ./test builds it, and so do ./forestplan and bin/forestplay"
+            return f"{os.path.relpath(path)} isn't built: ./test builds it, and so do ./forestplan and forestplay"
     return "" if shutil.which("cc") else "there is no C compiler cc"
 
 

@@ -1,4 +1,4 @@
-"""The one table of all commands: the programs' commands, and the scripts of bin/ with theirs.
+"""The one table of all commands: those of the programs, of forestlab, and of `python3 build`.
 
 Each has a small input and the answer to it, worked by hand. What tests every command reads it from here, and
 tests/programs/commands.py fails if a command is missing. In the texts '|' is a line feed."""
@@ -84,7 +84,7 @@ def commands_of(program):
 
 @dataclass(frozen=True)
 class Script:
-    """A script of bin/, with the commands that its help lists. `bin/install` copies it, or it needs this tree."""
+    """A command of forestlab, with the commands below it that its help lists."""
 
     name: str
     # The words of a call, its standard input, and a pattern of all that it prints. FILE is a network of two nodes that
@@ -93,7 +93,11 @@ class Script:
     data: str
     answer: str
     commands: tuple[str, ...] = ()
-    is_installed: bool = True
+
+    @property
+    def line(self):
+        """The words of a call of it."""
+        return ["forestlab", *self.name.split(), *self.words]
 
 
 ENDED = "transcript 1 2|" + "".join(f"{v} pulse {p}|" for v in (1, 2) for p in PULSES)
@@ -111,18 +115,17 @@ SCRIPTS = (
     Script("channels", ("1", "6", "11"), "plan|1 3|2 1|", r"plan\n1 11\n2 1\n"),
     # Each of two nodes that are apart makes its 12 pulses by itself: 13 times 13 states.
     Script("explore", ("FILE",), "", r"every schedule of net: 169 states, [^\0]*\none end: channels 1 1\n"),
-    Script("check-transcript", ("FILE",), ENDED, r"whole run of 2 nodes, 24 entries, 0 payloads, 0 wires\n"),
-    Script("replay", ("FILE",), ENDED, r"node 1 pulse 12 channel 1\nnode 2 pulse 12 channel 1\n"),
     Script("simulate", ("FILE", "--policy", "oldest"), "", r"transcript 2 2\n(\d+ [12] pulse \d+\n){24}"),
-    Script("sheet", ("--seed", "7", "--lesson", "2"), "", r"<!doctype html>[^\0]*</html>\n"),
-    # It doesn't end by itself; tests/programs/studio.py asks it more.
-    Script("studio", ("--help",), "", r"usage: studio [^\0]*"),
-    Script("transcript-to", ("json",), "transcript 2 1|1 1 pulse 1|",
+    Script("transcript", ("--help",), "", r"Judges a transcript [^\0]*", commands=("check", "replay", "convert")),
+    Script("transcript check", ("FILE",), ENDED, r"whole run of 2 nodes, 24 entries, 0 payloads, 0 wires\n"),
+    Script("transcript replay", ("FILE",), ENDED, r"node 1 pulse 12 channel 1\nnode 2 pulse 12 channel 1\n"),
+    Script("transcript convert", ("json",), "transcript 2 1|1 1 pulse 1|",
            r'{"edition": 2, "nodes": 1}\n{"line": 2, "stamp": 1, "node": 1, "kind": "pulse", "pulse": 1}\n'),
-    Script("workshop", ("--help",), "", r"usage: workshop [^\0]*"),
-    Script("install", ("--help",), "", r"usage: install [^\0]*", is_installed=False),
-    Script("pack", ("--help",), "", r"usage: pack FOLDER [^\0]*", is_installed=False),
-    Script("new-program", ("--help",), "", r"usage: new-program NAME[^\0]*", is_installed=False),
-    Script("vendor", ("--help",), "", r"usage: vendor DIR CRATE [^\0]*", is_installed=False),
-    Script("wrong-bodies", ("--help",), "", r"usage: wrong-bodies [^\0]*", is_installed=False),
+    # It doesn't end by itself; tests/programs/studio.py asks it more.
+    Script("studio", ("--help",), "", r"usage: forestlab studio [^\0]*"),
+    Script("workshop", ("--help",), "", r"usage: forestlab workshop [^\0]*"),
+    Script("sheet", ("--seed", "7", "--lesson", "2"), "", r"<!doctype html>[^\0]*</html>\n"),
 )
+# What `python3 build NAME` does for whoever builds.
+BUILDERS = ("completion", "install", "new-program", "pack", "promises", "prove", "prove-crate", "schedule", "vendor",
+            "wrong-bodies")

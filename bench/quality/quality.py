@@ -5,7 +5,7 @@
 DSATUR (D. Brelaz, New methods to color the vertices of a graph, 1979) and smallest last (D. W. Matula and L. L. Beck,
 Smallest-last ordering and clustering and graph coloring algorithms, 1983) look at the whole network, one node after the
 other; our nodes know their neighbours alone. Both are written here; if networkx is there, its own numbers are in two
-further columns. The networks are made anew each time, by seeds. The plan comes from `bin/forestplan plain`.
+further columns. The networks are made anew each time, by seeds. The plan comes from `forestplan plain`.
 """
 import argparse
 import heapq

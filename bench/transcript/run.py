@@ -28,7 +28,7 @@ import tempfile
 from bench import graphs
 from bench.by_turns import TOP, agree, build_peak, mark, networks, programs_of, run_once, timed, times, words_of_command
 
-CHECK = os.path.join(TOP, "bin", "check-transcript")
+CHECK = [os.path.join(TOP, "bin", "forestlab"), "transcript", "check"]
 SMALL = 1_500_000
 
 
@@ -47,7 +47,7 @@ def payloads(transcript):
 
 
 def is_whole_run(path, transcript):
-    return subprocess.run([CHECK, path, transcript], stdout=subprocess.DEVNULL).returncode == 0
+    return subprocess.run([*CHECK, path, transcript], stdout=subprocess.DEVNULL).returncode == 0
 
 
 class Case:

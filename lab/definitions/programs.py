@@ -9,7 +9,7 @@ from lab.definitions.own_program import own_program
 from lab.wrong import Wrong
 
 PROGRAMS = {program.name: program for program in (Colouring, Leader, Layers)}
-HELP = "what the nodes run: colouring, leader, layers, or a file of your own, as NAME.py (colouring)"
+HELP = "what the nodes run: colouring, leader, layers, or a file of your own, as NAME.py; default: colouring"
 
 
 def program_at(name: str, lots: str = "1") -> type:
@@ -31,4 +31,4 @@ def note_ignored_bars(command: str, bars: dict, program: type) -> None:
 def add_program(words):
     """Adds the options to a command line."""
     words.add_argument("--program", default=Colouring.name, metavar="P", help=HELP)
-    words.add_argument("--lots", default="1", metavar="N", help="the seed of a file's `me.random` (1)")
+    words.add_argument("--lots", default="1", metavar="WORD", help="the seed of a file's `me.random`; default: 1")

@@ -1,6 +1,6 @@
 """Networks by chance that are alike: connected if that is asked for, with a greatest number of neighbours and of
-forests. So each of them has as many rounds, and is as hard as any other. `bin/network random` and `bin/sheet` make
-them."""
+forests. So each of them has as many rounds, and is as hard as any other. `forestlab network random` and `forestlab
+sheet` make them."""
 import random
 
 from lab.networks.kinds import at_least, below, check_room
@@ -68,7 +68,7 @@ class Growing:
 
 
 def alike(nodes, edges, seed, connected, neighbours, forests):
-    """A network of `bin/network random` with these wishes."""
+    """A network of `forestlab network random` with these wishes."""
     at_least(1, nodes=nodes)
     at_least(0, edges=edges, neighbours=neighbours or 0, forests=forests or 0)
     check_room(nodes, edges)

@@ -1,4 +1,4 @@
-"""Real channel numbers (36, 40, 44, ..) beside a plan's, which count from 1; and the command `bin/channels`."""
+"""Real channel numbers (36, 40, 44, ..) beside a plan's, which count from 1; and the command `forestlab channels`."""
 import argparse
 import os
 import re
@@ -7,6 +7,7 @@ import sys
 from lab.networks import sites
 from lab.networks.listed import clean
 from lab.networks.network_text import MAX_CHANNEL, shown, whole
+from lab.words import add_output, text_at, write
 from lab.wrong import Wrong, wrong_line
 
 # Headings of the column of channels in a file, in small letters without blanks.
@@ -32,8 +33,8 @@ Status: 0 done, 1 the text is no plan, or has a channel that the table hasn't, 2
 command line is refused.
 
 Examples:
-  bin/forestplan plain < net.col | bin/channels 1 6 11
-  (cat net.col; bin/channels --back 1 6 11 < real.plan) | bin/forestplan check
+  forestplan plain < net.col | forestlab channels 1 6 11
+  (cat net.col; forestlab channels --back 1 6 11 < real.plan) | forestplan check
 """
 
 
@@ -108,10 +109,12 @@ def from_real(rows: list, table: list[int], name: str) -> dict[int, int]:
 
 
 def main(words: list[str]) -> int:
-    asked = argparse.ArgumentParser(prog="channels", usage="channels [--back] TABLE.. < PLAN", description=HELP,
-                                    epilog=MORE_HELP, formatter_class=argparse.RawDescriptionHelpFormatter)
+    asked = argparse.ArgumentParser(prog="forestlab channels", usage="forestlab channels [--back] TABLE.. < PLAN",
+                                    description=HELP, epilog=MORE_HELP,
+                                    formatter_class=argparse.RawDescriptionHelpFormatter)
     asked.add_argument("--back", action="store_true", help="from real numbers to those that count from 1")
     asked.add_argument("table", nargs="*", metavar="TABLE", help="the real numbers, in order, or a file that has them")
+    add_output(asked)
     given = asked.parse_args(words)
     if not given.table and not given.back:
         asked.error("a table is wanted, as 1 6 11")
@@ -120,7 +123,7 @@ def main(words: list[str]) -> int:
     except Wrong as why:
         asked.error(str(why))
     try:
-        rows = rows_of(sys.stdin.buffer.read().decode("utf-8", "replace"), "the plan")
+        rows = rows_of(text_at("-"), "the plan")
         if table is None:
             table = sorted({number for _, _, number in rows})
             print(f"channels: 1 to {len(table)} are {' '.join(map(str, table))}", file=sys.stderr)
@@ -128,5 +131,5 @@ def main(words: list[str]) -> int:
     except Wrong as why:
         print(f"channels: {why}", file=sys.stderr)
         return 1
-    sys.stdout.write("plan\n" + "".join(f"{vertex} {of[channel]}\n" for _, vertex, channel in rows))
+    write(given, "plan\n" + "".join(f"{vertex} {of[channel]}\n" for _, vertex, channel in rows))
     return 0

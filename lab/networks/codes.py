@@ -1,5 +1,5 @@
-"""`bin/network tell CODE`: what a code of a fault means, and what to do. docs/claim/FORMATS.md lists the codes, and
-docs/claim/DEFINITIONS.md defines them."""
+"""`forestlab network tell CODE`: what a code of a fault means, and what to do. docs/claim/FORMATS.md lists the codes,
+and docs/claim/DEFINITIONS.md defines them."""
 import re
 from dataclasses import dataclass
 
@@ -9,7 +9,7 @@ EITHER, ANY = "an event or an entry of a transcript", "any command"
 LINE, VERTEX, TWO = "a line", "a vertex", "two vertices"
 WAIT = "A node makes its next pulse when its payloads are acknowledged and all its neighbours have said safe."
 LINES = "Lines count from the first line of the input, the network's included."
-CHECK = f"`bin/check-transcript NETWORK TRANSCRIPT` says which rule the entry breaks. {LINES}"
+CHECK = f"`forestlab transcript check NETWORK TRANSCRIPT` says which rule the entry breaks. {LINES}"
 
 
 @dataclass(frozen=True)
@@ -29,20 +29,20 @@ class Code:
 CODES = (
     Code("F1", NETWORK, "there is no line `p edge NODES EDGES`",
          "begin the network with this line; if the input is empty, name the file after a `<`: "
-         "`bin/forestplan plan < FILE`"),
+         "`forestplan plan < FILE`"),
     Code("F2", NETWORK, "{at} is a second `p` line", "leave one of them; perhaps two networks were joined", LINE),
     Code("F3", NETWORK, "{at} is an `e` line before the `p` line", "put the `p` line first", LINE),
     Code("F4", NETWORK, "in {at} a field is missing or isn't a number, or the word after `p` is another than edge, "
          "edges and col", "write `p edge NODES EDGES`, `e V W`, `i V NUMBER` or `b V CHANNEL`", LINE),
     Code("F5", NETWORK, "in {at} a vertex is 0 or above NODES",
-         "vertices count from 1 to the NODES of the `p` line; `bin/network read FILE` takes a text that counts "
+         "vertices count from 1 to the NODES of the `p` line; `forestlab network read FILE` takes a text that counts "
          "from 0", LINE),
-    Code("F6", NETWORK, "{at} joins a vertex to itself", "take the line out; `bin/network read FILE` does", LINE),
+    Code("F6", NETWORK, "{at} joins a vertex to itself", "take the line out; `forestlab network read FILE` does", LINE),
     Code("F7", NETWORK, "in {at} NODES is above 20,000, or it names one more than 400,000 different edges",
          "take a smaller network: these are the programs' limits", LINE),
     Code("F8", NETWORK, "{at} begins with a word that begins no line of a network",
          "begin a comment with c. A network comes before its plan, events or transcript: has it a `p` line, and "
-         "does an event begin with pulse, put or take? `bin/network read FILE` reads other forms", LINE),
+         "does an event begin with pulse, put or take? `forestlab network read FILE` reads other forms", LINE),
     Code("F9", NETWORK, "memory ran out; the programs write `memory`", MEMORY),
     Code("F10", NETWORK, "{at} is an `i` or a `b` line before the `p` line", "put the `p` line first", LINE),
     Code("F11", NETWORK, "in {at} the identifier is 2^128 or more", "take a smaller identifier", LINE),
@@ -59,7 +59,7 @@ CODES = (
     Code("C3", PLAN, "{at} has a second line in the plan", "leave one of them", VERTEX),
     Code("C4", PLAN, "{at} are neighbours, and have the same channel", "give one of them another channel", TWO),
     Code("C5", PLAN, "{at} has a channel above D + B + 1, with D as the most neighbours and B as the most barred "
-         "channels of a vertex", "give it a lower channel; `bin/channels --back` puts real channel numbers back",
+         "channels of a vertex", "give it a lower channel; `forestlab channels --back` puts real channel numbers back",
          VERTEX),
     Code("C6", PLAN, "{at} of the plan is neither `plan` nor `V CHANNEL`, or there is no plan (line 1)",
          "after the network put a line `plan` and then a line `V CHANNEL` for each vertex, channels from 1. The "
@@ -75,7 +75,8 @@ CODES = (
          "let the node take or pulse first: that is what gives it wires to put. An event has a port, from 0, and "
          "an entry a neighbour", LINE, "E2"),
     Code("LinkEmpty", EITHER, "in {at} the link has no wire to take",
-         "let the neighbour put one first; a transcript of edition 1 needs `bin/replay`, which looks for an order",
+         "let the neighbour put one first; a transcript of edition 1 needs `forestlab transcript replay`, which looks "
+         "for an order",
          LINE, "E3"),
     Code("NoSuch", EITHER, "in {at} there is no such vertex or port, or the two aren't neighbours",
          "vertices count from 1, and the ports of a node from 0, by ascending neighbour", LINE, "E4"),

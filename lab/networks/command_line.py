@@ -1,8 +1,9 @@
-"""The command line of `bin/network`: its commands with what each does, more of it, and an example."""
+"""The command line of `forestlab network`: its commands with what each does, more of it, and an example."""
 import argparse
 
 from lab.networks.forms import FORMS
 from lab.networks.numbering import WAYS
+from lab.words import add_output, add_seed
 
 HELP = """\
 Makes networks, reads them in other forms, and says what they are.
@@ -34,50 +35,51 @@ This is Python: tested, not proved. So compare the counts that it reports.
 
 Status: 0 done, 1 the file can't be read as a network, 2 the command line is refused.
 
-`bin/network KIND --help` has the options and an example.
+`forestlab network KIND --help` has the options and an example.
 """
 
 SIZES = {"path": ["nodes"], "ring": ["nodes"], "star": ["nodes"], "complete": ["nodes"], "grid": ["rows", "columns"],
          "queen": ["rows", "columns"], "tree": ["nodes"], "disk": ["nodes"], "random": ["nodes", "edges"]}
 CHANCE = ("tree", "disk", "random")
-USAGES = {"read": "network read [FILE] [options]", "tell": "network tell FILE [--payloads]\n       network tell CODE"}
+USAGES = {"read": "network read [FILE] [options]",
+          "tell": "network tell FILE [options]\n       forestlab network tell CODE"}
 # What each command does: a line of help, more of it, and its example.
 COMMANDS = {
-    "path": ("A row: node 1 is joined to 2, 2 to 3, and so on.", "", "bin/network path 20 | bin/forestplan plain"),
-    "ring": ("A row whose last node is joined to its first.", "", "bin/network ring 12 | bin/forestplan plain"),
+    "path": ("A row: node 1 is joined to 2, 2 to 3, and so on.", "", "forestlab network path 20 | forestplan plain"),
+    "ring": ("A row whose last node is joined to its first.", "", "forestlab network ring 12 | forestplan plain"),
     "star": (
         "One centre, joined to all others, its leaves.",
         "The centre has the greatest number, so there is one forest;\n"
         "`number --by degree --reverse` gives it the number 1.",
-        "bin/network star 9 | bin/forestplan forests",
+        "forestlab network star 9 | forestplan forests",
     ),
-    "complete": ("Each node is joined to each other.", "", "bin/network complete 8 | bin/forestplan plan"),
+    "complete": ("Each node is joined to each other.", "", "forestlab network complete 8 | forestplan plan"),
     "grid": (
         "The squares of a board; two are joined if they share a side.",
         "They are numbered row by row.",
-        "bin/network grid 10 10 > grid.col",
+        "forestlab network grid 10 10 > grid.col",
     ),
     "queen": (
         "The squares of a board; two are joined if a queen moves from one to the other.",
         "They are numbered row by row.",
-        "bin/network queen 5 5 | bin/forestplan plain",
+        "forestlab network queen 5 5 | forestplan plain",
     ),
     "tree": (
         "Each node but the first is joined to one before it, by chance.",
         "",
-        "bin/network tree 30 --seed 7 > tree.col",
+        "forestlab network tree 30 --seed 7 > tree.col",
     ),
     "disk": (
         "Places by chance in a square; two are joined if they are near.",
         "So transmitters interfere that are near each other (a unit-disk graph).",
-        "bin/network disk 30 --reach 0.26 --seed 5 > masts.col",
+        "forestlab network disk 30 --radius 0.26 --seed 5 > masts.col",
     ),
     "random": (
         "So many different edges by chance, each choice as likely as any other.",
         "With wishes the networks of all seeds are equally hard: with --neighbours D and --forests U\n"
         "each has 12 + 3·U·(D + 1) as its last pulse. Then not each choice is as likely.",
-        "bin/network random 50 120 --seed 3 > net.col\n"
-        "  bin/network random 8 9 --connected --neighbours 3 --forests 2 --seed 7 > sheet.col",
+        "forestlab network random 50 120 --seed 3 > net.col\n"
+        "  forestlab network random 8 9 --connected --neighbours 3 --forests 2 --seed 7 > sheet.col",
     ),
     "read": (
         "Reads a network in another form, and writes it in the DIMACS format.",
@@ -102,8 +104,8 @@ COMMANDS = {
         "of the table, in its order, those without a neighbour too; a pair of another site is\n"
         "left out, and said with the name that is most alike. A table of bars has the heading\n"
         "site,channel. Headings may be German, too.",
-        "bin/network read pairs.csv --sites sites.csv > sites.col\n"
-        "  bin/network read --sites sites.csv --reach 5.5 --bars bars.csv > sites.col",
+        "forestlab network read pairs.csv --sites sites.csv > sites.col\n"
+        "  forestlab network read --sites sites.csv --reach 5.5 --bars bars.csv > sites.col",
     ),
     "number": (
         "Numbers the nodes of a network anew.",
@@ -113,7 +115,7 @@ COMMANDS = {
         "A node keeps its name; one without a name gets its old number as name. Identifiers and\n"
         "barred channels of lines `i` and `b` go with their nodes.\n"
         "The forests depend on the numbers, and so does the plan.",
-        "bin/network number examples/petersen.col --by random --seed 2 | bin/forestplan forests",
+        "forestlab network number examples/petersen.col --by random --seed 2 | forestplan forests",
     ),
     "tell": (
         "Says what a network is, and what a run on it comes to; or what is wrong with its text.",
@@ -131,39 +133,40 @@ COMMANDS = {
         "              processors can double it. `plain` prints the same plan as `plan`.\n\n"
         "If FILE is a code that the programs report, and no file, it says what the fault is and\n"
         "what to do. The words after the code may follow: C8 vertex 1.",
-        "bin/network tell examples/petersen.col\n"
-        "  bin/network tell C8",
+        "forestlab network tell examples/petersen.col\n"
+        "  forestlab network tell C8",
     ),
     "names": (
         "Puts the names of a network on a plan, which it reads from standard input.",
         "A line has a node's name and its channel; a node without a name has its number.\n"
-        "With --channels the channels are real numbers: see `bin/channels --help`.",
-        "bin/forestplan plain < sites.col | bin/network names sites.col --channels '1 6 11'",
+        "With --channels the channels are real numbers: see `forestlab channels --help`.",
+        "forestplan plain < sites.col | forestlab network names sites.col --channels '1 6 11'",
     ),
 }
 
 
 def command_line():
     words = argparse.ArgumentParser(
-        prog="network",
-        usage="network COMMAND WORDS.. [options]",
+        prog="forestlab network",
+        usage="forestlab network COMMAND WORDS.. [options]",
         description=HELP,
         epilog=MORE_HELP,
         formatter_class=argparse.RawDescriptionHelpFormatter,
     )
     commands = words.add_subparsers(
-        prog="network", dest="command", metavar="COMMAND", required=True, help="one of those above"
+        prog="forestlab network", dest="command", metavar="COMMAND", required=True, help="one of those above"
     )
     for name, (what, more, example) in COMMANDS.items():
         sizes = " ".join(size.upper() for size in SIZES.get(name, ["file"]))
         command = commands.add_parser(
             name,
-            usage=USAGES.get(name, f"network {name} {sizes} [options]"),
+            usage="forestlab " + USAGES.get(name, f"network {name} {sizes} [options]"),
             description=f"{what}\n\n{more}".rstrip(),
             epilog=f"Example:\n  {example}",
             formatter_class=argparse.RawDescriptionHelpFormatter,
         )
         add_words(command, name)
+        add_output(command)
         command.set_defaults(refuse=command.error)
     return words
 
@@ -173,15 +176,14 @@ def add_words(command, name):
         command.add_argument(size, type=int, metavar=size.upper(), help=f"how many {size}")
     if name not in SIZES:
         count = {"read": "?", "tell": "+"}.get(name)
-        what = "a file, or - for standard input" + "; or a code, as C8" * (name == "tell")
+        what = "a file, or - for standard input"
+        what += {"tell": ", or a name, as path5; or a code, as C8", "read": ""}.get(name, ", or a name, as petersen")
         command.add_argument("file", metavar="FILE", nargs=count, help=what)
     if name in CHANCE + ("number",):
-        command.add_argument(
-            "--seed", type=int, default=1, metavar="N", help="the same number chooses the same again; default: 1"
-        )
+        add_seed(command, "the same one chooses the same again")
     if name == "disk":
         command.add_argument(
-            "--reach",
+            "--radius",
             type=float,
             default=0.26,
             metavar="R",
@@ -197,9 +199,9 @@ def add_words(command, name):
         command.add_argument("--sites", metavar="CSV", help="a table of sites")
         command.add_argument("--reach", type=float, metavar="KM", help="joins sites that are less than KM apart")
         command.add_argument("--bars", metavar="CSV", help="a table of channels that are barred at sites")
-        command.add_argument("--licence", metavar="TABLE", help="the channels that all may use, as '1 6 11', or a CSV "
+        command.add_argument("--channels", metavar="TABLE", help="the channels that all may use, as '1 6 11', or a CSV "
                              "file with a column `channel`: the first is channel 1 of the plan; bars are of these "
-                             "numbers, and `bin/channels` puts them back")
+                             "numbers, and `forestlab channels` puts them back")
         command.add_argument("--strict", action="store_true", help="refuses it if something would be left out")
     if name == "tell":
         command.add_argument("--payloads", action="store_true", help="counts the payloads, however many they are")

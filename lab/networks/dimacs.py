@@ -1,5 +1,5 @@
-"""DIMACS with mistakes that can be mended, and its relatives: what `bin/network read` takes for a network that the
-programs wouldn't read."""
+"""DIMACS with mistakes that can be mended, and its relatives: what `forestlab network read` takes for a network that
+the programs wouldn't read."""
 import re
 
 from lab.networks.listed import Listed

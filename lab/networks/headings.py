@@ -78,7 +78,7 @@ def refuse_tables(first: list[str], name: str) -> None:
     of_channels = next((word for word in first if any(part in word.lower() for part in OF_CHANNELS)), None)
     if of_channels:
         raise Wrong(f"{name}: the column `{shown(of_channels)}` is no end of an edge: --bars reads a table of site and "
-                    "channel, and --licence one of channels (if these are pairs: --heading yes or --heading no)")
+                    "channel, and --channels one of channels (if these are pairs: --heading yes or --heading no)")
     if OF_PLACES & {word.lower() for word in first}:
         raise Wrong(f"{name}: these columns look like places, which --sites reads (if they are pairs: --heading yes)")
 

@@ -1,5 +1,5 @@
-"""The kinds of networks that `bin/network KIND` makes. The same words make the same network, on every machine: what is
-chosen at random comes from `random()` of a seed alone, whose numbers Python keeps from version to version."""
+"""The kinds of networks that `forestlab network KIND` makes. The same words make the same network, on every machine:
+what is chosen at random comes from `random()` of a seed alone, whose numbers Python keeps from version to version."""
 import random
 from itertools import combinations
 from math import cos, pi, sin
@@ -128,7 +128,7 @@ def disk(nodes, reach, seed):
     at_least(1, nodes=nodes)
     check_room(nodes)
     if not 0 < reach <= 2:
-        raise Wrong(f"the reach is {reach}, and has to be above 0 and at most 2")
+        raise Wrong(f"the radius is {reach}, and has to be above 0 and at most 2")
     source, free, places = random.Random(seed), set(), {}
     while len(places) < nodes:
         place = below(source, SIDE + 1), below(source, SIDE + 1)

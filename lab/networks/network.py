@@ -1,8 +1,8 @@
-"""`bin/network`: makes networks, reads other forms of them, numbers their nodes anew, says what they are, and puts
-names back on a plan. Nothing of it is proved: what is claimed of a plan begins at the bytes of the network's text."""
+"""`forestlab network`: makes networks, reads other forms of them, numbers their nodes anew, says what they are, and
+puts names back on a plan. Nothing of it is proved: what is claimed of a plan begins at the bytes of the network's
+text."""
 import csv
 import io
-import os
 import sys
 
 from lab.networks import kinds, listed, sites
@@ -12,19 +12,21 @@ from lab.networks.codes import code_of, is_like_a_code, tell_code
 from lab.networks.command_line import SIZES, command_line
 from lab.networks.costs import NotMeasured
 from lab.networks.listed import Listed
+from lab.networks.named import network_bytes, network_text, path_of
 from lab.networks.network_text import read_network
 from lab.networks.numbering import renumbered
 from lab.networks.plan_text import read_plan
 from lab.networks.reading import listed_of, made_of, other_form
 from lab.networks.telling import tell
 from lab.networks.texts import text_of
+from lab.words import source_of, text_at, write
 from lab.wrong import Wrong
 
 MAKERS = {"path": kinds.path, "ring": kinds.ring, "star": kinds.star, "complete": kinds.complete, "grid": kinds.grid,
           "queen": kinds.queen, "tree": kinds.tree, "disk": kinds.disk, "random": kinds.any_edges}
 
 
-def bytes_of(path):
+def bytes_of_file(path):
     try:
         if path == "-":
             return listed.bytes_of(sys.stdin.buffer, "-")
@@ -55,14 +57,17 @@ def wish_words(given):
 def made(given):
     """A network of a kind."""
     sizes = [getattr(given, size) for size in SIZES[given.command]]
-    more = {"tree": ["seed"], "disk": ["reach", "seed"], "random": ["seed"]}.get(given.command, [])
+    more = {"tree": ["seed"], "disk": ["radius", "seed"], "random": ["seed"]}.get(given.command, [])
+    chosen = {name: getattr(given, name) for name in more}
+    if more:
+        chosen["seed"] = source_of(given.seed)
     maker = alike if wishes_of(given) else MAKERS[given.command]
     try:
-        network = maker(*sizes, *(getattr(given, name) for name in more), *wishes_of(given))
+        network = maker(*sizes, *chosen.values(), *wishes_of(given))
     except Wrong as why:
         given.refuse(str(why))
     options = "".join(f" --{name} {getattr(given, name)}" for name in more) + wish_words(given)
-    network.head = [f"Made by bin/network {given.command} {' '.join(map(str, sizes))}{options}"]
+    network.head = [f"Made by forestlab network {given.command} {' '.join(map(str, sizes))}{options}"]
     return text_of(network)
 
 
@@ -76,7 +81,7 @@ def channels_asked(given, words):
 
 def was_read(given):
     heading = {"yes": True, "no": False}.get(given.heading)
-    licence = channels_asked(given, given.licence)
+    licence = channels_asked(given, given.channels)
     if given.reach is not None and not (given.sites and 0 < given.reach <= 20000):
         given.refuse("--reach is for a table of --sites, and above 0")
     if given.file is None and given.reach is None:
@@ -86,13 +91,13 @@ def was_read(given):
     if given.file is None:
         found = Listed("sites")
     else:
-        found = listed_of(bytes_of(given.file), given.file, given.form, heading)
+        found = listed_of(bytes_of_file(given.file), given.file, given.form, heading)
     name = given.file or given.sites
     if given.sites:
         sites.by_names(found, name)
-        sites.with_sites(found, sites.read_sites(bytes_of(given.sites), given.sites), given.sites, given.reach)
+        sites.with_sites(found, sites.read_sites(bytes_of_file(given.sites), given.sites), given.sites, given.reach)
     if given.bars:
-        sites.with_bars(found, bytes_of(given.bars), given.bars, licence)
+        sites.with_bars(found, bytes_of_file(given.bars), given.bars, licence)
     network, said, left_out = made_of(found, name)
     if given.strict and left_out:
         raise Wrong(f"{name}: refused, since --strict is asked for: {'; '.join(left_out)}")
@@ -108,7 +113,7 @@ def was_read(given):
 def was_told(given):
     """What is said of a network, or of a code if there is no file of that name."""
     words = " ".join(given.file)
-    if not os.path.exists(words):
+    if path_of(words) is None:
         if found := code_of(words):
             return "".join(line + "\n" for line in tell_code(found))
         if is_like_a_code(words):
@@ -119,7 +124,7 @@ def was_told(given):
 
 
 def network_told(path, is_counted):
-    data = bytes_of(path)
+    data = network_bytes(path) if path_of(path) != path else bytes_of_file(path)
     if is_counted and sys.stderr.isatty():
         say("the payloads of a large network take some minutes to count")
     try:
@@ -130,7 +135,7 @@ def network_told(path, is_counted):
         # Of a network that is too large `read` would say the same.
         other = None if str(why).endswith(("(F7)", "(N1)")) else other_form(data, path)
         if other:
-            raise Wrong(f"{why}\nnetwork: but `bin/network read {path}` can read it: {other}") from None
+            raise Wrong(f"{why}\nnetwork: but `forestlab network read {path}` can read it: {other}") from None
         raise
     for what in warned:
         say(f"{path}: {what}")
@@ -138,16 +143,16 @@ def network_told(path, is_counted):
 
 
 def was_numbered(given):
-    network = read_network(bytes_of(given.file).decode("utf-8", "replace"), given.file)
-    return text_of(renumbered(network, given.by, given.seed, given.reverse))
+    network = read_network(network_text(given.file), given.file)
+    return text_of(renumbered(network, given.by, source_of(given.seed), given.reverse))
 
 
 def was_named(given):
     if given.file == "-":
         raise Wrong("names: standard input has the plan, so the network has to be a file")
-    network = read_network(bytes_of(given.file).decode("utf-8", "replace"), given.file)
+    network = read_network(network_text(given.file), given.file)
     table = channels_asked(given, given.channels)
-    plan = read_plan(bytes_of("-").decode("utf-8", "replace"), "the plan", network)
+    plan = read_plan(text_at("-"), "the plan", network)
     if table and max(plan.values(), default=0) > len(table):
         raise Wrong(f"the plan takes {max(plan.values())} channels, and the table has {len(table)}")
     rows = [(network.names.get(v, str(v)), table[plan[v] - 1] if table else plan[v]) for v in network.vertices]
@@ -163,7 +168,7 @@ def main(words):
     doers = {"read": was_read, "tell": was_told, "number": was_numbered, "names": was_named}
     try:
         text = doers[given.command](given) if given.command in doers else made(given)
-        sys.stdout.buffer.write(text.encode())
+        write(given, text)
     except Wrong as why:
         say(why)
         return 1

@@ -1,5 +1,5 @@
-"""`bin/network number`: the same network with other numbers. A node keeps its name, or is named by its old number; it
-keeps the identifier that a line gives it, and its barred channels."""
+"""`forestlab network number`: the same network with other numbers. A node keeps its name, or is named by its old
+number; it keeps the identifier that a line gives it, and its barred channels."""
 import random
 
 from lab.networks.network_text import two_alike

@@ -19,7 +19,7 @@ def read_plan(text, name, network):
         if vertex in plan:
             raise wrong_line(name, number, f"a second line of vertex {vertex} (C3)")
         if not 1 <= channel <= network.channels:
-            hint = "; if it is a real channel number: bin/channels --back TABLE" if channel else ""
+            hint = "; if it is a real channel number: forestlab channels --back TABLE" if channel else ""
             raise wrong_line(name, number, f"channel {channel} is not one of 1 to {network.channels} (C5){hint}")
         if channel in network.barred(vertex):
             raise wrong_line(name, number, f"channel {channel} is barred at vertex {vertex} (C8)")

@@ -1,5 +1,5 @@
-"""`bin/network read`: a network in one of the forms, as a text that the programs read, and what was guessed and left
-out."""
+"""`forestlab network read`: a network in one of the forms, as a text that the programs read, and what was guessed and
+left out."""
 from lab.networks.forms import listed
 from lab.networks.listed import decoded, with_clean_names
 from lab.networks.network_text import MAX_DEGREE, MAX_EDGES, MAX_NODES, read_network, shown, stem, two_alike, whole

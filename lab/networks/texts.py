@@ -1,4 +1,4 @@
-"""A network as text: what `bin/network` writes, in the DIMACS format, with places and names in comment lines."""
+"""A network as text: what `forestlab network` writes, in the DIMACS format, with places and names in comment lines."""
 
 
 class Made:

@@ -48,7 +48,7 @@ def play_words(network, space):
     if is_own(space.program):
         return "What the list comes to, as `forestplay events` writes it of the programs that it knows:"
     words = (f"Store the list as list.events, and type (cat {network.name}.col; cat list.events) | "
-             f"bin/forestplay events{option(space.program)}")
+             f"forestplay events{option(space.program)}")
     if space.without:
         return (
             f"{words}. It keeps all rules, so it names the line of the first event that can happen here alone; "
@@ -60,9 +60,9 @@ def play_words(network, space):
 def transcript_words(network, space):
     """How the list becomes the transcript of its run."""
     name, program = network.name, option(space.program)
-    judge = f"bin/check-transcript {name}.col list.transcript{program}" if is_own(space.program) else (
-        f"(cat {name}.col; cat list.transcript) | bin/forestplay replay{program}")
-    words = (f"Store the list as list.events, and type bin/simulate {name}.col --events list.events{program} > "
+    judge = f"forestlab transcript check {name}.col list.transcript{program}" if is_own(space.program) else (
+        f"(cat {name}.col; cat list.transcript) | forestplay replay{program}")
+    words = (f"Store the list as list.events, and type forestlab simulate {name}.col --events list.events{program} > "
              f"list.transcript. Once all have halted (or with --to-the-end, which plays the rest) "
-             f"{judge} accepts it. bin/picture run and watch draw it, halted or not.")
+             f"{judge} accepts it. forestlab picture run and watch draw it, halted or not.")
     return words + " An event that can happen here alone is refused there, with its line." * bool(space.without)

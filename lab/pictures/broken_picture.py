@@ -184,7 +184,7 @@ class OfMerge:
             network.nodes,
             "nodes of a merge",
             MOST_MERGED,
-            "`bin/explore NETWORK --without RULES`, which says it in words",
+            "`forestlab explore NETWORK --without RULES`, which says it in words",
         )
         self.clash, self.network, self.without = rounds.clash, network, without
         self.blocks = [

@@ -57,7 +57,7 @@ def columns_of(asked, forests):
     else all, or the first four and the last."""
     shown = list(range(forests)) if asked is None else list(asked)
     if asked is not None:
-        at_most("forests", len(shown), "forests side by side", MOST_COLUMNS, "--forests A..B with fewer")
+        at_most("forests", len(shown), "forests side by side", MOST_COLUMNS, "--forest A..B with fewer")
     elif forests > MOST_COLUMNS:
         shown = shown[:MOST_COLUMNS - 2] + [range(MOST_COLUMNS - 2, forests - 1), forests - 1]
     columns, left = [], LEFT
@@ -89,7 +89,7 @@ def left_out(svg, left, sheet, forests):
     for top in (TOP, TOP + sheet.height + 54):
         svg.text(x, top + sheet.height / 2, "…", 40, SOFT, "middle")
     svg.text(x, TOP + sheet.height / 2 + 26, f"forests {forests[0]} to {forests[-1]}", 11, SOFT, "middle")
-    svg.text(x, TOP + sheet.height / 2 + 42, "(--forests A..B)", 10, SOFT, "middle")
+    svg.text(x, TOP + sheet.height / 2 + 42, "(--forest A..B)", 10, SOFT, "middle")
 
 
 def title(svg, left, top, text, under=None):

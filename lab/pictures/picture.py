@@ -1,6 +1,6 @@
-"""The door: `bin/picture KIND NETWORK [options] > x.svg`. Reads the network and the texts that are drawn, or has a
-program write them, and writes the picture, or one line on standard error and no part of it. `drawing` is for callers in
-Python: a picture of what they have."""
+"""The door: `forestlab picture KIND NETWORK [options] > x.svg`. Reads the network and the texts that are drawn, or has
+a program write them, and writes the picture, or one line on standard error and no part of it. `drawing` is for callers
+in Python: a picture of what they have."""
 import argparse
 import gc
 import re
@@ -13,6 +13,7 @@ from lab import programs
 from lab.definitions.colours import plan_text as plan_by_definition
 from lab.definitions.nodes import Colouring
 from lab.definitions.programs import add_program, note_ignored_bars, program_at
+from lab.networks.named import network_text
 from lab.networks.network_text import read_network, stem
 from lab.networks.plan_text import read_plan
 from lab.pictures import (
@@ -29,11 +30,12 @@ from lab.pictures.watch_page import steps_of_text
 from lab.schedules.reading import network_of
 from lab.schedules.rules import OF_ROUNDS as RULES_OF_ROUNDS, OF_SCHEDULES
 from lab.schedules.simulate import played, text_of_rows
+from lab.words import add_output, called, text_at, write
 from lab.wrong import Wrong
 
 HELP = """\
 Draws plans, rounds and runs, as SVG on standard output; the last three kinds draw
-what `bin/explore` searches.
+what `forestlab explore` searches.
 
   map        the network alone, without a plan: for a question sheet
   plan       the plan on the map: who has which channel
@@ -54,9 +56,9 @@ what `bin/explore` searches.
 """
 
 MORE_HELP = """\
-NETWORK is a file in the DIMACS format, or - for standard input, as in
-`bin/picture plan - < net.col > net.svg`. Comment lines `c at V X Y` place its
-vertices, y growing downwards; they count if each vertex has one. Else up to six
+NETWORK is a file in the DIMACS format, - for standard input, as in
+`forestlab picture plan - < net.col > net.svg`, or a name, as petersen or path5. Comment
+lines `c at V X Y` place its vertices, y growing downwards; they count if each vertex has one. Else up to six
 are on a circle, and more are laid out by their edges. Vertices that would overlap
 are drawn smaller, and those still too near are pushed apart. Comment lines
 `c name V NAME` name them, in plan, player, run and overview.
@@ -68,7 +70,7 @@ out by the definitions in Python, which are tested and not proved.
 Status: 0 done, 1 not drawn (one line on standard error says why), 2 the command
 line is refused; if a program refuses, its own line and status.
 
-`bin/picture KIND --help` has the options and an example.
+`forestlab picture KIND --help` has the options and an example.
 """
 
 # What each kind draws: a line of help, more of it, and its example.
@@ -76,35 +78,35 @@ KINDS = {
     "map": (
         "The network alone, without a plan.",
         "At most 400 nodes. Identifiers that differ from the numbers are written beside them.",
-        "bin/picture map examples/petersen.col > petersen-map.svg",
+        "forestlab picture map examples/petersen.col > petersen-map.svg",
     ),
     "plan": (
         "Who has which channel.",
         "At most 400 nodes. A plan that is not proper is refused; matrix draws it.",
-        "bin/picture plan examples/petersen.col > petersen-plan.svg",
+        "forestlab picture plan examples/petersen.col > petersen-plan.svg",
     ),
     "matrix": (
         "Who interferes with whom, sorted by channel.",
         "Pairs on one channel are red. At most 2,000 nodes.",
-        "bin/picture matrix examples/queen5_5.col > queen5_5-matrix.svg",
+        "forestlab picture matrix examples/queen5_5.col > queen5_5-matrix.svg",
     ),
     "forests": (
         "Each forest with its three colours, and the plan after each merge.",
         "At most 400 nodes; of more than six forests the first four and the last, or up to\n"
-        "six others with --forests.",
-        "bin/picture forests examples/four_cycle.col > four_cycle-forests.svg",
+        "six others with --forest.",
+        "forestlab picture forests examples/four_cycle.col > four_cycle-forests.svg",
     ),
     "rounds": (
         "The colours of each node in each forest, and when it chooses which channel.",
-        "At most 100 nodes. A row for each node of each forest: without --forests the first\n"
+        "At most 100 nodes. A row for each node of each forest: without --forest the first\n"
         "forests, as many as have 40 rows together, and with it at most 400 rows.",
-        "bin/picture rounds examples/triangle.col > triangle-rounds.svg",
+        "forestlab picture rounds examples/triangle.col > triangle-rounds.svg",
     ),
     "bits": (
         "One node above its parent, digit by digit, over the four bit steps.",
         "Without --vertex, the least one that has a parent. A vertex without a line `i V NUMBER`\n"
         "has its own number as its name, of few digits.",
-        "bin/picture bits examples/petersen.col --vertex 6 > petersen-bits.svg",
+        "forestlab picture bits examples/petersen.col --vertex 6 > petersen-bits.svg",
     ),
     "why": (
         "Which messages decided the channel of --vertex, back to identifiers; all others are faded.",
@@ -112,43 +114,43 @@ KINDS = {
         "words, of any network: each choice, who had taken the lower channels, the colours that gave the\n"
         "turns, and each message. What wasn't heard is left out: that a channel is free, and, of the\n"
         "greetings, who is whose parent.",
-        "bin/picture why examples/triangle.col --vertex 2 > triangle-why.svg\n"
-        "  bin/picture why examples/petersen.col --vertex 6 --text",
+        "forestlab picture why examples/triangle.col --vertex 2 > triangle-why.svg\n"
+        "  forestlab picture why examples/petersen.col --vertex 6 --text",
     ),
     "run": (
         "Above, what each node put, took and did; below, the same payloads as rounds.",
         "At most 12 nodes; above 6, payloads alone unless --only says more. Without a\n"
         "stored text two calls differ, as the runs do, but for --workers 1. With --wrong, a text\n"
         "that is refused, up to what is wrong.",
-        "bin/picture run examples/chain6.col --pulses 3..5 --transcript \\\n"
+        "forestlab picture run examples/chain6.col --pulses 3..5 --transcript \\\n"
         "    examples/chain6_slow.transcript > chain6_slow-spacetime.svg",
     ),
     "overview": (
         "The pulses of a run without a clock, from beginning to end.",
         "At most 100 nodes. Of a run of more than 100 pulses the first 40, or others with\n"
         "--pulses; of a long text only what they depend on is read, and checked.",
-        "bin/picture overview examples/petersen.col > petersen-overview.svg\n"
-        "  bin/picture overview examples/queen5_5.col --pulses 100..139 > queen5_5-overview.svg",
+        "forestlab picture overview examples/petersen.col > petersen-overview.svg\n"
+        "  forestlab picture overview examples/queen5_5.col --pulses 100..139 > queen5_5-overview.svg",
     ),
     "node": (
         "How a node knows that a round is over: how often each step is made.",
         "With --vertex V: what node V knew, entry by entry (at most 14 ports). Of a long run\n"
         "the steps of the first 40 pulses, or of others with --pulses.",
-        "bin/picture node examples/petersen.col > petersen-automaton.svg\n"
-        "  bin/picture node examples/petersen.col --vertex 1 > petersen-timing.svg",
+        "forestlab picture node examples/petersen.col > petersen-automaton.svg\n"
+        "  forestlab picture node examples/petersen.col --vertex 1 > petersen-timing.svg",
     ),
     "tally": (
         "The wires of a run by pulse, under the identity that counts them.",
         "Any network; the run has to be whole. Of more than 100 pulses the bars of the first 40,\n"
         "or of others with --pulses; the identity is the whole run's. If a run would be long,\n"
         "its wires are counted by the rounds: each whole run has the same.",
-        "bin/picture tally examples/petersen.col > petersen-tally.svg",
+        "forestlab picture tally examples/petersen.col > petersen-tally.svg",
     ),
     "player": (
         "A page with a slider and a play button: the network at each pulse.",
         "At most 40 nodes. Add #pulse-P to the page's address for a link to pulse P, and\n"
         "#pulse-P-forest-F for one of its forests.",
-        "bin/picture player examples/petersen.col > petersen.html",
+        "forestlab picture player examples/petersen.col > petersen.html",
     ),
     "watch": (
         "A page that plays a run without a clock: messages move, and each node shows what it waits for.",
@@ -156,31 +158,31 @@ KINDS = {
         "--pulses. TRANSCRIPT is a stored text, or - for standard input; without it the program\n"
         "writes one. With a second one both are beside each other, pulse by pulse. Add\n"
         "#pulse-P to the page's address for a link to pulse P.",
-        "bin/simulate examples/chain6.col --slow 2-3 > slow.transcript\n"
-        "  bin/picture watch examples/chain6.col slow.transcript > slow.html\n"
-        "  bin/picture watch examples/chain6.col slow.transcript examples/chain6_slow.transcript > two.html",
+        "forestlab simulate examples/chain6.col --slow 2-3 > slow.transcript\n"
+        "  forestlab picture watch examples/chain6.col slow.transcript > slow.html\n"
+        "  forestlab picture watch examples/chain6.col slow.transcript examples/chain6_slow.transcript > two.html",
     ),
     "schedules": (
         "Every order of events of a tiny network: its states as a lattice, one column an event.",
-        "At most four nodes and 200,000 states. Of long ones the first columns, or the columns of --events.\n"
-        "With a rule left out, up to the first event that goes wrong, which is red; with --events what\n"
+        "At most four nodes and 200,000 states. Of long ones the first columns, or others with --columns.\n"
+        "With a rule left out, up to the first event that goes wrong, which is red; with --columns what\n"
         "comes after it, too.",
-        "bin/picture schedules examples/triangle.col --events 0..24 > triangle-schedules.svg\n"
-        "  bin/picture schedules examples/path.col --without safes > path-without-safes.svg",
+        "forestlab picture schedules examples/triangle.col --columns 0..24 > triangle-schedules.svg\n"
+        "  forestlab picture schedules examples/path.col --without safes > path-without-safes.svg",
     ),
     "adversary": (
         "A page on which you are the network: you choose which message comes next.",
         "At most four nodes and 200,000 states. With a rule left out, what goes wrong is there too, in a table that\n"
         "may end early, which the page says.",
-        "bin/picture adversary examples/triangle.col > triangle.html\n"
-        "  bin/picture adversary examples/path.col --without safes > path-without-safes.html",
+        "forestlab picture adversary examples/triangle.col > triangle.html\n"
+        "  forestlab picture adversary examples/path.col --without safes > path-without-safes.html",
     ),
     "broken": (
         "What goes wrong without a rule of the rounds, and the same rounds with all rules.",
         "At most 2,000 nodes, and 40 if they go wrong in a merge. Without NETWORK, a smallest network that goes\n"
         "wrong, which is looked for. Rounds that go right are refused.",
-        "bin/picture broken --without shift > without-shift.svg\n"
-        "  bin/picture broken examples/petersen.col --without pair > petersen-without-pair.svg",
+        "forestlab picture broken --without shift > without-shift.svg\n"
+        "  forestlab picture broken examples/petersen.col --without pair > petersen-without-pair.svg",
     ),
 }
 OF_SPACE = ("schedules", "adversary")
@@ -202,8 +204,9 @@ def pulses(text):
     return int(found.group(1)), int(found.group(2))
 
 
-def one(text):
-    return pulses(f"{text}..{text}")
+def some(text):
+    """One number, or two."""
+    return pulses(text if ".." in text else f"{text}..{text}")
 
 
 def wires(text):
@@ -227,25 +230,28 @@ def rules_of_rounds(text):
 def command_line():
     """The parser, and the one of each kind."""
     words = argparse.ArgumentParser(
-        prog="picture",
-        usage="picture KIND NETWORK [options]",
+        prog="forestlab picture",
+        usage="forestlab picture KIND NETWORK [options]",
         description=HELP,
         epilog=MORE_HELP,
         formatter_class=argparse.RawDescriptionHelpFormatter,
     )
     kinds = words.add_subparsers(dest="kind", metavar="KIND", required=True, help="one of those above")
     for name, (what, more, example) in KINDS.items():
-        kind = kinds.add_parser(name, prog=f"picture {name}", usage=usage_of(name), description=f"{what}\n\n{more}",
-                                epilog=f"Example:\n  {example}", formatter_class=argparse.RawDescriptionHelpFormatter)
+        kind = kinds.add_parser(name, prog=f"forestlab picture {name}", usage=usage_of(name),
+                                description=f"{what}\n\n{more}", epilog=f"Example:\n  {example}",
+                                formatter_class=argparse.RawDescriptionHelpFormatter)
         kind.add_argument("network", metavar="NETWORK", nargs="?" if name == "broken" else None,
-                          help="the network's file, or - for standard input")
+                          help="a file, - for standard input, or a name, as petersen or path5")
         kind.add_argument("--title", metavar="NAME", help="what the picture calls the network, in place of its file")
         add_options(kind, name)
+        add_output(kind)
     return words, kinds.choices
 
 
 def usage_of(name):
-    return "picture broken [NETWORK] --without RULES" if name == "broken" else f"picture {name} NETWORK [options]"
+    words = "[NETWORK] --without RULES" if name == "broken" else "NETWORK [options]"
+    return f"forestlab picture {name} {words}"
 
 
 def add_options(kind, name):
@@ -270,8 +276,8 @@ def add_options(kind, name):
         kind.add_argument("--capacity", metavar="N", help="how many wires its links hold")
         kind.add_argument("--pulses", type=pulses, metavar="A..B", help="these pulses alone")
     if name in ("forests", "rounds"):
-        kind.add_argument("--forests", type=pulses, metavar="A..B", help="these forests alone, counted from 0")
-        kind.add_argument("--forest", dest="forests", type=one, metavar="F", help="this forest alone")
+        kind.add_argument("--forest", dest="forests", type=some, metavar="A..B",
+                          help="these forests alone, or one, as 2, counted from 0")
     if name == "rounds":
         kind.add_argument("--pulses", type=pulses, metavar="A..B", help="these pulses alone, of another program")
     if name == "bits":
@@ -294,10 +300,10 @@ def add_options(kind, name):
 def add_space_options(kind, name):
     kind.add_argument("--without", type=rules, default=(), metavar="RULES", help=f"some of {','.join(OF_SCHEDULES)}")
     if name == "schedules":
-        kind.add_argument("--events", type=pulses, metavar="A..B", help="the states after A to B events alone")
-        kind.add_argument("--run", metavar="FILE", help="the run drawn bold, as a list of events; else the one in step")
+        kind.add_argument("--columns", type=pulses, metavar="A..B", help="the states after A to B events alone")
+        kind.add_argument("--events", metavar="LIST", help="the run drawn bold, a list of events; else the one in step")
     else:
-        kind.add_argument("--text", action="store_true", dest="as_table", help="the page's table alone, as JSON")
+        kind.add_argument("--json", action="store_true", dest="as_table", help="the page's table alone")
 
 
 @dataclass
@@ -312,7 +318,7 @@ class Options:
     wrong: bool = False
     in_words: bool = False
     without: tuple[str, ...] = ()
-    events: tuple[int, int] | None = None
+    columns: tuple[int, int] | None = None
     as_table: bool = False
     # Told now and then how many states and events a search has found.
     progress: Callable[[int, int], None] | None = None
@@ -432,11 +438,11 @@ def draw_watch(_kind, network, options, texts):
 
 
 def draw_space(kind, network, options, texts):
-    beyond = kind == "adversary" or options.events is not None
+    beyond = kind == "adversary" or options.columns is not None
     space = schedules_space.space_of(network, kind, options.without, beyond, options.program, options.progress)
     if kind == "schedules":
         bold = texts.get("events")
-        return schedules_picture.draw(network, space, options.events, bold and bold.text)
+        return schedules_picture.draw(network, space, options.columns, bold and bold.text)
     return adversary_page.draw_table(space) if options.as_table else adversary_page.draw(network, space)
 
 
@@ -451,16 +457,6 @@ DRAWERS = {
 
 # From the command line.
 
-def file_text(path):
-    try:
-        if path == "-":
-            return sys.stdin.buffer.read().decode("utf-8", "replace")
-        with open(path, "rb") as file:
-            return file.read().decode("utf-8", "replace")
-    except OSError as why:
-        raise Wrong(f"{path}: {why.strerror}") from None
-
-
 def note(what):
     print(f"picture: {what}", file=sys.stderr)
 
@@ -470,7 +466,7 @@ def stored(given):
     if given.kind == "watch":
         return [("transcript", path) for path in given.transcripts]
     if given.kind == "schedules":
-        return [("events", given.run)] if given.run else []
+        return [("events", given.events)] if given.events else []
     if given.kind == "tally" and given.rounds and not given.text:
         return [("rounds", given.rounds)]
     return [(form_of(given.kind), given.text)] if getattr(given, "text", None) and given.kind not in OF_SPACE else []
@@ -483,7 +479,7 @@ def form_of(kind):
 
 def texts_of(given, network, network_text, options):
     """The texts that are drawn: those of files, or what a program writes."""
-    found = [Text(form, named_input(path), file_text(path),
+    found = [Text(form, called(path), text_at(path),
                   None if path == "-" or given.title or given.kind == "watch" else stem(path))
              for form, path in stored(given)]
     if found:
@@ -522,11 +518,6 @@ def tallies_rounds(given, network, program):
     return given.kind == "tally" and least_wires(network, program) > MANY_WIRES
 
 
-def named_input(path):
-    """What a fault of a text calls it."""
-    return "standard input" if path == "-" else path
-
-
 def options_of(given):
     """The options of a kind as the command line has them."""
     found = {field.name: getattr(given, field.name) for field in fields(Options) if hasattr(given, field.name)}
@@ -547,8 +538,8 @@ def drawn(given):
         raise Wrong("a page has room for two runs")
     if [given.network, *(path for _, path in stored(given))].count("-") > 1:
         raise Wrong("standard input has one text: name a file for each other one")
-    data = file_text(given.network)
-    network = read_network(data, named_input(given.network))
+    data = network_text(given.network)
+    network = read_network(data, called(given.network))
     network.name = given.title or ("this network" if given.network == "-" else network.name)
     check_size(given.kind, network)
     options = options_of(given)
@@ -573,9 +564,6 @@ def main(words):
     except programs.Refused as why:
         sys.stderr.write(why.words)
         return why.status
-    sys.stdout.buffer.write(picture.encode())
+    write(given, picture)
     return 0
 
-
-if __name__ == "__main__":
-    sys.exit(main(sys.argv[1:]))

@@ -51,7 +51,7 @@ def left_out_of(rounds, forests):
     if len(forests) == rounds.forests:
         return []
     shown = f"forest {forests[0]}" if len(forests) == 1 else f"forests {forests[0]} to {forests[-1]}"
-    return [f"Here {shown} of 0 to {rounds.forests - 1}; draw others with --forests A..B."]
+    return [f"Here {shown} of 0 to {rounds.forests - 1}; draw others with --forest A..B."]
 
 
 def columns_of(rounds, forests):

@@ -21,7 +21,7 @@ def draw(network, space, window, run_text):
     low, high = window or first_window(space, last)
     if not 0 <= low <= high <= last:
         raise Wrong(
-            f"{network.name} has states after 0 to {last} events: --events takes two of these numbers, the lower one "
+            f"{network.name} has states after 0 to {last} events: --columns takes two of these numbers, the lower one "
             "first"
         )
     steps = steps_between(space)[low:high]

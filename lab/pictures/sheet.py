@@ -1,10 +1,9 @@
-"""The door: `bin/sheet [options]`. Question sheets to print, each with a network of its own and all equally hard, or
-the same sheets with their answers, as one HTML page.
+"""The door: `forestlab sheet [options]`. Question sheets to print, each with a network of its own and all equally hard,
+or the same sheets with their answers, as one HTML page.
 
 Every answer is worked out by the slow definitions (lab/definitions) and from nothing else."""
 import argparse
 import random
-import sys
 
 from lab.definitions.colours import Network, at_parent, colours, drop, first_colours, merge, shift, three
 from lab.definitions.nodes import NetState, last_pulse
@@ -13,6 +12,7 @@ from lab.networks.alike import alike_edges
 from lab.networks.network_text import Network as Drawn
 from lab.pictures.map_picture import draw_map
 from lab.pictures.svg import Svg, escaped
+from lab.words import add_output, add_seed, write
 
 LESSONS = (1, 2, 3, 4, 5)
 MOST_SHEETS = 200
@@ -34,8 +34,8 @@ which are tested, and not proved.
 Status: 0 done, 2 the command line is refused.
 
 Example:
-  bin/sheet --seed 7 --sheets 30 > sheets.html
-  bin/sheet --seed 7 --sheets 30 --answers > answers.html
+  forestlab sheet --seed 7 --sheets 30 > sheets.html
+  forestlab sheet --seed 7 --sheets 30 --answers > answers.html
 """
 PAGE = """<!doctype html>
 <html lang="en"><head><meta charset="utf-8"><meta name="viewport" content="width=device-width,initial-scale=1">
@@ -49,10 +49,10 @@ h1 small{{font-weight:normal;font-size:13px}}p{{margin:4px 0}}svg{{display:block
 table{{border-collapse:collapse;margin:4px 0}}
 td,th{{border:1px solid #6B6B6B;padding:2px 0;text-align:center;min-width:46px;height:24px}}
 th{{font-weight:normal;background:#F3EFE4;padding:2px 7px;text-align:left}}
-b.answer{{color:#0072B2}}.blank{{display:inline-block;min-width:90px;border-bottom:1px solid #6B6B6B}}.list{{min-width:190px}}
+b.answer{{color:#0072B2}}.blank{{display:inline-block;min-width:90px;border-bottom:1px solid
+#6B6B6B}}.list{{min-width:190px}}
 .question{{break-inside:avoid}}section{{break-after:page}}section:last-child{{break-after:auto}}
-pre{{font-size:11px;color:#6B6B6B;columns:3}}
-</style></head><body>
+pre{{font-size:11px;color:#6B6B6B;columns:3}} </style></head><body>
 {sheets}
 </body></html>
 """
@@ -226,21 +226,20 @@ def how_many(text):
 
 
 def command_line():
-    words = argparse.ArgumentParser(prog="sheet", usage="sheet [options]", description=HELP, epilog=MORE_HELP,
-                                    formatter_class=argparse.RawDescriptionHelpFormatter)
-    words.add_argument("--seed", default="1", metavar="N", help="any word or number; 1 if none is given")
-    words.add_argument("--sheets", type=how_many, default=1, metavar="COUNT", help="how many sheets: N-1, N-2, ..")
+    words = argparse.ArgumentParser(prog="forestlab sheet", usage="forestlab sheet [options]", description=HELP,
+                                    epilog=MORE_HELP, formatter_class=argparse.RawDescriptionHelpFormatter)
+    add_seed(words)
+    words.add_argument("--sheets", type=how_many, default=1, metavar="COUNT",
+                       help="how many sheets: WORD-1, WORD-2, ..")
     words.add_argument("--lesson", type=lesson, action="append", metavar="N",
                        help="the questions of this lesson alone; may be given again")
     words.add_argument("--answers", action="store_true", help="with the answers")
+    add_output(words)
     return words
 
 
 def main(words):
     given = command_line().parse_args(words)
-    sys.stdout.buffer.write(draw(given.seed, given.sheets, given.answers, given.lesson or LESSONS).encode())
+    write(given, draw(given.seed, given.sheets, given.answers, given.lesson or LESSONS))
     return 0
 
-
-if __name__ == "__main__":
-    sys.exit(main(sys.argv[1:]))

@@ -15,7 +15,7 @@ NODES = {
     "watch": (40, "overview"),
     "schedules": (4, "run, which draws one schedule"),
     "adversary": (4, "player"),
-    "broken": (2000, "`bin/explore NETWORK --without RULES`, which says it in words"),
+    "broken": (2000, "`forestlab explore NETWORK --without RULES`, which says it in words"),
 }
 
 

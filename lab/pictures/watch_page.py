@@ -137,8 +137,8 @@ def ordered(name, network, net, text, program):
     order = find_order(net, entries, program)
     if order.left:
         first = min((left[-1] for left in order.left.values()), key=lambda entry: entry.line)
-        raise wrong_line(name, first.line, f"{words(first)}, which can't come in any order (bin/check-transcript says "
-                                           "more)")
+        raise wrong_line(name, first.line, f"{words(first)}, which can't come in any order (`forestlab transcript "
+                                           "check` says more)")
     clock = Clock(net.neighbours)
     rows = [(clock.next(entry.kind, entry.vertex, entry.neighbour), entry.vertex, at, entry)
             for at, entry in enumerate(order.made)]

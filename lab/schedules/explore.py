@@ -1,8 +1,10 @@
-"""The door: `bin/explore NETWORK [options]`. Plays every schedule of a tiny network, with rules left out if some are
-named, and writes what it found, or one line on standard error."""
+"""The door: `forestlab explore NETWORK [options]`. Plays every schedule of a tiny network, with rules left out if some
+are named, and writes what it found, or one line on standard error."""
 import argparse
+import json
 import sys
 from collections import Counter
+from typing import NamedTuple
 
 from lab.definitions.nodes import Colouring
 from lab.definitions.own_program import AGAIN, check_repeats
@@ -11,6 +13,7 @@ from lab.schedules import ruled_rounds
 from lab.schedules.reading import network_at
 from lab.schedules.rules import ALL, OF_FORESTS, OF_ROUNDS, OF_SCHEDULES, table
 from lab.schedules.space import Space, TooMany
+from lab.words import add_output, write
 from lab.wrong import Wrong
 
 MOST_NODES, LIMIT, BYTES_A_STATE = 4, 1_000_000, 420
@@ -34,7 +37,7 @@ smallest network on which they go wrong.
 MORE_HELP = f"""\
 Rules of the synchroniser and of its links, and then of the rounds:
 {table()}
-NETWORK is a file in the DIMACS format, or - for standard input. A state takes some
+NETWORK is a file in the DIMACS format, - for standard input, or a name. A state takes some
 {BYTES_A_STATE} bytes of memory, so {LIMIT:,} states some {LIMIT * BYTES_A_STATE // 10 ** 6} MB; most networks of four
 nodes have fewer.
 
@@ -54,14 +57,14 @@ the functions greet, next and result (docs/learn/OWN_ALGORITHM.md). The file is 
 is, with your rights.
 
 Examples:
-  bin/explore examples/triangle.col
-  bin/explore examples/two.col --without safes
-  (cat examples/two.col; bin/explore examples/two.col --without early --events) |
-      bin/forestplay events
-  bin/explore --without digit
+  forestlab explore examples/triangle.col
+  forestlab explore examples/two.col --without safes
+  (cat examples/two.col; forestlab explore examples/two.col --without early --list) |
+      forestplay events
+  forestlab explore --without digit
 
-Status: 0 searched to the end, broken or not; 1 not searched (one line on standard
-error says why); 2 the command line is refused.
+Status: 0 nothing goes wrong, 1 something does, or it can't be searched (one line on
+standard error says why), 2 the command line is refused.
 """
 
 
@@ -83,26 +86,30 @@ def positive(text):
 
 def command_line():
     words = argparse.ArgumentParser(
-        prog="explore",
-        usage="explore [NETWORK] [options]",
+        prog="forestlab explore",
+        usage="forestlab explore [NETWORK] [options]",
         description=HELP,
         epilog=MORE_HELP,
         formatter_class=argparse.RawDescriptionHelpFormatter,
     )
-    words.add_argument("network", metavar="NETWORK", nargs="?", help="the network's file")
+    words.add_argument("network", metavar="NETWORK", nargs="?",
+                       help="a file, - for standard input, or a name, as triangle or path3")
     words.add_argument(
         "--without", type=rules_of, default=[], metavar="RULES", help="the rules to leave out, with commas between"
     )
     words.add_argument(
-        "--limit", type=positive, default=LIMIT, metavar="STATES", help=f"give up after this many states ({LIMIT})"
+        "--limit", type=positive, default=LIMIT, metavar="STATES",
+        help=f"give up after this many states; default: {LIMIT}"
     )
     words.add_argument(
-        "--events", action="store_true", help="write one list of events alone, as `forestplay events` reads it"
+        "--list", action="store_true", help="write one list of events alone, as `forestplay events` reads it"
     )
     words.add_argument("--reduce", action="store_true",
                        help="take a safe or a close that comes next on its link at once and alone: far fewer states")
     words.add_argument("--puts", action="store_true", help="count puts as events of their own, made at any time")
+    words.add_argument("--json", action="store_true", help="write what was found for a program")
     add_program(words)
+    add_output(words)
     return words
 
 
@@ -114,27 +121,34 @@ def main(words):
         line.error("NETWORK is missing")
     if of_rounds and given.program != Colouring.name:
         line.error(f"only the colouring has the rules {','.join(OF_ROUNDS)}")
-    if of_rounds and (given.events or given.puts or given.reduce):
+    if of_rounds and (given.list or given.puts or given.reduce):
         rules = ",".join(OF_SCHEDULES)
-        line.error(f"the rounds have no events: --events, --puts and --reduce are for the rules {rules}")
+        line.error(f"the rounds have no events: --list, --puts and --reduce are for the rules {rules}")
     if given.reduce and set(given.without) & {"safes", "fifo"}:
         line.error("--reduce is right only if nodes keep the rules safes and fifo")
     try:
-        text = rounds_text(given) if of_rounds else schedules_text(given)
-        sys.stdout.buffer.write(text.encode())
+        found = rounds_found(given) if of_rounds else schedules_found(given)
     except Wrong as why:
-        return failed(why)
-    return 0
+        print(f"explore: {why}", file=sys.stderr)
+        return 1
+    write(given, json.dumps(found._asdict()) + "\n" if given.json else found.words)
+    return int(found.broken)
 
 
-def failed(why):
-    print(f"explore: {why}", file=sys.stderr)
-    return 1
+class Found(NamedTuple):
+    """What was found: whether something goes wrong, in words; of the schedules the list of events that leads to it, or
+    to an end, and how many states and steps were searched."""
+
+    broken: bool
+    words: str
+    events: list[str] | None = None
+    states: int | None = None
+    steps: int | None = None
 
 
 # The rounds.
 
-def rounds_text(given):
+def rounds_found(given):
     """What the rounds of the network do without the rules, or a smallest network on which they go wrong."""
     if given.network is not None:
         name, net = network_at(given.network)
@@ -144,7 +158,7 @@ def rounds_text(given):
     most, what = (MOST_ROW, "rows") if is_of_forests else (MOST_MERGED, "networks")
     rounds, tried = ruled_rounds.smallest(given.without, most)
     if rounds is None:
-        return f"not broken: {tried:,} {what} of up to {most} nodes go right\n"
+        return Found(False, f"not broken: {tried:,} {what} of up to {most} nodes go right\n")
     edges = ", ".join(f"{v}-{w}" for v, w in sorted(map(sorted, rounds.net.number)))
     smaller = f"; {tried - 1} smaller {what} go right" if tried > 1 else ""
     return said_of_rounds(given, rounds, f"on {len(rounds.net.neighbours)} nodes with the edges {edges}{smaller}", "")
@@ -152,8 +166,8 @@ def rounds_text(given):
 
 def said_of_rounds(given, rounds, where, what):
     if rounds is None:
-        return f"not broken: {what} go right\n{refused_words(given.without)}"
-    return f"broken {where}\n{rounds.words()}\n{refused_words(given.without)}"
+        return Found(False, f"not broken: {what} go right\n{refused_words(given.without)}")
+    return Found(True, f"broken {where}\n{rounds.words()}\n{refused_words(given.without)}")
 
 
 def refused_words(without):
@@ -165,15 +179,17 @@ def refused_words(without):
 
 # The schedules.
 
-def schedules_text(given):
+def schedules_found(given):
     name, net = network_at(given.network)
     if len(net.neighbours) > MOST_NODES:
         raise Wrong(f"{name} has {len(net.neighbours)} nodes, and every schedule is played of at most {MOST_NODES}")
     space = searched(given, net)
-    if given.events:
-        events = space.path_to_fault() if space.faults else space.path(space.ends[0])
-        return "".join(f"{event}\n" for event in space.with_puts(events))
-    return broken_text(given, space) if space.faults else whole_text(given, name, space)
+    events = space.with_puts(space.path_to_fault() if space.faults else space.path(space.ends[0]))
+    if given.list:
+        text = "".join(f"{event}\n" for event in events)
+    else:
+        text = broken_text(given, space, events) if space.faults else whole_text(given, name, space)
+    return Found(bool(space.faults), text, list(map(str, events)), space.count, len(space.target))
 
 
 def searched(given, net):
@@ -238,12 +254,11 @@ def rounded(number):
     return f"{two // 10}.{two % 10}e{len(text) - 1}" if two < 100 else f"1.0e{len(text)}"
 
 
-def broken_text(given, space):
+def broken_text(given, space, listed):
     s, _ = space.first_fault()
     what = space.faults[space.first_fault()]
     if s not in space.broken and not given.without:     # the synchroniser keeps all its rules, so it is the file
         raise Wrong(f"{given.program} does something else in another order of events: {AGAIN} ({what})")
-    listed = space.with_puts(space.path_to_fault())
     first = f"broken after {events_words(listed)}{', maybe not the fewest' * space.reduce}: {what}\n"
     return "".join([first, *event_lines(listed), refused_words(given.without)])
 
@@ -270,6 +285,3 @@ def event_lines(listed):
         else:
             yield f"{event}: {event.wire} from {event.w}{', out of turn' if event.place else ''}\n"
 
-
-if __name__ == "__main__":
-    sys.exit(main(sys.argv[1:]))

@@ -1,9 +1,6 @@
-"""The text of a file, and the network of one as the slow definitions have it."""
-import sys
-
+"""Networks as the slow definitions have them."""
 from lab.definitions.colours import Network
-from lab.networks.network_text import read_network
-from lab.wrong import Wrong
+from lab.networks import named
 
 
 def network_of(read):
@@ -13,18 +10,7 @@ def network_of(read):
     )
 
 
-def text_at(path):
-    """The text of a file, or of standard input for `-`."""
-    try:
-        if path == "-":
-            return sys.stdin.buffer.read().decode("utf-8", "replace")
-        with open(path, "rb") as file:
-            return file.read().decode("utf-8", "replace")
-    except OSError as why:
-        raise Wrong(f"{path}: {why.strerror}") from None
-
-
-def network_at(path):
-    """(name, network) of a file, or of standard input for `-`."""
-    read = read_network(text_at(path), path)
-    return "this network" if path == "-" else read.name, network_of(read)
+def network_at(name):
+    """(name, network) of what the command line names."""
+    read = named.network_at(name)
+    return read.name, network_of(read)

@@ -1,5 +1,6 @@
-"""The door: `bin/simulate NETWORK [options]`. Plays a run without a clock by a seed or by a list of events, step by
-step, on the slow definitions (lab/definitions/nodes.py), and writes its transcript, or one line on standard error."""
+"""The door: `forestlab simulate NETWORK [options]`. Plays a run without a clock by a seed or by a list of events, step
+by step, on the slow definitions (lab/definitions/nodes.py), and writes its transcript, or one line on standard
+error."""
 import argparse
 import re
 import sys
@@ -10,9 +11,10 @@ from lab.definitions.own_program import check_repeats
 from lab.definitions.programs import add_program, note_ignored_bars, program_at
 from lab.networks.fields import shown
 from lab.schedules.policies import POLICIES, Step, policy_of
-from lab.schedules.reading import network_at, text_at
+from lab.schedules.reading import network_at
 from lab.transcripts.reading import Entry
 from lab.transcripts.stamps import Clock, unfinished
+from lab.words import add_output, add_seed, called, text_at, write
 from lab.wrong import Wrong, wrong_line
 
 HABITS = {
@@ -36,7 +38,7 @@ A step is a put, a take or a pulse of one node. What waits comes when nothing el
 possible, so it is as slow as it can be.
 
 With --events a list of events takes the place of the policy, as the page of
-`bin/picture adversary` shows and copies it, `bin/explore --events` writes it and
+`forestlab picture adversary` shows and copies it, `forestlab explore --list` writes it and
 `forestplay events` reads it. An event that isn't possible is refused. If the list ends
 before all nodes are done, so does the transcript, and `forestplay replay` reports
 NotWhole; with --to-the-end the policy plays the rest.
@@ -46,9 +48,9 @@ The policies; those that choose an edge or a node choose it by the seed:
 {chr(10).join(f"  {name:<12}{habit}" for name, habit in HABITS.items())}
 
 The transcript is of edition 2, as `forestplan transcript` writes it, so that
-bin/check-transcript, bin/picture and `bin/forestplay replay` read it. NETWORK is a file in
-the DIMACS format, or - for standard input. 4,500 entries (petersen) take half a second,
-and half a million one to several minutes.
+`forestlab transcript`, `forestlab picture` and `forestplay replay` read it. NETWORK is a file
+in the DIMACS format, - for standard input, or a name, as petersen or path5. 4,500 entries
+(petersen) take half a second, and half a million one to several minutes.
 
 With --program the nodes run another program: leader, layers, or a file of your own with
 the functions greet, next and result (docs/learn/OWN_ALGORITHM.md). The file is run as it
@@ -63,10 +65,10 @@ network hasn't the slow edge (one line on standard error says why), 2 the comman
 is refused.
 
 Examples:
-  bin/simulate examples/chain6.col --slow 2-3 --seed 7 > slow.transcript
-  bin/picture run examples/chain6.col --transcript slow.transcript > slow.svg
-  (cat examples/chain6.col; cat slow.transcript) | bin/forestplay replay
-  bin/simulate examples/two.col --events list.events --to-the-end > list.transcript
+  forestlab simulate examples/chain6.col --slow 2-3 --seed 7 > slow.transcript
+  forestlab picture run examples/chain6.col --transcript slow.transcript > slow.svg
+  (cat examples/chain6.col; cat slow.transcript) | forestplay replay
+  forestlab simulate examples/two.col --events list.events --to-the-end > list.transcript
 """
 
 
@@ -178,8 +180,8 @@ def played(net, policy="random", seed="1", slow=(), lazy=(), player=None, progra
 
 
 def events_of(text, name):
-    """(line, kind, vertex, port) of each event of a list; a note after a colon, as `bin/explore` writes it, is passed
-    over."""
+    """(line, kind, vertex, port) of each event of a list; a note after a colon, as `forestlab explore` writes it, is
+    passed over."""
     for line, raw in enumerate(text.split("\n"), 1):
         event, _, note = raw.partition(":")
         words = event.split()
@@ -197,8 +199,8 @@ def events_of(text, name):
 
 def played_by_list(net, path, program=Colouring):
     """The player after the events of a file, or of standard input."""
-    player, name = Player(net, program), "standard input" if path == "-" else path
-    player.play_events(events_of(text_at(path), name), name)
+    player = Player(net, program)
+    player.play_events(events_of(text_at(path), called(path)), called(path))
     return player
 
 
@@ -216,12 +218,14 @@ def edge(text):
 
 
 def command_line():
-    words = argparse.ArgumentParser(prog="simulate", usage="simulate NETWORK [options]", description=HELP,
-                                    epilog=MORE_HELP, formatter_class=argparse.RawDescriptionHelpFormatter)
-    words.add_argument("network", metavar="NETWORK", help="the network's file, or - for standard input")
-    words.add_argument("--seed", default="1", metavar="N", help="any word or number; 1 if none is given")
+    words = argparse.ArgumentParser(prog="forestlab simulate", usage="forestlab simulate NETWORK [options]",
+                                    description=HELP, epilog=MORE_HELP,
+                                    formatter_class=argparse.RawDescriptionHelpFormatter)
+    words.add_argument("network", metavar="NETWORK",
+                       help="a file, - for standard input, or a name, as petersen or path5")
+    add_seed(words)
     words.add_argument("--policy", choices=POLICIES, default="random", metavar="NAME",
-                       help="one of those below (random)")
+                       help="one of those below; default: random")
     words.add_argument("--slow", type=edge, action="append", default=[], metavar="V-W",
                        help="what goes over this edge waits, whatever the policy is; may be given again")
     words.add_argument("--lazy", type=int, action="append", default=[], metavar="V",
@@ -229,6 +233,7 @@ def command_line():
     words.add_argument("--events", metavar="LIST", help="play this list of events, a file or - for standard input")
     words.add_argument("--to-the-end", action="store_true", help="after the events of LIST the policy plays the rest")
     add_program(words)
+    add_output(words)
     return words
 
 
@@ -270,9 +275,6 @@ def main(words):
     except Wrong as why:
         print(f"simulate: {why}", file=sys.stderr)
         return 1
-    sys.stdout.buffer.write(text_of_rows(len(net.neighbours), rows).encode())
+    write(given, text_of_rows(len(net.neighbours), rows))
     return 0
 
-
-if __name__ == "__main__":
-    sys.exit(main(sys.argv[1:]))

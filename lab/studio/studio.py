@@ -1,4 +1,4 @@
-"""The door: `studio [NETWORK] [options]`. Serves the studio's page to this machine alone, until Ctrl-C."""
+"""The door: `forestlab studio [NETWORK] [options]`. Serves the studio's page to this machine alone, until Ctrl-C."""
 import argparse
 import gc
 import os
@@ -8,12 +8,13 @@ import tempfile
 import webbrowser
 
 from lab.definitions.programs import PROGRAMS, program_at
+from lab.networks.named import network_bytes
 from lab.networks.reading import read_any
-from lab.schedules.reading import text_at
 from lab.studio.asked import OPENED
 from lab.studio.building import are_built
 from lab.studio.networks import shown
 from lab.studio.serving import Server
+from lab.words import called
 from lab.wrong import Wrong
 
 PORT, NEXT_PORTS = 8321, 20
@@ -27,7 +28,8 @@ begins at once with Python's definitions, says so on the page, and has a button 
 that proves and builds them.
 """
 MORE_HELP = f"""\
-NETWORK is a file in any form that `network read` reads, or - for standard input.
+NETWORK is a file in any form that `forestlab network read` reads, - for standard input, or
+a name, as petersen or path5.
 
 The address has a token, without which nothing is answered: give it to nobody. The page
 keeps it, so that a link to what it shows has none. Lessons and links are for port {PORT};
@@ -42,13 +44,14 @@ Status: 0 ended by Ctrl-C, 1 the network can't be read or the port is taken, 2 t
 line is refused.
 
 Example:
-  bin/studio examples/petersen.col
+  forestlab studio petersen
 """
 
 
 def command_line():
-    words = argparse.ArgumentParser(prog="studio", usage="studio [NETWORK] [options]", description=HELP,
-                                    epilog=MORE_HELP, formatter_class=argparse.RawDescriptionHelpFormatter)
+    words = argparse.ArgumentParser(prog="forestlab studio", usage="forestlab studio [NETWORK] [options]",
+                                    description=HELP, epilog=MORE_HELP,
+                                    formatter_class=argparse.RawDescriptionHelpFormatter)
     words.add_argument("network", metavar="NETWORK", nargs="?", help="the network to begin with")
     words.add_argument("--port", type=int, metavar="N", help=f"the port, and no other; else {PORT} or one of the next")
     words.add_argument("--no-browser", action="store_true", help="only print the address")
@@ -59,7 +62,7 @@ def command_line():
 
 def opened(given):
     """The network to begin with, as the page gets it."""
-    return None if given.network is None else shown(*read_any(text_at(given.network).encode(), given.network))
+    return None if given.network is None else shown(*read_any(network_bytes(given.network), called(given.network)))
 
 
 def own_programs(files):

@@ -1,4 +1,3 @@
-#!/usr/bin/env python3
 """Checks a transcript of nodes without a common clock. It is written from the pages in docs/ alone.
 
 A transcript of edition 1 has the entries of each node in that node's own order, and says nothing of the order
@@ -6,17 +5,20 @@ between nodes. This program looks for an order of all entries that is a run, and
 of edition 2 has an order and stamps: stamps.py checks it. `--help` says how to call it."""
 import argparse
 import gc
+import json
 import sys
 from collections import namedtuple
 
 from lab.definitions.colours import fields_of, network_of
 from lab.definitions.nodes import Colouring, named, wire_words
 from lab.definitions.programs import add_program, note_ignored_bars, program_at
+from lab.networks.named import network_bytes
 from lab.networks.network_text import read_network
 from lab.transcripts.reading import Wrong, read_to_fault, words
 from lab.transcripts.rules import Standing, rule_of, stuck_words
 from lab.transcripts.search import Search
 from lab.transcripts.stamps import check_stamped, stamped_as_it_stands
+from lab.words import add_output, bytes_at, called, write
 from lab.wrong import Wrong as WrongNetwork
 
 HELP = """\
@@ -52,12 +54,11 @@ and what is wrong there, as
   NotWhole      all entries are a run, but it does not reach the end
   Nodes         the first line names another number of nodes than the network has
 
-Status: 0 right, 1 not right, 2 the command line is refused, or a file can't be read
-or is no network.
+Status: 0 right, 1 not right, or a file can't be read, 2 the command line is refused.
 
 Example:
-  bin/forestplan transcript < examples/triangle.col > triangle.transcript
-  bin/check-transcript examples/triangle.col triangle.transcript
+  forestplan transcript < examples/triangle.col > triangle.transcript
+  forestlab transcript check examples/triangle.col triangle.transcript
 """
 
 # What a search finds: the entries made, in this order; the nodes after them; and of each node that isn't through, the
@@ -294,21 +295,10 @@ def network_in(data, name):
     return network_of(data)
 
 
-def bytes_of(name):
-    """The bytes of a file, or of standard input, which `-` is."""
-    is_input = name in (None, "-")
-    try:
-        if is_input:
-            return sys.stdin.buffer.read()
-        with open(name, "rb") as file:
-            return file.read()
-    except OSError as failed:
-        raise OSError(f"{'standard input' if is_input else name}: {failed.strerror}") from None
-
-
 def words_of_command():
     words = argparse.ArgumentParser(
-        prog="check-transcript",
+        prog="forestlab transcript check",
+        usage="forestlab transcript check NETWORK [TRANSCRIPT] [options]",
         description=HELP,
         epilog=MORE_HELP,
         formatter_class=argparse.RawDescriptionHelpFormatter,
@@ -319,11 +309,28 @@ def words_of_command():
         help="instead of that line print the transcript in the order found, in which it is a run line by line; of "
              "edition 2 as it is",
     )
-    words.add_argument("network", metavar="NETWORK.col", help="a network that `forestplan` reads without a fault")
-    words.add_argument("transcript", nargs="?", metavar="TRANSCRIPT",
+    words.add_argument("--json", action="store_true", help="write the verdict for a program")
+    add_texts(words)
+    add_output(words)
+    return words
+
+
+def add_texts(words):
+    """The network, the transcript, and the program of its nodes."""
+    words.add_argument("network", metavar="NETWORK",
+                       help="a file that `forestplan` reads without a fault, or a name, as petersen or path5")
+    words.add_argument("transcript", nargs="?", default="-", metavar="TRANSCRIPT",
                        help="a file, or - for standard input; default: -")
     add_program(words)
-    return words
+
+
+def texts_of(given):
+    """The network, the texts of both, and the program of a command line."""
+    if given.network == given.transcript == "-":
+        raise WrongNetwork("standard input has one text: name a file for the network or for the transcript")
+    network = network_bytes(given.network)
+    net = network_in(network, called(given.network))
+    return net, network, bytes_at(given.transcript), program_at(given.program, given.lots)
 
 
 def main(words):
@@ -331,21 +338,24 @@ def main(words):
     # Nothing that is made here goes round in a circle that would have to be collected before the end.
     gc.disable()
     try:
-        net = network_in(bytes_of(given.network), given.network)
-        text = bytes_of(given.transcript)
-        program = program_at(given.program, given.lots)
-    except (OSError, WrongNetwork) as failed:
-        print(f"check-transcript: {failed}", file=sys.stderr)
-        return 2
-    note_ignored_bars("check-transcript", net.barred, program)
+        net, _, text, program = texts_of(given)
+    except WrongNetwork as failed:
+        print(f"transcript: {failed}", file=sys.stderr)
+        return 1
+    note_ignored_bars("transcript", net.barred, program)
     try:
         made, said = whole_run(net, text, program)
     except Wrong as wrong:
-        print(wrong, file=sys.stderr)
+        if given.json:
+            found = {"right": False, "line": wrong.line, "code": wrong.code, "words": wrong.what}
+            write(given, json.dumps(found) + "\n")
+        else:
+            print(wrong, file=sys.stderr)
         return 1
-    sys.stdout.buffer.write(in_order(made, text) if given.order else said.encode() + b"\n")
+    if given.order:
+        write(given, in_order(made, text))
+    elif given.json:
+        write(given, json.dumps({"right": True, "words": said}) + "\n")
+    else:
+        write(given, said + "\n")
     return 0
-
-
-if __name__ == "__main__":
-    sys.exit(main(sys.argv[1:]))

@@ -1,4 +1,4 @@
-"""The rules of the four wires in words: why an entry isn't possible where it is. The workshop and check-transcript
+"""The rules of the four wires in words: why an entry isn't possible where it is. The workshop and `transcript check`
 say the same; they differ in how they name a link, by the port or by the neighbour."""
 from dataclasses import dataclass
 

@@ -8,7 +8,6 @@ from typing import Any, Iterator, Sequence
 from lab.networks import kinds
 from lab.networks.network_text import Network, read_network
 from lab.programs import TOP
-from lab.schedules.policies import POLICIES
 from lab.workshop.findings import Finding
 from lab.workshop.open_run import League
 from lab.workshop.protocol import COLOURING
@@ -118,9 +117,6 @@ def cases_of(networks: list[str], policies: list[str], runs: int, seed: str, onl
     """All runs, or number `only` of them. Each network has its own identifiers in the first run, and varied ones
     later. The policies change from network to network, and for each network from run to run: so a hundred runs play
     all ten, and ten for each network play each on it once. Smaller networks come first."""
-    for policy in policies:
-        if policy not in POLICIES and policy != "":
-            raise Wrong(f"there is no policy {policy}, which are {', '.join(POLICIES)}")
     cases = []
     for number in range(runs) if only is None else [only]:
         own_seed = f"{seed} {number}"

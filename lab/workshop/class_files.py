@@ -13,11 +13,11 @@ from lab.wrong import Wrong
 
 # Files and whole folders, each at the path that it has here; a folder means all files below it.
 COPIED = (
-    "LICENSE-MIT", "LICENSE-APACHE", "bin/network", "bin/channels", "bin/workshop",
+    "LICENSE-MIT", "LICENSE-APACHE", "bin/forestlab",
     "docs/learn/TUTORIAL.md", "docs/learn/GALLERY.md", "docs/learn/OWN_NETWORK.md", "docs/learn/PROTOCOL.md",
     "docs/learn/WORKSHOP.md", "docs/pictures",
     "examples", "lab/__init__.py", "lab/__main__.py", "lab/door.py", "lab/door.sh", "lab/programs.py",
-    "lab/sums.py", "lab/version.py", "lab/watch.py", "lab/wrong.py", "lab/networks", "lab/workshop",
+    "lab/sums.py", "lab/version.py", "lab/watch.py", "lab/words.py", "lab/wrong.py", "lab/networks", "lab/workshop",
     "lab/schedules/__init__.py", "lab/schedules/policies.py",
     "lab/transcripts/__init__.py", "lab/transcripts/fields.py", "lab/transcripts/rules.py",
 )
@@ -28,16 +28,6 @@ LEFT_OUT = (
 )
 # The line of its VERSION by which it is known.
 IS_CLASS = "for a class"
-# Commands of which nothing is copied but a line that says so.
-WITHOUT = ("picture", "explore", "check-transcript", "replay", "simulate", "sheet", "transcript-to")
-STUB = """\
-#!/usr/bin/env bash
-# {name} is written with definitions that solve the assignment, so it isn't in the folder of a class.
-echo "{name}: this is the folder of a class, which has no {name}; your teacher's folder has it, and docs/pictures the \\
-lessons' pictures" >&2
-exit 2
-"""
-
 
 README = """\
 # A class with forestplan
@@ -50,7 +40,8 @@ Transmitters find channels by talking with their neighbours alone. Here you lear
 - [OWN_NETWORK](docs/learn/OWN_NETWORK.md): channels for a network of your own.
 - [GALLERY](docs/learn/GALLERY.md): what goes wrong if a rule is left out.
 
-Type commands in this folder, as `bin/workshop rounds two -- python3 my_node.py`, or put its `bin` on the PATH.
+Put the folder's `bin` on the PATH once, by `PATH=$PWD/bin:$PATH`, and then type commands, as
+`forestlab workshop rounds two -- python3 my_node.py`.
 """
 
 
@@ -64,11 +55,6 @@ def class_files(top: str) -> Iterator[str]:
                 found = os.path.relpath(os.path.join(folder, name), top)
                 if not found.startswith(LEFT_OUT) and not found.endswith(".pyc"):
                     yield found
-
-
-def stubs() -> dict[str, str]:
-    """{path: text} of the commands that are left out."""
-    return {f"bin/{name}": STUB.format(name=name) for name in WITHOUT}
 
 
 LINK = re.compile(r"(?<!!)\[([^]]+)\]\(([^)#\s]+)(?:#[^)\s]*)?\)")
@@ -85,17 +71,13 @@ def page_for_a_class(text: str, path: str, paths: set[str]) -> str:
 
 
 def finish_class(room: str, top: str = TOP) -> None:
-    """Takes the links to pages that a class doesn't get from its pages, and adds a first page and the commands that
-    only say that they aren't there."""
-    paths = set(class_files(top)) | set(stubs())
+    """Takes the links to pages that a class doesn't get from its pages, and adds a first page."""
+    paths = set(class_files(top))
     for path in filter(lambda path: path.endswith(".md"), paths):
         with open(os.path.join(room, path), encoding="utf-8") as file:
             text = file.read()
         write(os.path.join(room, path), page_for_a_class(text, path, paths))
     write(os.path.join(room, "README.md"), README)
-    for path, text in stubs().items():
-        write(os.path.join(room, path), text)
-        os.chmod(os.path.join(room, path), 0o755)
 
 
 def write(path: str, text: str) -> None:
@@ -115,7 +97,7 @@ tar czf class.tar.gz DIR.
 
 
 def main(words: list[str]) -> int:
-    line = argparse.ArgumentParser(prog="workshop class", usage="workshop class DIR", description=HELP,
+    line = argparse.ArgumentParser(prog="forestlab workshop class", usage="forestlab workshop class DIR", description=HELP,
                                    formatter_class=argparse.RawDescriptionHelpFormatter)
     line.add_argument("dir", metavar="DIR", help="the folder that is made")
     folder = os.path.abspath(line.parse_args(words).dir)
@@ -137,7 +119,7 @@ def copy_class(room: str) -> None:
     pages = os.path.join("share", "man", "man1")
     found = {os.path.join("bin", name): program_file(name) for name in ("forestplan", "forestplay")}
     found |= {path: os.path.join(TOP, path) for path in class_files(TOP)}
-    names = [os.path.basename(path) for path in (*found, *stubs()) if path.startswith("bin/")]
+    names = [os.path.basename(path) for path in found if path.startswith("bin/")]
     found |= {path: os.path.join(TOP, path) for name in names
               if os.path.exists(os.path.join(TOP, path := os.path.join(pages, f"{name}.1")))}
     for path, source in found.items():

@@ -48,7 +48,7 @@ def puts_of(run: RoundsRun) -> list[str]:
 
 def repeat(case: Case, folder: str) -> list[str]:
     """Commands that give the verdict again, for the folder in which the workshop was called. The folder of a class has
-    no check-transcript."""
+    no `forestlab transcript`."""
     words = "" if isinstance(case.run, OpenRun) else "".join(f" {word}" for word in words_of(case.run.rounds.program))
     doors = os.path.join(TOP, "bin")
     folder, door = shlex.quote(folder), shlex.quote(min(os.path.relpath(doors), doors, key=len))
@@ -56,7 +56,8 @@ def repeat(case: Case, folder: str) -> list[str]:
     match case.run:
         case AlphaRun():
             return [f"  cat {folder}/network.col {folder}/run.transcript | {door}/forestplay replay{words}",
-                    *[f"  {door}/check-transcript {folder}/network.col {folder}/run.transcript{words}"] * has_check]
+                    *[f"  {door}/forestlab transcript check {folder}/network.col {folder}/run.transcript{words}"]
+                    * has_check]
         case OpenRun():
             return [f"  cat {folder}/network.col {folder}/plan | {door}/forestplan check"]
     return [f"  {door}/forestplay rounds{words} < {folder}/network.col | grep ' put ' > {folder}/right.puts",
@@ -75,7 +76,7 @@ def draw(case: Case, file: str) -> str | None:
         for path, text in ((network, network_text(case.network)), (run, transcript_text(case.network.nodes, entries))):
             with open(path, "w", encoding="ascii") as out:
                 out.write(text)
-        command = [os.path.join(TOP, "bin", "picture"), "run", network, "--transcript", run, "--wrong",
+        command = [os.path.join(TOP, "bin", "forestlab"), "picture", "run", network, "--transcript", run, "--wrong",
                    "--pulses", f"{max(0, last - 1)}..{last}", *words_of(case.run.rounds.program)]
         done = subprocess.run(command, capture_output=True, text=True)
     if done.returncode:

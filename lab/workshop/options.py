@@ -5,6 +5,8 @@ from lab.schedules.policies import POLICIES
 from lab.transcripts.fields import PAYLOADS
 from lab.workshop.cases import NETWORKS
 from lab.workshop.protocol import COLOURING, program_of
+from lab.words import add_seed
+from lab.wrong import Wrong
 
 HELP = """\
 Runs programs that students write as the nodes of a network, and has the proved
@@ -29,20 +31,21 @@ MORE_HELP = """\
 The workshop decides nothing by itself: the proved programs do. The same seed gives
 the same run, whatever the language of the nodes and however fast they are.
 
-Status: 0 all runs are right, 1 one isn't, 2 the command line is refused, or a
-network, 3 there is no verdict (the judge or a command can't be run).
+Status: 0 all runs are right, 1 one isn't, or a network can't be read, 2 the command line
+is refused, or there is no verdict (the judge or a command can't be run).
 
 Examples:
-  bin/workshop rounds triangle -- python3 my_node.py
-  bin/workshop rounds --program layers path5 -- python3 my_node.py
-  bin/workshop alpha --runs 200 --seed 7 -- ./my_node
-  bin/workshop alpha petersen --policies newest --keep DIR -- ./anna -- python3 ben.py
+  forestlab workshop rounds triangle -- python3 my_node.py
+  forestlab workshop rounds --program layers path5 -- python3 my_node.py
+  forestlab workshop alpha --runs 200 --seed 7 -- ./my_node
+  forestlab workshop alpha petersen --policies newest --keep DIR -- ./anna -- python3 ben.py
 """
 
 
 def command_line() -> argparse.ArgumentParser:
     words = argparse.ArgumentParser(
-        prog="workshop", usage="workshop {rounds,alpha,open} [NETWORK ..] [options] -- COMMAND .. [-- COMMAND ..]",
+        prog="forestlab workshop",
+        usage="forestlab workshop {rounds,alpha,open} [NETWORK ..] [options] -- COMMAND .. [-- COMMAND ..]",
         description=HELP, epilog=MORE_HELP, formatter_class=argparse.RawDescriptionHelpFormatter)
     words.add_argument("assignment", choices=["rounds", "alpha", "open"],
                        help="with a clock, without one, or your own algorithm")
@@ -51,7 +54,7 @@ def command_line() -> argparse.ArgumentParser:
                        help=f"of rounds and alpha, what nodes do: {', '.join(PAYLOADS)}; default: {COLOURING}")
     words.add_argument("--runs", type=count, metavar="N",
                        help="the number of runs; default: 1 for each NETWORK, or 100")
-    words.add_argument("--seed", default="1", help="whatever is by chance comes from it; default: 1")
+    add_seed(words)
     words.add_argument("--policies", metavar="LIST",
                        help=f"of alpha, with commas: {', '.join(POLICIES)}; default: all, in turn")
     words.add_argument("--case", type=int, metavar="K", help="run number K of these alone")
@@ -102,6 +105,9 @@ def parsed(words: list[str]) -> argparse.Namespace:
     if options.assignment != "alpha" and (options.policies or options.picture):
         line.error("--policies and --picture are of alpha alone")
     options.policies = (options.policies or ",".join(POLICIES)).split(",") if options.assignment == "alpha" else [""]
+    for policy in options.policies:
+        if policy not in (*POLICIES, ""):
+            raise Wrong(f"there is no policy {policy}, which are {', '.join(POLICIES)}")
     if options.runs is None:
         options.runs = len(options.networks) or 100
     options.networks = options.networks or NETWORKS.split(",")

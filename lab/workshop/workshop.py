@@ -14,7 +14,7 @@ from lab.workshop.playing import played
 from lab.workshop.report import Progress, as_json, report
 from lab.wrong import Wrong
 
-REFUSED, NO_VERDICT = 2, 3
+NOT_RIGHT, REFUSED = 1, 2
 OTHERS = {"grade": grade.main, "class": class_files.main}
 
 
@@ -23,17 +23,20 @@ def main(words: list[str]) -> int:
         if words[:1] and words[0] in OTHERS:
             return OTHERS[words[0]](words[1:])
         options = parsed(words)
+    except Wrong as why:
+        return failed(why, REFUSED)
+    try:
         INTERRUPTS.install()
         shut()
         return run(options)
     except Wrong as why:
-        return failed(why, REFUSED)
+        return failed(why, NOT_RIGHT)
     except (NoVerdict, OSError) as why:
-        return failed(why, NO_VERDICT)
+        return failed(why, REFUSED)
     except Exception as why:        # a mistake of the workshop's own is no verdict on anybody
         place = traceback.extract_tb(why.__traceback__)[-1]
         where = f"{os.path.basename(place.filename)} line {place.lineno}"
-        return failed(f"a mistake of the workshop itself: {type(why).__name__}: {why} ({where})", NO_VERDICT)
+        return failed(f"a mistake of the workshop itself: {type(why).__name__}: {why} ({where})", REFUSED)
 
 
 def failed(why, status: int) -> int:

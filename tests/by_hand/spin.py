@@ -1,12 +1,13 @@
 #!/usr/bin/env python3
-"""Searches a model in Promela (bench/spin/alpha.pml) with Spin, and compares its counts with bin/explore. The
+"""Searches a model in Promela (bench/spin/alpha.pml) with Spin, and compares its counts with `forestlab explore`. The
 last line is 'N passed, M failed'.
 
 The model was written apart from lab/schedules: other states, another language, another search. It asserts in every
 state that a pulse has the round's inbox, that no wire comes which a node refuses, that no link finds its two places
 full, and at the end that the plan is right and all links are empty. Spin's process that starts the nodes adds three
 states and four steps. Of a reduced search, both take a safe or a close that comes next on its link at once and alone,
-as `bin/explore --reduce` does. It needs spin and gcc (Debian: `apt-get install spin gcc`), and so is no part of ./test."""
+as `forestlab explore --reduce` does. It needs spin and gcc (Debian: `apt-get install spin gcc`), and so is no part of
+./test."""
 import argparse
 import os
 import re

@@ -16,7 +16,7 @@ import subprocess
 import sys
 import tempfile
 
-from tests import TOP
+from tests import FORESTLAB, TOP
 from tests.by_hand.tally import last_line, note
 from tests.pictures.base import LIMIT, call
 
@@ -217,9 +217,9 @@ def played(browser, network, play):
 
 
 def replayed(browser, network, net, play):
-    """What forestplay says of the transcript that `bin/simulate` makes of the page's list."""
+    """What forestplay says of the transcript that `forestlab simulate` makes of the page's list."""
     text = browser.value("by('list').value").encode()
-    made = subprocess.run([os.path.join(TOP, "bin", "simulate"), net, "--events", "-"], input=text, capture_output=True,
+    made = subprocess.run([FORESTLAB, "simulate", net, "--events", "-"], input=text, capture_output=True,
                           timeout=LIMIT)
     return subprocess.run([play, "replay"], input=network + made.stdout, capture_output=True, timeout=LIMIT)
 

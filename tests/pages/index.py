@@ -8,6 +8,7 @@ import re
 
 from build import promises
 from build.crate_lists import listed, with_below
+from lab.__main__ import COMMANDS as OF_LAB
 from tests import TOP
 from tests.cases import Case
 
@@ -54,22 +55,25 @@ class Index(Case):
         self.assertEqual((before.count("!["), after.count("![")), (1, 0), "one picture, before the claim")
 
     def test_vendored(self):
-        """OWN_PROGRAM says how many crates bin/vendor copies."""
-        rows = re.findall(r"bin/vendor \S+ (\w+) .*?: .*?(\d+) crates", text_of("docs", "work", "OWN_PROGRAM.md"))
+        """OWN_PROGRAM says how many crates `python3 build vendor` copies."""
+        rows = re.findall(r"python3 build vendor \S+ (\w+) .*?: .*?(\d+) crates",
+                          text_of("docs", "work", "OWN_PROGRAM.md"))
         wrong = [(crate, count) for crate, count in rows if int(count) != len(with_below([crate], listed()))]
-        self.assertEqual((len(rows), wrong), (2, []), "crates of an example of bin/vendor")
+        self.assertEqual((len(rows), wrong), (2, []), "crates of an example of python3 build vendor")
 
     def test_readme_has_each_command(self):
-        """Each script of bin/ that users call, and each command of the programs, is in a row of the table."""
-        rows = re.findall(r"^`([^`]*)` \| ", text_of("README.md"), re.M)
-        scripts = set(os.listdir(os.path.join(TOP, "bin"))) - {"forestplan", "forestplay", "install", "wrong-bodies"}
-        named = {name for row in rows for name in re.findall(r"bin/([\w-]+)", row)} - {"forestplay"}
-        self.assertEqual(scripts - named, set(), "scripts of bin/ without a row")
+        """Each command of forestlab and of the programs is in the table."""
+        rows = re.findall(r"^(`[^|]*`) \| ", text_of("README.md"), re.M)
+        self.assertEqual(len(rows), 8, "rows of README's table")
+        words = {name: set() for name in ("forestplan", "forestplay", "forestlab")}
+        for row in rows:
+            program, *commands = re.findall(r"[a-z]+", row)
+            words[program] |= set(commands)
         line = text_of("crates", "command_line", "src", "request.rt")
         commands = set(re.findall(r'"(\w+)"\s*=>', line)) | set(re.findall(r"^\s+\"(\w+)\"", line, re.M))
-        words = {row.split()[1] for row in rows if row.startswith(("./forestplan ", "bin/forestplay "))}
         self.assertGreater(len(commands), 7, "commands of the programs")
-        self.assertEqual(words, commands, "commands of the programs in README's table")
+        self.assertEqual(words["forestplan"] | words["forestplay"], commands, "commands of the programs")
+        self.assertEqual(words["forestlab"], set(OF_LAB), "commands of forestlab")
 
     def test_index_of_promises(self):
         page, index = text_of("docs", "claim", "PROMISES.md"), promises.index()

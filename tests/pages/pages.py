@@ -16,10 +16,11 @@ import glob
 import os
 import random
 import re
+import tempfile
 
 from lab.definitions.colours import Network, colours, merge, three
 from lab.definitions.nodes import NetState, synchronous_run, text_of_wire
-from tests import TOP
+from tests import FORESTLAB, TOP
 from tests.cases import Case, run_program
 from tests.pages.tutorial_facts import channels_of, dropped, example, pulses_of
 from tests.settings import PLAN, PLAY
@@ -29,7 +30,7 @@ PAGES = ["README.md"] + sorted(
     os.path.relpath(path, TOP) for path in glob.glob(os.path.join(TOP, "docs", "**", "*.md"), recursive=True)
 )
 LIMIT = 300
-PROGRAMS = {"forestplan": PLAN, "forestplay": PLAY}
+PROGRAMS = {"forestplan": PLAN, "forestplay": PLAY, "forestlab": FORESTLAB}
 WIDEST = 150
 
 
@@ -56,9 +57,9 @@ def listed_commands(lines):
     """(line number, command) of each command in a list: an indented line of commands alone, some blanks apart. What
     calls a program, reads a file or writes a folder of the reader's own is left out."""
     for number, line in enumerate(lines, 1):
-        if re.match(r" {4}bin/", line):
+        if re.match(r" {4}forest(lab|plan|play) ", line):
             for command in re.split(r" {2,}", line.strip()):
-                if command.startswith("bin/") and not re.search(r" -- |~/|\bpairs\.csv\b", command):
+                if command.startswith("forestlab ") and not re.search(r" -- |~/|\bpairs\.csv\b", command):
                     yield number, command
 
 
@@ -185,6 +186,15 @@ def laws_of_crates():
 
 
 class Pages(Case):
+    @classmethod
+    def setUpClass(cls):
+        """A folder with the three commands, which is the PATH's first: so a page's commands are called by their names
+        alone, and the programs are those of the settings."""
+        folder = cls.enterClassContext(tempfile.TemporaryDirectory())
+        for name, path in PROGRAMS.items():
+            os.symlink(path, os.path.join(folder, name))
+        cls.environment = dict(os.environ, PATH=f"{folder}:{os.environ['PATH']}")
+
     def test_builds(self):
         """The scripts build the programs, or find them built."""
         for name, command in (("forestplan", "plain"), ("forestplay", "events")):
@@ -205,8 +215,7 @@ class Pages(Case):
 
     def check_commands(self, page):
         for number, command, shown in shown_commands(lines_of(page)):
-            words = re.sub(r"(?:\./|\bbin/)(forestplan|forestplay)\b", lambda found: PROGRAMS[found.group(1)], command)
-            done = run_line(words, limit=LIMIT, cwd=TOP)
+            done = run_line(command.removeprefix("./"), limit=LIMIT, cwd=TOP, env=self.environment)
             wanted = "".join(line + "\n" for line in shown)
             good = [(0, wanted.encode(), b"")] + [(status, b"", wanted.encode()) for status in (1, 3) if wanted]
             self.note(f"{page}:{number} {command}", (done.returncode, done.stdout, done.stderr) in good,
@@ -218,7 +227,7 @@ class Pages(Case):
         for page in (page for page in PAGES if page != "docs/pictures/README.md"):
             for number, command in listed_commands(lines_of(page)):
                 count += 1
-                done = run_line(command, limit=LIMIT, cwd=TOP)
+                done = run_line(command, limit=LIMIT, cwd=TOP, env=self.environment)
                 self.note(f"{page}:{number} {command}", done.returncode == 0 and done.stdout and not done.stderr, done)
         self.note("commands in lists", count > 8, count)
 

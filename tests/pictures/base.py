@@ -5,20 +5,19 @@ import subprocess
 import tempfile
 
 from lab.definitions.colours import network_of
-from tests import TOP
+from tests import FORESTLAB, TOP
 from tests.cases import Case
 from tests.pictures.marks import marks, number, parsed
 from tests.pictures.process import Painter
 from tests.programs.made_transcripts import made_transcript, transcript_text
 
-DOOR = os.path.join(TOP, "bin", "picture")
 LIMIT = 60
 SEED = 2026
 EDGE, APART = b"p edge 2 1\ne 1 2\n", b"p edge 5 3\ne 1 2\ne 2 3\ne 1 3\n"
 
 
 def call(words, data=b"", **more):
-    done = subprocess.run([DOOR, *words], input=data, capture_output=True, timeout=LIMIT, **more)
+    done = subprocess.run([FORESTLAB, "picture", *words], input=data, capture_output=True, timeout=LIMIT, **more)
     return done.returncode, done.stdout, done.stderr
 
 

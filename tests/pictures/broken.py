@@ -1,6 +1,6 @@
 """Pictures of rounds without a rule: what is left out beside the rounds of ruled_rounds.py (tests/programs/schedules.py
 compares these with nodes that hear and send), what has all rules beside lab/definitions/colours.py, and the words
-beside what `bin/explore` prints."""
+beside what `forestlab explore` prints."""
 import os
 import re
 import subprocess
@@ -8,7 +8,7 @@ import subprocess
 from lab.definitions.colours import bit, drop, merge, network_of, shift, three
 from lab.schedules import rules
 from lab.schedules.ruled_rounds import RuledRounds, smallest
-from tests import TOP
+from tests import FORESTLAB, TOP
 from tests.pictures.base import LIMIT, PictureCase
 from tests.pictures.marks import SVG, centre, ends, marks, nearest, number, numbered, parsed, texts
 
@@ -16,7 +16,7 @@ MOST = {rule: 12 if rule in rules.OF_FORESTS else 5 for rule in rules.OF_ROUNDS}
 
 
 def explored(*words):
-    done = subprocess.run([os.path.join(TOP, "bin", "explore"), *words], capture_output=True, cwd=TOP, timeout=LIMIT)
+    done = subprocess.run([FORESTLAB, "explore", *words], capture_output=True, cwd=TOP, timeout=LIMIT)
     return done.stdout.decode().split("\n")
 
 
@@ -50,7 +50,7 @@ class Broken(PictureCase):
     needs_programs = False
 
     def words_row(self, name, root, said):
-        """The sentences of bin/explore are in the picture's, with its own quotes."""
+        """The sentences of forestlab explore are in the picture's, with its own quotes."""
         shown = " ".join(texts(root))
         missing = [
             line

@@ -150,7 +150,7 @@ class Maps(PictureCase):
             self.bars_row(f"rounds of {name}", net, root, net.forest_count)
         self.rounds_rows("queen5_5", self.examples["queen5_5"])
         self.rounds_rows("queen5_5", self.examples["queen5_5"], [1], "--forest", 1)
-        self.rounds_rows("queen5_5", self.examples["queen5_5"], [4, 5], "--forests", "4..5")
+        self.rounds_rows("queen5_5", self.examples["queen5_5"], [4, 5], "--forest", "4..5")
 
     def test_places(self):
         self.crowded_rows("a crowd", CROWD)
@@ -318,7 +318,7 @@ class Maps(PictureCase):
 
     def forests_rows(self, name, network, asked=None):
         net = network_of(network)
-        words = ["--forests", f"{asked[0]}..{asked[-1]}"] if asked else []
+        words = ["--forest", f"{asked[0]}..{asked[-1]}"] if asked else []
         root = parsed(self.draw("forests", network, rounds_text(net), *words))
         merged = first_colours(net)
         shown_forests = {title(group): group for group in marks(root, "forest") + marks(root, "merged")}

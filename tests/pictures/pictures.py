@@ -1,4 +1,4 @@
-"""Tests of `bin/picture`: what is refused, the command line, sizes, and the stored pictures.
+"""Tests of `forestlab picture`: what is refused, the command line, sizes, and the stored pictures.
 
 Each picture is counted against its text by other means: what it has to show comes from the text, or from the
 definitions in lab/definitions/colours.py and lab/definitions/nodes.py, and from nothing of lab/pictures."""
@@ -201,22 +201,22 @@ class Pictures(PictureCase):
             ["overview", "x", "--pulses", "3,5"],
             ["run", "x", "--only", "hello"],
             ["bits", "x", "--vertex", "y"],
-            ["forests", "x", "--forests", "2"],
+            ["forests", "x", "--forest", "a"],
             ["broken"],
             ["broken", "x", "--without", "safes"],
         ):
             status, picture, fault = self.draw.painter(words)
-            prog = b"picture " + words[0].encode() if words and words[0] != "maps" else b"picture"
+            prog = b"forestlab picture" + (b" " + words[0].encode() if words and words[0] != "maps" else b"")
             self.note(f"the words {words}",
                       (status, picture) == (2, b"") and fault.split(b"\n")[-2].startswith(prog + b": error: "), fault)
         status, told, fault = call(["--help"])
         kinds = re.findall(r"^  ([a-z]+) {2,}", told.decode().split("positional")[0], re.M)
-        self.note("help names standard input", b"bin/picture plan - <" in told)
+        self.note("help names standard input", b"forestlab picture plan - <" in told)
         self.note("help", (status, fault, len(kinds)) == (0, b"", 16), kinds)
         for kind in kinds:
             status, told, fault = self.draw.painter([kind, "--help"])
             self.note(f"help of {kind}",
-                      (status, fault) == (0, b"") and f"  bin/picture {kind} examples/".encode() in told, told)
+                      (status, fault) == (0, b"") and f"  forestlab picture {kind} examples/".encode() in told, told)
         self.refused("a file that isn't there", call(["plan", os.path.join(self.draw.folder, "nowhere.col")]))
         network = example("petersen.col")
         texts_of = {"plan": plan_text(network), "forests": rounds_text(network_of(network)),
@@ -235,7 +235,7 @@ class Pictures(PictureCase):
         rounds = rounds_text(network_of(queen))
         for asked, said in (("0..6", b"at most 6 forests side by side"), ("3..12", b"forests 0 to 11"),
                             ("12..12", b"forests 0 to 11")):
-            self.refused(f"forests {asked} of 12", self.draw.run("forests", queen, rounds, "--forests", asked), said)
+            self.refused(f"forests {asked} of 12", self.draw.run("forests", queen, rounds, "--forest", asked), said)
         plain = b"".join(line + b"\n" for line in network.split(b"\n") if not line.startswith(b"c at"))
         some = plain + b"c at 1 0 0\n"
         for name, data, said in (("given", network, b""), ("none", plain, b""),
@@ -251,7 +251,7 @@ class Pictures(PictureCase):
         """Each stored picture is what the command of docs/pictures/README.md draws today."""
         folder = os.path.join(TOP, "docs", "pictures")
         with open(os.path.join(folder, "README.md"), encoding="utf-8") as file:
-            commands = re.findall(r"^    bin/picture (.*) > docs/pictures/(\S+)$", file.read(), re.M)
+            commands = re.findall(r"^    forestlab picture (.*) > docs/pictures/(\S+)$", file.read(), re.M)
         stored = sorted(name for name in os.listdir(folder) if name.endswith((".svg", ".html")))
         self.note("each stored picture has its command", stored == sorted(name for _, name in commands), stored)
         for words, name in commands:

@@ -1,5 +1,5 @@
-"""One process that draws many pictures: it reads the code of `bin/picture` once, and forks a child for each, which
-calls its `main`.
+"""One process that draws many pictures: it reads the code of `forestlab picture` once, and forks a child for each,
+which calls its `main`.
 
 Run as a program it takes requests on standard input, a line of JSON each, and answers each with the child's status. The
 tests ask it by `Painter`; what depends on how the command is started they ask of the command."""
@@ -16,8 +16,8 @@ from tests import TOP
 
 
 class Painter:
-    """`painter(words, data)` is the status, standard output and standard error of `bin/picture` with these words and
-    this standard input, in the folder at the top."""
+    """`painter(words, data)` is the status, standard output and standard error of `forestlab picture` with these words
+    and this standard input, in the folder at the top."""
 
     def __init__(self, folder, limit):
         self.limit = limit

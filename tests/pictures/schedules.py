@@ -79,7 +79,7 @@ class Table:
 
 
 def table_of(painter, network, *options):
-    return Table(json.loads(drawn(painter, "adversary", network, "--text", *options)))
+    return Table(json.loads(drawn(painter, "adversary", network, "--json", *options)))
 
 
 def plain(words):
@@ -265,11 +265,11 @@ class Schedules(PictureCase):
             self.note(f"{walks} walks over the table of {name}: forestplay shows the same", not played, played[:1])
 
     def page_rows(self, name, network):
-        """The page has the table that --text writes, and needs nothing from elsewhere."""
+        """The page has the table that --json writes, and needs nothing from elsewhere."""
         page = drawn(self.painter, "adversary", network)
         data = json.loads(re.search(r"^var D = (.*);$", page, re.M).group(1))
         self.note(f"page of {name}: its table",
-                  data["table"] == json.loads(drawn(self.painter, "adversary", network, "--text")))
+                  data["table"] == json.loads(drawn(self.painter, "adversary", network, "--json")))
         self.note(
             f"page of {name}: nothing from elsewhere",
             not re.search(r"(src|href)=|@import|url\(|fetch\(|XMLHttp", page)
@@ -299,7 +299,7 @@ class Schedules(PictureCase):
 
     def lattice_rows(self, name, network, table, low, high, *options):
         """The picture of a whole space: its columns, its steps, and a bold run from column to column."""
-        window = [] if high is None else ["--events", f"{low}..{high}"]
+        window = [] if high is None else ["--columns", f"{low}..{high}"]
         root = parsed(drawn(self.painter, "schedules", network, *window, *options))
         depth = table.depths()
         counts = Counter(depth.values())
@@ -353,11 +353,11 @@ class Schedules(PictureCase):
         self.note(f"{name} without {without}: its words", good, words[:400])
 
     def beyond_rows(self, network, without, low, high):
-        """With --events, what comes after the first event that goes wrong is there too: a node that has made a wrong
+        """With --columns, what comes after the first event that goes wrong is there too: a node that has made a wrong
         pulse is red."""
         space = Space(network_of(network), without, beyond=True)
         root = parsed(
-            drawn(self.painter, "schedules", network, "--without", ",".join(without), "--events", f"{low}..{high}")
+            drawn(self.painter, "schedules", network, "--without", ",".join(without), "--columns", f"{low}..{high}")
         )
         wrong = sum(
             low <= space.depth[s] <= high and any(node.wrong for node in space.nodes(s).values())
@@ -386,12 +386,12 @@ class Schedules(PictureCase):
         path = os.path.join(self.folder, "run.events")
         with open(path, "w", encoding="utf-8") as file:
             file.write("\n".join(lines) + "\n")
-        root = parsed(drawn(self.painter, "schedules", TWO, "--events", "0..40", "--run", path))
+        root = parsed(drawn(self.painter, "schedules", TWO, "--columns", "0..40", "--events", path))
         bold = sorted((ends(list(group)[1])[0][0], title(group).split(":")[0]) for group in marks(root, "bold"))
         self.note("the run that is given is bold", [words for _, words in bold] == takes[:40], bold[:5])
         with open(path, "w", encoding="utf-8") as file:
             file.write("c a run\nput 1 0\ntake 2 0\ntake 2 0\n")
-        self.refused("a text that is no run", "schedules", TWO, "--run", path,
+        self.refused("a text that is no run", "schedules", TWO, "--events", path,
                      words=b"line 4: `take 2 0` is not possible there")
 
     def refused(self, name, kind, network, *options, words=b'', status=1):
@@ -405,7 +405,8 @@ class Schedules(PictureCase):
             self.refused(f"{kind} without nonsense", kind, TWO, "--without", "safe", words=b"safes", status=2)
         self.refused("schedules of all of four", "schedules", ALL_OF_FOUR, words=b"at most 200,000 states")
         for window, words in (("0..105", b"0 to 104"), ("3..2", b"0 to 104"), ("0..9,", b"two numbers")):
-            self.refused(f"schedules of events {window}", "schedules", TWO, "--events", window, words=words,
+            self.refused(f"schedules of events {window}", "schedules", TWO, "--columns", window, words=words,
                          status=2 if "," in window else 1)
-        self.refused("schedules of 109 events", "schedules", STAR, "--events", "0..109", words=b"at most 108 events")
-        self.refused("schedules of too many steps", "schedules", STAR, "--events", "0..108", words=b"draw fewer events")
+        self.refused("schedules of 109 events", "schedules", STAR, "--columns", "0..109", words=b"at most 108 events")
+        self.refused("schedules of too many steps", "schedules", STAR, "--columns", "0..108",
+                     words=b"draw fewer events")

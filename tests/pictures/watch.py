@@ -1,4 +1,4 @@
-"""Tests of `bin/picture watch`.
+"""Tests of `forestlab picture watch`.
 
 What is read here is the page's table. It is compared with the transcript's own lines, counted: a node waits for the
 acknowledgements of the payloads that it put and hasn't had, and so on. Nothing comes from lab/pictures."""
@@ -15,7 +15,7 @@ from lab.networks.network_text import read_network
 from lab.pictures.watch_page import Run, Steps, steps_of_text
 from lab.schedules.policies import policy_of
 from lab.schedules.simulate import Player, edges_of, text_of_rows
-from tests import TOP
+from tests import FORESTLAB, TOP
 from tests.cases import Case
 from tests.programs.made_transcripts import made_transcript, merged_text, transcript_text
 
@@ -28,7 +28,7 @@ def contents(name):
 
 
 def watch(*words, data=b""):
-    done = subprocess.run([os.path.join(TOP, "bin", "picture"), "watch", *words], input=data, capture_output=True,
+    done = subprocess.run([FORESTLAB, "picture", "watch", *words], input=data, capture_output=True,
                           timeout=LIMIT)
     return done.returncode, done.stdout.decode(), done.stderr.decode()
 

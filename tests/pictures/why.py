@@ -1,4 +1,4 @@
-"""Tests of `bin/picture why`.
+"""Tests of `forestlab picture why`.
 
 The channel of the triangle's node 2 is worked by hand, as in docs/learn/TUTORIAL.md. Of other networks: each message
 that is named is one of the rounds by the definitions; and a colour stays the same if identifiers on which it is said
@@ -14,7 +14,7 @@ from lab.definitions.rounds import rounds_text
 from lab.networks.network_text import Network as Read, read_network
 from lab.pictures.colouring import Rounds
 from lab.pictures.why_picture import Cone
-from tests import TOP
+from tests import FORESTLAB, TOP
 from tests.cases import Case
 
 HAND = [
@@ -36,7 +36,7 @@ def example(name):
 def why(name, vertex, *words):
     """By the rounds of the definitions, which are the program's too."""
     done = subprocess.run(
-        [os.path.join(TOP, "bin", "picture"), "why", os.path.join(TOP, "examples", f"{name}.col"), "--vertex",
+        [FORESTLAB, "picture", "why", os.path.join(TOP, "examples", f"{name}.col"), "--vertex",
          str(vertex), "--rounds", "-", *words], input=rounds_text(network_of(example(name))), capture_output=True,
         timeout=100)
     return done.returncode, done.stdout.decode(), done.stderr.decode()
@@ -74,8 +74,8 @@ class Messages(Case):
     needs_programs = False
 
     def test_words(self):
-        """Each message of the cone has a line, by pulse, which is a message of the rounds; and a colour is told along an
-        edge of its forest, from a parent to its child."""
+        """Each message of the cone has a line, by pulse, which is a message of the rounds; and a colour is told along
+        an edge of its forest, from a parent to its child."""
         for name, vertex in (("triangle", 2), ("petersen", 6), ("barred", 4)):
             net = network_of(example(name))
             text = set(rounds_text(net).decode().splitlines())
@@ -165,7 +165,7 @@ class Picture(Case):
                 self.assertIn(end, fault)
 
     def test_no_forest(self):
-        done = subprocess.run([os.path.join(TOP, "bin", "picture"), "why", "/dev/stdin", "--vertex", "1", "--rounds",
+        done = subprocess.run([FORESTLAB, "picture", "why", "/dev/stdin", "--vertex", "1", "--rounds",
                                "/dev/null"], input=b"p edge 1 0\n", capture_output=True, timeout=60)
         self.assertEqual(done.returncode, 1)
         self.assertTrue(re.match(rb"picture: [^\n]*\n$", done.stderr), done.stderr)

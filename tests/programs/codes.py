@@ -1,11 +1,11 @@
-"""Tests of `bin/network tell CODE`, beside the codes that docs/claim/FORMATS.md lists and those that the programs
+"""Tests of `forestlab network tell CODE`, beside the codes that docs/claim/FORMATS.md lists and those that the programs
 report."""
 import os
 import re
 import subprocess
 import tempfile
 
-from tests import TOP
+from tests import FORESTLAB, TOP
 from tests.cases import Case, run_program, text
 from tests.commands import EDGE, PROGRAM_OF, TRIANGLE
 from tests.programs.own_networks import call
@@ -105,7 +105,7 @@ class Codes(Case):
         with tempfile.TemporaryDirectory() as folder:
             with open(os.path.join(folder, "C8"), "w", encoding="ascii") as file:
                 file.write("p edge 2 1\ne 1 2\n")
-            done = subprocess.run([os.path.join(TOP, "bin", "network"), "tell", "C8"], capture_output=True, timeout=60,
+            done = subprocess.run([FORESTLAB, "network", "tell", "C8"], capture_output=True, timeout=60,
                                   cwd=folder)
             self.note("a file C8", (done.returncode, done.stderr) == (0, b"") and done.stdout.startswith(b"nodes: 2\n"),
                       done)

@@ -8,7 +8,7 @@ import sys
 import time
 
 from lab.__main__ import COMMANDS
-from tests import TOP
+from tests import FORESTLAB, TOP
 from tests.cases import Case
 
 LIMIT = 120
@@ -16,7 +16,6 @@ TRIANGLE = os.path.join(TOP, "examples", "triangle.col")
 # A call of each command that prints something, and needs no program.
 CALLS = {
     "channels": ["1", "6", "11"],
-    "check-transcript": ["--help"],
     "explore": [os.path.join(TOP, "examples", "two.col")],
     "network": ["path", "3"],
     "picture": ["forests", TRIANGLE],
@@ -34,21 +33,20 @@ class Endings(Case):
             for words in (CALLS.get(name, ["--help"]), ["--help"], ["--version"]):
                 for redirected, said in ((">/dev/full", b"No space left on device"), (">&-", b"Bad file descriptor")):
                     done = subprocess.run(
-                        ["bash", "-c", f'exec "$0" "$@" {redirected}', os.path.join(TOP, "bin", name), *words],
+                        ["bash", "-c", f'exec "$0" "$@" {redirected}', FORESTLAB, name, *words],
                         input=PLAN, capture_output=True, timeout=LIMIT)
                     wanted = b"%s: the output can't be written: %s\n" % (name.encode(), said)
                     self.note(f"{name} {words} {redirected}", (done.returncode, done.stderr) == (1, wanted), done)
         for redirected in ("2>/dev/full", "2>&-"):
-            done = subprocess.run(["bash", "-c", f'exec "$0" read - {redirected}', os.path.join(TOP, "bin", "network")],
+            done = subprocess.run(["bash", "-c", f'exec "$0" "$1" read - {redirected}', FORESTLAB, "network"],
                                   input=b"", capture_output=True, timeout=LIMIT)
             self.note(f"a fault {redirected}", (done.returncode, done.stdout) == (1, b""), done)
 
     def test_help_and_version(self):
         """So it is with the help of a script that isn't Python, and with the version that each says."""
-        for name, words in (("bin/replay", ["--help"]), ("try", ["--help"]), ("test", ["--help"]),
-                            ("bin/network", ["--version"]), ("bin/replay", ["--version"]),
-                            ("forestplan", ["--version"]), ("bin/forestplay", ["--version"]),
-                            ("bin/install", ["--version"])):
+        for name, words in (("try", ["--help"]), ("test", ["--help"]), ("bin/forestlab", ["--help"]),
+                            ("bin/forestlab", ["--version"]), ("forestplan", ["--version"]),
+                            ("bin/forestplay", ["--version"])):
             for redirected, said in ((">/dev/full", b"No space left on device"), (">&-", b"Bad file descriptor")):
                 done = subprocess.run(["bash", "-c", f'exec "$0" "$@" {redirected}', os.path.join(TOP, name), *words],
                                       stdin=subprocess.DEVNULL, capture_output=True, timeout=LIMIT)
@@ -62,24 +60,24 @@ class Endings(Case):
     def test_inputs(self):
         """An input that is closed, or a folder, is one line."""
         for name, words, status in (("network", ["read", "-"], 1), ("network", ["tell", "-"], 1),
-                                    ("channels", ["1"], 1), ("check-transcript", [TRIANGLE], 2),
-                                    ("transcript-to", ["json"], 1), ("simulate", ["-"], 1),
+                                    ("channels", ["1"], 1), ("transcript", ["check", TRIANGLE], 1),
+                                    ("transcript", ["convert", "json"], 1), ("simulate", ["-"], 1),
                                     ("explore", ["-"], 1), ("picture", ["plan", "-"], 1)):
             for redirected, said in (("<&-", b"Bad file descriptor"), (f"<{TOP}", b"Is a directory")):
-                done = subprocess.run(["bash", "-c", f'exec "$0" "$@" {redirected}', os.path.join(TOP, "bin", name),
-                                       *words], capture_output=True, timeout=LIMIT)
+                done = subprocess.run(["bash", "-c", f'exec "$0" "$@" {redirected}', FORESTLAB, name, *words],
+                                      capture_output=True, timeout=LIMIT)
                 line = rb"%s: (-|standard input): %s\n" % (name.encode(), said)
                 good = (done.returncode, done.stdout) == (status, b"") and re.fullmatch(line, done.stderr)
                 self.note(f"{name} {words} {redirected}", good, done)
-        for name, words in (("network", ["path", "2"]), ("network", ["--version"]), ("install", ["--help"])):
-            done = subprocess.run([os.path.join(TOP, "bin", name), *words], stdin=os.open(TOP, os.O_RDONLY),
-                                  capture_output=True, timeout=LIMIT)
+        for name, words in (("network", ["path", "2"]), ("network", ["--version"]), ("--help", [])):
+            done = subprocess.run([FORESTLAB, name, *words], stdin=os.open(TOP, os.O_RDONLY), capture_output=True,
+                                  timeout=LIMIT)
             good = (done.returncode, done.stderr) == (0, b"") and done.stdout
             self.note(f"{name} {words} needs no input, so it may be a folder", good, done)
 
     def test_interrupts(self):
         """Ctrl-C while a command waits for its input is one line and status 130."""
-        for name, words in (("network", ["read", "-"]), ("channels", ["1"]), ("check-transcript", [TRIANGLE]),
+        for name, words in (("network", ["read", "-"]), ("channels", ["1"]), ("transcript", ["check", TRIANGLE]),
                             ("picture", ["plan", "-"]), ("explore", ["-"])):
             with self.begun(name, words) as run:
                 self.wait_for_reading(run.pid)
@@ -91,7 +89,7 @@ class Endings(Case):
     def test_early_interrupts(self):
         """Ctrl-C from the script's first moment on. Python, while it starts or imports modules, ends with one line, and
         never with a traceback; a shell that hasn't begun Python ends by the signal, or passes over it as it waits."""
-        for name, words in (("network", ["read", "-"]), ("explore", ["-"]), ("wrong-bodies", ["--help"])):
+        for name, words in (("network", ["read", "-"]), ("explore", ["-"]), ("sheet", ["--help"])):
             for at in range(24):
                 # Half of the moments are counted from the start of Python, where a command takes 60 ms to begin.
                 of_python, seconds = at % 2 == 1, at * 0.004
@@ -125,7 +123,7 @@ class Endings(Case):
 
     def begun(self, name, words):
         # A shell has what it runs in the background ignore SIGINT.
-        return subprocess.Popen([os.path.join(TOP, "bin", name), *words], stdin=subprocess.PIPE, stdout=subprocess.PIPE,
+        return subprocess.Popen([FORESTLAB, name, *words], stdin=subprocess.PIPE, stdout=subprocess.PIPE,
                                 stderr=subprocess.PIPE, start_new_session=True,
                                 preexec_fn=lambda: signal.signal(signal.SIGINT, signal.SIG_DFL))
 
@@ -156,8 +154,8 @@ class Endings(Case):
 
     def test_words(self):
         """The doors themselves, without a command, or with one that there isn't."""
-        for folder, said in (("lab", "lab: a command is wanted: "), ("build", "build: one of these is wanted: ")):
+        for folder, said in (("lab", "forestlab: "), ("build", "build: one of these is wanted: ")):
             for words in ([], ["nothing"]):
-                door = os.path.join(TOP, folder)
-                done = subprocess.run([sys.executable, door, *words], capture_output=True, text=True)
+                done = subprocess.run([sys.executable, os.path.join(TOP, folder), *words], capture_output=True,
+                                      text=True)
                 self.note(f"{folder} {words}", done.returncode == 2 and done.stderr.startswith(said), done)

@@ -384,7 +384,7 @@ class FirstRun(Case):
 
     def run_versions(self, tree):
         """The version without a build, and a build without a run."""
-        for words in (["forestplan", "--version"], ["bin/network", "--version"]):
+        for words in (["forestplan", "--version"], ["bin/forestlab", "--version"]):
             done = subprocess.run([os.path.join(TOP, *words[0].split("/")), *words[1:]], capture_output=True, text=True)
             said = r"forestplan \d+\.\d+\.\d+\ncommit [^\n]+\nkit rattle-kit-[^\n]+\n"
             self.note(" ".join(words), done.returncode == 0 and re.fullmatch(said, done.stdout), done)

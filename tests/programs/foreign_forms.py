@@ -1,12 +1,12 @@
-"""Tests of what `bin/network read` makes of networks that other programs wrote: it reads them as they are, or refuses
-them by their name; never as another network.
+"""Tests of what `forestlab network read` makes of networks that other programs wrote: it reads them as they are, or
+refuses them by their name; never as another network.
 
 The texts of networkx are by its version 3.6.1."""
 import tempfile
 from unittest import mock
 
 from tests.cases import Case, run_program
-from tests.programs.own_networks import DOOR, call, comments, pairs_in
+from tests.programs.own_networks import call, comments, pairs_in
 from tests.settings import PLAN
 
 # Three sites that interfere, and one by itself.
@@ -279,6 +279,6 @@ class ForeignForms(Case):
         """A text that begins with what is no text isn't read to its end."""
         with tempfile.TemporaryFile() as file:
             file.truncate(2 << 30)
-            done = run_program(DOOR, ["read", "-"], stdin=file)
+            done = run_program(FORESTLAB, ["network", "read", "-"], stdin=file)
             said = b"it has bytes of value zero, so it is no text"
             self.note("two gigabytes of zeros", done.returncode == 1 and said in done.stderr, done.stderr)

@@ -1,4 +1,4 @@
-"""Tests of `bin/install`, with the programs as they are built in this tree.
+"""Tests of `python3 build install`, with the programs as they are built in this tree.
 
 What is installed has to run from another folder, through symbolic links, and from a copy of the folder; its manual
 pages have to be the help texts, which build/help/ has."""
@@ -8,12 +8,14 @@ import re
 import resource
 import shutil
 import subprocess
+import sys
 import tarfile
 import tempfile
 
+from lab.__main__ import COMMANDS as OF_LAB
 from lab.definitions.colours import network_of, plan_text
 from lab.definitions.rounds import rounds_text
-from tests import TOP
+from tests import FORESTLAB, TOP
 from tests.cases import Case, text
 from tests.commands import APART, COMMANDS, PROGRAMS, commands_of
 from tests.commands import SCRIPTS as OF_BIN
@@ -22,7 +24,8 @@ from tests.shell import run_line
 
 # Seconds; a busy machine takes long for the many calls of help that the manual pages are made of.
 LIMIT = 300
-SCRIPTS = {script.name: script.commands for script in OF_BIN if script.is_installed}
+NAMES = [*PROGRAMS, "forestlab"]
+BUILD = [sys.executable, os.path.join(TOP, "build")]
 # Without the toolchain's command.
 ENVIRONMENT = dict(os.environ, COLUMNS="80", PATH=":".join(
     folder for folder in os.environ["PATH"].split(":") if not os.path.exists(os.path.join(folder, "rt"))))
@@ -53,25 +56,25 @@ class Install(Case):
         cls.folder = cls.enterClassContext(tempfile.TemporaryDirectory())
         cls.elsewhere, cls.target = (os.path.join(cls.folder, name) for name in ("else where", "my plans"))
         os.mkdir(cls.elsewhere)
-        cls.script = os.path.join(cls.elsewhere, "installs")
-        os.symlink(os.path.join(TOP, "bin", "install"), cls.script)
-        cls.installed = run([cls.script, os.path.join("..", "my plans")], cwd=cls.elsewhere)
+        cls.script = [*BUILD, "install"]
+        cls.installed = run([*cls.script, os.path.join("..", "my plans")], cwd=cls.elsewhere)
 
     def test_installed(self):
         self.note("install", self.installed[:2] == (0, b"") and b"install: " in self.installed[2], self.installed)
         self.run_rows("installed", self.target)
 
     def line(self, command):
-        return run_line(command, limit=LIMIT, cwd=self.target, env=ENVIRONMENT)
+        path = f"{os.path.join(self.target, 'bin')}:{ENVIRONMENT['PATH']}"
+        return run_line(command, limit=LIMIT, cwd=self.target, env=ENVIRONMENT | {"PATH": path})
 
     def test_pages(self):
         """Each command of the pages prints in the folder what the page shows, as it does at the top of this tree. Only
-        README's begins with `./`, for which it names `bin/` in the folder."""
+        README's begins with `./`."""
         count = 0
         for page in PAGES:
             for number, command, shown in shown_commands(lines_of(page)):
                 count += 1
-                done = self.line(re.sub(r"^\./", "bin/", command) if page == "README.md" else command)
+                done = self.line(command.removeprefix("./"))
                 wanted = "".join(line + "\n" for line in shown).encode()
                 good = [(0, wanted, b"")] + [(status, b"", wanted) for status in (1, 3) if wanted]
                 self.note(f"{page}:{number} {command}", (done.returncode, done.stdout, done.stderr) in good, done)
@@ -96,7 +99,7 @@ class Install(Case):
         copy, links, away = (os.path.join(self.folder, name) for name in ("copy", "links", "away"))
         subprocess.run(["cp", "-r", self.target, copy], check=True)
         os.makedirs(os.path.join(links, "bin"))
-        for name in [*PROGRAMS, *SCRIPTS]:
+        for name in NAMES:
             os.symlink(os.path.join(copy, "bin", name), os.path.join(links, "bin", name))
         os.symlink(os.path.join(copy, "examples"), os.path.join(links, "examples"))
         os.rename(self.target, away)
@@ -123,37 +126,37 @@ class Install(Case):
         with open(own, "wb") as file:
             file.write(text(APART))
         for it in OF_BIN:
-            if it.is_installed:
-                got = call(it.name, *(own if word == "FILE" else word for word in it.words), given=text(it.data))
-                check(it.name, got[::2] == (0, b"") and re.fullmatch(it.answer, got[1].decode()), got)
+            got = call(*(own if word == "FILE" else word for word in it.line), given=text(it.data))
+            check(it.name, got[::2] == (0, b"") and re.fullmatch(it.answer, got[1].decode()), got)
         got = call("forestplan", "plain", given=data)
         check("forestplan plain", got == (0, plan_text(data), b""), got)
         got = call("forestplay", "rounds", given=data)
         check("forestplay rounds", got == (0, rounds_text(network_of(data)), b""), got[2])
         status, transcript, _ = call("forestplan", "transcript", "--workers", "2", given=data)
-        got = call("check-transcript", network, given=transcript)
-        check("check-transcript",
+        got = call("forestlab", "transcript", "check", network, given=transcript)
+        check("transcript check",
               status == 0 and got[0] == 0 and got[1].startswith(b"whole run of 10 nodes, 4496 entries, "), got)
-        got = call("replay", network, given=transcript)
-        check("replay", got[0] == 0 and len(re.findall(rb"^node \d+ pulse 48 channel \d+$", got[1], re.M)) == 10, got)
-        got = call("network", "tell", network)
+        got = call("forestlab", "transcript", "replay", network, given=transcript)
+        check("transcript replay",
+              got[0] == 0 and len(re.findall(rb"^node \d+ pulse 48 channel \d+$", got[1], re.M)) == 10, got)
+        got = call("forestlab", "network", "tell", network)
         check("network tell", got[0] == 0 and b"nodes: 10\n" in got[1] and got[2] == b"", got)
-        got = call("explore", os.path.join(folder, "examples", "two.col"))
+        got = call("forestlab", "explore", "two")
         check("explore", got[0] == 0 and got[1].startswith(b"every schedule of two: 281 states, ") and got[2] == b"",
               got)
-        got = call("explore", "--without", "root")
+        got = call("forestlab", "explore", "--without", "root")
         check("explore without a rule",
-              got[0] == 0 and got[1].startswith(b"broken on 2 nodes with the edges 1-2\n") and got[2] == b"", got)
+              got[0] == 1 and got[1].startswith(b"broken on 2 nodes with the edges 1-2\n") and got[2] == b"", got)
         for kind in ("plan", "rounds", "run", "player"):
             net = os.path.join(folder, "examples", "triangle.col")
-            got = call("picture", kind, net)
+            got = call("forestlab", "picture", kind, net)
             check(f"picture {kind}", got[0] == 0 and re.search(rb"<svg|<!doctype html", got[1][:200]) and got[2] == b"",
                   (got[0], got[1][:80], got[2]))
 
     def test_manual(self):
         pages = os.path.join(self.target, "share", "man", "man1")
         self.note("a manual page for each",
-                  sorted(os.listdir(pages)) == sorted(f"{name}.1" for name in [*PROGRAMS, *SCRIPTS]), os.listdir(pages))
+                  sorted(os.listdir(pages)) == sorted(f"{name}.1" for name in NAMES), os.listdir(pages))
         for name, helped in PROGRAMS.items():
             texts = {"DESCRIPTION": helped}
             texts |= {f"{name.upper()} {it.name.upper()}": f"{it.name}_help" for it in commands_of(name)}
@@ -163,22 +166,16 @@ class Install(Case):
             }
             page = contents(os.path.join(pages, f"{name}.1")).decode()
             self.note(f"the manual page of {name} is its help", lines_of_page(page) == wanted, page[:500])
-        for name, commands in SCRIPTS.items():
-            page = contents(os.path.join(pages, f"{name}.1")).decode()
-            blocks = lines_of_page(page)
-            words = {title: title.lower().split()[1:] if title != "DESCRIPTION" else [] for title in blocks}
-            texts = {
-                title: run([os.path.join(TOP, "bin", name), *words[title], "--help"], env=ENVIRONMENT)[1].decode()
-                for title in blocks
-            }
-            self.note(f"the manual page of {name} is its help", "DESCRIPTION" in blocks and blocks == texts, page[:500])
-            self.note(f"the manual page of {name} has its purpose",
-                      re.search(rf"^\.SH NAME\n{name} \\- [a-z][^\n]*[a-z]$", page, re.M), page[:200])
-            self.note(
-                f"the manual page of {name} has its commands",
-                {title for title in blocks if title != "DESCRIPTION"} == {f"{name} {it}".upper() for it in commands},
-                list(blocks),
-            )
+        page = contents(os.path.join(pages, "forestlab.1")).decode()
+        blocks = lines_of_page(page)
+        words = {title: title.lower().split()[1:] if title != "DESCRIPTION" else [] for title in blocks}
+        texts = {title: run([FORESTLAB, *words[title], "--help"], env=ENVIRONMENT)[1].decode() for title in blocks}
+        self.note("the manual page of forestlab is its help", "DESCRIPTION" in blocks and blocks == texts, page[:500])
+        self.note("it has its purpose", re.search(r"^\.SH NAME\nforestlab \\- [a-z][^\n]*[a-z]$", page, re.M),
+                  page[:200])
+        wanted = {f"forestlab {it.name}".upper() for it in OF_BIN}
+        wanted |= {f"forestlab {it.name} {below}".upper() for it in OF_BIN for below in it.commands}
+        self.note("it has its commands", set(blocks) - {"DESCRIPTION"} == wanted, list(blocks))
         if shutil.which("groff"):
             for page in sorted(os.listdir(pages)):
                 status, _, said = run(["groff", "-man", "-Tutf8", "-ww", os.path.join(pages, page)])
@@ -191,22 +188,23 @@ class Install(Case):
             file.write(b"p edge 2 1\ne 1 2\n")
         with subprocess.Popen([os.path.join(self.target, "bin", "forestplan"), "forests"], stdin=subprocess.PIPE,
                               stdout=subprocess.PIPE) as running:
-            got = run([self.script, self.target])
+            got = run([*self.script, self.target])
             out, _ = running.communicate(b"p edge 2 1\ne 1 2\n", timeout=LIMIT)
         self.note("install once more", got[:2] == (0, b"") and out == b"forests 2 1\n0 1 2\n", (got, out))
         self.note("what else is in the folder stays", contents(own) == b"p edge 2 1\ne 1 2\n")
 
     def test_refused(self):
         for words in ([], [self.folder, self.folder], ["--all"], [TOP]):
-            got = run([self.script, *words])
+            got = run([*self.script, *words])
             self.note(f"install {words}", got[:2] == (2, b"") and b"install: error: " in got[2], got)
         file = os.path.join(self.folder, "a file")
         with open(file, "wb"):
             pass
-        got = run([self.script, os.path.join(file, "below")])
+        got = run([*self.script, os.path.join(file, "below")])
         self.note("install below a file", got[:2] == (1, b"") and re.fullmatch(rb"install: [^\n]+\n", got[2]), got)
-        got = run([self.script, "--help"], env=ENVIRONMENT)
-        self.note("install --help", got[0] == 0 and got[2] == b"" and b"  bin/install ~/forestplan\n" in got[1], got)
+        got = run([*self.script, "--help"], env=ENVIRONMENT)
+        is_shown = b"  python3 build install ~/forestplan\n" in got[1]
+        self.note("install --help", (got[0], got[2]) == (0, b"") and is_shown, got)
 
     def test_unbuilt(self):
         """From a tree that isn't built, without the toolchain: what it would cost is said, and nothing is installed."""
@@ -217,7 +215,7 @@ class Install(Case):
         for name in ("bin", "build", "lab"):
             shutil.copytree(os.path.join(TOP, name), os.path.join(tree, name), symlinks=True,
                             ignore=shutil.ignore_patterns("__pycache__"))
-        got = run([os.path.join(tree, "bin", "install"), target], env=ENVIRONMENT)
+        got = run([sys.executable, os.path.join(tree, "build"), "install", target], env=ENVIRONMENT)
         self.note("install from a tree that isn't built",
                   got[0] == 70 and b"not built, and the toolchain's command rt is not on the PATH" in got[2], got)
         self.note("nothing is installed then", got[0] != 0 and not os.path.exists(target), got)
@@ -227,9 +225,9 @@ class Install(Case):
         version = contents(os.path.join(self.target, "VERSION")).decode()
         lines = r"forestplan \d+\.\d+\.\d+\ncommit [^\n]+\nkit rattle-kit-[^\n]+\n(built where rt is of [^\n]+\n)?"
         self.note("VERSION", re.fullmatch(lines, version), version)
-        for name in SCRIPTS:
-            got = run([os.path.join(self.target, "bin", name), "--version"], env=ENVIRONMENT)
-            self.note(f"{name} --version", got == (0, version.encode(), b""), got)
+        for words in ([], *([name] for name in OF_LAB)):
+            got = run([os.path.join(self.target, "bin", "forestlab"), *words, "--version"], env=ENVIRONMENT)
+            self.note(f"forestlab {words} --version", got == (0, version.encode(), b""), got)
         for name in ("LICENSE-MIT", "LICENSE-APACHE", "CHANGELOG.md", "docs/claim/FORMATS.md"):
             there, here = (contents(os.path.join(top, name)) for top in (self.target, TOP))
             self.note(f"{name} is there", there == here)
@@ -237,17 +235,11 @@ class Install(Case):
         wrong = [path for known, path in rows
                  if hashlib.sha256(contents(os.path.join(self.target, path))).hexdigest() != known]
         self.note("each sum is its file's", not wrong and len(rows) > 100, wrong)
-        self.note("the programs have sums", {"bin/forestplan", "bin/forestplay"} <= {path for _, path in rows})
+        self.note("the programs have sums", {"forestplan", "forestplay"} <= {path for _, path in rows})
 
     def test_readme(self):
-        """README there names the commands that are there, all of them, and nothing that only the repository has."""
+        """README there has the claim and the links of the repository's, and names nothing that it alone has."""
         here, there = (contents(os.path.join(top, "README.md")).decode() for top in (TOP, self.target))
-        rows = re.findall(r"^`(bin/\S+?)[ `][^|]*\| ", there, re.M)
-        wanted = {f"bin/{name}" for name in [*PROGRAMS, *SCRIPTS]}
-        self.note("a row of each command", set(rows) == wanted and len(rows) > len(wanted), set(rows) ^ wanted)
-        named = set(re.findall(r"bin/[\w-]+", there))
-        missing = {path for path in named if not os.path.isfile(os.path.join(self.target, path))}
-        self.note("each command that it names is there", named >= wanted and not missing, missing)
         links = {link.partition("#")[0] for link in re.findall(r"\]\(([^)]+)\)", there)}
         lost = {link for link in links if not os.path.isfile(os.path.join(self.target, link))}
         self.note("each page that it links is there", len(links) > 10 and not lost, lost)
@@ -255,8 +247,9 @@ class Install(Case):
         parts = re.findall(r"^## The claim\n.*?(?=^## )|^## What is.*", here, re.M | re.S)
         good = len(parts) == 2 and all(part in there for part in parts)
         self.note("the claim is that of the repository", good, there)
-        shown = re.search(r"\$ (bin/forestplan plan < \S+)", there)
-        got = run(["bash", "-c", shown[1]], cwd=self.target, env=ENVIRONMENT)
+        shown = re.search(r"\$ (forestplan plan < \S+)", there)
+        done = self.line(shown[1])
+        got = done.returncode, done.stdout, done.stderr
         self.note("its first command", got == (0, b"plan\n1 2\n2 3\n3 1\n", b""), got)
 
     def small_tree(self, name):
@@ -290,20 +283,20 @@ class Install(Case):
     def test_changed(self):
         """A tree whose sources have changed since installs nothing old, and a full disk leaves nothing half."""
         tree, target = self.small_tree("small tree"), os.path.join(self.folder, "of the small tree")
-        script = os.path.join(tree, "bin", "install")
+        script = [sys.executable, os.path.join(tree, "build"), "install"]
         os.makedirs(os.path.join(target, "lab"))
         with open(os.path.join(target, "README.md"), "w", encoding="utf-8") as file:
             file.write("mine\n")
         # The limit is on the size of a file, and the programs are larger.
         for folder in (target, os.path.join(self.folder, "nowhere yet")):
-            got = run([script, folder], env=ENVIRONMENT,
+            got = run([*script, folder], env=ENVIRONMENT,
                       preexec_fn=lambda: resource.setrlimit(resource.RLIMIT_FSIZE, (200_000, 200_000)))
             self.note(f"no room in {folder}", got[:2] == (1, b"") and got[2].count(b"\n") == 1, got)
         self.note("what was there stays",
                   sorted(os.listdir(target)) == ["README.md", "lab"] and not os.listdir(os.path.join(target, "lab"))
                   and contents(os.path.join(target, "README.md")) == b"mine\n", os.listdir(target))
         self.note("a new folder isn't left", not os.path.exists(os.path.join(self.folder, "nowhere yet")))
-        got = run([script, target], env=ENVIRONMENT)
+        got = run([*script, target], env=ENVIRONMENT)
         self.note("with room", got[:2] == (0, b""), got)
         old, kept = (os.path.join(target, "lab", name) for name in ("old.py", "own.py"))
         for path in (old, kept):
@@ -314,17 +307,17 @@ class Install(Case):
         with open(os.path.join(tree, "crates", "forestplan", "src", "main.rt"), "a", encoding="utf-8") as file:
             file.write("// changed\n")
         before = os.stat(os.path.join(target, "bin", "forestplan")).st_ino
-        got = run([script, target], env=ENVIRONMENT)
+        got = run([*script, target], env=ENVIRONMENT)
         self.note("from changed sources", got[0] == 70 and b"forestplan: not built" in got[2], got)
         self.note("the old program isn't put there again",
                   os.stat(os.path.join(target, "bin", "forestplan")).st_ino == before)
         out = os.path.join(tree, "crates", "forestplan", "out")
         os.remove(os.path.join(out, "forestplan.made-from"))
         shutil.copy(os.path.join(self.target, "bin", "forestplan"), out)
-        got = run([script, target], env=ENVIRONMENT)
+        got = run([*script, target], env=ENVIRONMENT)
         self.note("a newer program that nobody vouches for", got[0] == 70 and b"forestplan: not built" in got[2], got)
         self.vouch(tree)
-        got = run([script, target], env=ENVIRONMENT)
+        got = run([*script, target], env=ENVIRONMENT)
         after = os.stat(os.path.join(target, "bin", "forestplan")).st_ino
         self.note("built again by another command", got[0] == 0 and after != before, got)
         self.note("what an earlier install put there is removed, and nothing else",
@@ -336,10 +329,10 @@ class Install(Case):
         os.mkdir(packs)
         with open(os.path.join(self.target, "mine.txt"), "w", encoding="utf-8") as file:
             file.write("mine\n")
-        pack = os.path.join(TOP, "bin", "pack")
+        pack = [*BUILD, "pack"]
         sums = set()
         for _ in range(2):
-            got = run([pack, self.target, packs])
+            got = run([*pack, self.target, packs])
             self.note("pack", got[0] == 0 and got[2] == b"", got)
             archive = next(name for name in os.listdir(packs) if name.endswith(".tar.gz"))
             made = contents(os.path.join(packs, archive))
@@ -357,16 +350,16 @@ class Install(Case):
         self.note("its program plans", got == (0, plan_text(data), b""), got)
         with open(os.path.join(top, "README.md"), "a", encoding="utf-8") as file:
             file.write("more\n")
-        got = run([pack, top, packs])
+        got = run([*pack, top, packs])
         self.note("a changed folder isn't packed", got[:2] == (1, b"") and b"first: README.md" in got[2], got)
-        got = run([pack, self.elsewhere])
+        got = run([*pack, self.elsewhere])
         self.note("another folder isn't packed", got[:2] == (2, b"") and b"pack: error: " in got[2], got)
 
     def test_vendor(self):
         """Crates go to another repository with those below them and their lines, and replace nothing unasked."""
-        vendor, there = os.path.join(TOP, "bin", "vendor"), os.path.join(self.folder, "other repository")
+        vendor, there = [*BUILD, "vendor"], os.path.join(self.folder, "other repository")
         os.mkdir(there)
-        got = run([vendor, there, "cole_vishkin", "--build"], env=ENVIRONMENT)
+        got = run([*vendor, there, "cole_vishkin", "--build"], env=ENVIRONMENT)
         self.note("vendor", got[:2] == (0, b"") and b"2 crates" in got[2], got)
         with open(os.path.join(there, "crates.txt"), encoding="utf-8") as file:
             lines = [line for line in file.read().split("\n") if line and not line.startswith("#")]
@@ -384,14 +377,14 @@ class Install(Case):
         changed = os.path.join(there, "crates", "colour_base", "src", "lib.rt")
         with open(changed, "a", encoding="utf-8") as file:
             file.write("// changed\n")
-        got = run([vendor, there, "shift_down"], env=ENVIRONMENT)
+        got = run([*vendor, there, "shift_down"], env=ENVIRONMENT)
         is_refused = got[:2] == (1, b"") and b"another crate colour_base" in got[2]
         self.note("a changed crate isn't replaced", is_refused and b"// changed" in contents(changed), got)
         self.note("nor is anything copied then", not os.path.exists(os.path.join(there, "crates", "shift_down")))
-        got = run([vendor, there, "shift_down", "--replace"], env=ENVIRONMENT)
+        got = run([*vendor, there, "shift_down", "--replace"], env=ENVIRONMENT)
         text_of_lines = contents(os.path.join(there, "crates.txt"))
         self.note("it is if that is asked for", got[0] == 0 and b"// changed" not in contents(changed), got)
         self.note("a line of one's own stays", b"\nmine: cole_vishkin\n" in text_of_lines, text_of_lines)
         for words in ([there, "nothing"], [TOP, "forests"], [os.path.join(there, "away"), "forests"]):
-            got = run([vendor, *words], env=ENVIRONMENT)
+            got = run([*vendor, *words], env=ENVIRONMENT)
             self.note(f"vendor {words}", got[:2] == (2, b"") and b"vendor: error: " in got[2], got)

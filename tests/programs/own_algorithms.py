@@ -1,5 +1,5 @@
 """Tests of programs of one's own, from a Python file, and of the two definitions beside the colouring: in `explore`,
-`simulate`, `check-transcript` and `picture`.
+`simulate`, `transcript` and `picture`.
 
 What nodes find is worked out here from the network (independent sets, trees, greatest identifiers, distances), not by
 the definitions of the programs."""
@@ -15,7 +15,7 @@ from lab.definitions.colours import Network
 from lab.definitions.nodes import synchronous_run
 from lab.definitions.programs import PROGRAMS, program_at
 from lab.schedules.reading import network_at
-from tests import TOP
+from tests import FORESTLAB, TOP
 from tests.cases import Case
 from tests.programs.plain_networks import random_of, tree
 from tests.programs.simulate import call
@@ -88,7 +88,7 @@ def example(name):
 
 
 def script(name, *words, data=b""):
-    return call(os.path.join(TOP, "bin", name), *words, data=data)
+    return call(FORESTLAB, *name.split(), *words, data=data)
 
 
 def some_networks():
@@ -160,13 +160,13 @@ class OwnAlgorithms(Case):
                 path = os.path.join(folder, "run")
                 with open(path, "wb") as file:
                     file.write(run)
-                done = script("check-transcript", example("chain6.col"), path, "--program", program)
+                done = script("transcript check", example("chain6.col"), path, "--program", program)
                 self.note(f"a run of {program}", (status, done[0], done[2]) == (0, 0, b"")
                           and done[1].startswith(b"whole run of 6 nodes, "), done)
                 last = run.replace(b" safe 0", b" safe 1", 1)
                 with open(path, "wb") as file:
                     file.write(last)
-                done = script("check-transcript", example("chain6.col"), path, "--program", program)
+                done = script("transcript check", example("chain6.col"), path, "--program", program)
                 self.note(f"a wrong run of {program}", done[0] == 1 and b"WrongWire" in done[2], done)
 
     def test_what_me_may_keep(self):

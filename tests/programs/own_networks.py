@@ -1,4 +1,4 @@
-"""Tests of `bin/network`. The program forestplan has to accept each network that is written.
+"""Tests of `forestlab network`. The program forestplan has to accept each network that is written.
 
 Expected counts are formulas, or come from the definitions in lab/definitions/colours.py, lab/definitions/nodes.py and
 lab/definitions/rounds.py."""
@@ -20,12 +20,11 @@ from lab.networks.network_text import read_network
 from lab.networks.reading import read, read_any
 from lab.networks.texts import text_of
 from lab.wrong import Wrong
-from tests import TOP
+from tests import FORESTLAB, TOP
 from tests.cases import Case, run_program
 from tests.programs.made_transcripts import made_transcript, transcript_text
 from tests.settings import PLAN, PLAY
 
-DOOR = os.path.join(TOP, "bin", "network")
 LIMIT = 60
 SEED = 2026
 
@@ -48,7 +47,8 @@ def call(*words, data=b""):
 
 def by_script(*words, data=b"", **more):
     """The same by the script at the top, in a process of its own."""
-    done = subprocess.run([DOOR, *map(str, words)], input=data, capture_output=True, timeout=LIMIT, **more)
+    done = subprocess.run([FORESTLAB, "network", *map(str, words)], input=data, capture_output=True, timeout=LIMIT,
+                          **more)
     return done.returncode, done.stdout, done.stderr
 
 
@@ -102,9 +102,10 @@ def example(name):
 
 REFUSED = ["path 0", "path -1", "path x", "path 20001", "ring 2", "star 1025", "star 0", "complete 1025",
            "complete 2000", "grid 0 3", "grid 200 101", "queen 141 141", "queen 0 1", "tree 0", "tree 20001",
-           "disk 30 --reach 0", "disk 30 --reach 3", "disk 0", "disk 2000 --reach 2", "random 10 46",
+           "disk 30 --radius 0", "disk 30 --radius 3", "disk 0", "disk 2000 --radius 2", "random 10 46",
            "random 2000 400001", "random 5 3 --connected", "random 5 9 --neighbours 3", "random 5 4 --forests 5",
-           "random 5 4 --neighbours -1", "random 5 4 --forests -1", "path 3 --connected", "random 5 -1", "random 5", "path 3 4", "path 3 --seed 1", "square 4", "", "read",
+           "random 5 4 --neighbours -1", "random 5 4 --forests -1", "path 3 --connected", "random 5 -1", "random 5",
+           "path 3 4", "path 3 --seed 1", "square 4", "", "read",
            "number x", "number x --by size", "tell", "tell x y", "read x --as graph"]
 
 
@@ -325,7 +326,7 @@ class OwnNetworks(Case):
                       (len(degrees), len(pairs), head in text) == (nodes, edges, True), (len(degrees), len(pairs)))
             self.note(f"{words} has its numbers of neighbours",
                       least in (None, min(degrees)) and most in (None, max(degrees)), (min(degrees), max(degrees)))
-            self.note(f"{words} says how it was made", text.startswith(f"c Made by bin/network {words}".encode()),
+            self.note(f"{words} says how it was made", text.startswith(f"c Made by forestlab network {words}".encode()),
                       text[:80])
             if words.split()[0] not in ("tree", "random"):
                 self.note(f"{words} has a place for each node",
@@ -341,7 +342,7 @@ class OwnNetworks(Case):
 
     def disk_row(self, reach):
         """The places are what the seed's numbers say, and two are joined just if they are less than the reach apart."""
-        text = self.written("disk", 60, "--reach", reach, "--seed", 5)
+        text = self.written("disk", 60, "--radius", reach, "--seed", 5)
         source, wanted = random.Random(5), []
         while len(wanted) < 60:
             place = int(source.random() * 1001), int(source.random() * 1001)
@@ -391,13 +392,14 @@ class OwnNetworks(Case):
         for words in REFUSED:
             status, text, fault = call(*words.split())
             self.note(f"refused words: {words}",
-                      (status, text) == (2, b"") and re.search(rb"^network[^\n]*: error: ", fault, re.M), fault)
+                      (status, text) == (2, b"") and re.search(rb"^forestlab network[^\n]*: error: ", fault, re.M), fault)
         status, told, fault = by_script("--help")
         commands = re.findall(r"^  ([a-z]+) [A-Z]+", told.decode().split("positional")[0], re.M)
         self.note("help", (status, fault, len(commands)) == (0, b"", 13), commands)
         for command in commands:
             status, told, fault = call(command, "--help")
-            self.note(f"help of {command}", (status, fault) == (0, b"") and f"bin/network {command} ".encode() in told,
+            is_shown = f"forestlab network {command} ".encode() in told
+            self.note(f"help of {command}", (status, fault) == (0, b"") and is_shown,
                       told)
         for command in (["read"], ["tell"], ["number", "--by", "degree"], ["names"]):
             status, text, fault = call(*command, "/nowhere.col")
@@ -538,13 +540,14 @@ class OwnNetworks(Case):
     def test_scripts(self):
         """The script from another folder, through a symbolic link, with a file whose name has a blank, and into a
         closed pipe."""
-        os.symlink(DOOR, os.path.join(self.folder, "linked"))
+        os.symlink(FORESTLAB, os.path.join(self.folder, "linked"))
         with open(os.path.join(self.folder, "my sites.csv"), "wb") as file:
             file.write(b"a,b\n")
-        done = subprocess.run(["./linked", "read", "my sites.csv"], capture_output=True, timeout=LIMIT, cwd=self.folder)
+        done = subprocess.run(["./linked", "network", "read", "my sites.csv"], capture_output=True, timeout=LIMIT,
+                              cwd=self.folder)
         self.note("through a link, from another folder",
                   (done.returncode, done.stdout) == (0, b"c name 1 a\nc name 2 b\np edge 2 1\ne 1 2\n"), done)
-        done = subprocess.run(["bash", "-c", 'set -o pipefail; "$0" random 2000 100000 | head -1', DOOR],
+        done = subprocess.run(["bash", "-c", 'set -o pipefail; "$0" network random 2000 100000 | head -1', FORESTLAB],
                               capture_output=True, timeout=LIMIT)
         self.note("into a pipe that is closed", (done.returncode, done.stdout.count(b"\n"), done.stderr) == (0, 1, b""),
                   done)
@@ -670,7 +673,7 @@ class OwnNetworks(Case):
             good = good and (f" {place}: " in lines[0] if place.startswith("line") else True)
             self.note(f"the fault {fault} of {text[:40]!r}", good, told)
             self.note(f"another way in for {text[:40]!r}",
-                      (len(lines) == 3 and "`bin/network read -` can read it" in lines[1]) == is_read, told)
+                      (len(lines) == 3 and "`forestlab network read -` can read it" in lines[1]) == is_read, told)
             done = run_program(PLAN, ["forests"], text.encode())
             self.note(f"the program's fault of {text[:40]!r}", done.stderr == f"forestplan: {fault}\n".encode(), done)
         pairs = [(v, v + d) for d in range(1, 22) for v in range(1, 20001 - d)][:400_001]

@@ -1,4 +1,4 @@
-"""Tests of `bin/explore --reduce`, beside the search of all states.
+"""Tests of `forestlab explore --reduce`, beside the search of all states.
 
 On each connected network of up to three nodes, in each numbering, and on two of four nodes: what goes wrong is the
 same, the ends are the same states, and every state of the reduced search is one of the whole search."""
@@ -8,7 +8,7 @@ import subprocess
 
 from lab.definitions.colours import Network
 from lab.schedules.space import Space
-from tests import TOP
+from tests import FORESTLAB, TOP
 from tests.cases import Case
 
 MOST = 200_000
@@ -75,7 +75,7 @@ class Command(Case):
     needs_programs = False
 
     def call(self, *words):
-        done = subprocess.run([os.path.join(TOP, "bin", "explore"), *words], capture_output=True, timeout=120)
+        done = subprocess.run([FORESTLAB, "explore", *words], capture_output=True, timeout=120)
         return done.returncode, done.stdout.decode(), done.stderr.decode()
 
     def test_what_it_says(self):

@@ -21,7 +21,7 @@ from lab.definitions.colours import Network, colours, network_of, other_than
 from lab.definitions.nodes import Colouring, NetState, bit_step, last_pulse, ports_of
 from lab.schedules import ruled_rounds, rules
 from lab.schedules.space import Space, TooMany
-from tests import TOP
+from tests import FORESTLAB, TOP
 from tests.cases import Case
 from tests.programs.events import answer_of
 from tests.settings import PLAN, PLAY
@@ -200,7 +200,7 @@ def state_text(space, s, taken):
 
 
 def explored(*words):
-    done = subprocess.run([os.path.join(TOP, "bin", "explore"), *words], cwd=TOP, capture_output=True, timeout=LIMIT)
+    done = subprocess.run([FORESTLAB, "explore", *words], cwd=TOP, capture_output=True, timeout=LIMIT)
     return done.returncode, done.stdout.decode(), done.stderr.decode()
 
 
@@ -481,7 +481,7 @@ class Schedules(Case):
                 file.write(text_of(name))
                 file.flush()
                 status, said, _ = explored(file.name, "--limit", str(MOST), "--without", without)
-                _, listed, _ = explored(file.name, "--limit", str(MOST), "--without", without, "--events")
+                _, listed, _ = explored(file.name, "--limit", str(MOST), "--without", without, "--list")
                 _, apart, _ = explored(file.name, "--limit", str(MOST), "--without", without, "--puts")
             lines = listed.splitlines()
             first = said.split("\n")[0]
@@ -506,7 +506,7 @@ class Schedules(Case):
             with tempfile.NamedTemporaryFile("w", suffix=".col") as file:
                 file.write(text_of(name))
                 file.flush()
-                _, listed, _ = explored(file.name, "--limit", str(MOST), "--events")
+                _, listed, _ = explored(file.name, "--limit", str(MOST), "--list")
                 _, said, _ = explored(file.name, "--limit", str(MOST))
                 _, apart, _ = explored(file.name, "--limit", str(MOST), "--puts") if name == "two" else (0, "", "")
             events, wires = count_of_events(net_of(name))
@@ -601,7 +601,7 @@ class Schedules(Case):
         self.note("explore --help", (status, fault) == (0, "") and all(f"  {word} " in said for word in rules.ALL),
                   said)
         with open("/dev/full", "wb") as full:
-            done = subprocess.run([os.path.join(TOP, "bin", "explore"), "examples/two.col"], cwd=TOP, stdout=full,
+            done = subprocess.run([FORESTLAB, "explore", "examples/two.col"], cwd=TOP, stdout=full,
                                   stderr=subprocess.PIPE, timeout=LIMIT)
         self.note(
             "a full device",
@@ -609,10 +609,10 @@ class Schedules(Case):
             done,
         )
         with tempfile.TemporaryDirectory() as folder:
-            link = os.path.join(folder, "explore")
-            os.symlink(os.path.join(TOP, "bin", "explore"), link)
-            done = subprocess.run([link, os.path.join(TOP, "examples/two.col")], cwd=folder, capture_output=True,
-                                  timeout=LIMIT)
+            link = os.path.join(folder, "linked")
+            os.symlink(FORESTLAB, link)
+            done = subprocess.run([link, "explore", os.path.join(TOP, "examples/two.col")], cwd=folder,
+                                  capture_output=True, timeout=LIMIT)
             self.note("explore by a link",
                       done.returncode == 0 and done.stdout.startswith(b"every schedule of two: 281 states"), done)
         try:

@@ -1,4 +1,4 @@
-"""Tests of `bin/sheet`.
+"""Tests of `forestlab sheet`.
 
 Each sheet's network is read from its answers, and each answer worked out once more here: from nodes that hear and send
 (lab/definitions/nodes.py), from counts, and by hand for one network."""
@@ -9,14 +9,14 @@ import subprocess
 from lab.definitions.colours import network_of
 from lab.definitions.nodes import Colouring, last_pulse, ports_of
 from lab.pictures.sheet import farthest
-from tests import TOP
+from tests import FORESTLAB, TOP
 from tests.cases import Case
 
 LIMIT = 120
 
 
 def sheet(*words):
-    done = subprocess.run([os.path.join(TOP, "bin", "sheet"), *words], capture_output=True, timeout=LIMIT)
+    done = subprocess.run([FORESTLAB, "sheet", *words], capture_output=True, timeout=LIMIT)
     return done.returncode, done.stdout.decode(), done.stderr.decode()
 
 

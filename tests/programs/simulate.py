@@ -1,4 +1,4 @@
-"""Tests of `bin/simulate`.
+"""Tests of `forestlab simulate`.
 
 Each run is played again here on lab/definitions/nodes.py, entry by entry, and its order beside what is possible then:
 nothing is compared with what simulate itself wrote before."""
@@ -15,7 +15,7 @@ from lab.schedules.simulate import HABITS, played
 from lab.schedules.space import Space
 from lab.transcripts.reading import read
 from lab.transcripts.stamps import check_stamped
-from tests import TOP
+from tests import FORESTLAB, TOP
 from tests.cases import Case
 from tests.settings import PLAY
 
@@ -34,7 +34,7 @@ def call(program, *words, data=b""):
 
 
 def simulate(*words, data=b""):
-    return call(os.path.join(TOP, "bin", "simulate"), *words, data=data)
+    return call(FORESTLAB, "simulate", *words, data=data)
 
 
 def example(name):

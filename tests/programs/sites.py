@@ -1,5 +1,5 @@
-"""Tests of tables of sites and of real channel numbers: of `bin/network read --sites`, `--reach`, `--bars` and
-`--licence`, of `bin/network names --channels`, and of `bin/channels`."""
+"""Tests of tables of sites and of real channel numbers: of `forestlab network read --sites`, `--reach`, `--bars` and
+`--channels`, of `forestlab network names --channels`, and of `forestlab channels`."""
 import math
 import os
 import random
@@ -7,7 +7,7 @@ import subprocess
 import tempfile
 
 from lab.definitions.colours import network_of
-from tests import TOP
+from tests import FORESTLAB, TOP
 from tests.cases import Case, run_program
 from tests.programs.own_networks import call, comments, edges_of, pairs_in
 from tests.settings import PLAN
@@ -150,8 +150,8 @@ class Sites(Case):
         pairs, bars = self.file("pairs.csv", "Ulm,Aue\n"), "site,channel\nUlm,6\nUlm,11 6\nAue,1\nHof,1\n"
         for words, wanted, left_out in (
             ([], {1: [6, 11], 2: [1]}, b"left out, of an unknown site: Hof (line 5)\n"),
-            (["--licence", "1 6 11"], {1: [2, 3], 2: [1]}, b"1 bar of "),
-            (["--licence", "6-11/5"], {1: [1, 2]}, b"1 bar of a channel outside the licence, which no plan takes"),
+            (["--channels", "1 6 11"], {1: [2, 3], 2: [1]}, b"1 bar of "),
+            (["--channels", "6-11/5"], {1: [1, 2]}, b"1 bar of a channel outside the licence, which no plan takes"),
         ):
             status, wrote, told = call("read", pairs, "--bars", self.file("bars.csv", bars), *words)
             # The definition counts channels from 0.
@@ -178,7 +178,7 @@ class Sites(Case):
             self.refused(name, said, "--sites", self.file("sites.csv", text), "--reach", "5")
         sites = self.file("sites.csv", SITES)
         for words in (["--reach", "5"], [], ["--sites", sites], ["--sites", sites, "--reach", "0"],
-                      ["--licence", "x", sites], ["-", "--sites", "-"], ["-", "--licence", "6 6"]):
+                      ["--channels", "x", sites], ["-", "--sites", "-"], ["-", "--channels", "6 6"]):
             status, wrote, told = call("read", *words)
             self.note(f"refused words: {words}", (status, wrote) == (2, b"") and b"error: " in told, (status, told))
         self.note("no such table", call("read", "-", "--sites", "/nowhere.csv", data=b"1 2\n")[0] == 1)
@@ -186,8 +186,7 @@ class Sites(Case):
 
 class Channels(Case):
     def call(self, *words, data=""):
-        door = os.path.join(TOP, "bin", "channels")
-        done = subprocess.run([door, *words], input=data, capture_output=True, text=True)
+        done = subprocess.run([FORESTLAB, "channels", *words], input=data, capture_output=True, text=True)
         return done.returncode, done.stdout, done.stderr
 
     def test_both_ways(self):
@@ -226,7 +225,7 @@ class Channels(Case):
         bars = os.path.join(folder, "bars.csv")
         with open(bars, "w", encoding="utf-8") as file:
             file.write("site,channel\nAue,11\n")
-        wrote = call("read", "-", "--licence", path, "--bars", bars, data=b"source,target\nUlm,Aue\n")[1]
+        wrote = call("read", "-", "--channels", path, "--bars", bars, data=b"source,target\nUlm,Aue\n")[1]
         self.note("read with a licence of a file", b"\nb 2 3\n" in wrote and b"c Channel 3 is 11\n" in wrote, wrote)
 
     def test_refused(self):
@@ -252,7 +251,8 @@ class Channels(Case):
             got = call("names", file.name, "--channels", "36 40", data=b"plan\n1 2\n2 1\n")
             self.note("names with real channels", got == (0, b"Ulm 40\nAue 36\n", b""), got)
             got = call("names", file.name, data=b"plan\n1 40\n2 36\n")
-            hint = b"channel 40 is not one of 1 to 2 (C5); if it is a real channel number: bin/channels --back TABLE\n"
+            hint = (b"channel 40 is not one of 1 to 2 (C5); if it is a real channel number: "
+                    b"forestlab channels --back TABLE\n")
             self.note("a plan of real channels", got[:2] == (1, b"") and got[2].endswith(hint), got)
             got = call("names", file.name, "--channels", "36", data=b"plan\n1 2\n2 1\n")
             self.note("more channels than the licence", got[:2] == (1, b"") and b"takes 2 channels" in got[2], got)

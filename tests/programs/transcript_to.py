@@ -1,4 +1,4 @@
-"""Tests of `bin/transcript-to`.
+"""Tests of `forestlab transcript convert`.
 
 A vector clock is worked out here in another way: as the sets of entries that happened before an entry."""
 import json
@@ -7,13 +7,13 @@ import random
 import subprocess
 
 from lab.definitions.colours import network_of
-from tests import TOP
+from tests import FORESTLAB, TOP
 from tests.cases import Case
 from tests.programs.made_transcripts import made_transcript, merged_text, transcript_text
 
 
 def call(*words, data=b""):
-    done = subprocess.run([os.path.join(TOP, "bin", "transcript-to"), *words], input=data, capture_output=True,
+    done = subprocess.run([FORESTLAB, "transcript", "convert", *words], input=data, capture_output=True,
                           timeout=60)
     return done.returncode, done.stdout.decode(), done.stderr.decode()
 
@@ -88,7 +88,7 @@ class Forms(Case):
         good = merged_text(nodes, lines)
         takes = b"".join(line for line in good.splitlines(keepends=True) if b" put " not in line)
         cases = [
-            (["json", "nowhere"], b"", 1, "transcript-to: nowhere: No such file or directory\n"),
+            (["json", "nowhere"], b"", 1, "transcript: nowhere: No such file or directory\n"),
             (["json"], transcript_text(nodes, lines), 1, "edition 1 has no order of all entries"),
             (["shiviz"], takes, 1, "LinkEmpty"),
             (["json"], b"plan\n1 1\n", 1, "X1"),

@@ -1,8 +1,9 @@
-"""Tests of `bin/check-transcript` and `bin/replay` with transcripts of edition 1, the first also with the built
-program's. Edition 2 is in merged.py.
+"""Tests of `forestlab transcript check` and `forestlab transcript replay` with transcripts of edition 1, the first also
+with the built program's. Edition 2 is in merged.py.
 
 Expected verdicts are worked by hand, or come from the definitions in lab/definitions/nodes.py; none is taken from a
 program."""
+import json
 import os
 import pickle
 import random
@@ -14,14 +15,13 @@ from lab.definitions.colours import network_of
 from lab.definitions.nodes import NetState, Refused, last_pulse, make, wire_words
 from lab.transcripts.check import Wrong, find_order, first_refused, in_order, unfinished, whole_run
 from lab.transcripts.reading import read
-from tests import TOP
+from tests import FORESTLAB, TOP
 from tests.cases import Case, text
 from tests.programs.made_transcripts import MISTAKES, made_transcript, mixed_text, transcript_text, with_mistake
 from tests.programs.one_worker import Run
 from tests.programs.plain_networks import all_small, cycle, path, random_of, some_bars, star, text_of, tree, two_sided
 from tests.settings import PLAN, PLAY
 
-CHECKER = os.path.join(TOP, "bin", "check-transcript")
 LIMIT = 60
 SEED = 2026
 WORKERS, CAPACITIES = (1, 2, 4, 64), (1, 2, 4)
@@ -264,7 +264,7 @@ def script(folder, words, data):
 
 
 def command(words, data):
-    done = subprocess.run([CHECKER, *words], input=data, capture_output=True, timeout=LIMIT)
+    done = subprocess.run([FORESTLAB, "transcript", "check", *words], input=data, capture_output=True, timeout=LIMIT)
     return done.returncode, done.stdout, done.stderr
 
 
@@ -378,17 +378,25 @@ class Transcripts(Case):
                 with open(network + "x", "wb") as file:
                     file.write(data)
                 status, told, fault = command([network + "x", transcript], b"")
-                line = rb"check-transcript: [^\n]*edge\.colx[^\n]* \(F\d\)\n"
-                self.note(f"the network {data[:30]}", (status, told) == (2, b"") and re.fullmatch(line, fault),
+                line = rb"transcript: [^\n]*edge\.colx[^\n]* \(F\d\)\n"
+                self.note(f"the network {data[:30]}", (status, told) == (1, b"") and re.fullmatch(line, fault),
                           (status, told, fault))
             for words in ([transcript + "x"], [network, transcript + "x"]):
-                line = f"check-transcript: {transcript}x: No such file or directory\n".encode()
-                self.note(f"a file that isn't there, {len(words)} words", command(words, b"") == (2, b"", line),
+                line = f"transcript: {transcript}x: No such file or directory\n".encode()
+                self.note(f"a file that isn't there, {len(words)} words", command(words, b"") == (1, b"", line),
                           command(words, b""))
-            for words in ([], [folder], [network, folder], [network, transcript, "x"], ["--orders", network],
-                          [transcript + "x"]):
+            for words, wanted in (([], 2), ([network, transcript, "x"], 2), (["--orders", network], 2), ([folder], 1),
+                                  ([network, folder], 1), ([transcript + "x"], 1)):
                 status, told, _ = command(words, whole)
-                self.note(f"the words {words}", (status, told) == (2, b""), (status, told))
+                self.note(f"the words {words}", (status, told) == (wanted, b""), (status, told))
+            for data, wanted in ((whole, {"right": True, "words": EDGE_WHOLE}),
+                                 (b"transcript 1 2\n1 take 2 close\n", {
+                                     "right": False, "line": 2, "code": "LinkEmpty",
+                                     "words": "node 1 takes close from 2, which never puts it; node 2 has no entry (is "
+                                              "the text cut?)"})):
+                status, told, fault = command(["--json", network], data)
+                self.note(f"--json: {wanted['right']}",
+                          (status, json.loads(told), fault) == (1 - wanted["right"], wanted, b""), (status, told))
 
     def test_cut(self):
         """Texts that end too early are refused, and the reader is asked whether the text is cut."""
@@ -415,26 +423,28 @@ class Transcripts(Case):
             network = os.path.join(folder, "edge.col")
             with open(network, "wb") as file:
                 file.write(text(EDGE[:-1]))
-            for name in ("check-transcript", "replay"):
-                os.symlink(os.path.join(TOP, "bin", name), os.path.join(folder, name))
-            done = script(folder, ["./check-transcript", "edge.col"], whole)
-            self.note("bin/check-transcript through a link", done == (0, EDGE_WHOLE.encode() + b"\n", b""), done)
-            for words in ([], ["edge.col", "x", "y"], ["--order", "edge.col"], ["edge.col", "nowhere"]):
-                done = script(folder, ["./replay", *words], whole)
-                self.note(f"bin/replay {words}",
-                          done[:2] == (2, b"") and re.match(b"replay: |check-transcript: ", done[2]), done)
-            done = script(folder, ["./replay", "--help"], b"")
-            self.note("bin/replay --help",
-                      done[0] == 0 and done[2] == b"" and b"\n  bin/replay examples/" in done[1], done)
-            done = script(folder, ["./replay", "edge.col"], whole[:100])
-            self.note("bin/replay of a cut text", done[:2] == (1, b"") and b"cut" in done[2], done)
+            os.symlink(FORESTLAB, os.path.join(folder, "linked"))
+            check, replay = (["./linked", "transcript", name] for name in ("check", "replay"))
+            done = script(folder, [*check, "edge.col"], whole)
+            self.note("forestlab transcript check through a link", done == (0, EDGE_WHOLE.encode() + b"\n", b""), done)
+            for words, status in (([], 2), (["edge.col", "x", "y"], 2), (["--order", "edge.col"], 2),
+                                  (["edge.col", "nowhere"], 1), (["-"], 1)):
+                done = script(folder, [*replay, *words], whole)
+                self.note(f"forestlab transcript replay {words}",
+                          done[:2] == (status, b"") and re.search(rb"^(forestlab )?transcript(: | replay: error: )",
+                                                                  done[2], re.M), done)
+            done = script(folder, [*replay, "--help"], b"")
+            self.note("forestlab transcript replay --help",
+                      done[0] == 0 and done[2] == b"" and b"\n  forestlab transcript replay examples/" in done[1], done)
+            done = script(folder, [*replay, "edge.col"], whole[:100])
+            self.note("forestlab transcript replay of a cut text", done[:2] == (1, b"") and b"cut" in done[2], done)
             if PLAY:
                 taken = {v: sum(f" take {v} " in line for line in EDGE_LINES[3 - v]) for v in (1, 2)}
                 wanted = "".join(
                     f"node {v} pulse {EDGE_LAST} channel {v}\nlink {v} {3 - v} taken {taken[v]}\n" for v in (1, 2)
                 ).encode()
-                done = script(folder, ["./replay", "edge.col"], whole)
-                self.note("bin/replay of a run", done == (0, wanted, b""), done)
+                done = script(folder, [*replay, "edge.col"], whole)
+                self.note("forestlab transcript replay of a run", done == (0, wanted, b""), done)
 
     def test_large(self):
         """Long transcripts, each read and searched in one go: 60,000 entries of few nodes, or of nodes with many

@@ -10,9 +10,9 @@ from lab.networks.network_text import Network
 from lab.workshop.cases import Case, Chance, network_of
 from lab.workshop.playing import Player
 from lab.workshop.protocol import COLOURING
-from tests import TOP
+from tests import FORESTLAB, TOP
 
-DOOR = os.path.join(TOP, "bin", "workshop")
+DOOR = [FORESTLAB, "workshop"]
 EXAMPLES = os.path.join(TOP, "examples", "workshop")
 LIMIT = 120                     # seconds; a busy machine is slow
 

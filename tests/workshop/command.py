@@ -52,19 +52,19 @@ class Command(unittest.TestCase):
             (["rounds", "two"], 2, "there is no command after `--`"),
             (["rounds", "--"], 2, "there is no command after `--`"),
             (["nothing", "two", "--", *ROUNDS], 2, "invalid choice"),
-            (["rounds", "nothing5", "--", *ROUNDS], 2, "nothing5: there is no such file or example"),
-            (["rounds", "ring2", "--", *ROUNDS], 2, "NODES is 2, and has to be at least 3"),
+            (["rounds", "nothing5", "--", *ROUNDS], 1, "nothing5: there is no such file or example"),
+            (["rounds", "ring2", "--", *ROUNDS], 1, "NODES is 2, and has to be at least 3"),
             (["rounds", "two", "--policies", "oldest", "--", *ROUNDS], 2, "of alpha alone"),
             (["alpha", "two", "--policies", "odd", "--", *ALPHA], 2, "there is no policy odd"),
             (["rounds", "two", "--runs", "0", "--", *ROUNDS], 2, "0 is no number from 1 on"),
-            (["rounds", "two", "--", "/nonexistent/node"], 3, "can't be started: No such file"),
+            (["rounds", "two", "--", "/nonexistent/node"], 2, "can't be started: No such file"),
         ):
             with self.subTest(words[:4]):
                 done = call(*words)
                 self.assertEqual(done.returncode, status, done.stdout + done.stderr)
                 self.assertIn(said, done.stderr)
                 self.assertNotIn("Traceback", done.stderr)
-                self.assertEqual(done.stdout == "", status > 1)
+                self.assertEqual(done.stdout == "", bool(said))
 
     def test_a_file_that_can_t_be_started(self):
         for mode, words in ((0o644, "Permission denied; `chmod +x FILE` lets"), (0o755, "`#!/usr/bin/env python3`")):
@@ -73,7 +73,7 @@ class Command(unittest.TestCase):
                     file.write("print('end')\n")
                 os.chmod(self.path("node"), mode)
                 done = call("rounds", "two", "--", self.path("node"))
-                self.assertEqual((done.returncode, done.stdout), (3, ""))
+                self.assertEqual((done.returncode, done.stdout), (2, ""))
                 self.assertIn(words, done.stderr)
 
     def test_the_result_for_a_program(self):

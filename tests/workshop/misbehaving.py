@@ -129,7 +129,7 @@ class Misbehaving(unittest.TestCase):
         rows = (("loops", signal.SIGTERM, 143), ("child", signal.SIGINT, 130), ("hangs", signal.SIGHUP, 129))
         for how, number, status in rows:
             with self.subTest(number.name):
-                words = [DOOR, "rounds", "path3", "--timeout", "500", "--", *command(how)]
+                words = [*DOOR, "rounds", "path3", "--timeout", "500", "--", *command(how)]
                 pipe = subprocess.PIPE
                 # Whatever started the tests may ignore signals, and then what they start does so too.
                 before = signal.signal(number, lambda *_: None)

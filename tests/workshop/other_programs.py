@@ -208,7 +208,7 @@ class OtherPrograms(unittest.TestCase):
              "workshop: my.py: no program of your own is taken here, since no proved program judges it\n"),
             (["alpha", "two", "--program", "layer", "--", "x"],
              "workshop: there is no program layer, which are colouring, leader, layers\n"),
-            (["open", "two", "--program", "layers", "--", "x"], "workshop: error: --program is of rounds and alpha\n"),
+            (["open", "two", "--program", "layers", "--", "x"], "forestlab workshop: error: --program is of rounds and alpha\n"),
         ):
             with self.subTest(words[:4]):
                 status, out, errors = called(*words)

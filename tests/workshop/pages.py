@@ -11,7 +11,7 @@ from build.pack import name_of, write
 from lab.schedules.policies import POLICIES
 from lab.transcripts.fields import PAYLOADS
 from lab.workshop import cases, class_files, guard, options, processes, protocol
-from tests import TOP
+from tests import FORESTLAB, TOP
 from tests.workshop.base import LIMIT, call, python
 from tests.workshop.mistakes import MISTAKES
 
@@ -136,13 +136,13 @@ class ClassFolder(unittest.TestCase):
         it copies those that there are."""
         made, again = (os.path.join(self.enterContext(tempfile.TemporaryDirectory()), name) for name in ("a b", "c"))
         for door, to, like, sums in ((TOP, made, self.folder, True), (self.folder, again, self.folder, False)):
-            done = subprocess.run([os.path.join(door, "bin", "workshop"), "class", to], capture_output=True, text=True)
+            done = subprocess.run([os.path.join(door, "bin", "forestlab"), "workshop", "class", to], capture_output=True, text=True)
             self.assertEqual((done.returncode, done.stderr), (0, ""))
             self.assertEqual(subprocess.run(["sha256sum", "-c", "--quiet", "SHA256SUMS"], cwd=to).returncode, 0)
             differ = subprocess.run(["diff", "-rq", like, to], capture_output=True, text=True).stdout
             self.assertEqual([line for line in differ.splitlines() if not (
                 sums and line.endswith(("share", "SHA256SUMS differ")) or ".pyc" in line or "__pycache__" in line)], [])
-        done = subprocess.run([os.path.join(TOP, "bin", "workshop"), "class", made], capture_output=True, text=True)
+        done = subprocess.run([FORESTLAB, "workshop", "class", made], capture_output=True, text=True)
         self.assertEqual((done.returncode, done.stderr), (2, f"workshop: {made} is there already\n"))
 
     def test_its_archive_has_a_name_of_its_own(self):
@@ -158,11 +158,11 @@ class ClassFolder(unittest.TestCase):
         self.assertLessEqual({"README.md", "LICENSE-MIT", "LICENSE-APACHE"}, self.found)
         environment = {"PATH": os.environ["PATH"], "HOME": self.folder}
         node = ["python3", "examples/workshop/skeletons/rounds_node.py"]
-        for words, status in ((["workshop", "rounds", "two", "--", *node], 1),
-                              (["network", "tell", "examples/petersen.col"], 0),
-                              *(([name, "examples/two.col"], 2) for name in class_files.WITHOUT)):
+        for words, status in ((["workshop", "rounds", "two", "--", *node], 1), (["network", "tell", "petersen"], 0),
+                              *(([name, "examples/two.col"], 2)
+                                for name in ("picture", "explore", "simulate", "transcript", "sheet"))):
             with self.subTest(words[0]):
-                done = subprocess.run([os.path.join(self.folder, "bin", words[0]), *words[1:]], cwd=self.folder,
+                done = subprocess.run([os.path.join(self.folder, "bin", "forestlab"), *words], cwd=self.folder,
                                       env=environment, capture_output=True, text=True, timeout=LIMIT)
                 self.assertEqual(done.returncode, status, done.stderr)
                 self.assertNotIn("Traceback", done.stderr)

@@ -5,7 +5,7 @@ import subprocess
 import tempfile
 import unittest
 
-from tests import TOP
+from tests import FORESTLAB, TOP
 from tests.workshop.base import LIMIT, call, python
 
 TWO = os.path.join(TOP, "examples", "two.col")
@@ -38,7 +38,7 @@ class Pictures(unittest.TestCase):
     def picture(self, kind, more, *options):
         with open(self.text, "w", encoding="ascii") as file:
             file.write(GREETED + more)
-        return subprocess.run([os.path.join(TOP, "bin", "picture"), kind, TWO, "--transcript", self.text, *options],
+        return subprocess.run([FORESTLAB, "picture", kind, TWO, "--transcript", self.text, *options],
                               capture_output=True, text=True, timeout=LIMIT)
 
     def test_what_isn_t_possible_is_refused(self):
@@ -73,7 +73,7 @@ class Pictures(unittest.TestCase):
                                     stdin=open(TWO, "rb"), capture_output=True, text=True, timeout=LIMIT).stdout
         with open(self.text, "w", encoding="ascii") as file:
             file.write(transcript)
-        words = [os.path.join(TOP, "bin", "picture"), "run", TWO, "--transcript", self.text]
+        words = [FORESTLAB, "picture", "run", TWO, "--transcript", self.text]
         plain, wrong = (subprocess.run([*words, *more], capture_output=True, text=True, timeout=LIMIT).stdout
                         for more in ([], ["--wrong"]))
         self.assertIn("all that are put in these pulses", plain)
@@ -82,7 +82,7 @@ class Pictures(unittest.TestCase):
     def test_of_edition_1_there_is_no_first_wrong_line(self):
         with open(self.text, "w", encoding="ascii") as file:
             file.write("transcript 1 2\n1 pulse 1\n")
-        done = subprocess.run([os.path.join(TOP, "bin", "picture"), "run", TWO, "--transcript", self.text, "--wrong"],
+        done = subprocess.run([FORESTLAB, "picture", "run", TWO, "--transcript", self.text, "--wrong"],
                               capture_output=True, text=True, timeout=LIMIT)
         self.assertEqual((done.returncode, done.stdout), (1, ""))
         self.assertIn("--wrong needs a transcript of edition 2", done.stderr)

@@ -1,10 +1,11 @@
-"""What check-transcript says of a run that isn't right: whose entry, which rule, who owes what, which field."""
+"""What `forestlab transcript check` says of a run that isn't right: whose entry, which rule, who owes what, which
+field."""
 import os
 import subprocess
 import tempfile
 import unittest
 
-from tests import TOP
+from tests import FORESTLAB, TOP
 from tests.workshop.base import LIMIT
 
 TWO = os.path.join(TOP, "examples", "two.col")
@@ -95,7 +96,7 @@ ROWS = (
 
 
 def said(text: str) -> str:
-    done = subprocess.run([os.path.join(TOP, "bin", "check-transcript"), TWO], input=text.replace("|", "\n"),
+    done = subprocess.run([FORESTLAB, "transcript", "check", TWO], input=text.replace("|", "\n"),
                           capture_output=True, text=True, timeout=LIMIT)
     return done.stderr.rstrip("\n") if done.returncode == 1 else f"status {done.returncode}"
 
@@ -135,7 +136,7 @@ class Transcripts(unittest.TestCase):
         for words in (["simulate"], ["explore", "--limit", "100000"], ["picture", "watch"]):
             for program, noted in (("colouring", 0), ("leader", 1), ("layers", 1)):
                 with self.subTest(command=words[0], program=program):
-                    done = subprocess.run([os.path.join(TOP, "bin", words[0]), *words[1:], "-", "--program", program],
+                    done = subprocess.run([FORESTLAB, *words, "-", "--program", program],
                                           input=barred, capture_output=True, text=True, timeout=LIMIT)
                     self.assertEqual(done.returncode, 0, done.stderr)
                     self.assertEqual(done.stderr.count(f"{words[0]}: {program} ignores the bars of the network"), noted)
@@ -143,7 +144,7 @@ class Transcripts(unittest.TestCase):
     def test_the_command_is_found_through_a_link(self):
         with tempfile.TemporaryDirectory() as folder:
             link = os.path.join(folder, "check")
-            os.symlink(os.path.join(TOP, "bin", "check-transcript"), link)
-            done = subprocess.run([link, TWO], input=b"transcript 2 2\n", capture_output=True, cwd=folder,
-                                  timeout=LIMIT)
+            os.symlink(FORESTLAB, link)
+            done = subprocess.run([link, "transcript", "check", TWO], input=b"transcript 2 2\n", capture_output=True,
+                                  cwd=folder, timeout=LIMIT)
             self.assertEqual(done.returncode, 1)

@@ -1,5 +1,5 @@
-"""The door: `bin/transcript-to FORM [TRANSCRIPT]`. Writes a transcript of edition 2 in the form of another tool, or one
-line on standard error."""
+"""The door: `forestlab transcript convert FORM [TRANSCRIPT]`. Writes a transcript of edition 2 in the form of another
+tool, or one line on standard error."""
 import argparse
 import json
 import sys
@@ -7,6 +7,8 @@ from collections import deque
 
 from lab.definitions.nodes import wire_words
 from lab.transcripts.reading import Wrong, read
+from lab.words import add_output, bytes_at, write
+from lab.wrong import Wrong as WrongText
 
 HELP = """\
 Writes a transcript of edition 2 for other tools.
@@ -18,10 +20,10 @@ Writes a transcript of edition 2 for other tools.
 """
 MORE_HELP = """\
 Without TRANSCRIPT it is read from standard input. Only a take without a put before it
-and lines that no transcript has are refused: bin/check-transcript judges a run.
+and lines that no transcript has are refused: forestlab transcript check judges a run.
 
-The other way, from the list of events of `bin/picture adversary` to a transcript, goes
-`bin/simulate NETWORK --events LIST`.
+The other way, from the list of events of `forestlab picture adversary` to a transcript, goes
+`forestlab simulate NETWORK --events LIST`.
 
 In ShiViz, give this as the parser of the log:
   (?<host>\\S*) (?<clock>{.*})\\n(?<event>.*)
@@ -30,7 +32,7 @@ Status: 0 done, 1 not read (one line on standard error says why), 2 the command 
 refused.
 
 Example:
-  bin/simulate examples/triangle.col | bin/transcript-to shiviz > triangle.log
+  forestlab simulate examples/triangle.col | forestlab transcript convert shiviz > triangle.log
 """
 
 
@@ -92,27 +94,18 @@ FORMS = {"json": as_json, "shiviz": as_shiviz}
 
 
 def main(words):
-    line = argparse.ArgumentParser(prog="transcript-to", usage="transcript-to FORM [TRANSCRIPT]", description=HELP,
+    line = argparse.ArgumentParser(prog="forestlab transcript convert",
+                                   usage="forestlab transcript convert FORM [TRANSCRIPT]", description=HELP,
                                    epilog=MORE_HELP, formatter_class=argparse.RawDescriptionHelpFormatter)
     line.add_argument("form", choices=FORMS, metavar="FORM", help="json or shiviz")
-    line.add_argument("transcript", metavar="TRANSCRIPT", nargs="?", default="-", help="a stored transcript")
+    line.add_argument("transcript", metavar="TRANSCRIPT", nargs="?", default="-",
+                      help="a file, or - for standard input; default: -")
+    add_output(line)
     given = line.parse_args(words)
     try:
-        if given.transcript == "-":
-            text = sys.stdin.buffer.read()
-        else:
-            with open(given.transcript, "rb") as file:
-                text = file.read()
-        rows = list(FORMS[given.form](*entries_of(text)))
-    except OSError as why:
-        print(f"transcript-to: {given.transcript}: {why.strerror}", file=sys.stderr)
+        rows = list(FORMS[given.form](*entries_of(bytes_at(given.transcript))))
+    except (Wrong, WrongText) as why:
+        print(f"transcript: {why}", file=sys.stderr)
         return 1
-    except Wrong as why:
-        print(f"transcript-to: {why}", file=sys.stderr)
-        return 1
-    sys.stdout.write("".join(row + "\n" for row in rows))
+    write(given, "".join(row + "\n" for row in rows))
     return 0
-
-
-if __name__ == "__main__":
-    sys.exit(main(sys.argv[1:]))

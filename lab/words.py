@@ -1,0 +1,68 @@
+"""What the command lines have in common: how a text is read and written, and the options that mean one thing in all
+commands."""
+import contextlib
+import os
+import stat
+import sys
+
+from lab.wrong import Wrong
+
+
+def bytes_at(path: str) -> bytes:
+    """All that a file has, or standard input for `-`."""
+    try:
+        if path == "-":
+            return sys.stdin.buffer.read()
+        with open(path, "rb") as file:
+            return file.read()
+    except OSError as why:
+        raise Wrong(f"{called(path)}: {why.strerror}") from None
+
+
+def text_at(path: str) -> str:
+    return bytes_at(path).decode("utf-8", "replace")
+
+
+def called(path: str) -> str:
+    """What a fault of a text calls it."""
+    return "standard input" if path == "-" else path
+
+
+def add_output(words) -> None:
+    """The option -o, for what `write` writes."""
+    words.add_argument("-o", "--output", metavar="FILE", help="write to this file, and not to standard output")
+
+
+def add_seed(words, what="whatever is by chance comes from it") -> None:
+    words.add_argument("--seed", default="1", metavar="WORD", help=f"any word or number; {what}; default: 1")
+
+
+def source_of(seed: str) -> int | str:
+    """What the generator of a seed begins with: a number is one, so that 7 and 07 are one seed."""
+    return int(seed) if seed.isascii() and seed.isdecimal() and len(seed) < 100 else seed
+
+
+def write(given, text: str | bytes) -> None:
+    """Writes what a command has made: to the file of -o, which stays as it was until all is written, or to standard
+    output."""
+    data = text if isinstance(text, bytes) else text.encode()
+    if given.output in (None, "-"):
+        sys.stdout.buffer.write(data)
+    elif os.path.exists(given.output) and not stat.S_ISREG(os.stat(given.output).st_mode):
+        with open(given.output, "wb") as file:
+            file.write(data)
+    else:
+        write_apart(os.path.realpath(given.output), data)
+
+
+def write_apart(path: str, data: bytes) -> None:
+    new = f"{path}.{os.getpid()}.new"
+    try:
+        with open(new, "xb") as file:
+            file.write(data)
+        os.replace(new, path)
+    except OSError as why:
+        raise OSError(why.errno, why.strerror, path) from None
+    finally:
+        with contextlib.suppress(OSError):
+            os.remove(new)
