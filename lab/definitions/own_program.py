@@ -4,15 +4,17 @@
     next(me, pulse, inbox)     what to send at a pulse, on what came in the pulse before: a list with a payload for each
                                port, or None where nothing came
     result(me)                 what the node has found after the last pulse, as words
-    last_pulse(nodes, degree)  the last pulse, of the number of nodes and the greatest degree; the number of nodes if
-                               the file has no such function
+    last_pulse(nodes, degree)  the last pulse, of the number of nodes and the greatest degree, and if it takes four, of
+                               the number of forests and the greatest number of bars, too; the number of nodes if the
+                               file has no such function
     right(results, neighbours) whether that is what has to be found, of the words and the neighbours of each node, both
                                by identifier: True, or in words what isn't right; if the file has such a function
     always(results, neighbours)    the same, of what nodes have found so far, at any time
     drawn(me)                  a pair for pictures: a colour from 0 or None, and a port or None, if the file has it
 
-`me` is the node: `me.id`, `me.degree` (how many ports it has, from 0), `me.nodes`, `me.greatest_degree`, `me.random`
-(chance by a seed: lab/definitions/lots.py), and whatever the file keeps there. A payload is a pair: a word of small
+`me` is the node: `me.id`, `me.degree` (how many ports it has, from 0), `me.barred` (the channels, from 1, that are barred
+at it, ascending), `me.nodes`, `me.greatest_degree`, `me.forests` (U), `me.greatest_bars` (B), `me.random` (chance by a
+seed: lab/definitions/lots.py), and whatever the file keeps there. A payload is a pair: a word of small
 letters, and a number from 0. What to send is one payload for all ports, a list with a payload or None for each, or
 None. At the last pulse nothing may be sent.
 
@@ -87,6 +89,12 @@ class Me(SimpleNamespace):
         return self.random
 
 
+def takes_four(function) -> bool:
+    """Whether a function of a file can be called with four values."""
+    code = getattr(function, "__code__", None)
+    return code is not None and code.co_argcount == 4
+
+
 class OwnNode:
     """A node of such a program."""
 
@@ -98,14 +106,18 @@ class OwnNode:
     def __init__(self, net, v):
         self.last = self.last_pulse(net)
         self.me = Me(id=net.identifiers[v], degree=len(net.neighbours[v]), nodes=len(net.neighbours),
-                     greatest_degree=net.greatest_degree, _lots=f"{self.seed} {net.identifiers[v]}")
+                     greatest_degree=net.greatest_degree, forests=net.forest_count, greatest_bars=net.greatest_bars,
+                     barred=tuple(colour + 1 for colour in sorted(net.barred[v])),
+                     _lots=f"{self.seed} {net.identifiers[v]}")
         self.degree = self.me.degree
 
     @classmethod
     def last_pulse(cls, net) -> int:
         if "last_pulse" not in cls.of_file:
             return len(net.neighbours)
-        last = called(cls.file, cls.of_file["last_pulse"], len(net.neighbours), net.greatest_degree)
+        function = cls.of_file["last_pulse"]
+        sizes = (len(net.neighbours), net.greatest_degree, net.forest_count, net.greatest_bars)
+        last = called(cls.file, function, *sizes[:4 if takes_four(function) else 2])
         if not isinstance(last, int) or isinstance(last, bool) or not 0 <= last < 2 ** 32:
             raise Wrong(f"{cls.file}: `last_pulse` returns {last!r}, which is no pulse")
         return last
