@@ -2,14 +2,21 @@
 import os
 import sys
 
+from lab.definitions.independent_set import IndependentSet
 from lab.definitions.layers import Layers
 from lab.definitions.leader import Leader
+from lab.definitions.matching import Matching
 from lab.definitions.nodes import Colouring
 from lab.definitions.own_program import own_program
+from lab.definitions.recolouring import Recolouring
 from lab.wrong import Wrong
 
-PROGRAMS = {program.name: program for program in (Colouring, Leader, Layers)}
-HELP = "what the nodes run: colouring, leader, layers, or a file of your own, as NAME.py; default: colouring"
+# Those that `forestplay` runs, and those that are drawn and explored from their definitions alone.
+PLAYED = (Colouring, Leader, Layers)
+PROGRAMS = {program.name: program for program in (*PLAYED, Matching, IndependentSet, Recolouring)}
+# Those whose nodes don't look at their bars; a file may.
+WITHOUT_BARS = (Leader, Layers, Matching)
+HELP = f"what the nodes run: {', '.join(PROGRAMS)}, or a file of your own, as NAME.py; default: colouring"
 
 
 def program_at(name: str, lots: str = "1") -> type:
@@ -24,7 +31,7 @@ def program_at(name: str, lots: str = "1") -> type:
 
 def note_ignored_bars(command: str, bars: dict, program: type) -> None:
     """Says on standard error that a program ignores the bars of a network, if it has any."""
-    if program is not Colouring and any(bars.values()):
+    if program in WITHOUT_BARS and any(bars.values()):
         print(f"{command}: {program.name} ignores the bars of the network, its lines `b`", file=sys.stderr)
 
 

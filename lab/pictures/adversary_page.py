@@ -1,6 +1,7 @@
 """The adversary's page: whoever opens it chooses which message comes next. It needs no library and has no algorithm in
 it: it holds the table of adversary_table.py, and follows it. page/adversary.js follows it."""
 from lab.definitions.nodes import Colouring, wire_words
+from lab.definitions.own_program import OwnNode
 from lab.pictures.adversary_dares import dares_of, plan_in
 from lab.pictures.adversary_table import table_of
 from lab.pictures.pages import compact, net_of, page
@@ -41,7 +42,7 @@ def option(program):
     """What names a program on a command line."""
     if program is Colouring:
         return ""
-    return f" --program {program.file if is_own(program) else program.name}"
+    return f" --program {program.file if issubclass(program, OwnNode) else program.name}"
 
 
 def play_words(network, space):

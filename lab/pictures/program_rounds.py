@@ -3,6 +3,7 @@
 from lab.definitions.colours import Network
 from lab.definitions.nodes import Colouring, ports_of
 from lab.definitions.own_program import OwnNode, check_repeats, what_is_wrong
+from lab.definitions.programs import PLAYED
 from lab.pictures.colouring import Rounds
 from lab.wrong import Wrong, wrong_line
 
@@ -27,7 +28,8 @@ class ProgramRounds:
 
     def __init__(self, network, identifiers, program):
         self.network, self.identifiers, self.program = network, identifiers, program
-        self.net = Network({v: identifiers[v] for v in network.vertices}, network.edges)
+        bars = {v: [channel - 1 for channel in channels] for v, channels in network.bars.items()}
+        self.net = Network({v: identifiers[v] for v in network.vertices}, network.edges, bars)
         self.last = program.last_pulse(self.net)
         if self.last * network.nodes > MOST_STEPS:
             raise Wrong(f"{network.name}: {self.last} pulses of {network.nodes} nodes are too many to be drawn")
@@ -76,8 +78,8 @@ def rounds_of(network, identifiers, program):
 
 
 def is_own(program):
-    """Whether a program is from a file, so that no proved program runs it."""
-    return issubclass(program, OwnNode)
+    """Whether no proved program runs a program: it is from a file, or known by its definition alone."""
+    return program not in PLAYED
 
 
 def read_program_rounds(text, name, network, program):

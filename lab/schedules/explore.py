@@ -52,7 +52,8 @@ refused with the rules safes or fifo left out.
 This is Python over slow definitions, written from the project's pages. It is tested,
 and not proved.
 
-With --program the nodes run another program: leader, layers, or a file of your own with
+With --program the nodes run another program: leader, layers, matching, independent-set,
+recolouring (these three go on where the colouring ends), or a file of your own with
 the functions greet, next and result (docs/learn/OWN_ALGORITHM.md). The file is run as it
 is, with your rights.
 

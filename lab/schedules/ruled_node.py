@@ -8,6 +8,7 @@ import copy
 
 from lab.definitions.nodes import AlphaNode, Colouring, Refused, ports_of
 from lab.definitions.own_program import OwnNode
+from lab.definitions.sequel import Sequel
 
 
 class RuledNode(AlphaNode):
@@ -85,6 +86,8 @@ def copied_program(program):
     for name, value in vars(program).items():
         if isinstance(value, (list, set)):
             setattr(node, name, copy.copy(value))
+        elif isinstance(value, Colouring):
+            setattr(node, name, copied_program(value))
     return node
 
 
@@ -92,8 +95,8 @@ def key_of_program(program):
     """Equal for equal nodes of one vertex; by its fields, of which lists and sets hold plain values."""
     if isinstance(program, OwnNode):
         return program.key()
-    return tuple(tuple(value) if isinstance(value, list) else frozenset(value) if isinstance(value, set) else value
-                 for value in vars(program).values())
+    return tuple(tuple(value) if isinstance(value, list) else frozenset(value) if isinstance(value, set) else
+                 key_of_program(value) if isinstance(value, Colouring) else value for value in vars(program).values())
 
 
 class Rounds:
@@ -111,7 +114,7 @@ class Rounds:
             sent = {v: nodes[v].next(p, self.inbox[v, p]) for v in nodes}
         self.results = {v: node.result() for v, node in nodes.items()}
         # Of the colouring alone.
-        self.colours = {v: getattr(node, "merged", None) for v, node in nodes.items()}
+        self.colours = {v: node.merged if program is Colouring else None for v, node in nodes.items()}
 
     def fault(self, v, p, inbox):
         """How an inbox differs from the round's, at the first port at which it does; None if it doesn't."""
@@ -132,6 +135,8 @@ def program_refuses(program, pulse, inbox):
     """Whether a node's program refuses an inbox."""
     if isinstance(program, Colouring):
         return colouring_refuses(program, pulse, inbox)
+    if isinstance(program, Sequel):
+        return pulse <= program.cut and colouring_refuses(program.first, pulse, inbox)
     return not isinstance(program, OwnNode) and program.refuses(pulse, inbox)
 
 

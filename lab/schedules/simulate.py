@@ -52,7 +52,8 @@ The transcript is of edition 2, as `forestplan transcript` writes it, so that
 in the DIMACS format, - for standard input, or a name, as petersen or path5. 4,500 entries
 (petersen) take half a second, and half a million one to several minutes.
 
-With --program the nodes run another program: leader, layers, or a file of your own with
+With --program the nodes run another program: leader, layers, matching, independent-set,
+recolouring (these three go on where the colouring ends), or a file of your own with
 the functions greet, next and result (docs/learn/OWN_ALGORITHM.md). The file is run as it
 is, with your rights.
 

@@ -316,7 +316,7 @@ class Space:
         else:
             waits = [] if "safes" in self.without else [(f"safe {p}", w) for w, port in ports if not port.safe]
             stage = "safe" if waits else "ready"
-        colour = getattr(node.program, "merged", None)
+        colour = node.program.merged if self.program is Colouring else None
         return Node(p, stage, waits, node.wrong, colour, self.phase(p), node.program.result())
 
     def phase(self, p):

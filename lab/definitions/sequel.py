@@ -1,0 +1,31 @@
+"""Programs that go on where the colouring ends, at one node, by their definition (docs/claim/DEFINITIONS.md), slow and
+plain. Payloads, ports and pulses are as in lab/definitions/nodes.py."""
+from lab.definitions.colours import Network
+from lab.definitions.nodes import Colouring, Slot
+
+
+class Sequel:
+    """A node that runs the colouring up to a pulse, the cut; from then on its node of the colouring, `first`, stays, and
+    it makes pulses of its own, counted from 0."""
+
+    first: Colouring
+    degree: int
+    cut: int
+
+    def __init__(self, net: Network, v: int):
+        self.first, self.degree, self.cut = Colouring(net, v), len(net.neighbours[v]), self.cut_of(net)
+
+    @staticmethod
+    def cut_of(net: Network) -> int:
+        """The last pulse of the colouring that is made."""
+        raise NotImplementedError
+
+    def greet(self) -> list[Slot]:
+        return self.first.greet()
+
+    def next(self, pulse: int, inbox: list[Slot]) -> list[Slot]:
+        return self.first.next(pulse, inbox) if pulse <= self.cut else self.go_on(pulse - self.cut - 1, inbox)
+
+    def go_on(self, pulse: int, inbox: list[Slot]) -> list[Slot]:
+        """What it sends at a pulse of its own, by port."""
+        raise NotImplementedError
