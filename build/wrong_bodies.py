@@ -1,7 +1,7 @@
 #!/usr/bin/env python3
 """Tries the wrong bodies of crates/NAME/wrong-bodies/ against the prover, and prints each that is proved all the same.
 
-  python3 build wrong-bodies [-j JOBS] [--minutes N] [--since REV | CRATE ..]    default: every crate that has a folder
+  python3 build wrong-bodies [-j JOBS] [--minutes N] [--since REV | CRATE .. | CRATE/NAME ..]    default: all
   crates/NAME/wrong-bodies/
 
 Each crates/CRATE/wrong-bodies/NAME.edit is a change of code that turns the meaning of a function, in the form of the
@@ -17,8 +17,9 @@ A proof of the right body may name a value or a goal that the edit takes away. T
 says little of the contract; such an edit counts as refused, and is printed as WEAK. Change it so that it keeps the
 name.
 
-The last line is 'N refused, M PROVED, K not run'. The status is 0 only if every edit was tried and refused. It takes
-about 20 seconds an edit, so it is run by hand, with --since before each change is handed in; `./test` doesn't call it.
+The last line is 'N refused, W of them WEAK, M PROVED, K not run'. Status: 0 every edit was tried and refused, 1 one was
+proved or not run, 2 the command line is refused, 3 all were refused, some of them WEAK. It takes about 20 seconds an
+edit, so it is run by hand, with --since before each change is handed in; `./test` doesn't call it.
 """
 import argparse
 import os
@@ -58,10 +59,24 @@ def changed_since(rev, given, at_hand):
     return [crate for crate in at_hand if crate in own or said.intersection(given.get(crate, ()))]
 
 
-def lists_of(crates, jobs):
+def chosen(names, given, at_hand):
+    """{crate: its edits} of crates, and of single edits, CRATE/NAME, with `.edit` after it or without."""
+    edits = {}
+    for name in names:
+        crate, _, edit = name.partition("/")
+        if crate not in at_hand or crate not in given:
+            sys.exit(f"wrong-bodies: there is no crate {crate} with a folder crates/NAME/wrong-bodies/")
+        there = edits_of(crate)
+        found = [path for path in there if os.path.basename(path) == edit.removesuffix(".edit") + ".edit"]
+        if edit and not found:
+            sys.exit(f"wrong-bodies: there is no edit crates/{crate}/wrong-bodies/{edit.removesuffix('.edit')}.edit")
+        edits[crate] = list(dict.fromkeys(edits.get(crate, []) + (found if edit else there)))
+    return edits
+
+
+def lists_of(edits, jobs):
     """The edits in lists of one crate each, so that no list is much longer than what each job gets; the longest
     first."""
-    edits = {crate: edits_of(crate) for crate in crates}
     size = max(LIST, -(-sum(map(len, edits.values())) // jobs))
     lists = []
     for crate, found in edits.items():
@@ -109,20 +124,21 @@ def said_over(rt, crate, edit, flags, room):
     return text if kind in rt.SETTLED else rt.must_fail(crate, edit, flags)[1]
 
 
-def try_all(rt, crates, jobs, end):
-    counts = {"refused": 0, "NOT REFUSED": 0, "BAD EDIT": 0, "NOT TRIED": 0, "not run": 0}
+def try_all(rt, edits, jobs, end):
+    counts = {"refused": 0, "WEAK": 0, "NOT REFUSED": 0, "BAD EDIT": 0, "NOT TRIED": 0, "not run": 0}
     keys = kit.keys()
     with ThreadPoolExecutor(jobs) as pool:
         running = {
-            pool.submit(tried, rt, crate, edits, keys, end): (crate, edits) for crate, edits in lists_of(crates, jobs)
+            pool.submit(tried, rt, crate, some, keys, end): (crate, some) for crate, some in lists_of(edits, jobs)
         }
         for done in as_completed(running):
-            (crate, edits), verdicts = running[done], done.result()
+            (crate, some), verdicts = running[done], done.result()
             refused = sum(verdict == "refused" for verdict, _ in verdicts)
             print(f"{crate}: {refused} of {len(verdicts)} refused", flush=True)
-            for edit, (verdict, why) in zip(edits, verdicts):
+            for edit, (verdict, why) in zip(some, verdicts):
                 counts[verdict] += 1
                 if verdict == "refused" and NAME_ALONE in why:
+                    counts["WEAK"] += 1
                     print(f"WEAK {os.path.relpath(edit, TOP)}", flush=True)
                 if verdict not in ("refused", "not run"):
                     shown = "PROVED" if verdict == "NOT REFUSED" else verdict
@@ -143,29 +159,28 @@ def main():
         "--minutes", type=float, default=float("inf"), help="begin no list later than this many minutes from now"
     )
     words.add_argument("--since", metavar="REV", help="only what a change since the commit REV may concern")
-    words.add_argument("crates", nargs="*", metavar="CRATE")
+    words.add_argument("names", nargs="*", metavar="CRATE", help="a crate, or one edit of it, as CRATE/NAME")
     asked = words.parse_args()
     given = listed()
     at_hand = sorted(crate for crate in given if os.path.isdir(os.path.join(TOP, "crates", crate, "wrong-bodies")))
-    if asked.since and asked.crates:
+    if asked.since and asked.names:
         words.error("--since chooses the crates itself")
-    crates = changed_since(asked.since, given, at_hand) if asked.since else asked.crates or at_hand
+    names = changed_since(asked.since, given, at_hand) if asked.since else asked.names or at_hand
     end = time.monotonic() + 60 * asked.minutes
-    for crate in crates:
-        if crate not in at_hand or crate not in given:
-            sys.exit(f"wrong-bodies: there is no crate {crate} with a folder crates/NAME/wrong-bodies/")
+    edits = chosen(names, given, at_hand)
     if not kit.command():
         sys.exit("wrong-bodies: the toolchain's command rt is not on the PATH")
-    below = sorted({lower for crate in crates for lower in given[crate]})
+    below = sorted({lower for crate in edits for lower in given[crate]})
     if below and prove.proved(below, prove.jobs_with_room(), name="wrong-bodies"):
         sys.exit("wrong-bodies: a crate below isn't proved, so nothing was tried")
     rt = kit.toolchain()
     # Its first call takes over a signal, which only this thread can.
     rt.rtlib.guarded()
-    counts = try_all(rt, crates, max(1, asked.jobs), end)
+    counts = try_all(rt, edits, max(1, asked.jobs), end)
     not_run = counts["BAD EDIT"] + counts["NOT TRIED"] + counts["not run"]
-    print(f"{counts['refused']} refused, {counts['NOT REFUSED']} PROVED, {not_run} not run")
-    return 1 if counts["NOT REFUSED"] + not_run else 0
+    print(f"{counts['refused']} refused, {counts['WEAK']} of them WEAK, {counts['NOT REFUSED']} PROVED, "
+          f"{not_run} not run")
+    return 1 if counts["NOT REFUSED"] + not_run else 3 if counts["WEAK"] else 0
 
 
 if __name__ == "__main__":
