@@ -12,7 +12,7 @@ SMALL = 40
 
 class Order:
     """The rule, over the crates' seconds for one processor; at most `jobs` crates are proved side by side. What runs is
-    given as a crate's number of processes and the processor seconds that it has used."""
+    given by name, with the number of its processes."""
 
     def __init__(self, crates, below, seconds, processors, jobs):
         self.below, self.seconds, self.processors, self.jobs = below, seconds, processors, jobs
@@ -31,10 +31,8 @@ class Order:
         )
 
     def share(self, crate, left, running):
-        """The chain that waits for a crate, as a share of the longest. Of a crate that runs only what is left counts."""
-        waiting = [self.behind[other] for other in left]
-        begun = [self.behind[other] - min(used, self.seconds[other]) for other, (_, used) in running.items()]
-        return self.behind[crate] / max([self.behind[crate], *waiting, *begun])
+        """The length of the chain of crates that wait for a crate, as a share of the longest."""
+        return self.behind[crate] / max(self.behind[other] for other in [crate, *left, *running])
 
     def gives_way(self, crate, left, running):
         return self.share(crate, left, running) < NEAR
@@ -45,7 +43,7 @@ class Order:
         """
         if self.seconds[crate] < SMALL or crate in PROGRAMS:
             return 1
-        free = self.processors - sum(count for count, _ in running.values())
+        free = self.processors - sum(running.values())
         others = min(len(self.ready(left, done)), self.jobs - len(running)) - 1
         wanted = 3 if self.share(crate, left, running) == 1 else 1
         return max(1, min(self.processors, max(wanted, min(MOST, free - others))))

@@ -33,7 +33,7 @@ import time
 from build import kit, shared
 from build.crate_lists import TOP, listed, with_below
 from build.order import WAY, Order
-from build.reckoning import jobs_with_room, measured_seconds, processors, seconds_of, seconds_used
+from build.reckoning import jobs_with_room, measured_seconds, processors, seconds_of
 from build.shown import Shown
 
 LOGS = os.path.join(TOP, "out", "build")
@@ -60,9 +60,9 @@ class Proving:
 
     def begin(self, crate):
         """Begins a crate, which gives way to others if its chain is much shorter than the longest."""
-        used = {name: (count, seconds_used(process.pid)) for name, (process, count) in self.running.items()}
-        count = self.order.processes(crate, self.left, self.done, used)
-        way = ["nice", "-n", str(WAY)] if self.order.gives_way(crate, self.left, used) else []
+        counts = {name: count for name, (_, count) in self.running.items()}
+        count = self.order.processes(crate, self.left, self.done, counts)
+        way = ["nice", "-n", str(WAY)] if self.order.gives_way(crate, self.left, counts) else []
         words = [sys.executable, os.path.join(TOP, "build"), "prove-crate", *self.words(crate, count)]
         with open(os.path.join(LOGS, f"{crate}.log"), "w", encoding="utf-8") as log:
             # In a group of its own Ctrl-C doesn't reach it; in a session of its own its priority would count for

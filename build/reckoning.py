@@ -31,20 +31,3 @@ def seconds_of(crate, measured):
         return measured[crate]
     files = kit.files_of(os.path.join(TOP, "crates", crate))
     return 15 + 0.2 * sum(text.count(b"\n") for path, text in files if path.endswith(".rt"))
-
-
-def seconds_used(group):
-    """The processor seconds of a group of processes so far; none once it has ended."""
-    ticks = 0
-    for name in os.listdir("/proc"):
-        if name.isdigit():
-            try:
-                with open(f"/proc/{name}/stat", encoding="utf-8", errors="replace") as text:
-                    words = text.read().rpartition(")")[2].split()
-            except OSError:
-                continue
-            # After the name in brackets: the state, the parent and the group, and from the twelfth word on the time of
-            # the process and of those that it has waited for.
-            if int(words[2]) == group:
-                ticks += sum(map(int, words[11:15]))
-    return ticks / os.sysconf("SC_CLK_TCK")

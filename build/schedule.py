@@ -29,7 +29,7 @@ class Running:
         read = seconds if crate in PROGRAMS else min(seconds, FIXED + SERIAL * seconds)
         rest = seconds - read
         more = LOAD + LAST * rest * (1 - 1 / count) if count > 1 else 0
-        self.count, self.weight, self.used = count, WEIGHT if gives_way else 1, 0
+        self.count, self.weight = count, WEIGHT if gives_way else 1
         self.needs = [read, rest / count + more]
 
     def threads(self):
@@ -37,7 +37,6 @@ class Running:
 
     def work(self, seconds):
         """Gives each of its processes these seconds; whether the crate is done."""
-        self.used += seconds * self.threads()
         self.needs[0 if self.needs[0] > 0 else 1] -= seconds
         self.needs = [0 if need < 1e-6 else need for need in self.needs]
         return not any(self.needs)
@@ -62,9 +61,9 @@ def schedule(crates, below, seconds, processors):
     rows, now, work = {}, 0.0, 0.0
     while left or running:
         for crate in order.ready(left, done)[: processors - len(running)]:
-            used = {name: (each.count, each.used) for name, each in running.items()}
-            count = order.processes(crate, left, done, used)
-            running[crate] = Running(crate, seconds[crate], count, order.gives_way(crate, left, used))
+            counts = {name: each.count for name, each in running.items()}
+            count = order.processes(crate, left, done, counts)
+            running[crate] = Running(crate, seconds[crate], count, order.gives_way(crate, left, counts))
             left.remove(crate)
             rows[crate] = (now, count)
         rate = rates(running, processors)
