@@ -1,0 +1,259 @@
+"""All tests of the studio's page in Chromium or Chrome: those of ./test (tests/pages/studio_page.py), and with a
+finger, keys, files, lessons, pages of another origin, and a phone's width. The last line is 'N passed, M failed'.
+
+  python3 -m tests.by_hand.studio_in_browser [--shots FOLDER]
+      --shots FOLDER     keeps a screenshot of each tab, of a desk, a phone and in the dark
+
+It takes minutes, and so it is no part of ./test. Debian: `apt-get install chromium`."""
+import argparse
+import contextlib
+import http.server
+import json
+import os
+import subprocess
+import sys
+import tempfile
+import threading
+import time
+import unittest
+
+from tests import TOP
+from tests.pages import studio_page
+from tests.programs.studio import processes_of
+from tests.running import Counting
+
+SHOWN = {
+    "draw": "example=barred&tab=draw&node=3", "rounds": "example=petersen&tab=rounds&at=4.5&forest=0&node=6",
+    "merge": "example=petersen&tab=rounds&at=15", "broken": "example=petersen&tab=rounds&at=4&broken=digit",
+    "layers": "example=petersen&tab=rounds&program=layers&at=2", "run": "example=chain6&tab=run&slow=2-3&seed=7&at=150",
+    "beside": "example=petersen&tab=run&seed=7&at=150&beside=1&node=3",
+    "two": "example=petersen&tab=run&seed=7&at=8.5&other=newest.2",
+    "adversary": "example=triangle&tab=adversary&steps=2-1_1-2_2-1_1-2_3-1_1-3_3-2&slow=1-3",
+    "without": "example=path&tab=adversary&without=safes&steps=2-1_1-2_2-1_2-3_3-2_2-3_2",
+    "check": "example=petersen&tab=check&plan=1_1_2_3_2_3_2_2_1_3",
+    "pictures": "example=petersen&tab=pictures&kind=forests",
+    "lesson": "lesson=3", "hundred": "example=disk100&tab=rounds&at=14"}
+EVIL = """<!doctype html><script>
+(async () => {
+  const said = [], at = "ADDRESS", token = {"X-Token": "TOKEN"};
+  const tries = {
+    "a call": () => fetch(at + "/call/hello", {method: "POST", body: "{}"}),
+    "a call with the token": () => fetch(at + "/call/hello", {method: "POST", body: "{}", headers: token}),
+    "the page": () => fetch(at + "/"),
+    "a script": () => new Promise((good, bad) => { const s = document.createElement("script"); s.src = at + "/api.js";
+      s.onload = good; s.onerror = bad; document.head.append(s); }),
+  };
+  for (const name in tries) { try { await tries[name](); said.push(name); } catch (refused) { } }
+  const frame = document.createElement("iframe");
+  frame.src = at + "/";
+  document.body.append(frame);
+  await new Promise(good => setTimeout(good, 800));
+  try { if (frame.contentDocument) said.push("a frame"); } catch (refused) { }
+  document.title = "tried: " + said.join(", ");
+})();
+</script><body>"""
+
+
+def lab(*words):
+    """What a command writes."""
+    return subprocess.run([sys.executable, "-S", os.path.join(TOP, "lab"), *words], capture_output=True,
+                          check=True).stdout
+
+
+class More(studio_page.Page):
+    words = "--own", os.path.join(TOP, "examples", "algorithms", "independent_set.py")
+    shots = None
+
+    def test_touch_and_keys(self):
+        self.page.size(360, 780, True)
+        self.go_to("tab=draw")
+        self.page.value("document.getElementById('clear').click(); scrollTo(0, 0)")
+        for x, y in ((100, 250), (250, 250), (180, 350)):
+            self.page.tap(x, y)
+        self.note("three taps, three nodes", self.page.value("studio.net.nodes.length") == 3)
+        self.page.tap(*self.at(1))
+        self.page.tap(*self.at(2))
+        self.note("two taps, an edge", self.page.value("JSON.stringify(studio.net.edges)") == "[[1,2]]")
+        self.page.size(1280, 800)
+        self.page.value("document.getElementById('clear').click()")
+        for _ in range(2):
+            self.page.key("a", text="a")
+        for v in (1, 2):
+            self.page.value(f"document.querySelector('#net .node[data-node=\"{v}\"]').focus()")
+            self.page.key("Enter", windowsVirtualKeyCode=13)
+        self.note("keys add and join", self.page.value("JSON.stringify(studio.net.edges)") == "[[1,2]]")
+        scale = self.page.value("studio.stage.to.scale")
+        self.page.key("+", text="+")
+        self.note("a key zooms", self.page.value("studio.stage.to.scale") > scale)
+
+    def test_widths(self):
+        for name, words in SHOWN.items():
+            self.go_to(words)
+            self.sees(f"{name} is there", "document.getElementById('busy').hidden && studio.net.nodes.length > 0")
+            time.sleep(1.5)
+            for kind, wide, high, phone, dark in (("desk", 1280, 800, False, False), ("phone", 360, 780, True, False),
+                                                  ("dark", 1280, 800, False, True)):
+                self.page.size(wide, high, phone)
+                self.page.dark(dark)
+                time.sleep(0.4)
+                shown = self.page.value("document.documentElement.scrollWidth")
+                self.note(f"{name}, {kind}: no wider than the window", shown <= wide, shown)
+                if self.shots:
+                    self.page.shot(os.path.join(self.shots, f"{name}-{kind}.png"))
+            self.page.size(1280, 800)
+            self.page.dark(False)
+            self.note(f"{name}: nothing is wrong", not self.page.text("wrong"), self.page.text("wrong"))
+
+    def test_frames(self):
+        """A hundred nodes stay under 50 ms a frame on a free machine."""
+        self.go_to("example=disk100&tab=rounds&at=14")
+        self.sees("a hundred nodes", "document.querySelectorAll('#net .node').length === 100")
+        took = self.page.value("""(() => { const s = document.getElementById('slider'), took = [];
+          for (let k = 0; k <= 60; k++) { s.value = s.max * k / 60; const b = performance.now(); s.oninput();
+            took.push(performance.now() - b); }
+          return took.sort((a, b) => a - b); })()""")
+        print(f"a frame of 100 nodes: {took[30]:.1f} ms in the middle, {took[-1]:.1f} at most")
+        self.note("a frame", took[30] < 50, took[30])
+
+    def test_own_program(self):
+        self.go_to("example=petersen&tab=run&program=independent_set&seed=3")
+        self.sees("it runs", "document.getElementById('judge').textContent.startsWith('✓')")
+        self.note("and isn't said to be proved", "not proved" in self.page.text("judge"), self.page.text("judge"))
+
+    def test_transcripts(self):
+        text = lab("simulate", os.path.join(TOP, "examples", "two.col")).decode()
+        self.go_to("example=two&tab=check")
+        self.sees("two nodes", "studio.net.nodes.length === 2 && studio.check.verdict")
+        judge = "document.getElementById('transcript').value = {}; document.getElementById('judged').click()"
+        self.page.value(judge.format(json.dumps(text)))
+        self.sees("a whole run", "document.getElementById('judgement').textContent.includes('whole run')")
+        self.page.value(judge.format(json.dumps(text.replace("ack 3", "ack 4", 1))))
+        self.sees("a wrong wire", "document.getElementById('judgement').textContent.includes('WrongWire')")
+        line = 1 + text.split("\n").index(next(row for row in text.split("\n") if "ack 3" in row))
+        self.note("its line", f"line {line}:" in self.page.text("judgement"), self.page.text("judgement"))
+        self.page.value(f"document.getElementById('transcript').value = {json.dumps(text)}")
+        self.page.click_on("#watchit")
+        self.sees("it is watched", "studio.seen.tab === 'run' && studio.run.found && studio.run.found.judge.ok")
+
+    def test_files(self):
+        self.go_to("tab=draw")
+
+        def drop(what, name):
+            self.page.value(f"(() => {{ const d = new DataTransfer(); d.items.add(new File([{json.dumps(what)}], "
+                            f"'{name}')); document.dispatchEvent(new DragEvent('drop', {{dataTransfer: d, "
+                            "cancelable: true})); })()")
+        drop("<graphml><graph edgedefault='undirected'><node id='a'/><node id='b'/><edge source='a' target='b'/>"
+             "</graph></graphml>", "x.graphml")
+        self.sees("GraphML", "studio.net.nodes.length === 2 && studio.net.nodes[0].name === 'a'")
+        drop("p edge 2 1\ne 1 3\n", "x.col")
+        self.sees("a wrong text is said", "document.getElementById('wrong').textContent.includes('F5')")
+        drop("a,b\nOslo,Ulm\nUlm,Rom\n", "x.csv")
+        self.sees("a table may have a heading", "!document.getElementById('heading').hidden")
+        self.page.click_on("#heading [data-heading=yes]")
+        self.sees("which is said", "studio.net.nodes.length === 3 && studio.net.nodes[0].name === 'Oslo'")
+        self.page.click_on("#make button")
+        self.sees("a random network", "studio.net.nodes.length === 8")
+
+    def test_pictures(self):
+        for kind in ("plan", "forests", "rounds", "bits", "why", "matrix", "run", "overview", "node", "tally"):
+            self.go_to(f"example=triangle&tab=pictures&kind={kind}")
+            self.sees(kind, f"document.querySelector('#picture img[alt={kind}]')")
+
+    def test_lessons(self):
+        for number in range(1, 7):
+            self.go_to(f"lesson={number}")
+            self.sees(f"lesson {number}", "document.querySelector('#lesson b') && document.querySelector('#lesson b')"
+                                          f".textContent.startsWith('{number}.') && studio.net.nodes.length")
+
+    def test_cancel(self):
+        """A search that takes minutes is ended by its button, and its process with it."""
+        self.go_to("net=0.0_100.0_100.100_0.100~1-2_1-3_1-4_2-3_2-4_3-4&tab=adversary")
+        self.sees("four nodes", "studio.steps.found && studio.net.nodes.length === 4")
+        self.page.click_on("#search")
+        self.sees("it is under way", "!document.getElementById('busy').hidden")
+        time.sleep(1)
+        self.note("by a process", self.working())
+        self.page.click_on("#busy button")
+        until = time.monotonic() + 8
+        while self.working() and time.monotonic() < until:
+            time.sleep(0.1)
+        self.note("which ends", not self.working(), self.working())
+        self.go_to("example=two&tab=adversary")
+        self.sees("two nodes", "studio.steps.found && studio.net.nodes.length === 2")
+        self.page.click_on("#search")
+        self.sees("every order of two", "!document.getElementById('frame').hidden")
+        self.page.click_on("#unsearch")
+
+    def working(self):
+        found = []
+        for process in processes_of(self.process.pid):
+            with contextlib.suppress(OSError), open(f"/proc/{process}/stat", encoding="ascii") as file:
+                found += [process] * (file.read().rpartition(")")[2].split()[0] == "R")
+        return found
+
+    def test_other_pages(self):
+        """The pages of picture player and watch, which stand alone."""
+        with tempfile.TemporaryDirectory() as folder:
+            for kind, words in (("player", []), ("watch", [os.path.join(TOP, "examples", "chain6_slow.transcript")])):
+                path = os.path.join(folder, kind + ".html")
+                with open(path, "wb") as file:
+                    file.write(lab("picture", kind, os.path.join(TOP, "examples", "chain6.col"), *words))
+                self.page.go(f"file://{path}#pulse-3")
+                self.sees(f"{kind}: nodes", "document.querySelectorAll('#net .node').length === 6")
+                self.note(f"{kind}: a link", self.page.value("time.at") >= 3, self.page.value("time.at"))
+                before = self.page.value("time.at")
+                self.page.click_on("#next")
+                self.page.key("ArrowRight", windowsVirtualKeyCode=39)
+                self.note(f"{kind}: two steps on", self.page.value("time.at") > before, self.page.text("said"))
+                self.page.click_on("#play")
+                time.sleep(1.2)
+                self.note(f"{kind}: it plays", self.page.value("time.at") > before + 2)
+                self.page.size(360, 780, True)
+                time.sleep(0.3)
+                wide = self.page.value("document.documentElement.scrollWidth")
+                self.note(f"{kind}: a phone's width", wide <= 360, wide)
+                self.page.size(1280, 800)
+        self.page.go(self.address)
+        self.sees("the studio again", "window.studio && studio.seen.hello")
+
+    def test_z_another_origin(self):
+        """A page of another origin gets nothing, even if it knows the token."""
+        address, _, token = self.address.partition("/?token=")
+        evil = EVIL.replace("ADDRESS", address).replace("TOKEN", token).encode()
+
+        class Evil(http.server.BaseHTTPRequestHandler):
+            def do_GET(self):
+                self.send_response(200)
+                self.send_header("Content-Type", "text/html")
+                self.end_headers()
+                self.wfile.write(evil)
+
+            def log_message(self, *_):
+                pass
+
+        faults = list(self.page.faults)
+        self.note("no script complained", not [fault for fault in faults if "favicon" not in fault], faults[:5])
+        server = http.server.ThreadingHTTPServer(("127.0.0.1", 0), Evil)
+        threading.Thread(target=server.serve_forever, daemon=True).start()
+        for host in ("127.0.0.1", "localhost"):
+            self.page.go(f"http://{host}:{server.server_port}/")
+            self.note(f"a page of {host} has tried", self.page.until("document.title.startsWith('tried')"))
+            got = self.page.value("document.title")
+            self.note(f"and got nothing from {host}", got == "tried:", got)
+        server.shutdown()
+
+
+def main():
+    words = argparse.ArgumentParser(description=__doc__, formatter_class=argparse.RawDescriptionHelpFormatter)
+    words.add_argument("--shots", metavar="FOLDER")
+    More.shots = words.parse_args().shots
+    suite, counted = unittest.TestSuite(), Counting()
+    for case in (studio_page.Repeated, studio_page.Drawn, More):
+        suite.addTests(unittest.defaultTestLoader.loadTestsFromTestCase(case))
+    suite.run(counted)
+    print(f"{counted.passed} passed, {counted.failed} failed")
+    return 1 if counted.failed or not counted.passed else 0
+
+
+if __name__ == "__main__":
+    sys.exit(main())

@@ -1,0 +1,64 @@
+"""How long the calls of the studio take, without a browser: the least and the middle of some calls of each, on networks
+of 6, 12, 40 and 100 nodes; and how long it takes from the command to the first answer.
+
+  python3 -m tests.by_hand.studio_times [CALLS]"""
+import http.client
+import json
+import signal
+import sys
+import time
+from urllib.parse import urlsplit
+
+from lab.networks import kinds
+from lab.networks.texts import text_of
+from tests.programs.studio import begin
+
+NETWORKS = {"6, a row": kinds.path(6), "12, 24 edges": kinds.any_edges(12, 24, 1), "40, disk": kinds.disk(40, 0.26, 1),
+            "100, disk": kinds.disk(100, 0.15, 1)}
+
+
+def asked(address, name, **words):
+    """(milliseconds, the last line) of a call."""
+    begun, at = time.perf_counter(), urlsplit(address)
+    end = http.client.HTTPConnection(at.hostname, at.port, timeout=200)
+    end.request("POST", f"/call/{name}", json.dumps(words), {"X-Token": at.query.partition("=")[2]})
+    data = end.getresponse().read()
+    return (time.perf_counter() - begun) * 1000, json.loads(data.rstrip(b"\n").split(b"\n")[-1])
+
+
+def row(address, call, count, **words):
+    got = [asked(address, call.split()[0], **words) for _ in range(count)]
+    took = sorted(ms for ms, _ in got)
+    said = got[0][1].get("wrong", "")
+    print(f"  {call:16} {took[0]:6.0f} ms at least, {took[len(took) // 2]:6.0f} in the middle  {said}", flush=True)
+    return got[0][1].get("answer")
+
+
+def main():
+    count = int(sys.argv[1]) if len(sys.argv) > 1 else 7
+    begun = time.perf_counter()
+    process, address = begin()
+    asked(address, "hello")
+    print(f"from the command to the first answer: {time.perf_counter() - begun:.1f} s")
+    try:
+        for name, made in NETWORKS.items():
+            text = text_of(made)
+            print(f"{name}: {made.nodes} nodes, {len(made.edges)} edges")
+            row(address, "hello", count)
+            for call, words in {"plan": {}, "check": {"plan": [1] * made.nodes}, "tidy": {}, "rounds": {},
+                                "why": {"vertex": 3}, "steps": {"by": 100}, "picture forests": {"kind": "forests"},
+                                "run by seed": {"how": "seed", "policy": "random", "seed": "7"},
+                                "run layers": {"how": "threads", "program": "layers"}}.items():
+                row(address, call, count if "run" not in call else 3, network=text, **words)
+            run = row(address, "run by threads", 3, network=text, how="threads")
+            if run:
+                lines = run["text"].split("\n")
+                row(address, "replay of half", count, network=text, transcript="\n".join(lines[:len(lines) // 2]))
+    finally:
+        process.send_signal(signal.SIGINT)
+        process.wait(10)
+    return 0
+
+
+if __name__ == "__main__":
+    sys.exit(main())

@@ -1,0 +1,192 @@
+"""The studio's page in a browser, if one is installed: a network is drawn with a real mouse, and each tab shows what
+the definitions say. tests/by_hand/studio_in_browser.py has more. And what the page repeats of others."""
+import json
+import os
+import re
+import signal
+import time
+
+from lab.definitions.colours import colours, network_of
+from lab.pictures.pages import hues
+from lab.pictures.palette import CHANNEL_HUES, FOREST_COLOURS
+from lab.studio.lessons import LESSONS
+from tests import TOP, browser
+from tests.cases import Case
+from tests.programs.studio import begin
+
+EVIL = "<img src=x onerror=document.title='bad'></script><script>document.title='bad'</script>"
+TABS = ("rounds", "run", "adversary", "check", "pictures")
+
+
+class Repeated(Case):
+    needs_programs = False
+
+    def test_lessons(self):
+        """Titles and questions are those of the tutorial."""
+        with open(os.path.join(TOP, "docs", "learn", "TUTORIAL.md"), encoding="utf-8") as file:
+            page = file.read()
+        found = re.findall(r"^## (\d)\. (.*)\n\n\*(.*?)\*", page, re.M)
+        mine = [(str(one["number"]), one["title"], one["ask"]) for one in LESSONS]
+        for lesson, wanted in zip(mine, found):
+            self.note(f"lesson {lesson[0]}", lesson == wanted, (lesson, wanted))
+        self.note("all lessons", len(mine) == len(found), len(found))
+
+    def test_hues(self):
+        found = {name: json.loads(value) for name, value in re.findall(r"^export const (\w+) = (.*);$", hues(), re.M)}
+        self.note("the palette", (found["CHANNELS"], found["FORESTS"]) == (CHANNEL_HUES, FOREST_COLOURS), found)
+
+    def test_names_in_the_page(self):
+        """Each element that the modules ask for by its name is in the page."""
+        folder = os.path.join(TOP, "lab", "studio", "page")
+        with open(os.path.join(folder, "page.html"), encoding="utf-8") as file:
+            there = set(re.findall(r'\bid="(\w+)"', file.read()))
+        for name in sorted(name for name in os.listdir(folder) if name.endswith(".js")):
+            with open(os.path.join(folder, name), encoding="utf-8") as file:
+                asked = set(re.findall(r'\bby\("(\w+)"\)', file.read()))
+            self.note(name, asked <= there, asked - there)
+
+
+class Page(Case):
+    """A studio and a browser for all tests of a class."""
+
+    needs_programs = False
+    words = ()
+
+    @classmethod
+    def setUpClass(cls):
+        program = browser.command()
+        if program is None:
+            print("no Chromium and no Chrome is installed: the studio's page isn't looked at")
+            cls.page = None
+            return
+        cls.process, cls.address = begin(*cls.words)
+        cls.page = browser.Browser(program)
+        cls.page.size(1280, 800)
+        cls.page.go(cls.address)
+        cls.page.until("window.studio && studio.seen.hello", 60)
+
+    @classmethod
+    def tearDownClass(cls):
+        if cls.page:
+            cls.page.end()
+            cls.process.send_signal(signal.SIGINT)
+            cls.process.wait(20)
+            cls.process.stderr.close()
+
+    def setUp(self):
+        if self.page is None:
+            self.skipTest("no browser")
+
+    def go_to(self, words):
+        self.page.value(f"location.hash = {json.dumps(words)}")
+
+    def at(self, place):
+        """A place of the stage in the window: that of a node, or the middle of an edge."""
+        found = f"[studio.stage.X({place}), studio.stage.Y({place})]" if isinstance(place, int) else (
+            f"studio.stage.along({place[0]}, {place[1]}, 0.5)")
+        return self.page.value("(() => { const b = document.getElementById('net').getBoundingClientRect(), p = "
+                               f"{found}; return [b.x + p[0], b.y + p[1]]; }})()")
+
+    def click(self, place):
+        self.page.click(*self.at(place))
+
+    def sees(self, name, words, seconds=40):
+        self.note(name, self.page.until(words, seconds), self.page.text("wrong"))
+
+
+class Drawn(Page):
+    def test_draw(self):
+        """Four clicks, four edges, the plan, a drag and its undo, and a link."""
+        self.go_to("tab=draw")
+        self.page.value("document.getElementById('clear').click()")
+        for x, y in ((300, 250), (600, 250), (450, 500), (200, 450)):
+            self.page.click(x, y)
+        for v, w in ((1, 2), (2, 3), (1, 3), (3, 4)):
+            self.click(v)
+            self.click(w)
+        edges = self.page.value("JSON.stringify(studio.net.edges)")
+        self.note("two clicks, an edge", edges == "[[1,2],[1,3],[2,3],[3,4]]", edges)
+        self.sees("the plan is there", "studio.drawn.fresh && studio.drawn.plan.plan.length === 4")
+        plan = self.page.value("studio.drawn.plan.plan")
+        text = self.page.value("document.getElementById('text').value")
+        wanted = [colour + 1 for _, colour in sorted(colours(network_of(text.encode())).items())]
+        self.note("it is that of the definitions", plan == wanted, plan)
+        before = self.at(4)
+        self.page.drag(*before, before[0] - 20, before[1] - 90)
+        self.note("a drag moves a node", abs(self.at(4)[1] - before[1] + 90) < 2, self.at(4))
+        self.page.key("z", code="KeyZ", modifiers=2, windowsVirtualKeyCode=90)
+        self.note("undo takes a drag back in one step", abs(self.at(4)[1] - before[1]) < 2, self.at(4))
+        self.click((3, 4))
+        self.page.key("Delete", code="Delete", windowsVirtualKeyCode=46)
+        self.note("an edge is removed", self.page.value("studio.net.edges.length") == 3)
+        address = self.page.value("location.href")
+        self.note("the address has the network and no token", "net=" in address and "token" not in address, address)
+        self.page.go("about:blank")
+        self.page.go(address)
+        self.sees("a link shows the network", "window.studio && studio.net.edges.length === 3")
+
+    def test_rounds(self):
+        self.go_to("example=petersen&tab=rounds&at=4&forest=0")
+        self.sees("squares at a bit step", "document.querySelectorAll('#net .node rect').length === 10")
+        self.click(6)
+        self.sees("why, as picture why says it", "document.getElementById('why').textContent.includes('29 of 269')")
+        self.page.click_on("#next")
+        self.note("one step on", self.page.value("studio.time.at") == 5)
+        self.page.choose("without2", "digit")
+        self.sees("without a rule", "document.getElementById('broken').textContent.includes('both have colour')")
+
+    def test_run(self):
+        self.go_to("example=chain6&tab=run&slow=2-3&seed=7")
+        self.sees("a run is accepted", "document.getElementById('judge').textContent.includes('accepts these 866')")
+        self.note("the same as the rounds", "✓" in self.page.text("same"), self.page.text("same"))
+        self.page.choose("slider", "120")
+        self.sees("judged up to here", "document.getElementById('judgehere').textContent.startsWith('✓')")
+        self.click((4, 5))
+        self.sees("a click makes a link wait", "studio.seen.slow.length === 2")
+        self.go_to("example=chain6&tab=run&seed=7&other=newest.2&at=5")
+        self.sees("another order beside", "document.querySelectorAll('#second .node').length === 6")
+        self.sees("rows of both", "document.getElementById('now').textContent.includes('second, stamp')")
+
+    def test_steps(self):
+        """The adversary: a message that is clicked is taken, a held link holds, and No clock plays the rest."""
+        self.go_to("example=triangle&tab=adversary")
+        self.sees("six messages", "document.querySelectorAll('#net [data-step]').length === 6")
+        self.page.click_on("#net [data-step='2-1']")
+        self.sees("a message is taken", "studio.steps.made.join() === '2-1'")
+        self.sees("it is in the address", "location.hash.includes('steps=2-1')")
+        self.click((1, 3))
+        self.sees("a link is held", "!document.querySelector('#net [data-step=\"3-1\"]')")
+        self.page.click_on("#chance20")
+        self.sees("by chance, as far as can be", "studio.steps.made.length > 2 && document.getElementById('stepsaid')"
+                                                 ".textContent.includes('✓')")
+        self.page.click_on("#handover")
+        self.sees("No clock plays the rest", "studio.seen.tab === 'run' && document.getElementById('judge').textContent"
+                                             ".startsWith('✓')")
+        self.note("with these steps first", self.page.value("studio.run.steps.length") > 2)
+        self.go_to("example=two&tab=adversary&without=acks&steps=1-2")
+        self.sees("a rule left out", "document.getElementById('rule').textContent.includes('says safe at once')")
+
+    def test_check(self):
+        self.go_to("example=petersen&tab=check&plan=1_1")
+        self.sees("an unfinished plan", "studio.check.verdict && studio.check.verdict.said === 'C1 vertex 3'")
+        self.page.click_on("#take")
+        self.sees("the plan is proper", "studio.check.verdict && studio.check.verdict.ok")
+        wanted = self.page.value("studio.check.plan[1]")
+        while self.page.value("studio.check.plan[0]") != wanted:
+            self.click(1)
+        self.sees("a clash", "studio.check.verdict && studio.check.verdict.code === 'C4'")
+
+    def test_names(self):
+        """Names are texts, in each tab."""
+        self.go_to("tab=draw")
+        self.page.value(f"document.getElementById('text').value = {json.dumps(f'c name 1 {EVIL}')} + "
+                        "'\\np edge 2 1\\ne 1 2\\n'; document.getElementById('apply').click()")
+        self.sees("a network with a name", "studio.net.nodes.length === 2 && studio.net.nodes[0].name[0] === '<'")
+        for tab in TABS:
+            self.page.click_on(f"[data-tab={tab}]")
+            time.sleep(0.6)
+            self.note(f"a name is a text in {tab}", self.page.value("document.title") == "forestplan studio")
+
+    def test_z_no_script_complained(self):
+        faults = [fault for fault in self.page.faults if "favicon" not in fault]
+        self.note("no script complained", not faults, faults[:5])
