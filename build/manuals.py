@@ -1,4 +1,5 @@
 """Manual pages, made of what `--help` prints: of the whole program, and then of each of its commands."""
+import functools
 import os
 import re
 import subprocess
@@ -8,6 +9,7 @@ COMMANDS_OF = ("forestplan", "forestplay", "forestlab")
 WITH_COMMANDS = ("forestlab", "forestlab picture", "forestlab network", "forestlab transcript")
 
 
+@functools.cache
 def help_of(program, *words):
     """What `--help` prints, in lines of the width that the texts are written for."""
     return subprocess.run(

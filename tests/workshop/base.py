@@ -41,7 +41,7 @@ def played(assignment: str, name: str | Network, *commands: list[str], policy: s
 
 def command_line(*words: str) -> list[str]:
     """The command itself."""
-    return [DOOR, *words]
+    return [*DOOR, *words]
 
 
 def call(*words: str, **more) -> subprocess.CompletedProcess:
