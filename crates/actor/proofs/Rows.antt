@@ -1,6 +1,6 @@
--- The link of an index, what is read of it, and what is said of a result.
+-- The link of an index, and what is read of it.
 use Rattle.std.proofs.Common.{◌≡◌, ℕ, zero, suc, ◌<◌, List, [], ◌∷◌, length, map, get_or, sym, ap, subst, Some, slice_get, arith}
-use Rattle.std.specs.Prelude.{All, IsSome, IfErr, Result, Ok, Err}
+use Rattle.std.specs.Prelude.{All, IsSome}
 
 module _ {L A : Type 0} (f : L → A) where
   -- an index that is read of the list is within it, and is read there
@@ -15,8 +15,3 @@ pub one_of : {L : Type 0} (P : L → Type 0) (ls : List L) (i : ℕ) (l : L) →
 one_of P [] i l at all = absurd cc
 one_of P (x ∷ ls) zero l at all = let same : x ≡ l = cc in subst P same (all zero x (omega arith))
 one_of P (x ∷ ls) (suc i) l at all = one_of P ls i l at (λ k d lt. all (suc k) d (omega (arith, lt)))
-
--- what follows from what an error says
-pub refused_says : {A B : Type 0} {X Y : Type 0} (r : Result A B) → (X → Y) → IfErr r (λ _. X) → IfErr r (λ _. Y)
-refused_says (Ok x) f said = said
-refused_says (Err e) f said = f said

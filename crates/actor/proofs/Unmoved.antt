@@ -1,5 +1,6 @@
 -- A node that did nothing, and then nothing again.
-use Rattle.std.proofs.Common.{◌≡◌, ◌⊎◌, ◌∙◌, ℕ, None, map, slice_get, subst, sym}
+use Rattle.std.proofs.Common.{◌≡◌, ◌⊎◌, ◌∙◌, ◌<◌, ◌+◌, ℕ, None, arith, map, slice_get, subst, sym, ⊎_elim}
+use Rattle.std.proofs.lemmas.Bool.{cases_eq}
 use Rattle.std.specs.declared.cmp.PartialEq as equality
 use Rattle.node_api.specs.declared.program.NodeProgram as program
 use Rattle.node_api.specs.declared.payload.PayloadText as text
@@ -42,3 +43,9 @@ module _ {J P T : Type 0} {j : wiring.Ghosts J} {p : program.Ghosts P T} {t : te
     entries = sym same.entries;
     counter = sym same.counter;
   }
+
+  -- a port more is blocked
+  pub blocked-more : (node : Node J P T j p t q) (port : ℕ) → ((k : ℕ) → k < port → PutBlocked k node) → PutBlocked port node
+      → (k : ℕ) → k < port + 1 → PutBlocked k node
+  blocked-more node port before here k lt =
+      ⊎_elim (λ is. subst (λ i. PutBlocked i node) (sym is) here) (λ ne. before k (omega (arith, lt, ne))) (cases_eq k port)

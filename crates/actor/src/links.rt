@@ -1,10 +1,10 @@
 //! All links of a run, which threads share.
 
 ghost use Rattle.std.specs.Prelude.{◌≡◌, ◌<◌, ◌≤◌, ◌++◌, ◌∷◌, [], ℕ, All, Some, IsSome, length, map};
-ghost use Rattle.std.specs.Prelude.{IfOk, IfErr, IfSome, IfNone, slice_get};
+ghost use Rattle.std.specs.Prelude.{IfOk, IfErr, IfSome, IfNone, IsTrue, slice_get};
 ghost use Rattle.link_rule.specs.Legal.{IsLegalOn, LegalFor};
 ghost use Rattle.alpha_core.specs.StampedWires.{StampsRise, last_stamp};
-ghost use Rattle.link_queue.specs.Ends.{WasEmpty, put_list, put_name, put_stamped, take_name, taken_list};
+ghost use Rattle.link_queue.specs.Ends.{put_list, put_name, put_stamped, take_name, taken_list};
 ghost use Rattle.link_queue.specs.Ends.{HasMet, held_stamped, link_capacity, taken_stamped};
 ghost use Rattle.link_queue.specs.Queued.{stamped_of};
 ghost use Rattle.actor.specs.Tables.{LinkWasFull, table_of};
@@ -50,13 +50,14 @@ impl<J: Wiring, P: NodeProgram> Links<J, P> {
         &self.list[index as usize]
     }
 
-    /// Puts a wire with its stamp on the end's link: `link_queue::Link::put`, at the link that the end is of.
+    /// One attempt to put a wire with its stamp on the end's link: `link_queue::Link::try_put`, at the link that the
+    /// end is of.
     ///
     /// # Errors
     /// `Full` hands the same wire back with its stamp, and the end's list is as it was.
-    pub fn put<R: Wait>(
+    #[inline(always)]
+    pub fn try_put(
         &self,
-        rt: &R,
         end: &mut WiredPut<J, P::Payload>,
         item: Stamped<P::Payload>,
     ) -> Result<(), Full<Stamped<P::Payload>>>
@@ -68,18 +69,25 @@ impl<J: Wiring, P: NodeProgram> Links<J, P> {
         ensures stamped { IfOk result (λ _. put_stamped end.new.end ≡ put_stamped end.old.end ++ item ∷ []) }
         ensures same_wire { IfErr result (λ full. full.0 ≡ item) }
         ensures unchanged { IfErr result (λ _. put_stamped end.new.end ≡ put_stamped end.old.end) }
-        ensures full { IfErr result
-            (λ _. LinkWasFull P J.tables end.old.vertex end.old.port (put_list end.old.end)) }
     {
-        self.link(end.index).put(rt, &mut end.end, item)
+        self.link(end.index).try_put(&mut end.end, item)
     }
 
-    /// Takes the oldest wire off the end's link: `link_queue::Link::take_queued`, at the link that the end is of.
-    pub fn take<R: Wait>(
-        &self,
-        rt: &R,
-        end: &mut WiredTake<J, P::Payload>,
-    ) -> Option<Queued<P::Payload>>
+    /// Whether the end's link was full at a moment of the call: `link_queue::Link::was_full`, at the link that the end
+    /// is of.
+    pub fn was_full(&self, end: &mut WiredPut<J, P::Payload>) -> bool
+        ensures place { (end.new.vertex ≡ end.old.vertex) × (end.new.port ≡ end.old.port) }
+        ensures unchanged { put_stamped end.new.end ≡ put_stamped end.old.end }
+        ensures full { IsTrue result
+            → LinkWasFull P J.tables end.old.vertex end.old.port (put_list end.old.end) }
+    {
+        self.link(end.index).was_full(&mut end.end)
+    }
+
+    /// One attempt to take the oldest wire off the end's link: `link_queue::Link::try_take`, at the link that the end
+    /// is of.
+    #[inline(always)]
+    pub fn try_take(&self, end: &mut WiredTake<J, P::Payload>) -> Option<Queued<P::Payload>>
         ensures place { (end.new.vertex ≡ end.old.vertex) × (end.new.port ≡ end.old.port) }
         ensures taken { IfSome result
             (λ item. taken_list end.new.end ≡ taken_list end.old.end ++ (stamped_of item).wire ∷ []) }
@@ -89,10 +97,8 @@ impl<J: Wiring, P: NodeProgram> Links<J, P> {
             (λ _. LegalFor (IsLegalOn P.program) (take_name end.old.end) (taken_list end.new.end)) }
         ensures rise { IfSome result (λ _. StampsRise (taken_stamped end.new.end)) }
         ensures unchanged { IfNone result (taken_stamped end.new.end ≡ taken_stamped end.old.end) }
-        ensures empty { IfNone result
-            (WasEmpty (IsLegalOn P.program) (take_name end.old.end) (taken_list end.old.end)) }
     {
-        self.link(end.index).take_queued(rt, &mut end.end)
+        self.link(end.index).try_take(&mut end.end)
     }
 
     /// What a link holds once both its ends are back: `link_queue::Link::meet`, at the link that the ends are of.

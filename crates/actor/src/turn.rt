@@ -1,6 +1,7 @@
 //! What a node does in a turn.
 
-ghost use Rattle.std.specs.Prelude.{◌≡◌, ◌<◌, ◌≤◌, ◌+◌, ◌^◌, ℕ, max, IfErr, IfOk, IsSome, IsTrue, None, false, true};
+ghost use Rattle.std.specs.Prelude.{◌≡◌, ◌<◌, ◌≤◌, ◌+◌, ◌^◌, ℕ, max, IfErr, IfOk, IsSome, IsTrue, None, Ok};
+ghost use Rattle.std.specs.Prelude.{false, true};
 ghost use Rattle.alpha_core.specs.View.{can_pulse, can_take};
 ghost use Rattle.link_queue.specs.Queued.{stamped_of};
 ghost use Rattle.actor.specs.Blocked.{IsUnmoved, PutBlocked};
@@ -40,12 +41,7 @@ fn wire_of<T: PayloadText>(item: Queued<T>) -> Wire<T>
 
 impl<J: Wiring, P: NodeProgram> Node<J, P> {
     // Takes a wire by a port, if there is one, and reacts to it. Returns whether there was one.
-    fn take_one<R: Wait>(
-        &mut self,
-        rt: &R,
-        links: &Links<J, P>,
-        port: u32,
-    ) -> Result<bool, TurnRefused>
+    fn take_one(&mut self, links: &Links<J, P>, port: u32) -> Result<bool, TurnRefused>
         requires port { port < self.old.degree }
         requires going { self.old.aside ≡ None }
         requires room { IsTrue (can_take self.old.alpha.node.view) }
@@ -54,7 +50,7 @@ impl<J: Wiring, P: NodeProgram> Node<J, P> {
     {
         self.recorder.reserve()?;
         let end = &mut self.takes[port as usize];
-        match links.take(rt, end) {
+        match links.try_take(end) {
             None => Ok(false),
             Some(item) => {
                 let stamp = item.stamp();
@@ -81,19 +77,14 @@ impl<J: Wiring, P: NodeProgram> Node<J, P> {
     }
 
     // Takes a wire by a port, and further ones while it expects them, at most `TAKES`. Returns whether it took one.
-    fn take_some<R: Wait>(
-        &mut self,
-        rt: &R,
-        links: &Links<J, P>,
-        port: u32,
-    ) -> Result<bool, TurnRefused>
+    fn take_some(&mut self, links: &Links<J, P>, port: u32) -> Result<bool, TurnRefused>
         requires port { port < self.old.degree }
         ensures stepped { Stepped self.old self.new result }
         ensures stopped { IfOk result (λ did. IsSome self.old.aside → did ≡ false) }
     {
         let mut took = false;
         for _ in 0..TAKES {
-            if self.aside.is_some() || !self.alpha.can_take() || !self.take_one(rt, links, port)? {
+            if self.aside.is_some() || !self.alpha.can_take() || !self.take_one(links, port)? {
                 break;
             }
             took = true;
@@ -105,13 +96,13 @@ impl<J: Wiring, P: NodeProgram> Node<J, P> {
     }
 
     // Takes by each port, ascending. Returns whether it took a wire.
-    fn take_all<R: Wait>(&mut self, rt: &R, links: &Links<J, P>) -> Result<bool, TurnRefused>
+    fn take_all(&mut self, links: &Links<J, P>) -> Result<bool, TurnRefused>
         ensures stepped { Stepped self.old self.new result }
         ensures stopped { IfOk result (λ did. IsSome self.old.aside → did ≡ false) }
     {
         let mut took = false;
         for port in 0..self.degree {
-            if self.take_some(rt, links, port)? {
+            if self.take_some(links, port)? {
                 took = true;
             }
         }
@@ -143,18 +134,13 @@ impl<J: Wiring, P: NodeProgram> Node<J, P> {
         }
     }
 
-    // Puts the oldest wire of a port, if there is one and room for it. Returns whether it put one.
-    fn put_one<R: Wait>(
-        &mut self,
-        rt: &R,
-        links: &Links<J, P>,
-        port: u32,
-    ) -> Result<bool, TurnRefused>
+    // Puts the oldest wire of a port by one attempt, if there is one. Returns whether it put one.
+    #[inline(always)]
+    fn put_one(&mut self, links: &Links<J, P>, port: u32) -> Result<bool, TurnRefused>
         requires port { port < self.old.degree }
         requires going { self.old.aside ≡ None }
         ensures stepped { Stepped self.old self.new result }
         ensures counted { IfOk result (λ did. did ≡ true → CountsPut port self.old self.new) }
-        ensures blocked { IfOk result (λ did. did ≡ false → PutBlocked port self.old) }
         ensures going { self.new.aside ≡ None }
     {
         let Some(wire) = self.alpha.front(port) else {
@@ -162,7 +148,7 @@ impl<J: Wiring, P: NodeProgram> Node<J, P> {
         };
         let stamp = self.counter.peek()?;
         self.recorder.reserve()?;
-        match links.put(rt, &mut self.puts[port as usize], Stamped { stamp, wire }) {
+        match links.try_put(&mut self.puts[port as usize], Stamped { stamp, wire }) {
             Err(_) => Ok(false),
             Ok(()) => {
                 self.alpha.put_done(port);
@@ -175,8 +161,41 @@ impl<J: Wiring, P: NodeProgram> Node<J, P> {
         }
     }
 
-    // Puts by a port, until nothing is left or the link is full. Returns whether it put a wire.
-    fn put_some<R: Wait>(
+    // Puts by a port, until nothing is left or an attempt fails. Returns whether it put a wire. Always inlined, as
+    // `put_one`, though it is called twice.
+    #[inline(always)]
+    fn put_some(&mut self, links: &Links<J, P>, port: u32) -> Result<bool, TurnRefused>
+        requires port { port < self.old.degree }
+        requires going { self.old.aside ≡ None }
+        ensures stepped { Stepped self.old self.new result }
+        ensures going { self.new.aside ≡ None }
+    {
+        for put in 0..PUTS {
+            if !self.put_one(links, port)? {
+                return Ok(put > 0);
+            }
+        }
+        Ok(true)
+    }
+
+    // Whether no wire waits by a port, or its link was full at a moment of the call.
+    fn is_blocked(&mut self, links: &Links<J, P>, port: u32) -> bool
+        requires port { port < self.old.degree }
+        requires going { self.old.aside ≡ None }
+        ensures stepped { Stepped self.old self.new (Ok false) }
+        ensures blocked { IsTrue result → PutBlocked port self.old }
+        ensures going { self.new.aside ≡ None }
+    {
+        if self.alpha.front(port).is_none() {
+            return true;
+        }
+        links.was_full(&mut self.puts[port as usize])
+    }
+
+    // Puts by a port after an attempt that failed though the link wasn't full, until a wire is put or the port is
+    // blocked. Returns whether it put one. Never inlined, since few runs come here.
+    #[inline(never)]
+    fn put_again<R: Wait>(
         &mut self,
         rt: &R,
         links: &Links<J, P>,
@@ -188,15 +207,20 @@ impl<J: Wiring, P: NodeProgram> Node<J, P> {
         ensures blocked { IfOk result (λ did. did ≡ false → PutBlocked port self.old) }
         ensures going { self.new.aside ≡ None }
     {
-        for put in 0..PUTS {
-            if !self.put_one(rt, links, port)? {
-                return Ok(put > 0);
+        for _ in rt.forever() {
+            let put = self.put_some(links, port)?;
+            if put {
+                return Ok(true);
+            }
+            if self.is_blocked(links, port) {
+                return Ok(false);
             }
         }
-        Ok(true)
+        unreachable!()
     }
 
-    // Puts by each port, ascending. Returns whether it put a wire.
+    // Puts by each port, ascending. Returns whether it put a wire. It calls a function that may wait only after an
+    // attempt that failed by a port that isn't blocked.
     fn put_all<R: Wait>(&mut self, rt: &R, links: &Links<J, P>) -> Result<bool, TurnRefused>
         requires going { self.old.aside ≡ None }
         ensures stepped { Stepped self.old self.new result }
@@ -206,7 +230,14 @@ impl<J: Wiring, P: NodeProgram> Node<J, P> {
     {
         let mut put = false;
         for port in 0..self.degree {
-            if self.put_some(rt, links, port)? {
+            if self.put_some(links, port)? {
+                put = true;
+                continue;
+            }
+            if self.is_blocked(links, port) {
+                continue;
+            }
+            if self.put_again(rt, links, port)? {
                 put = true;
             }
         }
@@ -223,7 +254,7 @@ impl<J: Wiring, P: NodeProgram> Node<J, P> {
     ) -> Result<bool, TurnRefused>
         ensures turned { Turned self.old self.new result }
     {
-        let took = self.take_all(rt, links)?;
+        let took = self.take_all(links)?;
         gate.middle(rt, worker, self.vertex);
         if self.aside.is_some() {
             return Ok(false);

@@ -28,7 +28,7 @@ fn turned<J: Wiring, R: Wait>(
 {
     let _moved = node.counter.past(stamp);
     let result = node.turn(rt, links, &OpenGate, 0);
-    let came = match links.take(rt, far) {
+    let came = match links.try_take(far) {
         Some(item) => Some(item.stamp()),
         None => None,
     };

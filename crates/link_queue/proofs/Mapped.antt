@@ -1,6 +1,5 @@
 -- A step that keeps a rule of what a function makes of the items of a queue.
 use Rattle.std.proofs.Common.{◌≡◌, ◌<◌, ℕ, List, [], ◌∷◌, map, set, sym, ◌∙◌, subst}
-use Rattle.std.specs.Prelude.{Option, Some, None, IfNone, MatchOption}
 use Rattle.std.proofs.lemmas.List.{length-map, map-append}
 use Rattle.crossbeam_queue.specs.Fifo.{Pushes, Pops, Forks, Merges, Learns, Held}
 
@@ -29,9 +28,3 @@ module _ {T A V : Type 0} (f : T → A) (holds : List A → List V → Type 0) w
 -- what the items had at that moment, what the function makes of them had
 pub mapped_held : {T A : Type 0} (f : T → A) (n : ℕ) (fact : List A → Type 0) → Held n (λ items. fact (map f items)) → Held n fact
 mapped_held f n fact h = (map f h.0, length-map h.0 f ∙ h.1, h.2)
-
--- the same, of a call that found nothing
-pub mapped_none : {T A X : Type 0} (f : T → A) (n : ℕ) (fact : List A → Type 0) (same : Type 0) (taken : X → Type 0) (r : Option X)
-    → MatchOption r (same × Held n (λ items. fact (map f items))) taken → IfNone r (Held n fact)
-mapped_none f n fact same taken None says = mapped_held f n fact says.1
-mapped_none f n fact same taken (Some x) says = tt

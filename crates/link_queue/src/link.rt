@@ -120,10 +120,55 @@ impl<P: NodeProgram> Link<P> {
         named::<Brand, P>(alloc, Snapshot::of(&place), capacity)
     }
 
-    /// Puts a wire with its stamp at the end of the link. It can't return out-of-memory, and may spin.
+    /// One attempt to put a wire with its stamp at the end of the link, without waiting.
     ///
     /// What the end has put and then the wire has to begin a legal list of the link; so nothing is put after a close.
     /// The stamp has to be above that of the last wire that the end put, or above 0 if it is the first.
+    ///
+    /// # Errors
+    /// `Full` hands the same wire back with its stamp, and the end's list is as it was: the link was full, or the other
+    /// end was in the way. Which of these it was, no clause says; `was_full` does.
+    #[inline(always)]
+    pub fn try_put(
+        &self,
+        end: &mut PutEnd<P>,
+        item: Stamped<P::Payload>,
+    ) -> Result<(), Full<Stamped<P::Payload>>>
+        requires end { IsPutEndOf self.now end.old }
+        requires legal { LegalFor (IsLegalOn P.program) (put_name end.old) (put_list end.old ++ item.wire ∷ []) }
+        requires above { last_stamp (put_stamped end.old) < item.stamp }
+        ensures end { StaysPutEnd self.now end.old end.new }
+        ensures put { IfOk result (λ _. put_list end.new ≡ put_list end.old ++ item.wire ∷ []) }
+        ensures stamped { IfOk result (λ _. put_stamped end.new ≡ put_stamped end.old ++ item ∷ []) }
+        ensures same_wire { IfErr result (λ full. full.0 ≡ item) }
+        ensures unchanged { IfErr result (λ _. put_stamped end.new ≡ put_stamped end.old) }
+    {
+        let queued = Queued::of(item);
+        match self.queue.try_push_as::<Puts>(&mut end.pass, queued) {
+            Ok(()) => {
+                if let Wire::Close = item.wire {
+                    end.closed = true;
+                }
+                Ok(())
+            }
+            Err(_) => Err(Full(item)),
+        }
+    }
+
+    /// Whether the link was full at a moment of the call. That it was is the queue's promise; the clause `full` says
+    /// less.
+    pub fn was_full(&self, end: &mut PutEnd<P>) -> bool
+        requires end { IsPutEndOf self.now end.old }
+        ensures end { StaysPutEnd self.now end.old end.new }
+        ensures unchanged { put_stamped end.new ≡ put_stamped end.old }
+        ensures full { IsTrue result → WasFull self.now (put_list end.old) }
+    {
+        self.queue.is_full_as::<Puts>(&mut end.pass)
+    }
+
+    /// Puts a wire with its stamp at the end of the link. It can't return out-of-memory, and may spin.
+    ///
+    /// It asks of the wire and the stamp what `try_put` does.
     ///
     /// # Errors
     /// `Full` hands the same wire back with its stamp, and the end's list is as it was. That the link was full at a
@@ -144,16 +189,32 @@ impl<P: NodeProgram> Link<P> {
         ensures unchanged { IfErr result (λ _. put_stamped end.new ≡ put_stamped end.old) }
         ensures full { IfErr result (λ _. WasFull self.now (put_list end.old)) }
     {
-        let queued = Queued::of(item);
-        match self.queue.push_as::<Puts, R>(rt, &mut end.pass, queued) {
-            Ok(()) => {
-                if let Wire::Close = item.wire {
-                    end.closed = true;
-                }
-                Ok(())
+        for _ in rt.forever() {
+            if self.try_put(end, item).is_ok() {
+                return Ok(());
             }
-            Err(_) => Err(Full(item)),
+            if self.was_full(end) {
+                return Err(Full(item));
+            }
         }
+        unreachable!()
+    }
+
+    /// One attempt to take the oldest wire off the link, in the form in which the queue holds it, without waiting.
+    /// `None` if the queue is empty, or the other end is in the way.
+    #[inline(always)]
+    pub fn try_take(&self, end: &mut TakeEnd<P>) -> Option<Queued<P::Payload>>
+        requires end { IsTakeEndOf self.now end.old }
+        ensures end { StaysTakeEnd self.now end.old end.new }
+        ensures taken { IfSome result
+            (λ item. taken_list end.new ≡ taken_list end.old ++ (stamped_of item).wire ∷ []) }
+        ensures stamped { IfSome result
+            (λ item. taken_stamped end.new ≡ taken_stamped end.old ++ stamped_of item ∷ []) }
+        ensures legal { IfSome result (λ _. LegalFor (IsLegalOn P.program) (take_name end.old) (taken_list end.new)) }
+        ensures rise { IfSome result (λ _. StampsRise (taken_stamped end.new)) }
+        ensures unchanged { IfNone result (taken_stamped end.new ≡ taken_stamped end.old) }
+    {
+        self.queue.try_pop_as::<Takes<P>>(&mut end.pass)
     }
 
     /// Takes the oldest wire off the link; `None` if the queue is empty. That it was, at a moment of the call, is the
@@ -168,26 +229,10 @@ impl<P: NodeProgram> Link<P> {
         ensures unchanged { IfNone result (taken_stamped end.new ≡ taken_stamped end.old) }
         ensures empty { IfNone result (WasEmpty (IsLegalOn P.program) (take_name end.old) (taken_list end.old)) }
     {
-        match self.take_queued(rt, end) {
+        match self.queue.pop_as::<Takes<P>, R>(rt, &mut end.pass) {
             Some(queued) => Some(queued.stamped()),
             None => None,
         }
-    }
-
-    /// `take`, in the form in which the queue holds the wire.
-    pub fn take_queued<R: Wait>(&self, rt: &R, end: &mut TakeEnd<P>) -> Option<Queued<P::Payload>>
-        requires end { IsTakeEndOf self.now end.old }
-        ensures end { StaysTakeEnd self.now end.old end.new }
-        ensures taken { IfSome result
-            (λ item. taken_list end.new ≡ taken_list end.old ++ (stamped_of item).wire ∷ []) }
-        ensures stamped { IfSome result
-            (λ item. taken_stamped end.new ≡ taken_stamped end.old ++ stamped_of item ∷ []) }
-        ensures legal { IfSome result (λ _. LegalFor (IsLegalOn P.program) (take_name end.old) (taken_list end.new)) }
-        ensures rise { IfSome result (λ _. StampsRise (taken_stamped end.new)) }
-        ensures unchanged { IfNone result (taken_stamped end.new ≡ taken_stamped end.old) }
-        ensures empty { IfNone result (WasEmpty (IsLegalOn P.program) (take_name end.old) (taken_list end.old)) }
-    {
-        self.queue.pop_as::<Takes<P>, R>(rt, &mut end.pass)
     }
 
     // Takes the n wires that are on the link, by the pass of both ends, into reserved room.

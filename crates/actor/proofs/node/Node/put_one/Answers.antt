@@ -1,5 +1,5 @@
 -- The plan: each exit is an event of the node, and what it keeps after it is a lemma of `Keeping`.
-use Rattle.std.proofs.Common.{[], ◌∷◌, ◌++◌, ◌<◌, ◌^◌, length, refl, sym, ap, ◌∙◌, inl, inr, subst, arith, true≢false}
+use Rattle.std.proofs.Common.{[], ◌∷◌, ◌++◌, ◌<◌, ◌^◌, length, refl, sym, ap, ◌∙◌, subst, arith, true≢false}
 use Rattle.std.specs.Prelude.{IsTrue}
 use Rattle.std.proofs.lemmas.Result.{IfOk-from_err}
 use Rattle.alpha_core.specs.StampedWires.{last_stamp, wires_of}
@@ -11,7 +11,7 @@ use Rattle.interference.specs.Net.{degree_of, neighbour_of}
 use Rattle.alpha_core.specs.Program.{IsLegal}
 use Rattle.actor.specs.HasStamps.{aside_stamp}
 use Rattle.actor.proofs.Refusals.{first_there, next_above, past_greater}
-use Rattle.actor.proofs.Stepping.{full-there, stepped-did, stepped-full, stepped-memory, stepped-not}
+use Rattle.actor.proofs.Stepping.{stepped-did, stepped-full, stepped-memory, stepped-not}
 use Rattle.actor.proofs.node.Node.put_one.Goals as goal
 
 -- there is an end for each port
@@ -26,8 +26,8 @@ index-neighbour-requires g c =
     let old = c.args.self.now in
     omega (arith, count_takes old.kept, c.requires.port, old.kept.ports, old.takes.ok.0)
 
-pub put-requires-clause-legal : goal.put-requires-clause-legal
-put-requires-clause-legal g c κs within =
+pub try_put-requires-clause-legal : goal.try_put-requires-clause-legal
+try_put-requires-clause-legal g c κs within =
     let old = c.args.self.now in
     let net = g.J.Wiring.net in
     let v = c.args.self.now.vertex in
@@ -42,8 +42,8 @@ put-requires-clause-legal g c κs within =
     (subst (λ l. IsLegal program net v (neighbour_of net v c.args.port) (l ++ (c.in-Some.wire ∷ []))) (sym here) legal)
 
 -- the counter is above the stamps of all that was put
-pub put-requires-clause-above : goal.put-requires-clause-above
-put-requires-clause-above g c κs within =
+pub try_put-requires-clause-above : goal.try_put-requires-clause-above
+try_put-requires-clause-above g c κs within =
     let old = c.args.self.now in
     let is = c.index_mut.ensures.value in
     let inside : c.args.port < length old.puts.items = omega (arith, c.requires.port, old.kept.ports, count_puts old.kept) in
@@ -94,7 +94,6 @@ pub returns-in_default : goal.returns-in_default
 returns-in_default g c = record {
   stepped = stepped-not refl refl refl record { alpha = refl; aside = refl; puts = refl; takes = refl; entries = refl; counter = refl };
   counted = λ did. absurd (true≢false (sym did));
-  blocked = λ did. inl (sym c.in_default.ensures.oldest);
   going = c.requires.going;
 }
 
@@ -105,7 +104,6 @@ returns-in_err-stamp g c =
     record {
       stepped = stepped-full c.from_residual.ensures.1 refl refl refl (past_greater (2 ^ 64) old.counter (aside_stamp old.aside) c.in_err-stamp.ensures.full);
       counted = IfOk-from_err c.from_residual.result _ c.from_residual.ensures.0;
-      blocked = IfOk-from_err c.from_residual.result _ c.from_residual.ensures.0;
       going = c.requires.going;
     }
 
@@ -115,33 +113,23 @@ returns-in_err-reserve g c = record {
   stepped = stepped-memory c.from_residual-in_err-reserve.ensures.1 refl refl refl
       (subst IsTrue c.args.self.now.kept.recorded c.in_err-reserve.ensures.refused);
   counted = IfOk-from_err c.from_residual-in_err-reserve.result _ c.from_residual-in_err-reserve.ensures.0;
-  blocked = IfOk-from_err c.from_residual-in_err-reserve.result _ c.from_residual-in_err-reserve.ensures.0;
   going = c.requires.going;
 }
 
--- the link was full
+-- the attempt failed
 pub returns-in-Err : goal.returns-in-Err
-returns-in-Err g c =
-    let old = c.args.self.now in
-    let is = c.index_mut.ensures.value in
-    let lt = port_below old.kept c.args.port c.requires.port in
-    let inside = below_as_many c.args.port (length old.puts.items) (degree_of g.J.Wiring.net old.vertex) (count_puts old.kept) lt in
-    let place = at_place (λ e. (e.vertex, e.port)) (λ i. (old.vertex, i)) old.puts.items (degree_of g.J.Wiring.net old.vertex) c.args.port _ old.kept.outs
-    lt is in
-    let here = get_map (λ e. put_list e.end) old.puts.items c.args.port _ [] inside is in
-    record {
-      stepped = stepped-not refl refl refl record {
-        alpha = refl;
-        aside = refl;
-        puts = same_all (λ e. put_list e.end) _ _ _ _ is (ap (λ l. wires_of l) c.in-Err.ensures.unchanged);
-        takes = refl;
-        entries = c.reserve.ensures.same.entries;
-        counter = refl;
-      };
-      counted = λ did. absurd (true≢false (sym did));
-      blocked = λ did. inr (full-there g.J.Wiring.tables old.vertex c.args.port place here c.in-Err.ensures.full);
-      going = c.requires.going;
-    }
+returns-in-Err g c = record {
+  stepped = stepped-not refl refl refl record {
+    alpha = refl;
+    aside = refl;
+    puts = same_all (λ e. put_list e.end) _ _ _ _ c.index_mut.ensures.value (ap (λ l. wires_of l) c.in-Err.ensures.unchanged);
+    takes = refl;
+    entries = c.reserve.ensures.same.entries;
+    counter = refl;
+  };
+  counted = λ did. absurd (true≢false (sym did));
+  going = c.requires.going;
+}
 
 -- a wire was put
 pub returns-in-Ok : goal.returns-in-Ok
@@ -149,7 +137,6 @@ returns-in-Ok g c =
     let old = c.args.self.now in
     record {
       stepped = stepped-did refl refl refl;
-      blocked = λ did. absurd (true≢false did);
       counted = λ did. record {
         one_more = c.advance.ensures.value ∙ c.in_ok-stamp.ensures.stamp;
         stamp = last_went old.kept c.requires.port record { is = c.index_mut.ensures.value; place = c.in-Ok.ensures.place; more = c.in-Ok.ensures.stamped }

@@ -1,9 +1,9 @@
 use Rattle.link_rule.specs.Legal.{IsLegalOn}
 use Rattle.link_queue.specs.Queued.{stamped_of}
 use Rattle.link_queue.specs.Rule.{Linked}
-use Rattle.link_queue.proofs.Mapped.{mapped_pops, mapped_learns, mapped_none}
+use Rattle.link_queue.proofs.Mapped.{mapped_pops, mapped_learns, mapped_held}
 use Rattle.link_queue.proofs.Rules.{takes, backs, legal_begin}
-use Rattle.link_queue.proofs.link.Link.take_queued.Goals as goal
+use Rattle.link_queue.proofs.link.Link.take.Goals as goal
 
 pub pop_as-requires-clause-rule : goal.pop_as-requires-clause-rule
 pop_as-requires-clause-rule g c =
@@ -15,5 +15,5 @@ pop_as-requires-clause-rule g c =
     )
 
 -- the queue was empty of items, and so of wires
-pub returns-clause-empty : goal.returns-clause-empty
-returns-clause-empty g c = mapped_none stamped_of 0 _ _ _ _ c.pop_as.ensures.rule
+pub returns-in-None-clause-empty : goal.returns-in-None-clause-empty
+returns-in-None-clause-empty g c = mapped_held stamped_of _ _ c.in-None.ensures.rule.1

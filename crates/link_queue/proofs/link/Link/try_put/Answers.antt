@@ -6,26 +6,24 @@ use Rattle.alpha_core.specs.declared.stamped.Stamped.{Stamped}
 use Rattle.link_rule.specs.Legal.{IsLegalOn, LegalFor}
 use Rattle.link_queue.specs.Queued.{stamped_of}
 use Rattle.link_queue.specs.Rule.{Linked, end_view, has_close}
-use Rattle.link_queue.proofs.Mapped.{mapped_pushes, mapped_learns, mapped_held}
-use Rattle.link_queue.proofs.Rules.{puts, fronts, closes, stays}
+use Rattle.link_queue.proofs.Mapped.{mapped_pushes}
+use Rattle.link_queue.proofs.Rules.{puts, closes, stays}
 use Rattle.link_queue.specs.Ends.{put_stamped}
-use Rattle.link_queue.proofs.link.Link.put.Goals.{in-Close, in_default}
-use Rattle.link_queue.proofs.link.Link.put.Given as given
-use Rattle.link_queue.proofs.link.Link.put.Goals as goal
+use Rattle.link_queue.proofs.link.Link.try_put.Goals.{in-Close, in_default}
+use Rattle.link_queue.proofs.link.Link.try_put.Given as given
+use Rattle.link_queue.proofs.link.Link.try_put.Goals as goal
 
-pub push_as-requires-clause-rule : goal.push_as-requires-clause-rule
-push_as-requires-clause-rule g c =
+pub try_push_as-requires-clause-rule : goal.try_push_as-requires-clause-rule
+try_push_as-requires-clause-rule g c =
     let legal = IsLegalOn g.P.NodeProgram.program in
     let may = c.args.end.now.puts.1 in
     let end = view c.args.end.now.pass in
     let item = c.args.item in
     let same = c.of-queued.ensures in
     let more = map-append (λ (x : Stamped _). x.wire) end.put (item ∷ []) in
-    let fits = subst (LegalFor legal end.name) (sym more) c.requires.legal in (
-      mapped_pushes stamped_of (Linked legal) _ _ end _ item (λ x w. w ≡ end_view end.name end.puts end.takes (end.put ++ x ∷ []) end.taken) same
-          (puts legal _ _ end item may fits c.requires.above),
-      mapped_learns stamped_of (Linked legal) _ _ _ (fronts legal _ _ may),
-    )
+    let fits = subst (LegalFor legal end.name) (sym more) c.requires.legal in
+    mapped_pushes stamped_of (Linked legal) _ _ end _ item (λ x w. w ≡ end_view end.name end.puts end.takes (end.put ++ x ∷ []) end.taken) same
+    (puts legal _ _ end item may fits c.requires.above)
 
 pub invariant_of-end : goal.invariant_of-end
 invariant_of-end g c =
@@ -45,8 +43,8 @@ invariant_of-end-in-Ok g c =
     let put = ap (λ v. v.put) r ∙ ap (λ x. (view c.args.end.now.pass).put ++ x ∷ []) same in
     record { puts = (c.in-Ok.ensures.queue.2 ∙ old.0, ap (λ v. v.puts) r ∙ old.1, stays _ _ _ _ c.in_default.not-Close old.2 put) }
 
-pub push_as-requires-clause-queue : goal.push_as-requires-clause-queue
-push_as-requires-clause-queue g c = c.requires.end
+pub try_push_as-requires-clause-queue : goal.try_push_as-requires-clause-queue
+try_push_as-requires-clause-queue g c = c.requires.end
 
 pub invariant_of-end-in-Err : goal.invariant_of-end-in-Err
 invariant_of-end-in-Err g c =
@@ -61,11 +59,8 @@ returns-after-item-clause-same_wire g c = tt
 pub returns-after-item-clause-unchanged : goal.returns-after-item-clause-unchanged
 returns-after-item-clause-unchanged g c = tt
 
-pub returns-after-item-clause-full : goal.returns-after-item-clause-full
-returns-after-item-clause-full g c = tt
-
 -- whether the wire is a close or not, the end has the pass that the queue gave back
-same_pass : (g : given.Over) (c : goal.Joined-item g) → c.match-item.end.pass ≡ c.push_as.new.pass
+same_pass : (g : given.Over) (c : goal.Joined-item g) → c.match-item.end.pass ≡ c.try_push_as.new.pass
 same_pass g c = elim c.match-item.branch [
   | in-Close w ↦ ap (λ e. e.pass) w.end-is
   | in_default w ↦ ap (λ e. e.pass) w.end-is
@@ -111,6 +106,3 @@ returns-in-Err-clause-same_wire g c = refl
 
 pub returns-in-Err-clause-unchanged : goal.returns-in-Err-clause-unchanged
 returns-in-Err-clause-unchanged g c = ap (λ v. v.put) c.in-Err.ensures.rule.1
-
-pub returns-in-Err-clause-full : goal.returns-in-Err-clause-full
-returns-in-Err-clause-full g c = mapped_held stamped_of _ _ c.in-Err.ensures.rule.2
