@@ -93,8 +93,19 @@ def head_of(lines):
                     return Head(line, int(fields[1]), number(fields[2]))
             except ValueError:
                 pass
-            raise Wrong(line, "X1", "neither `transcript 1 N` nor `transcript 2 N`")
+            raise Wrong(line, "X1", f"neither `transcript 1 N` nor `transcript 2 N`{what_it_is(fields)}")
     raise Wrong(1, "X1", "there is no line `transcript 1 N` or `transcript 2 N`")
+
+
+def what_it_is(fields):
+    """Why the first line that has a field is another one, as far as that is easily seen."""
+    if fields[0].startswith((b"\xff\xfe", b"\xfe\xff")) or b"\0" in fields[0]:
+        return "; this is UTF-16, as PowerShell's > writes it: save it as UTF-8"
+    if fields[0].startswith(b"\xef\xbb\xbf"):
+        return "; it begins with a byte order mark: save it as UTF-8 without one"
+    if fields[0] in (b"p", b"c", b"e", b"i", b"b"):
+        return "; this is a network: it is a file of its own, named before the transcript"
+    return ""
 
 
 def words(entry):

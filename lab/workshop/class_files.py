@@ -115,13 +115,11 @@ def main(words: list[str]) -> int:
 
 
 def copy_class(room: str) -> None:
-    """Makes the folder from this one; manual pages are copied if there are any."""
-    pages = os.path.join("share", "man", "man1")
+    """Makes the folder from this one; what an installed folder has in share/ is copied."""
     found = {os.path.join("bin", name): program_file(name) for name in ("forestplan", "forestplay")}
     found |= {path: os.path.join(TOP, path) for path in class_files(TOP)}
-    names = [os.path.basename(path) for path in found if path.startswith("bin/")]
-    found |= {path: os.path.join(TOP, path) for name in names
-              if os.path.exists(os.path.join(TOP, path := os.path.join(pages, f"{name}.1")))}
+    for at, _, names in os.walk(os.path.join(TOP, "share")):
+        found |= {os.path.relpath(os.path.join(at, name), TOP): os.path.join(at, name) for name in names}
     for path, source in found.items():
         os.makedirs(os.path.join(room, os.path.dirname(path)), exist_ok=True)
         shutil.copy(source, os.path.join(room, path))

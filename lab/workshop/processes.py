@@ -93,6 +93,9 @@ class Process:
         until = min(self.until, self.limits.over)
         while not poll.poll(1000 * max(0.0, min(LOOK_AT_FILES, until - time.monotonic()))):
             self.guard.look()
+            found = exit_of(self.process.pid, 0)
+            if found and not poll.poll(0):
+                raise Fault("ended", f"it ended with {found}, and what it has started goes on{self.last_errors()}")
             if time.monotonic() < until:
                 continue
             if until < self.until:
