@@ -3,13 +3,14 @@
 import argparse
 import os
 import shutil
+import signal
 import subprocess
 import sys
 import tempfile
 
 from build import completion, kit, manuals, readme
 from lab import sums, version
-from lab.workshop.class_files import IS_CLASS, class_files, finish_class
+from lab.workshop.class_files import IS_CLASS, class_files, finish_class, write_scripts
 
 TOP = os.path.dirname(os.path.dirname(os.path.realpath(__file__)))
 
@@ -18,19 +19,21 @@ PROGRAMS = ("forestplan", "forestplay")
 COMMANDS = (*PROGRAMS, "forestlab")
 FOLDERS = ("examples", "docs", "lab")
 FILES = ("README.md", "CHANGELOG.md", "LICENSE-MIT", "LICENSE-APACHE")
+# What pip reads, which is at the top of an installed folder.
+PYPROJECT = os.path.join("lab", "python", "pyproject.toml")
 
 HELP = """\
 Copies forestplan and what belongs to it into a folder, so that it runs there
 without the toolchain and without this tree.
 
-The folder gets the layout of this tree: in bin/ the two programs and forestlab, its
-modules, the examples, a README of what is there, the pages and lessons, the licences,
-a manual page for each of the three, and what completes their words in bash and zsh. With
-its bin/ on the PATH the lessons' commands work in it as they do here. VERSION says what it
-was made from, and SHA256SUMS has a sum of each file: sha256sum -c SHA256SUMS. The
-programs need the C library alone, forestlab bash and Python 3. One such folder serves
-every machine of the same kind: copy it with cp -r, or `python3 build pack` makes one
-archive of it.
+The folder gets the layout of this tree: in bin/ forestlab and the scripts that run the
+two programs of lib/, their modules, the examples, a README of what is there, the pages and
+lessons, the licences, a manual page for each of the three, and what completes their words
+in bash and zsh. With its bin/ on the PATH the lessons' commands work in it as they do here.
+VERSION says what it was made from, and SHA256SUMS has a sum of each file: sha256sum -c
+SHA256SUMS. The programs need the C library alone, the scripts bash and Python 3. One such
+folder serves every machine of the same kind: copy it with cp -r, or `python3 build pack`
+makes one archive of it. After `pip install DIR` Python can import forestplan.
 
 With --class it is the folder of a class that writes the nodes itself: without the right
 nodes, the definitions and the commands that are written with them, and the answers.
@@ -74,7 +77,7 @@ def build_programs():
 
 def files_to_copy(is_class):
     """(source, path in the folder) of each file."""
-    yield from ((built(name), os.path.join("bin", name)) for name in PROGRAMS)
+    yield from ((built(name), os.path.join("lib", name)) for name in PROGRAMS)
     if is_class:
         yield from ((os.path.join(TOP, path), path) for path in class_files(TOP))
         return
@@ -107,7 +110,9 @@ def make(room, is_class=False):
     for source, path in files_to_copy(is_class):
         os.makedirs(os.path.dirname(os.path.join(room, path)), exist_ok=True)
         shutil.copy(source, os.path.join(room, path))
+    write_scripts(room)
     if not is_class:
+        os.rename(os.path.join(room, PYPROJECT), os.path.join(room, "pyproject.toml"))
         with open(os.path.join(TOP, "README.md"), encoding="utf-8") as file:
             write(os.path.join(room, "README.md"), readme.installed(file.read()))
     for name in COMMANDS:
@@ -122,8 +127,17 @@ def make(room, is_class=False):
 
 def put(room, folder):
     """Moves all from a folder beside it into place, each file in place of what was there, even if that is being run or
-    is a link; and removes what an earlier install put there and this one doesn't."""
+    is a link; and removes what an earlier install put there and this one doesn't. Where a folder is in the place of a
+    file, or the other way round, nothing is moved."""
     before, now = sums.read(folder), sums.read(room)
+    for path in [*now, sums.NAME]:
+        *above, last = path.split("/")
+        for at in range(1, len(above) + 1):
+            place = os.path.join(folder, *above[:at])
+            if os.path.lexists(place) and not os.path.isdir(place):
+                raise OSError(f"{place} is no folder")
+        if os.path.isdir(os.path.join(folder, path)) and not os.path.islink(os.path.join(folder, path)):
+            raise OSError(f"{os.path.join(folder, path)} is a folder")
     for path in [*now, sums.NAME]:
         os.makedirs(os.path.dirname(os.path.join(folder, path)), exist_ok=True)
         os.replace(os.path.join(room, path), os.path.join(folder, path))
@@ -135,6 +149,10 @@ def put(room, folder):
 def install(folder, is_class=False):
     is_new = not os.path.isdir(folder)
     os.makedirs(folder, exist_ok=True)
+    for name in os.listdir(folder):
+        # What an install left that had no time to end.
+        if name.startswith(".install-"):
+            shutil.rmtree(os.path.join(folder, name), ignore_errors=True)
     try:
         with tempfile.TemporaryDirectory(prefix=".install-", dir=folder) as room:
             make(room, is_class)
@@ -145,6 +163,13 @@ def install(folder, is_class=False):
         raise
 
 
+def end_by_signals():
+    """Has SIGTERM and SIGHUP end the command as Ctrl-C does, so that nothing is left."""
+    for number in (signal.SIGTERM, signal.SIGHUP):
+        if signal.getsignal(number) != signal.SIG_IGN:
+            signal.signal(number, lambda number, _: sys.exit(128 + number))
+
+
 def main():
     words = argparse.ArgumentParser(prog="python3 build install", usage="python3 build install [--class] DIR",
                                     description=HELP, epilog=MORE_HELP,
@@ -153,8 +178,10 @@ def main():
     words.add_argument("--class", dest="is_class", action="store_true", help="what students may see, and nothing else")
     given = words.parse_args()
     folder = os.path.abspath(given.dir)
-    if os.path.realpath(folder) == os.path.realpath(TOP):
-        words.error("the folder has to be another one than this tree")
+    inside = os.path.relpath(os.path.realpath(folder), os.path.realpath(TOP))
+    if inside == "." or inside.split(os.sep)[0] in FOLDERS:
+        words.error("the folder has to be another one than this tree, and not inside of what is copied")
+    end_by_signals()
     status = build_programs()
     if status:
         return status

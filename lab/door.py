@@ -4,6 +4,7 @@ A closed or full output, an input that can't be read, too little memory and Ctrl
 reader that has gone away is no fault at all. The scripts of bin/ call Python by door.sh, with Ctrl-C blocked."""
 import contextlib
 import errno
+import fcntl
 import io
 import os
 import signal
@@ -40,11 +41,14 @@ class Input(io.FileIO):
 
 def open_streams():
     """Gives a closed stream a file that refuses what it is for, so that no other file gets its number; what would be
-    said on a closed standard error is dropped."""
+    said on a closed standard error is dropped. In its place bash may have left its script, which is open for reading."""
     for number, mode in ((0, os.O_WRONLY), (1, os.O_RDONLY), (2, os.O_WRONLY)):
         try:
-            os.fstat(number)
+            access = fcntl.fcntl(number, fcntl.F_GETFL) & os.O_ACCMODE
+            is_closed = number == 2 and access == os.O_RDONLY
         except OSError:
+            is_closed = True
+        if is_closed:
             opened = os.open(os.devnull, mode)
             if opened != number:
                 os.dup2(opened, number)

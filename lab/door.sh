@@ -11,6 +11,18 @@ begin() {
   exec "${python[@]}" "$lab/../$1" "${@:2}"
 }
 
+# The program FILE in place of this shell: run_program FILE NAME [arguments]. A file that may not grow is a fault of the
+# stream then, and no signal that ends it. On a terminal a line is written now and then while a long run goes on; in a
+# pipe, none. The C library is asked for large pages, unless the caller says something else: large networks run faster
+# with them.
+run_program() {
+  trap '' XFSZ
+  if [ -t 2 ] && [[ ${3-} =~ ^(plan|transcript)$ ]]; then
+    (begin lab watch $$ "$2" "$3") </dev/null >/dev/null &
+  fi
+  GLIBC_TUNABLES=${GLIBC_TUNABLES-glibc.malloc.hugetlb=1} exec "$1" "${@:3}"
+}
+
 # Copies standard input to standard output, and ends the script. A reader that has gone away is no fault.
 print_and_exit() {
   local why status=0

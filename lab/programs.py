@@ -13,6 +13,16 @@ FIRST = {"forestplan": "plan", "forestplay": "rounds"}
 # What the C library is asked for, unless the caller says something else: large pages for what is allocated.
 TUNABLES = "glibc.malloc.hugetlb=1"
 
+# The script bin/NAME of an installed folder.
+SCRIPT = """\
+#!/usr/bin/env bash
+# Runs the program of this name, which is in lib/, with the arguments given.
+top=$(dirname "$(dirname "$(readlink -f "${BASH_SOURCE[0]}")")") name=$(basename "$(readlink -f "$0")")
+source "$top/lab/door.sh"
+[ "$*" != --version ] || begin lab version "$name"
+run_program "$top/lib/$name" "$name" "$@"
+"""
+
 
 class Refused(Exception):
     """A program refused: `status` is its own, and `words` is what it wrote to standard error."""
@@ -23,9 +33,9 @@ class Refused(Exception):
 
 
 def built(name):
-    """The program's file, or None if it isn't built. An installed folder has it in bin/, in place of the script."""
+    """The program's file, or None if it isn't built. An installed folder has it in lib/."""
     is_tree = os.path.isdir(os.path.join(TOP, "crates", name))
-    path = os.path.join(TOP, "crates", name, "out", name) if is_tree else os.path.join(TOP, "bin", name)
+    path = os.path.join(TOP, "crates", name, "out", name) if is_tree else os.path.join(TOP, "lib", name)
     return path if os.path.isfile(path) and os.access(path, os.X_OK) else None
 
 

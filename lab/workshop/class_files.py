@@ -8,7 +8,7 @@ import tempfile
 from typing import Iterator
 
 from lab import sums, version
-from lab.programs import TOP, program_file
+from lab.programs import FIRST, SCRIPT, TOP, program_file
 from lab.wrong import Wrong
 
 # Files and whole folders, each at the path that it has here; a folder means all files below it.
@@ -80,6 +80,13 @@ def finish_class(room: str, top: str = TOP) -> None:
     write(os.path.join(room, "README.md"), README)
 
 
+def write_scripts(room: str) -> None:
+    """The scripts that run the programs."""
+    for name in FIRST:
+        write(os.path.join(room, "bin", name), SCRIPT)
+        os.chmod(os.path.join(room, "bin", name), 0o755)
+
+
 def write(path: str, text: str) -> None:
     os.makedirs(os.path.dirname(path), exist_ok=True)
     with open(path, "w", encoding="utf-8") as file:
@@ -116,13 +123,14 @@ def main(words: list[str]) -> int:
 
 def copy_class(room: str) -> None:
     """Makes the folder from this one; what an installed folder has in share/ is copied."""
-    found = {os.path.join("bin", name): program_file(name) for name in ("forestplan", "forestplay")}
+    found = {os.path.join("lib", name): program_file(name) for name in FIRST}
     found |= {path: os.path.join(TOP, path) for path in class_files(TOP)}
     for at, _, names in os.walk(os.path.join(TOP, "share")):
         found |= {os.path.relpath(os.path.join(at, name), TOP): os.path.join(at, name) for name in names}
     for path, source in found.items():
         os.makedirs(os.path.join(room, os.path.dirname(path)), exist_ok=True)
         shutil.copy(source, os.path.join(room, path))
+    write_scripts(room)
     finish_class(room)
     text = version.text()
     write(os.path.join(room, "VERSION"), text if IS_CLASS in text.splitlines() else f"{text}{IS_CLASS}\n")

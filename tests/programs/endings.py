@@ -41,6 +41,9 @@ class Endings(Case):
             done = subprocess.run(["bash", "-c", f'exec "$0" "$1" read - {redirected}', FORESTLAB, "network"],
                                   input=b"", capture_output=True, timeout=LIMIT)
             self.note(f"a fault {redirected}", (done.returncode, done.stdout) == (1, b""), done)
+            done = subprocess.run(["bash", "-c", f'exec "$0" read - {redirected}', os.path.join(TOP, "bin", "network")],
+                                  input=b"1,2\n", capture_output=True, timeout=LIMIT)
+            self.note(f"no fault {redirected}", (done.returncode, done.stdout) == (0, b"p edge 2 1\ne 1 2\n"), done)
 
     def test_help_and_version(self):
         """So it is with the help of a script that isn't Python, and with the version that each says."""

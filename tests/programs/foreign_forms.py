@@ -5,6 +5,7 @@ The texts of networkx are by its version 3.6.1."""
 import tempfile
 from unittest import mock
 
+from tests import FORESTLAB
 from tests.cases import Case, run_program
 from tests.programs.own_networks import call, comments, pairs_in
 from tests.settings import PLAN

@@ -7,10 +7,12 @@ import os
 import re
 import resource
 import shutil
+import signal
 import subprocess
 import sys
 import tarfile
 import tempfile
+import time
 
 from lab.__main__ import COMMANDS as OF_LAB
 from lab.definitions.colours import network_of, plan_text
@@ -194,7 +196,7 @@ class Install(Case):
         self.note("what else is in the folder stays", contents(own) == b"p edge 2 1\ne 1 2\n")
 
     def test_refused(self):
-        for words in ([], [self.folder, self.folder], ["--all"], [TOP]):
+        for words in ([], [self.folder, self.folder], ["--all"], [TOP], [os.path.join(TOP, "docs", "new")]):
             got = run([*self.script, *words])
             self.note(f"install {words}", got[:2] == (2, b"") and b"install: error: " in got[2], got)
         file = os.path.join(self.folder, "a file")
@@ -205,6 +207,62 @@ class Install(Case):
         got = run([*self.script, "--help"], env=ENVIRONMENT)
         is_shown = b"  python3 build install ~/forestplan\n" in got[1]
         self.note("install --help", (got[0], got[2]) == (0, b"") and is_shown, got)
+
+    def test_in_the_place(self):
+        """A folder in the place of a file, or a file in that of a folder, leaves all as it was."""
+        for name, path, content in (("a folder", "bin/forestplan/mine", "mine"), ("a file", "lab", "mine")):
+            folder = os.path.join(self.folder, f"with {name}")
+            os.makedirs(os.path.dirname(os.path.join(folder, path)))
+            for own, text_of_it in ((path, content), ("README.md", "own")):
+                with open(os.path.join(folder, own), "w", encoding="utf-8") as file:
+                    file.write(text_of_it)
+            got = run([*self.script, folder])
+            place = os.path.join(folder, "/".join(path.split("/")[:2]))
+            self.note(f"{name} in the place", got[:2] == (1, b"") and place.encode() in got[2]
+                      and got[2].endswith(b" is as it was\n") and got[2].count(b"\n") == 1, got)
+            there = sorted(os.path.relpath(os.path.join(at, one), folder) for at, _, names in os.walk(folder)
+                           for one in names)
+            self.note(f"{name}: what is there", there == sorted([path, "README.md"])
+                      and contents(os.path.join(folder, "README.md")) == b"own", there)
+
+    def test_signals(self):
+        """SIGTERM and SIGHUP leave nothing, nor does the next install what was left before."""
+        folder = os.path.join(self.folder, "ended")
+        os.makedirs(os.path.join(folder, ".install-before"))
+        for number in (signal.SIGTERM, signal.SIGHUP):
+            with subprocess.Popen([*self.script, folder], stderr=subprocess.PIPE) as started:
+                deadline = time.monotonic() + LIMIT
+                while os.listdir(folder) in ([], [".install-before"]) and time.monotonic() < deadline:
+                    time.sleep(0.001)
+                started.send_signal(number)
+                _, said = started.communicate(timeout=LIMIT)
+            got = started.returncode, os.listdir(folder)
+            self.note(f"{number.name}: nothing is left", got == (128 + number, []), (got, said))
+
+    def test_limit(self):
+        """Where a file may not grow, the output can't be written: that is a fault of the stream, and no death."""
+        path = os.path.join(self.folder, "plan")
+        for name, words in (("forestplan", "plain"), ("forestplay", "rounds")):
+            script = os.path.join(self.target, "bin", name)
+            got = run(["bash", "-c", 'ulimit -f 0; exec "$0" "$1" >"$2"', script, words, path], b"p edge 2 1\ne 1 2\n",
+                      env=ENVIRONMENT)
+            self.note(f"{name}: no room", got == (4, b"", b"%s: stream\n" % name.encode()), got)
+
+    def test_python(self):
+        """`pip install` of the folder has Python import the module, which finds its programs by itself."""
+        room = os.path.join(self.folder, "python")
+        if run([sys.executable, "-m", "pip", "--version"])[0] or run([sys.executable, "-m", "venv", "--without-pip",
+                                                                      room])[0]:
+            return
+        python = os.path.join(room, "bin", "python")
+        got = run([sys.executable, "-m", "pip", "--python", python, "install", "-q", "--no-index",
+                   "--disable-pip-version-check", self.target])
+        self.note("pip install", got[0] == 0, got)
+        code = ("import forestplan; plan = forestplan.plan({1: [2, 3], 2: [3]}); "
+                "print(forestplan.home(), dict(plan), '<svg' in plan._repr_svg_())")
+        got = run([python, "-c", code], cwd=self.elsewhere, env=ENVIRONMENT)
+        wanted = f"{room}/share/forestplan {{1: 2, 2: 3, 3: 1}} True\n"
+        self.note("a plan in Python", got == (0, wanted.encode(), b""), got)
 
     def test_unbuilt(self):
         """From a tree that isn't built, without the toolchain: what it would cost is said, and nothing is installed."""
@@ -228,6 +286,9 @@ class Install(Case):
         for words in ([], *([name] for name in OF_LAB)):
             got = run([os.path.join(self.target, "bin", "forestlab"), *words, "--version"], env=ENVIRONMENT)
             self.note(f"forestlab {words} --version", got == (0, version.encode(), b""), got)
+        for name in PROGRAMS:
+            got = run([os.path.join(self.target, "bin", name), "--version"], env=ENVIRONMENT)
+            self.note(f"{name} --version", got == (0, version.encode(), b""), got)
         for name in ("LICENSE-MIT", "LICENSE-APACHE", "CHANGELOG.md", "docs/claim/FORMATS.md"):
             there, here = (contents(os.path.join(top, name)) for top in (self.target, TOP))
             self.note(f"{name} is there", there == here)
@@ -235,7 +296,7 @@ class Install(Case):
         wrong = [path for known, path in rows
                  if hashlib.sha256(contents(os.path.join(self.target, path))).hexdigest() != known]
         self.note("each sum is its file's", not wrong and len(rows) > 100, wrong)
-        self.note("the programs have sums", {"forestplan", "forestplay"} <= {path for _, path in rows})
+        self.note("the programs have sums", {"lib/forestplan", "lib/forestplay"} <= {path for _, path in rows})
 
     def test_readme(self):
         """README there has the claim and the links of the repository's, and names nothing that it alone has."""
@@ -268,7 +329,7 @@ class Install(Case):
             os.makedirs(os.path.join(folder, "out"))
             with open(os.path.join(folder, "src", "main.rt"), "w", encoding="utf-8") as file:
                 file.write("// as it was built\n")
-            shutil.copy(os.path.join(self.target, "bin", program), os.path.join(folder, "out", program))
+            shutil.copy(os.path.join(self.target, "lib", program), os.path.join(folder, "out", program))
         self.vouch(tree)
         return tree
 
@@ -306,19 +367,19 @@ class Install(Case):
             file.write(f"{hashlib.sha256(b'x').hexdigest()}  lab/old.py\n")
         with open(os.path.join(tree, "crates", "forestplan", "src", "main.rt"), "a", encoding="utf-8") as file:
             file.write("// changed\n")
-        before = os.stat(os.path.join(target, "bin", "forestplan")).st_ino
+        before = os.stat(os.path.join(target, "lib", "forestplan")).st_ino
         got = run([*script, target], env=ENVIRONMENT)
         self.note("from changed sources", got[0] == 70 and b"forestplan: not built" in got[2], got)
         self.note("the old program isn't put there again",
-                  os.stat(os.path.join(target, "bin", "forestplan")).st_ino == before)
+                  os.stat(os.path.join(target, "lib", "forestplan")).st_ino == before)
         out = os.path.join(tree, "crates", "forestplan", "out")
         os.remove(os.path.join(out, "forestplan.made-from"))
-        shutil.copy(os.path.join(self.target, "bin", "forestplan"), out)
+        shutil.copy(os.path.join(self.target, "lib", "forestplan"), out)
         got = run([*script, target], env=ENVIRONMENT)
         self.note("a newer program that nobody vouches for", got[0] == 70 and b"forestplan: not built" in got[2], got)
         self.vouch(tree)
         got = run([*script, target], env=ENVIRONMENT)
-        after = os.stat(os.path.join(target, "bin", "forestplan")).st_ino
+        after = os.stat(os.path.join(target, "lib", "forestplan")).st_ino
         self.note("built again by another command", got[0] == 0 and after != before, got)
         self.note("what an earlier install put there is removed, and nothing else",
                   (os.path.exists(old), os.path.exists(kept)) == (False, True))
