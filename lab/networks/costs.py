@@ -77,7 +77,7 @@ def payload_bytes(v, w, pulse, words):
 def rounds_here(network):
     """The rounds by their definition; None in the folder of a class, which doesn't have it."""
     try:
-        from lab.pictures.colouring import Rounds
+        from lab.definitions.pulses import Rounds
     except ImportError:
         return None
     return Rounds(network, network.identifiers)

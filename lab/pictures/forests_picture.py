@@ -1,5 +1,5 @@
 """The forest sheet: one column a forest; above, its edges and three colours; below, the channels once it is merged."""
-from lab.pictures.colouring import LAST_COLOUR
+from lab.definitions.pulses import LAST_COLOUR
 from lab.pictures.marks import alone_chip, channel_circle, colour_square, draw_edge
 from lab.pictures.palette import FOREST_COLOURS, INK, PAPER, SOFT
 from lab.pictures.places import OF_SQUARES, bends, box_height, label_places, moved, places_of, spaced

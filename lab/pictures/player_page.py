@@ -1,6 +1,6 @@
 """The player: one HTML page without any library, the network at each pulse, with a slider and a play button; of the
 colouring, or of another program. page/player.js draws it."""
-from lab.pictures.colouring import SEED, Rounds
+from lab.definitions.pulses import SEED, Rounds
 from lab.pictures.pages import net_of, page
 from lab.pictures.program_picture import is_new
 from lab.pictures.svg import counted

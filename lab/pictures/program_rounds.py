@@ -4,7 +4,7 @@ from lab.definitions.colours import Network
 from lab.definitions.nodes import Colouring, ports_of
 from lab.definitions.own_program import OwnNode, check_repeats, what_is_wrong
 from lab.definitions.programs import PLAYED
-from lab.pictures.colouring import Rounds
+from lab.definitions.pulses import Rounds
 from lab.wrong import Wrong, wrong_line
 
 # Rounds of more steps of nodes than this take minutes to work out.

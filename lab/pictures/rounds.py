@@ -1,7 +1,7 @@
 """The rounds of a text (docs/claim/FORMATS.md). A text is read only if it is, line by line, the rounds of its
 network."""
 from lab.networks.network_text import fields_of, whole
-from lab.pictures.colouring import Rounds
+from lab.definitions.pulses import Rounds
 from lab.wrong import Wrong, wrong_line
 
 

@@ -5,7 +5,7 @@ import re
 from lab.definitions.colours import plan_text
 from lab.definitions.nodes import Colouring, NetState, Refused, entry_words, make
 from lab.networks.plan_text import clashes
-from lab.pictures.colouring import Rounds
+from lab.definitions.pulses import Rounds
 from lab.pictures.program_rounds import is_own
 from lab.pictures.rounds import read_rounds
 from lab.programs import called

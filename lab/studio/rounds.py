@@ -6,7 +6,7 @@ from lab.definitions.nodes import Colouring
 from lab.networks.codes import code_of
 from lab.networks.plan_text import read_plan
 from lab.pictures import broken_picture, why_picture
-from lab.pictures.colouring import Rounds
+from lab.definitions.pulses import Rounds
 from lab.pictures.picture import OF_PLAN, OF_RUN, Options, Text, drawing
 from lab.pictures.player_page import film_of
 from lab.pictures.program_rounds import ProgramRounds

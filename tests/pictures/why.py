@@ -12,7 +12,7 @@ import xml.etree.ElementTree as ElementTree
 from lab.definitions.colours import Network, colours, network_of, three
 from lab.definitions.rounds import rounds_text
 from lab.networks.network_text import Network as Read, read_network
-from lab.pictures.colouring import Rounds
+from lab.definitions.pulses import Rounds
 from lab.pictures.why_picture import Cone
 from tests import FORESTLAB, TOP
 from tests.cases import Case
