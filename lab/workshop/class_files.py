@@ -17,7 +17,8 @@ COPIED = (
     "docs/learn/TUTORIAL.md", "docs/learn/GALLERY.md", "docs/learn/OWN_NETWORK.md", "docs/learn/PROTOCOL.md",
     "docs/learn/WORKSHOP.md", "docs/pictures",
     "examples", "lab/__init__.py", "lab/__main__.py", "lab/door.py", "lab/door.sh", "lab/programs.py",
-    "lab/sums.py", "lab/version.py", "lab/watch.py", "lab/words.py", "lab/wrong.py", "lab/networks", "lab/workshop",
+    "lab/python", "lab/sums.py", "lab/version.py", "lab/watch.py", "lab/words.py", "lab/wrong.py",
+    "lab/networks", "lab/workshop",
     "lab/schedules/__init__.py", "lab/schedules/policies.py",
     "lab/transcripts/__init__.py", "lab/transcripts/fields.py", "lab/transcripts/rules.py",
 )
@@ -104,8 +105,8 @@ tar czf class.tar.gz DIR.
 
 
 def main(words: list[str]) -> int:
-    line = argparse.ArgumentParser(prog="forestlab workshop class", usage="forestlab workshop class DIR", description=HELP,
-                                   formatter_class=argparse.RawDescriptionHelpFormatter)
+    line = argparse.ArgumentParser(prog="forestlab workshop class", usage="forestlab workshop class DIR",
+                                   description=HELP, formatter_class=argparse.RawDescriptionHelpFormatter)
     line.add_argument("dir", metavar="DIR", help="the folder that is made")
     folder = os.path.abspath(line.parse_args(words).dir)
     if os.path.exists(folder) and not (os.path.isdir(folder) and not os.listdir(folder)):

@@ -331,7 +331,8 @@ def write_reports(parts: list[Part], folder: str) -> None:
 
 
 def command_line() -> argparse.ArgumentParser:
-    words = argparse.ArgumentParser(prog="forestlab workshop grade", usage="forestlab workshop grade FOLDER [options] [-- WORDS ..]",
+    words = argparse.ArgumentParser(prog="forestlab workshop grade",
+                                    usage="forestlab workshop grade FOLDER [options] [-- WORDS ..]",
                                     description=HELP, epilog=MORE_HELP,
                                     formatter_class=argparse.RawDescriptionHelpFormatter)
     words.add_argument("folder", metavar="FOLDER", help="has a folder for each student")

@@ -136,7 +136,8 @@ class ClassFolder(unittest.TestCase):
         it copies those that there are."""
         made, again = (os.path.join(self.enterContext(tempfile.TemporaryDirectory()), name) for name in ("a b", "c"))
         for door, to, like, sums in ((TOP, made, self.folder, True), (self.folder, again, self.folder, False)):
-            done = subprocess.run([os.path.join(door, "bin", "forestlab"), "workshop", "class", to], capture_output=True, text=True)
+            done = subprocess.run([os.path.join(door, "bin", "forestlab"), "workshop", "class", to],
+                                  capture_output=True, text=True)
             self.assertEqual((done.returncode, done.stderr), (0, ""))
             self.assertEqual(subprocess.run(["sha256sum", "-c", "--quiet", "SHA256SUMS"], cwd=to).returncode, 0)
             differ = subprocess.run(["diff", "-rq", like, to], capture_output=True, text=True).stdout

@@ -44,7 +44,8 @@ class Skeletons(unittest.TestCase):
         """They greet in pulse 0, so what is wrong is what comes after it; and in one process it is the same."""
         rows = [("rounds", [sys.executable, os.path.join(FOLDER, "rounds_node.py")], "node 1, pulse 1 (orient)"),
                 ("rounds", self.in_c(os.path.join(FOLDER, "rounds_node.c")), "node 1, pulse 1 (orient)"),
-                ("alpha", [sys.executable, os.path.join(FOLDER, "alpha_node.py")], "doesn't put 0 ack 0")]
+                ("alpha", [sys.executable, os.path.join(FOLDER, "alpha_node.py")], "doesn't put 0 ack 0"),
+                ("open", [sys.executable, os.path.join(FOLDER, "open_node.py")], "nodes 1, 2 and 3 said no channel")]
         if shutil.which("javac"):
             rows.append(("alpha", self.in_java(os.path.join(FOLDER, "AlphaNode.java")), "doesn't put 0 ack 0"))
         for kind, command, words in rows:
@@ -52,7 +53,7 @@ class Skeletons(unittest.TestCase):
                 several, one = (call(kind, "path3", *more, "--", *command).stdout.splitlines()[1:]
                                 for more in ([], ["--one-process"]))
                 self.assertIn(words, "\n".join(several))
-                self.assertEqual([*several, f"note   {APART}"], one)
+                self.assertEqual([*several, *[f"note   {APART}"] * (kind != "open")], one)
 
     def test_they_keep_the_nodes_of_one_process_apart(self):
         pulse, wire = "pulse 1\nend\n", "take 0 safe 0\nend\n"
@@ -65,6 +66,9 @@ class Skeletons(unittest.TestCase):
                 ("alpha", "payload 0 hello", wire, [sys.executable, filled_in(
                     "alpha_node.py", "return []           # yours",
                     "return [f\"put 0 label {self.own['identifier']}\"]  #", self.folder)])]
+        rows.append(("open", "hello", pulse, [sys.executable, filled_in(
+            "open_node.py", "return []           # yours",
+            "return [f\"put 0 label {self.own['identifier']}\"]  #", self.folder)]))
         if shutil.which("javac"):
             rows.append(("alpha", "payload 0 hello", wire, self.in_java(filled_in(
                 "AlphaNode.java", "        // yours:", "        put(port, \"label \" + identifier); //", self.folder))))
