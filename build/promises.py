@@ -1,20 +1,11 @@
-#!/usr/bin/env python3
-"""Writes the index of docs/claim/PROMISES.md, "Bytes to bytes": each public function of the crates from bytes to bytes,
-with its clauses and the first sentence of its comment, as the sources have them now.
-
-  promises.py            writes the index into the page
-  promises.py --print    prints it
-
-tests/pages/index.py refuses a page whose index differs.
-"""
+"""Prints an index of the crates from bytes to bytes: each public function, with its clauses and the first sentence of its
+comment, as the sources have them now."""
 import argparse
 import os
 import re
 import textwrap
 
 TOP = os.path.dirname(os.path.dirname(os.path.abspath(__file__)))
-PAGE = os.path.join(TOP, "docs", "claim", "PROMISES.md")
-BEGIN, END = "<!-- index: python3 build promises -->", "<!-- end of the index -->"
 WIDTH = 148
 # From the program down to the texts.
 CRATES = (
@@ -71,25 +62,7 @@ def index():
     return "\n".join(lines)
 
 
-def page_with(text):
-    """The page with this index."""
-    page = text_of("docs", "claim", "PROMISES.md")
-    before, _, rest = page.partition(BEGIN)
-    _, _, behind = rest.partition(END)
-    return f"{before}{BEGIN}\n\n{text}\n\n{END}{behind}"
-
-
 def main():
-    parser = argparse.ArgumentParser(description=__doc__.split("\n\n")[0])
-    parser.add_argument("--print", action="store_true", help="print the index, and change nothing")
-    if parser.parse_args().print:
-        print(index())
-        return 0
-    page = page_with(index())
-    with open(PAGE, "w", encoding="utf-8") as file:
-        file.write(page)
+    argparse.ArgumentParser(prog="python3 build promises", description=__doc__).parse_args()
+    print(index())
     return 0
-
-
-if __name__ == "__main__":
-    raise SystemExit(main())
