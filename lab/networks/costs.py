@@ -8,7 +8,7 @@ import time
 from lab.networks import kinds
 from lab.networks.network_text import read_network
 from lab.networks.reading import counted
-from lab.networks.texts import Made, text_of
+from lab.networks.texts import plain_text, text_of
 from lab.programs import built, environment
 from lab.wrong import Wrong
 
@@ -103,11 +103,6 @@ def counted_payloads(run, is_counted):
         "--payloads counts them" if program else "forestplay isn't built, which counts them")
 
 
-def bytes_for(network):
-    """The network as the programs are given it."""
-    return text_of(Made(network.nodes, network.edges, identifiers=network.identifiers, bars=network.bars)).encode()
-
-
 def payloads_by(program, network):
     """The lines of the rounds that put a payload, read as they are written, and the bytes of their entries."""
     count = size = 0
@@ -115,7 +110,7 @@ def payloads_by(program, network):
                           env=environment()) as started:
         # One that ends before it has read all has its status below.
         with contextlib.suppress(BrokenPipeError):
-            started.stdin.write(bytes_for(network))
+            started.stdin.write(plain_text(network).encode())
             started.stdin.close()
         for line in started.stdout:
             found = re.match(rb"(\d+) put (\d+) payload (\d+) (.*)\n", line)
@@ -177,7 +172,7 @@ def seconds_of(program, command, run, times=2):
     took = []
     for _ in range(times):
         start = time.monotonic()
-        done = subprocess.run([program, command], input=bytes_for(run.network), stdout=subprocess.DEVNULL,
+        done = subprocess.run([program, command], input=plain_text(run.network).encode(), stdout=subprocess.DEVNULL,
                               env=environment())
         took.append(time.monotonic() - start)
         if done.returncode:

@@ -20,6 +20,11 @@ def decimal(number):
     return "0" if text == "-0" else text
 
 
+def plain_text(network):
+    """A network that was read, without comments, as the programs are given it."""
+    return text_of(Made(network.nodes, network.edges, identifiers=network.said, bars=network.bars))
+
+
 def text_of(made):
     """The comment lines, the `p` line, the identifiers, the bars, and the edges, ascending."""
     lines = [f"c {line}" for line in made.head]

@@ -2,12 +2,13 @@
 it."""
 from dataclasses import dataclass
 
-from lab.definitions.nodes import Colouring
+from lab.networks.network_text import fields_of
+from lab.networks.texts import plain_text
 from lab.pictures.palette import WIRES, WRONG
 from lab.pictures.program_rounds import is_own
-from lab.pictures.transcripts import READERS, Entry
-from lab.networks.network_text import fields_of
-from lab.workshop.judge import Verdict, network_text, verdict_of
+from lab.pictures.transcripts import Entry, entry_of
+from lab.transcripts.proved_judge import Verdict, verdict_of
+from lab.transcripts.reading import stamped_entry_of
 from lab.wrong import Wrong
 
 # How long the arrow of a wire that nobody took is: a part of the way to the neighbour's row, and steps of time.
@@ -32,7 +33,7 @@ def cut(text: str, name: str, network, program: type) -> tuple[str, WrongEntry |
         raise Wrong(f"--wrong asks the proved judge, which doesn't know {program.name}")
     if [field for field in fields_of(text.lstrip().split("\n", 1)[0]) if field][:2] != ["transcript", "2"]:
         raise Wrong(f"{name}: --wrong needs a transcript of edition 2, whose lines have an order")
-    verdict = verdict_of(network_text(network), text, program.name)
+    verdict = verdict_of(plain_text(network), text, program.name)
     if verdict.name is None:
         return text, None
     if verdict.name == "NotWhole":
@@ -42,7 +43,7 @@ def cut(text: str, name: str, network, program: type) -> tuple[str, WrongEntry |
     if verdict.name in ("X1", "NoSuch"):
         raise Wrong(f"{name} line {line}: `{' '.join(fields)[:60]}` is no entry of a run of {network.name} "
                     f"({verdict.name})")
-    entry = READERS["2"](name, line, fields, network, program is Colouring)
+    entry = entry_of(stamped_entry_of(line, [field.encode() for field in fields], program.name))
     return "\n".join(lines[:line - 1]) + "\n", WrongEntry(words_on(line, fields, verdict), entry)
 
 

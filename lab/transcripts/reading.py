@@ -70,14 +70,21 @@ def read(text, program="colouring"):
     return head, entries
 
 
-def read_to_fault(text, program="colouring"):
-    """The first line, the entries before the first line that isn't one, and that line's fault, or None."""
-    lines, entries = text.split(b"\n"), []
+def read_to_fault(text, program="colouring", stop=None):
+    """The first line, the entries before the first line that isn't one, and that line's fault, or None. With `stop`, of
+    each node only what it did before it begins that pulse."""
+    lines, entries, stopped = text.split(b"\n"), [], set()
     head = head_of(lines)
     for line, raw in enumerate(lines[head.line:], head.line + 1):
+        if stopped and stopped.issuperset(raw.split(b" ", head.edition)[head.edition - 1:head.edition]):
+            continue
         try:
             if fields := fields_of(raw):
-                entries.append(READERS[head.edition](line, fields, program))
+                entry = READERS[head.edition](line, fields, program)
+                if stop is not None and (entry.kind, entry.what) == ("Pulse", stop):
+                    stopped.add(b"%d" % entry.vertex)
+                else:
+                    entries.append(entry)
         except ValueError:
             cut = ", and no line feed after it (is the text cut?)" if line == len(lines) else ""
             return head, entries, Wrong(line, "X1", f"not an entry: {why_no_entry(fields, head.edition, program)}{cut}")

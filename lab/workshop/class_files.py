@@ -20,7 +20,8 @@ COPIED = (
     "lab/python", "lab/sums.py", "lab/version.py", "lab/watch.py", "lab/words.py", "lab/wrong.py",
     "lab/networks", "lab/workshop",
     "lab/schedules/__init__.py", "lab/schedules/policies.py",
-    "lab/transcripts/__init__.py", "lab/transcripts/fields.py", "lab/transcripts/rules.py",
+    "lab/transcripts/__init__.py", "lab/transcripts/fields.py", "lab/transcripts/proved_judge.py",
+    "lab/transcripts/rules.py",
 )
 # Of these folders, what stays with the teacher.
 LEFT_OUT = (

@@ -1,12 +1,13 @@
 """The judge: what `forestplay replay` says of a run, and what it says a node has to do next. Nothing here decides by
 itself what is right."""
-import re
 from dataclasses import dataclass
 from typing import NamedTuple
 
 from lab.networks.network_text import Network
-from lab.networks.texts import Made, text_of
+from lab.networks.texts import plain_text
 from lab.programs import called
+from lab.transcripts import proved_judge
+from lab.transcripts.proved_judge import Verdict
 from lab.workshop.findings import NoVerdict
 from lab.workshop.protocol import COLOURING
 from lab.wrong import Wrong
@@ -20,20 +21,6 @@ class Entry(NamedTuple):
     stamp: int
     vertex: int
     words: str
-
-
-@dataclass
-class Verdict:
-    """`name` is the refusal's name, or None if the run is right and whole. `at` is the index of the entry
-    that is refused, `words` what the judge says of it, `line` the judge's own line."""
-    name: str | None = None
-    at: int | None = None
-    words: str = ""
-    line: str = ""
-
-    @property
-    def is_about_an_entry(self) -> bool:
-        return self.name not in (None, "NotWhole")
 
 
 @dataclass
@@ -60,11 +47,6 @@ def ask(name: str, command: str, text: str, program: str = COLOURING) -> tuple[i
     return done.returncode, done.stdout.decode(), done.stderr.decode("utf-8", "replace").strip()
 
 
-def network_text(network: Network) -> str:
-    """The network without comments: what the judge reads, and what --keep writes."""
-    return text_of(Made(network.nodes, network.edges, identifiers=network.said, bars=network.bars))
-
-
 def transcript_text(nodes: int, entries: list[Entry]) -> str:
     lines = [f"transcript 2 {nodes}", *(f"{stamp} {v} {words}" for stamp, v, words in entries)]
     return "".join(line + "\n" for line in lines)
@@ -72,17 +54,14 @@ def transcript_text(nodes: int, entries: list[Entry]) -> str:
 
 def verdict_on(network: Network, entries: list[Entry], program: str) -> Verdict:
     """The judge's verdict on entries in this order."""
-    return verdict_of(network_text(network), transcript_text(network.nodes, entries), program)
+    return verdict_of(plain_text(network), transcript_text(network.nodes, entries), program)
 
 
 def verdict_of(network: str, transcript: str, program: str = COLOURING) -> Verdict:
-    status, _, line = ask("forestplay", "replay", network + transcript, program)
-    if status == 0:
-        return Verdict()
-    found = re.fullmatch(r"forestplay: (\w+) line (\d+)(?:: (.*))?", line)
-    if status != 1 or not found:
-        raise NoVerdict(f"forestplay replay ends with status {status}: {line}")
-    return Verdict(found[1], int(found[2]) - network.count("\n") - 2, found[3] or "", line)
+    try:
+        return proved_judge.verdict_of(network, transcript, program)
+    except Wrong as why:
+        raise NoVerdict(str(why)) from None
 
 
 def due_at(network: Network, entries: list[Entry], v: int, program: str) -> Due:
@@ -91,7 +70,7 @@ def due_at(network: Network, entries: list[Entry], v: int, program: str) -> Due:
     before = "".join([f"transcript 1 {network.nodes}\n", *(f"{u} {words}\n" for _, u, words in entries)])
 
     def refusal_of(words):
-        return verdict_of(network_text(network), f"{before}{v} {words}\n", program)
+        return verdict_of(plain_text(network), f"{before}{v} {words}\n", program)
 
     pulse = refusal_of(f"pulse {IMPOSSIBLE}")
     can = pulse.words.removeprefix("expected ") if pulse.name == "WrongWire" else None

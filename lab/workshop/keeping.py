@@ -4,10 +4,11 @@ import shlex
 import subprocess
 import tempfile
 
+from lab.networks.texts import plain_text
 from lab.programs import TOP
 from lab.workshop.alpha_run import AlphaRun
 from lab.workshop.cases import Case
-from lab.workshop.judge import network_text, transcript_text, words_of
+from lab.workshop.judge import transcript_text, words_of
 from lab.workshop.open_run import OpenRun
 from lab.workshop.report import described
 from lab.workshop.rounds_run import RoundsRun
@@ -16,7 +17,7 @@ from lab.workshop.rounds_run import RoundsRun
 def keep(case: Case, folder: str) -> None:
     """Writes network, run and verdict into a folder, and with them the commands that repeat it."""
     os.makedirs(folder, exist_ok=True)
-    texts = {"network.col": network_text(case.network), **run_texts(case)}
+    texts = {"network.col": plain_text(case.network), **run_texts(case)}
     words = described(case) if case.finding else [f"case   {case.number}: right"]
     words += ["", "The same without the workshop:", *repeat(case, folder)]
     texts["verdict.txt"] = "".join(line + "\n" for line in words)
@@ -73,7 +74,7 @@ def draw(case: Case, file: str) -> str | None:
     last = found.pulse if found else 3
     with tempfile.TemporaryDirectory() as folder:
         network, run = (os.path.join(folder, f"{case.network.name}.{end}") for end in ("col", "transcript"))
-        for path, text in ((network, network_text(case.network)), (run, transcript_text(case.network.nodes, entries))):
+        for path, text in ((network, plain_text(case.network)), (run, transcript_text(case.network.nodes, entries))):
             with open(path, "w", encoding="ascii") as out:
                 out.write(text)
         command = [os.path.join(TOP, "bin", "forestlab"), "picture", "run", network, "--transcript", run, "--wrong",

@@ -4,8 +4,9 @@ import re
 from typing import NamedTuple
 
 from lab.networks.network_text import Network
+from lab.networks.texts import plain_text
 from lab.workshop.findings import Fault, Finding, NoVerdict, listed
-from lab.workshop.judge import ask, network_text
+from lab.workshop.judge import ask
 from lab.workshop.nodes import Answer, Nodes
 from lab.workshop.protocol import MOST_LETTERS, is_number, no_such_line, own_data, port_of, shown
 
@@ -86,7 +87,7 @@ class OpenRun:
 
     def judged(self, p: int) -> Finding | None:
         """The verdict of the proved check. A channel that is too great for it to be read has C6."""
-        status, _, line = ask("forestplan", "check", network_text(self.network) + self.plan_text())
+        status, _, line = ask("forestplan", "check", plain_text(self.network) + self.plan_text())
         if status == 0:
             self.league = League(p, self.payloads, max(self.channels.values(), default=0))
             return None

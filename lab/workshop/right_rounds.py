@@ -1,8 +1,9 @@
 """The rounds of a network, as `forestplay rounds` writes them, in tables; of the colouring also the plan of `forestplan
 plain`."""
 from lab.networks.network_text import Network
+from lab.networks.texts import plain_text
 from lab.workshop.findings import NoVerdict
-from lab.workshop.judge import ask, network_text
+from lab.workshop.judge import ask
 from lab.workshop.protocol import COLOURING
 
 
@@ -30,7 +31,7 @@ class RightRounds:
         self.events = network.nodes * self.last + 2 * wires
 
     def asked(self, name: str, command: str, program: str = COLOURING) -> str:
-        status, text, why = ask(name, command, network_text(self.network), program)
+        status, text, why = ask(name, command, plain_text(self.network), program)
         if status:
             raise NoVerdict(f"{name} {command} refuses {self.network.name}: {why}")
         return text

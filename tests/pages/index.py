@@ -75,10 +75,19 @@ class Index(Case):
         self.assertEqual(words["forestplan"] | words["forestplay"], commands, "commands of the programs")
         self.assertEqual(words["forestlab"], set(OF_LAB), "commands of forestlab")
 
+    def test_layers_of_lab(self):
+        """A package of lab/ imports only those before it; what is in lab/ itself belongs to none."""
+        order, wrong = ("definitions", "networks", "transcripts", "schedules", "pictures", "workshop", "studio"), []
+        self.assertEqual(sorted(order), sorted(name for name in os.listdir(os.path.join(TOP, "lab"))
+                                               if os.path.isfile(os.path.join(TOP, "lab", name, "__init__.py"))))
+        for at, package in enumerate(order):
+            for path in glob.glob(os.path.join(TOP, "lab", package, "**", "*.py"), recursive=True):
+                names = re.findall(r"^\s*(?:from|import) lab\.(\w+)", text_of(path), re.M)
+                wrong += [f"{os.path.relpath(path, TOP)}: {name}" for name in names if name in order[at + 1:]]
+        self.assertEqual(wrong, [])
+
     def test_index_of_promises(self):
-        page, index = text_of("docs", "claim", "PROMISES.md"), promises.index()
-        self.assertGreater(index.count("\n- "), 40, "functions of the index")
-        self.assertEqual(page, promises.page_with(index), "the index is old: run `python3 build promises`")
+        self.assertGreater(promises.index().count("\n- "), 40, "functions of the index")
 
     def test_fields(self):
         """Each field that a page names, as in "the fields `a` and `b` of `Record`", is a field of it."""

@@ -386,8 +386,7 @@ class Runs(PictureCase):
             at = int(len(lines) * part)
             v = int(lines[at - 1].split()[0])
             status, picture, fault = self.draw.run("tally", network, b"\n".join(lines[:at]) + b"\n")
-            missing = (
-                "node %d:" % nodes if v == nodes - 1 else f"{v + 1}" if v < nodes else f"ends with node {v} at pulse"
-            )
+            missing = f"node {nodes} has no entry" if v == nodes - 1 else (
+                f"nodes {v + 1} to {nodes} have no entry" if v < nodes else f"the entries of node {v} end at pulse ")
             self.note(f"a transcript cut at line {at}",
-                      (status, picture) == (1, b"") and b"is it cut?" in fault and missing.encode() in fault, fault)
+                      (status, picture) == (1, b"") and b"(is the text cut?)" in fault and missing.encode() in fault, fault)

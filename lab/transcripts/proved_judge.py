@@ -1,0 +1,33 @@
+"""What the proved machine says of a transcript: `forestplay replay`."""
+import re
+from dataclasses import dataclass
+
+from lab.programs import called
+from lab.wrong import Wrong
+
+
+@dataclass
+class Verdict:
+    """`name` is the refusal's name, or None if the run is right and whole. `at` is the index of the entry
+    that is refused, `words` what the judge says of it, `line` the judge's own line."""
+    name: str | None = None
+    at: int | None = None
+    words: str = ""
+    line: str = ""
+
+    @property
+    def is_about_an_entry(self) -> bool:
+        return self.name not in (None, "NotWhole")
+
+
+def verdict_of(network: str, transcript: str, program: str = "colouring") -> Verdict:
+    """The verdict on a transcript, given as texts, of nodes that run a proved program; refused if there is none."""
+    words = [] if program == "colouring" else ["--program", program]
+    done = called("forestplay", ["replay", *words], (network + transcript).encode())
+    if done.returncode == 0:
+        return Verdict()
+    line = done.stderr.decode("utf-8", "replace").strip()
+    found = re.fullmatch(r"forestplay: (\w+) line (\d+)(?:: (.*))?", line)
+    if done.returncode != 1 or not found:
+        raise Wrong(f"forestplay replay ends with status {done.returncode}: {line}")
+    return Verdict(found[1], int(found[2]) - network.count("\n") - 2, found[3] or "", line)
