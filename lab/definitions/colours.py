@@ -54,6 +54,11 @@ def fields_of(line: bytes) -> list[bytes]:
     return [field for field in line.removesuffix(b"\r").replace(b"\t", b" ").split(b" ") if field]
 
 
+def number_of(field: bytes) -> int:
+    """The number of a field, however many zeros it begins with; Python takes no more than 4,300 digits."""
+    return int(field.lstrip(b"0") or b"0")
+
+
 def network_of(text: bytes) -> Network:
     """The network of a text without a fault; a vertex has the identifier that a line gives it, and else its number. A
     colour is a channel less one."""
@@ -61,13 +66,13 @@ def network_of(text: bytes) -> Network:
     for line in text.split(b"\n"):
         fields = fields_of(line)
         if fields and fields[0] == b"p":
-            nodes = int(fields[2])
+            nodes = number_of(fields[2])
         elif fields and fields[0] == b"e":
-            edges.add((int(fields[1]), int(fields[2])))
+            edges.add((number_of(fields[1]), number_of(fields[2])))
         elif fields and fields[0] == b"i":
-            given[int(fields[1])] = int(fields[2])
+            given[number_of(fields[1])] = number_of(fields[2])
         elif fields and fields[0] == b"b":
-            barred.setdefault(int(fields[1]), set()).add(int(fields[2]) - 1)
+            barred.setdefault(number_of(fields[1]), set()).add(number_of(fields[2]) - 1)
     return Network({v: given.get(v, v) for v in range(1, nodes + 1)}, edges, barred)
 
 

@@ -67,6 +67,8 @@ def numbers_of(words: list[str]) -> list[int]:
     found = []
     for word in re.split(r"[\s,;]+", " ".join(words).strip(" ,;")):
         parts = re.fullmatch(r"(\d{1,%d})(?:-(\d{1,%d})(?:/(\d{1,6}))?)?" % (MOST_DIGITS, MOST_DIGITS), word)
+        if not parts and len(words) == 1 and re.search(r"[^\d\s,;/-]", words[0]):
+            raise Wrong(f"`{shown(words[0])}` is no file, no channel, and no range as 1-13 or 36-64/4")
         if not parts:
             raise Wrong(f"`{shown(word)}` is no channel, and no range as 1-13 or 36-64/4")
         first, last, step = (int(part) if part else None for part in parts.groups())

@@ -171,6 +171,11 @@ def command_line():
     return words
 
 
+def kilometres(word):
+    """A length with a decimal point, or with a comma as tables may have it."""
+    return float(word.replace(",", ".") if word.count(",") == 1 and "." not in word else word)
+
+
 def add_words(command, name):
     for size in SIZES.get(name, ()):
         command.add_argument(size, type=int, metavar=size.upper(), help=f"how many {size}")
@@ -197,7 +202,7 @@ def add_words(command, name):
         command.add_argument("--as", dest="form", choices=FORMS, help="the form, if the guess is wrong")
         command.add_argument("--heading", choices=("yes", "no"), help="whether the first line of pairs is a heading")
         command.add_argument("--sites", metavar="CSV", help="a table of sites")
-        command.add_argument("--reach", type=float, metavar="KM", help="joins sites that are less than KM apart")
+        command.add_argument("--reach", type=kilometres, metavar="KM", help="joins sites that are less than KM apart")
         command.add_argument("--bars", metavar="CSV", help="a table of channels that are barred at sites")
         command.add_argument("--channels", metavar="TABLE", help="the channels that all may use, as '1 6 11', or a CSV "
                              "file with a column `channel`: the first is channel 1 of the plan; bars are of these "

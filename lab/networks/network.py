@@ -22,6 +22,8 @@ from lab.networks.texts import text_of
 from lab.words import source_of, text_at, write
 from lab.wrong import Wrong
 
+# Kilometres: less than that no two sites are apart, and numbers of places have no such digits.
+LEAST_REACH = 1e-6
 MAKERS = {"path": kinds.path, "ring": kinds.ring, "star": kinds.star, "complete": kinds.complete, "grid": kinds.grid,
           "queen": kinds.queen, "tree": kinds.tree, "disk": kinds.disk, "random": kinds.any_edges}
 
@@ -82,8 +84,8 @@ def channels_asked(given, words):
 def was_read(given):
     heading = {"yes": True, "no": False}.get(given.heading)
     licence = channels_asked(given, given.channels)
-    if given.reach is not None and not (given.sites and 0 < given.reach <= 20000):
-        given.refuse("--reach is for a table of --sites, and above 0")
+    if given.reach is not None and not (given.sites and LEAST_REACH <= given.reach <= 20000):
+        given.refuse(f"--reach is for a table of --sites, and {LEAST_REACH:g} or more, which is a millimetre")
     if given.file is None and given.reach is None:
         given.refuse("a FILE is wanted, or --sites with --reach")
     if [given.file, given.sites, given.bars].count("-") > 1:

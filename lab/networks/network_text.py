@@ -57,8 +57,8 @@ class Reading:
 
 
 def stem(path):
-    """A file's name without its folder and its ending."""
-    return re.sub(r"\.\w+$", "", path.split("/")[-1])
+    """A file's name without its folder and its ending, with a mark in place of what is no UTF-8."""
+    return re.sub(r"\.\w+$", "", path.split("/")[-1]).encode("utf-8", "replace").decode()
 
 
 def place_of(fields):

@@ -15,8 +15,17 @@ def shown(number):
     return "0" if text == "-0" else text
 
 
+# Letters that XML hasn't.
+CONTROLS = dict.fromkeys([*(code for code in range(32) if chr(code) not in "\t\n\r"), 0xFFFE, 0xFFFF])
+
+
 def escaped(text):
-    return str(text).replace("&", "&amp;").replace("<", "&lt;").replace(">", "&gt;")
+    return str(text).translate(CONTROLS).replace("&", "&amp;").replace("<", "&lt;").replace(">", "&gt;")
+
+
+def quoted(text):
+    """A text between the quotes of an attribute."""
+    return escaped(text).replace('"', "&quot;")
 
 
 def counted(count, what):
@@ -42,14 +51,14 @@ class Svg:
         for key, value in attributes.items():
             if value is not None:
                 key = "class" if key == "mark" else key.replace("_", "-")
-                words.append(f'{key}="{escaped(shown(value))}"')
+                words.append(f'{key}="{quoted(shown(value))}"')
         head = " ".join(words)
         self.parts.append(f"<{head}/>" if text is None else f"<{head}>{escaped(text)}</{name}>")
 
     @contextmanager
     def group(self, mark, title=None, **attributes):
         """Elements that are one mark; a browser shows the title under the mouse."""
-        words = "".join(f' {key.replace("_", "-")}="{escaped(shown(value))}"' for key, value in attributes.items())
+        words = "".join(f' {key.replace("_", "-")}="{quoted(shown(value))}"' for key, value in attributes.items())
         self.parts.append(f'<g class="{mark}"{words}>' + (f"<title>{escaped(title)}</title>" if title else ""))
         yield
         self.parts.append("</g>")

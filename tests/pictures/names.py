@@ -1,9 +1,15 @@
 """Pictures of a network whose text names its vertices, and where numbers and names are written: not on a circle nor on
 each other."""
+import os
+import shutil
+import subprocess
+import tempfile
 from itertools import combinations
+from xml.etree import ElementTree
 
 from lab.definitions.colours import network_of, plan_text
 from lab.definitions.rounds import rounds_text
+from tests import FORESTLAB, TOP
 from tests.pictures.base import PictureCase, transcript
 from tests.pictures.marks import centre, marks, number, parsed
 
@@ -59,6 +65,15 @@ class Names(PictureCase):
             if depth_in_box(box, other) > deepest
         ]
         self.note(f"{name}: no number is on another", not touch, touch)
+
+    def test_file_names(self):
+        """A file's name that is no UTF-8, or has letters that XML hasn't, draws a picture all the same."""
+        folder = self.enterContext(tempfile.TemporaryDirectory()).encode()
+        for name in (b"K\xf6ln.col", b"a\x07\x1b.col", b'"x" <b>&.col'):
+            path = os.path.join(folder, name)
+            shutil.copy(os.path.join(TOP, "examples", "two.col"), path)
+            done = subprocess.run([FORESTLAB.encode(), b"picture", b"rounds", path], capture_output=True, timeout=60)
+            self.note(f"a file {name}", done.returncode == 0 and ElementTree.fromstring(done.stdout) is not None, done)
 
     def test_names(self):
         net = network_of(NAMED)

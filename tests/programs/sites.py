@@ -177,7 +177,10 @@ class Sites(Case):
         ):
             self.refused(name, said, "--sites", self.file("sites.csv", text), "--reach", "5")
         sites = self.file("sites.csv", SITES)
+        by_comma, by_point = (call("read", "--sites", sites, "--reach", reach)[:2] for reach in ("55,5", "55.5"))
+        self.note("a reach with a decimal comma", by_comma == by_point and by_comma[0] == 0, by_comma)
         for words in (["--reach", "5"], [], ["--sites", sites], ["--sites", sites, "--reach", "0"],
+                      ["--sites", sites, "--reach", "1e-320"], ["--sites", sites, "--reach", "nan"],
                       ["--channels", "x", sites], ["-", "--sites", "-"], ["-", "--channels", "6 6"]):
             status, wrote, told = call("read", *words)
             self.note(f"refused words: {words}", (status, wrote) == (2, b"") and b"error: " in told, (status, told))
@@ -239,7 +242,7 @@ class Channels(Case):
         ):
             got = self.call(*words, data=data)
             self.note(f"{words} {data!r}", got[:2] == (1, "") and said in got[2] and got[2].count("\n") == 1, got)
-        for words in ([], ["x"], ["1", "1"], ["1-"], ["5-1"], ["1-5/0"], ["1-3000"], ["--forth", "1"]):
+        for words in ([], ["x"], ["nowhere.csv"], ["1", "1"], ["1-"], ["5-1"], ["1-5/0"], ["1-3000"], ["--forth", "1"]):
             got = self.call(*words, data="plan\n")
             self.note(f"refused words: {words}", got[:2] == (2, "") and "channels: error: " in got[2], got)
 
