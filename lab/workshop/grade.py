@@ -57,13 +57,14 @@ MORE_HELP = """\
 After `--` come words that are put before each command, as those of a container, in which
 {} is the folder of the copy. Programs then aren't guarded from here.
 
-Status: 0 all are graded, 1 one has no result, 2 the command line is refused, 3 the judge
+Status: 0 all are graded, 1 one has no result, 2 the command line is refused, or the judge
 can't be run.
 
 Examples:
-  workshop grade submissions
-  workshop grade submissions --reports reports --json > points.json
-  workshop grade submissions -- docker run -i --rm --network none -v {}:/a -w /a python:3
+  forestlab workshop grade submissions
+  forestlab workshop grade submissions --reports reports --json > points.json
+  forestlab workshop grade submissions -- \\
+      docker run -i --rm --network none -v {}:/a -w /a python:3
 """
 
 

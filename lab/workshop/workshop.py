@@ -23,7 +23,7 @@ def main(words: list[str]) -> int:
         if words[:1] and words[0] in OTHERS:
             return OTHERS[words[0]](words[1:])
         options = parsed(words)
-    except Wrong as why:
+    except (Wrong, NoVerdict) as why:
         return failed(why, REFUSED)
     try:
         INTERRUPTS.install()

@@ -15,6 +15,7 @@ from lab.schedules.policies import POLICIES
 from lab.workshop import grade
 from lab.workshop.cases import NETWORKS
 from lab.workshop.guard import Guard
+from lab.workshop.workshop import main
 from tests import TOP
 from tests.workshop.base import EXAMPLES, call
 from tests.workshop.forgers import OUTSIDE, got, program
@@ -115,7 +116,12 @@ class Grades(unittest.TestCase):
             done = call("grade", *words)
             self.assertEqual((done.returncode, done.stdout), (status, ""), done)
             self.assertIn(said, done.stderr)
-        os.makedirs(self.subs)
+        self.submit("anna", open_node_py=ZERO)
+        errors = io.StringIO()
+        with mock.patch.object(grade, "ask", lambda *_: (1, "", "it isn't there")), contextlib.redirect_stderr(errors):
+            self.assertEqual(main(["grade", self.subs]), 2)
+        self.assertEqual(errors.getvalue(), "workshop: forestplan plain ends with status 1: it isn't there\n")
+        shutil.rmtree(os.path.join(self.subs, "anna"))
         self.assertIn("has no folder of a submission in it", call("grade", self.subs).stderr)
 
     def test_names_are_printed_harmlessly(self):
