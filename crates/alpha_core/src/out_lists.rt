@@ -141,6 +141,7 @@ fn push_last(wires: &mut ArrayVec<BareWire, ROOM>, bare: BareWire) -> usize
 }
 
 // Takes the first wire off.
+#[inline(always)]
 fn take_first(wires: &mut ArrayVec<BareWire, ROOM>) -> BareWire
     requires some { 0 < array_vec_len wires.old }
     ensures first { result ≡ slice_index_or wires.old.items 0 result }
