@@ -148,10 +148,10 @@ class Index(Case):
         ):
             with self.subTest(page="README.md", limit=name):
                 self.assertIn(f"{limits[name]:,} {words}", readme)
-        with self.subTest(page="START", limit="the greatest colour"):
+        with self.subTest(page="LOOKUP", limit="the greatest colour"):
             degree, bars, channel = (limits[name] for name in ("MAX_DEGREE", "MAX_BARS", "MAX_CHANNEL"))
             self.assertIn(f"{degree:,} + {bars:,}, below `COLOURS`, {channel:,}",
-                          one_line(text_of("docs", "work", "START.md")))
+                          one_line(text_of("docs", "work", "LOOKUP.md")))
         for name in ("MAX_NODES", "MAX_EDGES", "MAX_CHANNEL", "MAX_BARS", "MAX_DEGREE", "MAX_WORKERS", "MAX_CAPACITY"):
             with self.subTest(page="DEFINITIONS", limit=name):
                 self.assertIn(f"`{name}`, {limits[name]:,}", definitions)
