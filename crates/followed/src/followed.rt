@@ -1,0 +1,98 @@
+//! A program that is followed by a sequel.
+
+ghost use Rattle.std.specs.Prelude.{◌≡◌};
+
+use crate::sequel::Sequel;
+use interference::{Memory, Network};
+use node_api::{Inbox, NodeProgram, Outbox, Refused};
+use std::alloc::Global;
+use std::marker::Model;
+
+/// A node of a program that is followed by a sequel. Contracts see its state of the first program, and what it has
+/// beside.
+#[derive(Drop)]
+pub struct Followed<P: NodeProgram, R: Sequel<P>> {
+    first: P,
+    beside: R,
+}
+
+impl<P: NodeProgram, R: Sequel<P>> Model for Followed<P, R> {
+    ghost use Rattle.followed.specs.Followed.{Both};
+
+    ghost Value = { Both P R };
+
+    ghost view = { λ a. record { first = a.first; beside = a.beside } };
+}
+
+impl<P: NodeProgram, R: Sequel<P>> Followed<P, R> {
+    /// The node's state of the first program.
+    pub fn first(&self) -> &P
+        ensures { result.now ≡ self.now.first }
+    {
+        &self.first
+    }
+
+    /// What it has beside.
+    pub fn beside(&self) -> &R
+        ensures { result.now ≡ self.now.beside }
+    {
+        &self.beside
+    }
+}
+
+impl<P: NodeProgram, R: Sequel<P>> NodeProgram for Followed<P, R> {
+    ghost use Rattle.followed.specs.Followed.{followed};
+    ghost use Rattle.followed.specs.FollowedLaws.{followed_is_program};
+
+    type Payload = P::Payload;
+
+    ghost program = { followed R.before R.sequel };
+
+    ghost laws = { followed_is_program R.before R.sequel R.before_laws R.laws };
+
+    fn last_pulse(net: &Network) -> u32 {
+        R::last_pulse(net)
+    }
+
+    fn make(alloc: Global, net: &Network, v: u32) -> Result<Self, Memory> {
+        let first = P::make(alloc, net, v)?;
+        let beside = R::begin(alloc, net, v)?;
+        Ok(Followed { first, beside })
+    }
+
+    fn init(&mut self, out: &mut Outbox<P::Payload>) {
+        self.first.init(out);
+    }
+
+    fn pre_step(&mut self, pulse: u32) {
+        if pulse <= self.beside.until() {
+            self.first.pre_step(pulse);
+        }
+    }
+
+    fn handle_messages(
+        &mut self,
+        pulse: u32,
+        inbox: &mut Inbox<P::Payload>,
+        out: &mut Outbox<P::Payload>,
+    ) -> Result<(), Refused> {
+        let until = self.beside.until();
+        if until < pulse {
+            return self
+                .beside
+                .pulse(&self.first, pulse - until - 1, inbox, out);
+        }
+        self.first.handle_messages(pulse, inbox, out)
+    }
+
+    fn post_step(&mut self, pulse: u32) {
+        if pulse <= self.beside.until() {
+            self.first.post_step(pulse);
+        }
+    }
+
+    // Up to the cut the node rests while the first program does.
+    fn rests_until(&self, pulse: u32) -> u32 {
+        self.first.rests_until(pulse).min(self.beside.until())
+    }
+}
