@@ -35,8 +35,8 @@ class Leader:
         return [("Leader", heard) if pulse < self.last else None] * self.degree
 
     def refuses(self, pulse: int, inbox: list[Slot]) -> bool:
-        """Whether no round has this inbox: a neighbour's identifier isn't the node's own."""
-        return pulse == 1 and any(slot and slot[1] == self.best for slot in inbox)
+        """Whether no round has this inbox: nothing is sent for a pulse after the last."""
+        return pulse > self.last and any(inbox)
 
     def result(self) -> str:
         return f"leader {self.best}"

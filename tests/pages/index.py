@@ -9,6 +9,7 @@ import re
 from build import promises
 from build.crate_lists import listed, with_below
 from lab.__main__ import COMMANDS as OF_LAB
+from lab.networks import network_text
 from tests import TOP
 from tests.cases import Case
 
@@ -134,13 +135,16 @@ class Index(Case):
                 self.assertEqual(set(re.findall(r"--\w+", line)), options - {"--help"})
 
     def test_limits(self):
-        """The pages have the numbers of the constants."""
+        """The pages have the numbers of the constants, and lab/ has the same."""
         files = ("graph_limits/src/limits.rt", "interference/src/limits.rt", "run_options/src/lib.rt")
         limits = {
             name: int(number.replace("_", ""))
             for file in files
             for name, number in re.findall(r"^pub const (MAX_\w+): \w+ = ([\d_]+);", text_of("crates", file), re.M)
         }
+        for name in ("MAX_NODES", "MAX_EDGES", "MAX_DEGREE", "MAX_CHANNEL", "MAX_BARS"):
+            with self.subTest(module="lab/networks/network_text.py", limit=name):
+                self.assertEqual(getattr(network_text, name), limits[name])
         readme, definitions = one_line(text_of("README.md")), one_line(text_of("docs", "claim", "DEFINITIONS.md"))
         for name, words in (
             ("MAX_NODES", "nodes"), ("MAX_EDGES", "edges"), ("MAX_DEGREE", "neighbours"), ("MAX_BARS", "barred"),

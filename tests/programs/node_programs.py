@@ -1,5 +1,8 @@
 """Black-box tests of `forestplay --program`, and of `forestplay run`: each answer is worked by hand, and each text of
 one program is refused by the others."""
+from lab.definitions.colours import network_of
+from lab.definitions.layers import Layers
+from lab.definitions.leader import Leader
 from tests.cases import Case, run_program, text
 from tests.settings import PLAY
 
@@ -99,6 +102,18 @@ class Programs(Case):
                 again = run_program(PLAY, ["replay", "--program", other], text(EDGE) + done.stdout)
                 good = again.returncode == 0 if other == program else again.stderr.startswith(b"forestplay: X1 line ")
                 self.note(f"{program} replayed as {other}", good, again)
+
+    def test_illegal_inboxes(self):
+        """Which inboxes no round has, by the definitions' pages: the first rule of the election, and of the layers that
+        a distance is the pulse before."""
+        net = network_of(b"p edge 2 1\ne 1 2\n")
+        for program, pulse, payload, wanted in (
+            (Leader, 1, ("Leader", 1), False), (Leader, 1, ("Leader", 2), False), (Leader, 2, ("Leader", 1), False),
+            (Leader, 3, ("Leader", 1), True), (Leader, 3, None, False), (Layers, 1, ("Hops", 0), False),
+            (Layers, 1, ("Hops", 1), True), (Layers, 2, ("Hops", 1), False), (Layers, 2, None, False),
+        ):
+            got = program(net, 2).refuses(pulse, [payload])
+            self.note(f"{program.name} at pulse {pulse}: {payload}", got is wanted, got)
 
     def test_rounds(self):
         for program, net, wanted in ROUNDS:
