@@ -7,7 +7,7 @@ use Rattle.std.proofs.lemmas.Bool.{and_from, and_parts}
 use Rattle.std.proofs.lemmas.List.{length-set}
 use Rattle.alpha_core.specs.declared.wire.Wire.{Wire}
 use Rattle.alpha_core.specs.declared.wire.Wire.TheVariants.{Safe}
-use Rattle.alpha_core.specs.Followed.{unsaid, AreFollowed, AllFollowed, AreSettled}
+use Rattle.alpha_core.specs.Followed.{unsaid, AreFollowed, AllFollowed, AreSettled, IsAlphaNode}
 use Rattle.alpha_core.specs.Rows.{AtPulse}
 use Rattle.alpha_core.specs.View.{Port, View, new_port, none_waits}
 use Rattle.alpha_core.specs.Alpha.{emit, advances, enter_all, entering}
@@ -61,21 +61,20 @@ module _ {M : Type 0} where
       → new ≡ record v { ports = set v.ports i p } → i < length v.ports
       → (AreFollowed (unsaid said) (get_or v.ports i new_port).out → AreFollowed (unsaid said) p.out)
       → (not (get_or v.ports i new_port).waits ≡ true → not p.waits ≡ true)
-      → (count ≡ length v.ports) × (size ≡ length v.ports) × (v.pulse ≤ last) × AreSettled said v.ports
-      → (count ≡ length new.ports) × (size ≡ length new.ports) × (new.pulse ≤ last) × AreSettled said new.ports
+      → IsAlphaNode count size v.pulse last said v.ports → IsAlphaNode count size new.pulse last said new.ports
   kept-set count size last said v i p new is below step quiet kept =
       let ports = ap (λ (w : AtPulse (Port M)). w.ports) is in
       let same : length new.ports ≡ length v.ports = ap length ports ∙ length-set v.ports i p in
-      let more = unsaid said in (
-        kept.0 ∙ sym same,
-        kept.1 ∙ sym same,
-        omega (arith, kept.2, ap (λ (w : AtPulse (Port M)). w.pulse) is),
-        record {
+      let more = unsaid said in record {
+        program_ports = kept.program_ports ∙ sym same;
+        outbox_ports = kept.outbox_ports ∙ sym same;
+        low = omega (arith, kept.low, ap (λ (w : AtPulse (Port M)). w.pulse) is);
+        settled = record {
           followed = subst (λ l. AllFollowed more l) (sym ports)
-              (followed-set more v.ports i p (step (followed-at more v.ports i new_port below kept.3.followed)) kept.3.followed);
-          waits = λ e. ap (λ l. none_waits l) ports ∙ waits-set v.ports i p new_port quiet (kept.3.waits e);
-        },
-      )
+              (followed-set more v.ports i p (step (followed-at more v.ports i new_port below kept.settled.followed)) kept.settled.followed);
+          waits = λ e. ap (λ l. none_waits l) ports ∙ waits-set v.ports i p new_port quiet (kept.settled.waits e);
+        };
+      }
 
 pub new-waits : (M : Type 0) (n : ℕ) → none_waits {M = M} (replicate n new_port) ≡ true
 new-waits M zero = refl

@@ -1,5 +1,5 @@
 -- Out-lists in which each payload is followed by a safe of its own, but for one payload if the node hasn't said safe.
-use Rattle.std.specs.Prelude.{⊤, ◌≡◌, ◌≤◌, ℕ, ◌+◌, Bool, true, false, List, [], ◌∷◌}
+use Rattle.std.specs.Prelude.{⊤, ◌≡◌, ◌≤◌, ℕ, ◌+◌, Bool, true, false, List, [], ◌∷◌, length}
 use Rattle.alpha_core.specs.declared.wire.Wire.{Wire}
 use Rattle.alpha_core.specs.OutLists.{payloads_out, safes_out}
 use Rattle.alpha_core.specs.View.{Port, none_waits}
@@ -29,3 +29,10 @@ module _ {M : Type 0} where
   pub record AreSettled (said : Bool) (ports : List (Port M)) : Type 0 where
     pub followed : AllFollowed (unsaid said) ports
     pub waits : said ≡ true → none_waits ports ≡ true
+
+  -- What a node keeps: its program and its outbox have its ports, its pulse is at most the last, and its ports are settled.
+  pub record IsAlphaNode (of_program of_outbox pulse last : ℕ) (said : Bool) (ports : List (Port M)) : Type 0 where
+    pub program_ports : of_program ≡ length ports
+    pub outbox_ports : of_outbox ≡ length ports
+    pub low : pulse ≤ last
+    pub settled : AreSettled said ports
