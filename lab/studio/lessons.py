@@ -32,4 +32,9 @@ LESSONS = [
             "left out?",
      "see": "You choose which message is taken next. Here nodes don't wait for the safes of their neighbours.",
      "do": "Make a node pulse with a wrong inbox, in as few steps as you can; then search every order."},
+    {"number": 7, "title": "More from the same forests", "open": "example=triangle&tab=rounds&program=matching",
+     "ask": "The nodes know their forests and their colours. What else can they agree on with them?",
+     "see": "After pulse 12 each forest has a turn for each of its three colours, and a free node of the turn's colour "
+            "takes one of the children that are free. A partner is a port, counted from 0.",
+     "do": "Choose the program independent-set, then recolouring: what has each node found at the end?"},
 ]

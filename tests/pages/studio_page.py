@@ -60,18 +60,18 @@ class Page(Case):
             cls.page = None
             return
         cls.process, cls.address = begin(*cls.words)
+        cls.addClassCleanup(cls.end_server)
         cls.page = browser.Browser(program)
+        cls.addClassCleanup(cls.page.end)
         cls.page.size(1280, 800)
         cls.page.go(cls.address)
         cls.page.until("window.studio && studio.seen.hello", 60)
 
     @classmethod
-    def tearDownClass(cls):
-        if cls.page:
-            cls.page.end()
-            cls.process.send_signal(signal.SIGINT)
-            cls.process.wait(20)
-            cls.process.stderr.close()
+    def end_server(cls):
+        cls.process.send_signal(signal.SIGINT)
+        cls.process.wait(20)
+        cls.process.stderr.close()
 
     def setUp(self):
         if self.page is None:

@@ -19,7 +19,7 @@ export class Stage {
     this.high = box.height || 1;
     this.isZoomed = false;
     const names = Math.max(0, ...this.net.nodes.map(n => Math.min(12, n.name.length) + Math.min(8, n.id.length)));
-    const margin = Math.min(64, 12 + this.wide / 14) + Math.min(6 * names, this.wide / 8);
+    const margin = Math.max(42, Math.min(64, 12 + this.wide / 14)) + Math.min(6 * names, this.wide / 8);
     const least = list => Math.min(...list), most = list => Math.max(...list);
     if (xs.length < 2) {
       this.to = {scale: 1, x: this.wide / 2 - (xs[0] || 0), y: this.high / 2 - (ys[0] || 0)};

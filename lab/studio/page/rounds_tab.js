@@ -94,6 +94,10 @@ tabs.rounds = {
       time.set(time.at);
       await askWhy();
     });
+    if (!isReady()) {
+      ["said", "forests", "why"].forEach(id => by(id).replaceChildren());
+      hide("strips", true);
+    }
     askBroken();
   },
   step: way => time.set(way > 0 ? Math.floor(time.at + 1) : Math.ceil(time.at - 1)),

@@ -70,7 +70,10 @@ function ask() {
     judgeSoon();
   });
 }
-function lay(names) { Object.entries(names).forEach(([name, is]) => by("stage").classList.toggle(name, is)); }
+function lay() {
+  const is = {two: Boolean(run.film2), beside: by("beside").checked, long: isLong()};
+  Object.keys(is).forEach(name => by("stage").classList.toggle(name, seen.tab === "run" && is[name]));
+}
 // Whether the network is so long that pictures of it go one below the other.
 function isLong() {
   const span = list => Math.max(...list) - Math.min(...list);
@@ -79,7 +82,7 @@ function isLong() {
 // Puts the slider to a place of the run that is there: a stamp, or of two runs a pulse.
 function place(at) {
   if (seen.tab !== "run") return;
-  lay({two: Boolean(run.film2), beside: by("beside").checked, long: isLong()});
+  lay();
   hide("second", !run.film2);
   hide("small", !by("beside").checked);
   stage.fit();
@@ -94,6 +97,7 @@ function pulses() {
 }
 function showAt() {
   if (!isReady()) return;
+  lay();
   const only = by("payloads").checked, options = {node: seen.node, only, slow: seen.slow, lazy: seen.lazy};
   let at;
   if (run.film2) {
@@ -188,7 +192,7 @@ tabs.run = {
     ask();
   },
   leave() {
-    lay({two: false, beside: false, long: false});
+    by("stage").classList.remove("two", "beside", "long");
     hide("second", true);
     hide("small", true);
   },

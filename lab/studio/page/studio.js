@@ -57,6 +57,7 @@ model.onChange(what => {
   seen.slow = seen.slow.filter(e => model.hasEdge(e[0], e[1]));
   seen.lazy = seen.lazy.filter(v => v <= net.nodes.length);
   check.verdict = null;
+  by("judgement").replaceChildren();
   steps.made = run.steps = [];
   run.transcript = null;
   if (what === "undo" && stage.isOutside()) stage.fit();
