@@ -3,8 +3,8 @@
 //! All threads share the links of a run (`Links`); their ends move with the nodes. An end knows which link it is of by
 //! its type alone: each end of a run, and the links of the run, have the same `Wiring` as a type parameter, and a fact
 //! of the type says at which vertex and port the end's link is, and at which index of `Links`. So ends may go through
-//! queues and threads, and come back. `Links::take` asks for nothing, `Links::put` only that the wire goes on with a
-//! legal list of the link, and `Links::meet` that both ends have the same vertex and port.
+//! queues and threads, and come back. `Links::try_take` asks for nothing, `Links::try_put` only that the wire goes on
+//! with a legal list of the link, and `Links::meet` that both ends have the same vertex and port.
 //!
 //! A `Node` keeps as facts of its type that it fits the lists of its own ends: `NodeKept` of `alpha_laws`, over the
 //! lists that its ends put and took. So each turn of it, in whatever thread, keeps these facts, and asks

@@ -41,14 +41,19 @@ fn wire_of<T: PayloadText>(item: Queued<T>) -> Wire<T>
 
 impl<J: Wiring, P: NodeProgram> Node<J, P> {
     // Takes a wire by a port, if there is one, and reacts to it. Returns whether there was one.
-    fn take_one(&mut self, links: &Links<J, P>, port: u32) -> Result<bool, TurnRefused>
+    fn take_one<const ON: bool>(
+        &mut self,
+        links: &Links<J, P>,
+        port: u32,
+    ) -> Result<bool, TurnRefused>
+        requires transcript { J.transcript ≡ ON }
         requires port { port < self.old.degree }
         requires going { self.old.aside ≡ None }
         requires room { IsTrue (can_take self.old.alpha.node.view) }
         ensures stepped { Stepped self.old self.new result }
         ensures counted { IfOk result (λ did. did ≡ true → CountsTake port self.old self.new) }
     {
-        self.recorder.reserve()?;
+        self.recorder.reserve::<ON>()?;
         let end = &mut self.takes[port as usize];
         match links.try_take(end) {
             None => Ok(false),
@@ -64,7 +69,7 @@ impl<J: Wiring, P: NodeProgram> Node<J, P> {
                     Ok(()) => {
                         self.counter.advance(next);
                         let entry = Entry::Take(end.vertex, wire);
-                        self.recorder.write(next, entry);
+                        self.recorder.write::<ON>(next, entry);
                     }
                     Err(_) => {
                         let why = WhyAside::Refused;
@@ -77,14 +82,22 @@ impl<J: Wiring, P: NodeProgram> Node<J, P> {
     }
 
     // Takes a wire by a port, and further ones while it expects them, at most `TAKES`. Returns whether it took one.
-    fn take_some(&mut self, links: &Links<J, P>, port: u32) -> Result<bool, TurnRefused>
+    fn take_some<const ON: bool>(
+        &mut self,
+        links: &Links<J, P>,
+        port: u32,
+    ) -> Result<bool, TurnRefused>
+        requires transcript { J.transcript ≡ ON }
         requires port { port < self.old.degree }
         ensures stepped { Stepped self.old self.new result }
         ensures stopped { IfOk result (λ did. IsSome self.old.aside → did ≡ false) }
     {
         let mut took = false;
         for _ in 0..TAKES {
-            if self.aside.is_some() || !self.alpha.can_take() || !self.take_one(links, port)? {
+            if self.aside.is_some()
+                || !self.alpha.can_take()
+                || !self.take_one::<ON>(links, port)?
+            {
                 break;
             }
             took = true;
@@ -96,13 +109,14 @@ impl<J: Wiring, P: NodeProgram> Node<J, P> {
     }
 
     // Takes by each port, ascending. Returns whether it took a wire.
-    fn take_all(&mut self, links: &Links<J, P>) -> Result<bool, TurnRefused>
+    fn take_all<const ON: bool>(&mut self, links: &Links<J, P>) -> Result<bool, TurnRefused>
+        requires transcript { J.transcript ≡ ON }
         ensures stepped { Stepped self.old self.new result }
         ensures stopped { IfOk result (λ did. IsSome self.old.aside → did ≡ false) }
     {
         let mut took = false;
         for port in 0..self.degree {
-            if self.take_some(links, port)? {
+            if self.take_some::<ON>(links, port)? {
                 took = true;
             }
         }
@@ -110,7 +124,8 @@ impl<J: Wiring, P: NodeProgram> Node<J, P> {
     }
 
     // Makes the next pulse, if the node can; its program doesn't refuse it. Returns whether it made one.
-    fn pulse(&mut self) -> Result<bool, TurnRefused>
+    fn pulse<const ON: bool>(&mut self) -> Result<bool, TurnRefused>
+        requires transcript { J.transcript ≡ ON }
         requires going { self.old.aside ≡ None }
         ensures stepped { Stepped self.old self.new result }
         ensures counted { IfOk result (λ did. did ≡ true → self.new.counter ≡ self.old.counter + 1) }
@@ -122,12 +137,12 @@ impl<J: Wiring, P: NodeProgram> Node<J, P> {
             return Ok(false);
         }
         let stamp = self.counter.peek()?;
-        self.recorder.reserve()?;
+        self.recorder.reserve::<ON>()?;
         match self.alpha.pulse() {
             Ok(()) => {
                 self.counter.advance(stamp);
                 let number = self.alpha.pulse_number();
-                self.recorder.write(stamp, Entry::Pulse(number));
+                self.recorder.write::<ON>(stamp, Entry::Pulse(number));
                 Ok(true)
             }
             Err(_) => unreachable!(),
@@ -136,7 +151,12 @@ impl<J: Wiring, P: NodeProgram> Node<J, P> {
 
     // Puts the oldest wire of a port by one attempt, if there is one. Returns whether it put one.
     #[inline(always)]
-    fn put_one(&mut self, links: &Links<J, P>, port: u32) -> Result<bool, TurnRefused>
+    fn put_one<const ON: bool>(
+        &mut self,
+        links: &Links<J, P>,
+        port: u32,
+    ) -> Result<bool, TurnRefused>
+        requires transcript { J.transcript ≡ ON }
         requires port { port < self.old.degree }
         requires going { self.old.aside ≡ None }
         ensures stepped { Stepped self.old self.new result }
@@ -147,7 +167,7 @@ impl<J: Wiring, P: NodeProgram> Node<J, P> {
             return Ok(false);
         };
         let stamp = self.counter.peek()?;
-        self.recorder.reserve()?;
+        self.recorder.reserve::<ON>()?;
         match links.try_put(&mut self.puts[port as usize], Stamped { stamp, wire }) {
             Err(_) => Ok(false),
             Ok(()) => {
@@ -155,7 +175,7 @@ impl<J: Wiring, P: NodeProgram> Node<J, P> {
                 self.counter.advance(stamp);
                 let neighbour = &self.takes[port as usize];
                 let entry = Entry::Put(neighbour.vertex, wire);
-                self.recorder.write(stamp, entry);
+                self.recorder.write::<ON>(stamp, entry);
                 Ok(true)
             }
         }
@@ -164,14 +184,19 @@ impl<J: Wiring, P: NodeProgram> Node<J, P> {
     // Puts by a port, until nothing is left or an attempt fails. Returns whether it put a wire. Always inlined, as
     // `put_one`, though it is called twice.
     #[inline(always)]
-    fn put_some(&mut self, links: &Links<J, P>, port: u32) -> Result<bool, TurnRefused>
+    fn put_some<const ON: bool>(
+        &mut self,
+        links: &Links<J, P>,
+        port: u32,
+    ) -> Result<bool, TurnRefused>
+        requires transcript { J.transcript ≡ ON }
         requires port { port < self.old.degree }
         requires going { self.old.aside ≡ None }
         ensures stepped { Stepped self.old self.new result }
         ensures going { self.new.aside ≡ None }
     {
         for put in 0..PUTS {
-            if !self.put_one(links, port)? {
+            if !self.put_one::<ON>(links, port)? {
                 return Ok(put > 0);
             }
         }
@@ -195,12 +220,13 @@ impl<J: Wiring, P: NodeProgram> Node<J, P> {
     // Puts by a port after an attempt that failed though the link wasn't full, until a wire is put or the port is
     // blocked. Returns whether it put one. Never inlined, since few runs come here.
     #[inline(never)]
-    fn put_again<R: Wait>(
+    fn put_again<const ON: bool, R: Wait>(
         &mut self,
         rt: &R,
         links: &Links<J, P>,
         port: u32,
     ) -> Result<bool, TurnRefused>
+        requires transcript { J.transcript ≡ ON }
         requires port { port < self.old.degree }
         requires going { self.old.aside ≡ None }
         ensures stepped { Stepped self.old self.new result }
@@ -208,7 +234,7 @@ impl<J: Wiring, P: NodeProgram> Node<J, P> {
         ensures going { self.new.aside ≡ None }
     {
         for _ in rt.forever() {
-            let put = self.put_some(links, port)?;
+            let put = self.put_some::<ON>(links, port)?;
             if put {
                 return Ok(true);
             }
@@ -221,7 +247,12 @@ impl<J: Wiring, P: NodeProgram> Node<J, P> {
 
     // Puts by each port, ascending. Returns whether it put a wire. It calls a function that may wait only after an
     // attempt that failed by a port that isn't blocked.
-    fn put_all<R: Wait>(&mut self, rt: &R, links: &Links<J, P>) -> Result<bool, TurnRefused>
+    fn put_all<const ON: bool, R: Wait>(
+        &mut self,
+        rt: &R,
+        links: &Links<J, P>,
+    ) -> Result<bool, TurnRefused>
+        requires transcript { J.transcript ≡ ON }
         requires going { self.old.aside ≡ None }
         ensures stepped { Stepped self.old self.new result }
         ensures blocked { IfOk result
@@ -230,14 +261,14 @@ impl<J: Wiring, P: NodeProgram> Node<J, P> {
     {
         let mut put = false;
         for port in 0..self.degree {
-            if self.put_some(links, port)? {
+            if self.put_some::<ON>(links, port)? {
                 put = true;
                 continue;
             }
             if self.is_blocked(links, port) {
                 continue;
             }
-            if self.put_again(rt, links, port)? {
+            if self.put_again::<ON, R>(rt, links, port)? {
                 put = true;
             }
         }
@@ -245,7 +276,29 @@ impl<J: Wiring, P: NodeProgram> Node<J, P> {
     }
 
     // The parts of a turn, one after the other. Returns whether the node did anything; false if it set a wire aside.
-    fn parts<R: Wait, G: Gate>(
+    // `ON` says in all parts whether the node writes a transcript, so that none of them asks.
+    fn parts<const ON: bool, R: Wait, G: Gate>(
+        &mut self,
+        rt: &R,
+        links: &Links<J, P>,
+        gate: &G,
+        worker: u32,
+    ) -> Result<bool, TurnRefused>
+        requires transcript { J.transcript ≡ ON }
+        ensures turned { Turned self.old self.new result }
+    {
+        let took = self.take_all::<ON>(links)?;
+        gate.middle(rt, worker, self.vertex);
+        if self.aside.is_some() {
+            return Ok(false);
+        }
+        let pulsed = self.pulse::<ON>()?;
+        let put = self.put_all::<ON, R>(rt, links)?;
+        Ok(took || pulsed || put)
+    }
+
+    // `parts`, with a transcript or without.
+    fn parts_of_turn<R: Wait, G: Gate>(
         &mut self,
         rt: &R,
         links: &Links<J, P>,
@@ -254,14 +307,11 @@ impl<J: Wiring, P: NodeProgram> Node<J, P> {
     ) -> Result<bool, TurnRefused>
         ensures turned { Turned self.old self.new result }
     {
-        let took = self.take_all(links)?;
-        gate.middle(rt, worker, self.vertex);
-        if self.aside.is_some() {
-            return Ok(false);
+        if self.recorder.is_on() {
+            self.parts::<true, R, G>(rt, links, gate, worker)
+        } else {
+            self.parts::<false, R, G>(rt, links, gate, worker)
         }
-        let pulsed = self.pulse()?;
-        let put = self.put_all(rt, links)?;
-        Ok(took || pulsed || put)
     }
 
     /// One turn: takes by each port, then one pulse if the node can make it, then puts by each port. Returns whether
@@ -291,7 +341,7 @@ impl<J: Wiring, P: NodeProgram> Node<J, P> {
         ensures full { IfErr result (λ error. error ≡ TurnRefused.StampFull
             → 2 ^ 64 ≤ max self.new.counter (aside_stamp self.new.aside) + 1) }
     {
-        match self.parts(rt, links, gate, worker) {
+        match self.parts_of_turn(rt, links, gate, worker) {
             Ok(did) => Ok(did),
             Err(refused) => {
                 self.refusal = Some(refused);

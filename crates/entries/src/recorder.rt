@@ -28,32 +28,42 @@ impl<T: Copy> Recorder<T> {
         }
     }
 
-    /// Room for one entry more, of any kind, if entries are written down.
+    /// Whether entries are written down.
+    pub fn is_on(&self) -> bool
+        ensures on { result ≡ is_on self.now }
+    {
+        matches!(self, Recorder::On(_))
+    }
+
+    /// Room for one entry more, of any kind, if entries are written down. The caller knows by `ON` whether they are.
     ///
     /// # Errors
     ///
     /// `Memory` if memory is refused.
     #[inline(always)]
-    pub fn reserve(&mut self) -> Result<(), Memory>
+    pub fn reserve<const ON: bool>(&mut self) -> Result<(), Memory>
+        requires on { is_on self.old ≡ ON }
         ensures same { HasSame self.old self.new }
         ensures room { OnOk result (HasRoom self.new) }
         ensures refused { OnErr result (IsTrue (is_on self.old)) }
     {
         match self {
-            Recorder::Off => Ok(()),
-            Recorder::On(entries) => entries.reserve(),
+            Recorder::On(entries) if ON => entries.reserve(),
+            _ => Ok(()),
         }
     }
 
-    /// Writes an entry down with its stamp, if entries are written down; there is room for it.
+    /// Writes an entry down with its stamp, if entries are written down; there is room for it. The caller knows by `ON`
+    /// whether they are.
     #[inline(always)]
-    pub fn write(&mut self, stamp: u64, entry: Entry<T>)
+    pub fn write<const ON: bool>(&mut self, stamp: u64, entry: Entry<T>)
+        requires on { is_on self.old ≡ ON }
         requires room { HasRoom self.old }
         ensures written { HasWritten stamp entry self.old self.new }
     {
         match self {
-            Recorder::Off => {}
-            Recorder::On(entries) => entries.push_reserved(stamp, entry),
+            Recorder::On(entries) if ON => entries.push_reserved(stamp, entry),
+            _ => {}
         }
     }
 

@@ -32,7 +32,10 @@ pub advance-requires : goal.advance-requires
 advance-requires g c = record { above = next_above c.in_ok-stamp.stamp c.args.self.now.counter c.in_ok-stamp.ensures.stamp }
 
 pub write-requires : goal.write-requires
-write-requires g c = record { room = c.in_ok-reserve.ensures.room }
+write-requires g c = record {
+  on = c.reserve.ensures.same.on ∙ c.args.self.now.kept.recorded ∙ c.requires.transcript;
+  room = c.in_ok-reserve.ensures.room;
+}
 
 -- the stamp would be too great
 pub returns-in_err-stamp : goal.returns-in_err-stamp
@@ -70,3 +73,7 @@ returns g c = record {
   blocked = λ did. absurd (true≢false did);
   going = c.requires.going;
 }
+
+-- the recorder is on as the run says
+pub reserve-requires : goal.reserve-requires
+reserve-requires g c = record { on = c.args.self.now.kept.recorded ∙ c.requires.transcript }

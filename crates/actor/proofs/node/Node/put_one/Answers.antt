@@ -88,7 +88,10 @@ pub advance-requires : goal.advance-requires
 advance-requires g c = record { above = next_above c.in_ok-stamp.stamp c.args.self.now.counter c.in_ok-stamp.ensures.stamp }
 
 pub write-requires : goal.write-requires
-write-requires g c = record { room = c.in_ok-reserve.ensures.room }
+write-requires g c = record {
+  on = c.reserve.ensures.same.on ∙ c.args.self.now.kept.recorded ∙ c.requires.transcript;
+  room = c.in_ok-reserve.ensures.room;
+}
 
 pub returns-in_default : goal.returns-in_default
 returns-in_default g c = record {
@@ -144,3 +147,7 @@ returns-in-Ok g c =
       };
       going = c.requires.going;
     }
+
+-- the recorder is on as the run says
+pub reserve-requires : goal.reserve-requires
+reserve-requires g c = record { on = c.args.self.now.kept.recorded ∙ c.requires.transcript }

@@ -63,7 +63,10 @@ pub advance-requires : goal.advance-requires
 advance-requires g c = record { above = past_above c.in-Ok.next c.args.self.now.counter _ c.in-Ok.ensures.stamp }
 
 pub write-requires : goal.write-requires
-write-requires g c = record { room = c.in_ok-reserve.ensures.room }
+write-requires g c = record {
+  on = c.reserve.ensures.same.on ∙ c.args.self.now.kept.recorded ∙ c.requires.transcript;
+  room = c.in_ok-reserve.ensures.room;
+}
 
 -- the link was empty
 pub returns-in-None : goal.returns-in-None
@@ -107,3 +110,7 @@ returns-in-Ok-on_wire g c =
 -- a wire was set aside
 pub returns-in-Err : goal.returns-in-Err
 returns-in-Err g c = record { stepped = stepped-did refl refl refl; counted = λ did. record { past = λ going. absurd cc; stays = λ aside. refl } }
+
+-- the recorder is on as the run says
+pub reserve-requires : goal.reserve-requires
+reserve-requires g c = record { on = c.args.self.now.kept.recorded ∙ c.requires.transcript }
