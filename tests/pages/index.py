@@ -62,6 +62,15 @@ class Index(Case):
         wrong = [(crate, count) for crate, count in rows if int(count) != len(with_below([crate], listed()))]
         self.assertEqual((len(rows), wrong), (2, []), "crates of an example of python3 build vendor")
 
+    def test_crates_above(self):
+        """LAYERS says of each crate how many are above it."""
+        below = listed()
+        wanted = {crate: sum(crate in with_below([other], below) for other in below) - 1 for crate in below}
+        found = dict(re.findall(r"^- `(\w+)` \((\d+) above\):", text_of("docs", "work", "LAYERS.md"), re.M))
+        self.assertEqual({crate: int(count) for crate, count in found.items()},
+                         {crate: count for crate, count in wanted.items() if crate in found})
+        self.assertEqual(wanted.keys() - found.keys(), {"checks", "worker_checks"})
+
     def test_readme_has_each_command(self):
         """Each command of forestlab and of the programs is in the table."""
         rows = re.findall(r"^(`[^|]*`) \| ", text_of("README.md"), re.M)
