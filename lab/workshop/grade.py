@@ -170,7 +170,7 @@ def play(part: Part, given: argparse.Namespace, room: str) -> dict:
     copy = os.path.join(tempfile.mkdtemp(dir=room), "submission")
     shutil.copytree(part.folder, copy, symlinks=True)
     hidden = [given.folder, TOP, room, os.path.expanduser("~")]
-    guard = Guard(copy, hidden, programs_at_home(), is_open=bool(given.before))
+    guard = Guard(copy, hidden, programs_at_home([given.folder, TOP]), is_open=bool(given.before))
     if guard.user is not None:
         for at, folders, files in os.walk(os.path.dirname(copy)):
             for path in (at, *(os.path.join(at, name) for name in (*folders, *files))):
@@ -185,12 +185,16 @@ def play(part: Part, given: argparse.Namespace, room: str) -> dict:
     return {"result": as_json(options, *found), "report": report(*found)}
 
 
-def programs_at_home() -> list[str]:
-    """What programs on the PATH may need: the folders beside theirs."""
+def programs_at_home(closed: list[str]) -> list[str]:
+    """What programs on the PATH may need: the folders beside theirs, as far as none that is closed is there."""
     home = os.path.realpath(os.path.expanduser("~"))
-    folders = {os.path.realpath(path) for path in os.environ.get("PATH", "").split(":") if path}
-    return [path if os.path.dirname(path) == home else os.path.dirname(path)
-            for path in folders if path.startswith(home + "/")]
+    found = []
+    for path in {os.path.realpath(path) for path in os.environ.get("PATH", "").split(":") if path}:
+        if path.startswith(home + "/") and not any((path + "/").startswith(other + "/") for other in closed):
+            wide = os.path.dirname(path)
+            is_wide = wide != home and not any((other + "/").startswith(wide + "/") for other in closed)
+            found.append(wide if is_wide else path)
+    return sorted(found)
 
 
 class Play:

@@ -224,14 +224,15 @@ class OwnAlgorithms(Case):
              "broken after 11 events (6 takes and pulses): `always` says that it isn't right\n"),
         ):
             got = self.told(text)
-            self.note(first, got[0] == 0 and got[1].startswith(first), got)
+            self.note(first, got[0] == first.startswith("broken") and got[1].startswith(first), got)
         with open(os.path.join(TOP, "docs", "learn", "OWN_ALGORITHM.md"), encoding="utf-8") as page, open(SET,
                                                                                               encoding="utf-8") as file:
             block = page.read().partition("Of an independent set:\n\n")[2].partition("\n\n## ")[0]
             text = file.read() + "\n" + textwrap.dedent(block) + "\n"
-        for change, first in ((("", ""), "every schedule of path"), (('"set in"', '"set out"'), "broken after")):
-            got = self.told(text.replace(*change), network="path.col")
-            self.note(f"the function of the page, {change}", got[0] == 0 and got[1].startswith(first), got)
+        for change, first in ((("", ""), "every schedule of two"), (('words == "set in"', "words"), "broken after")):
+            got = self.told(text.replace(*change))
+            good = got[0] == first.startswith("broken") and got[1].startswith(first)
+            self.note(f"the function of the page, {change}", good, got)
         for returned in ("None", "7", "''"):
             got = self.told(FLOOD + f"def right(results, neighbours):\n    return {returned}\n")
             said = "it must be True, False, or what isn't right in words"

@@ -44,9 +44,9 @@ class Grades(unittest.TestCase):
                 file.write(text)
         return folder
 
-    def graded(self, *words: str, runs: str = "2") -> dict:
+    def graded(self, *words: str, runs: str = "2", timeout: str = "30") -> dict:
         """By student, of `grade --json` with few runs."""
-        done = call("grade", self.subs, "--seed", "7", "--json", "--timeout", "1", "--runs", runs, *words)
+        done = call("grade", self.subs, "--seed", "7", "--json", "--timeout", timeout, "--runs", runs, *words)
         self.assertIn(done.returncode, (0, 1), done)
         return {one["student"]: one for one in json.loads(done.stdout)["submissions"]}
 
@@ -55,16 +55,20 @@ class Grades(unittest.TestCase):
         self.submit("anna", commands="rounds: python3 rounds_node.py\nopen : python3 'greedy_node.py'\n"
                                      "alpha: python3 alpha_node.py\n")
         self.submit("ben", open_node_py=ZERO, rounds_node_c="int main;")
-        self.submit("cleo", rounds_node_py=MUTE, rounds_node_js="x", open_node_py=MUTE)
+        self.submit("cleo", rounds_node_py=MUTE, rounds_node_js="x")
         found = self.graded()
         table = {student: [*(one[part]["points"] for part in grade.RUNS), one["in_all"]]
                  for student, one in found.items()}
-        self.assertEqual(table, {"anna": [40, 40, 10, "90"], "ben": [None, None, 0, "0"], "cleo": [None, None, 0, "0"]})
+        self.assertEqual(table, {"anna": [40, 40, 10, "90"], "ben": [None, None, 0, "0"], "cleo": [None, None, None, "0"]})
         self.assertEqual([case["verdict"] for case in found["ben"]["open"]["cases"]], ["garbage"] * 2)
         self.assertEqual(found["ben"]["rounds"]["why"],
                          "rounds_node.c can't be run: it has to be compiled, or `chmod +x rounds_node.c`")
         self.assertEqual(found["cleo"]["rounds"]["why"], "rounds_node.js and rounds_node.py: which one?")
-        self.assertEqual({case["verdict"] for case in found["cleo"]["open"]["cases"]}, {"silent"})
+
+    def test_a_mute_program(self):
+        self.submit("cleo", open_node_py=MUTE)
+        cases = self.graded(runs="50", timeout="0.5")["cleo"]["open"]["cases"]
+        self.assertEqual([case["verdict"] for case in cases], ["silent"] * 50)
 
     def test_nothing_outside_is_reached(self):
         if Guard().edition < 6:
@@ -79,8 +83,8 @@ class Grades(unittest.TestCase):
         own = {"own": "open('kept', 'w').write('x')",
                "home": "os.environ['HOME'] == os.getcwd() == os.environ['TMPDIR']"}
         self.submit("anna", rounds_node_py=program(attacks | own, f"away({MARK})\n"))
-        self.submit("ben", rounds_node_py=MUTE)
-        done = call("grade", self.subs, "--runs", "1", "--timeout", "1", "--reports", os.path.join(self.folder, "to"))
+        self.submit("ben", rounds_node_py=program({}))
+        done = call("grade", self.subs, "--runs", "1", "--timeout", "30", "--reports", os.path.join(self.folder, "to"))
         self.assertEqual(done.returncode, 0, done)
         with open(os.path.join(self.folder, "to", "anna.txt"), encoding="utf-8") as text:
             found = got(text.read())
@@ -129,6 +133,17 @@ class Grades(unittest.TestCase):
         done = call("grade", self.subs, "--runs", "1", "--timeout", "0.2")
         self.assertNotRegex(done.stdout + done.stderr, "[\x00-\x09\x0b-\x1f\x7f\u202e]")
         self.assertIn("?[2Janna?", done.stdout)
+
+    def test_what_the_path_opens(self):
+        """By hand: what lies beside a folder of programs, but never this program's folder, which pages put on the PATH,
+        or the submissions, not even from above."""
+        home = self.folder
+        path = ":".join(os.path.join(home, part) for part in (
+            "bin", ".pyenv/bin", "work/bin", "work/forestplan/bin", "work/forestplan", "subs/anna/bin", "node/v20/bin"))
+        closed = [os.path.join(home, part) for part in ("work/forestplan", "subs")]
+        with mock.patch.dict(os.environ, HOME=home, PATH=f"/usr/bin:{path}"):
+            found = [os.path.relpath(path, home) for path in grade.programs_at_home(closed)]
+        self.assertEqual(found, [".pyenv", "bin", "node/v20", "work/bin"])
 
     def test_words_before_a_command(self):
         """As those of a container, with the folder of the copy."""
