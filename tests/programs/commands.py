@@ -18,6 +18,8 @@ from tests.settings import PLAN, PLAY
 
 PATHS = {"forestplan": PLAN, "forestplay": PLAY}
 HELP = os.path.join(TOP, "build", "help")
+# Seconds; a busy machine takes long for the many calls.
+LIMIT = 300
 
 
 def listed(helped):
@@ -80,7 +82,7 @@ class Commands(Case):
         for name, at in MODULES.items():
             self.note(f"build/__main__.py has {name}", name in BUILDERS and at == name.replace("-", "_"), BUILDERS)
             done = subprocess.run([sys.executable, os.path.join(TOP, "build"), name, "--help"], capture_output=True,
-                                  timeout=60)
+                                  timeout=LIMIT)
             self.note(f"python3 build {name} --help", done.returncode == 0 and done.stdout and not done.stderr, done)
 
     def helped(self, *words):
@@ -156,9 +158,9 @@ class Commands(Case):
                 line = f"{script}\nCOMP_WORDS=({quoted}); COMP_CWORD={len(words) - 1}\n_forestplan\n"
                 line += "printf '%s\\n' \"${COMPREPLY[@]}\"\n"
                 line = line.replace("COMP_CWORD=", "setopt ksh_arrays; COMP_CWORD=") if shell == "zsh" else line
-                done = subprocess.run([shell, "-c", line], capture_output=True, text=True, timeout=60)
+                done = subprocess.run([shell, "-c", line], capture_output=True, text=True, timeout=LIMIT)
                 self.note(f"{shell}: {words}", sorted(done.stdout.split()) == sorted(wanted), done)
 
     def call(self, name, *words, data=b""):
-        return subprocess.run([os.path.join(TOP, "bin", name), *words], input=data, capture_output=True, timeout=60,
+        return subprocess.run([os.path.join(TOP, "bin", name), *words], input=data, capture_output=True, timeout=LIMIT,
                               env=dict(os.environ, COLUMNS="80"))
