@@ -37,7 +37,7 @@ def function(crate, module, name):
     """The first sentence of a public function's comment, and the names of its clauses; None for what is no function."""
     source = text_of("crates", crate, "src", f"{module}.rt")
     attributes = r"(?:^#\[[^\n]*\n(?:^ [^\n]*\n|^\)\][^\n]*\n)*)*"
-    found = re.search(rf"((?:^///[^\n]*\n)*){attributes}^pub fn {name}\b(.*?)^\{{", source, re.M | re.S)
+    found = re.search(rf"((?:^///[^\n]*\n)*){attributes}^pub fn {name}\b(.*?)(?:^\{{| \{{$)", source, re.M | re.S)
     if not found:
         return None
     comment, head = found.groups()

@@ -10,16 +10,17 @@
 #![tactic(auto)]
 
 use command_line::Program;
-use serving::serve_process;
+use serving::{arguments, serve_words};
 use std::process::ExitCode;
 
 fn main(rt: HostRuntime) -> ExitCode {
     let mut input = rt.stdin();
     let mut output = rt.stdout();
     let mut errors = rt.stderr();
-    ExitCode::from(serve_process(
+    ExitCode::from(serve_words(
         &rt,
         Program::Forestplan,
+        arguments(&rt),
         &mut input,
         &mut output,
         &mut errors,

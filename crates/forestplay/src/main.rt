@@ -1,5 +1,5 @@
-//! The program `forestplay`: what nodes do to find a channel plan, played by hand for lessons, from standard
-//! input to standard output.
+//! The program `forestplay`: what nodes of the colouring and of other programs do, by hand, in rounds or on threads,
+//! from standard input to standard output.
 //!
 //! ```sh
 //! printf 'p edge 2 1\ne 1 2\nput 1 0\ntake 2 0\nput 2 0\n' | forestplay events
@@ -10,16 +10,17 @@
 #![tactic(auto)]
 
 use command_line::Program;
-use serving::serve_process;
+use serving::{arguments, serve_words};
 use std::process::ExitCode;
 
 fn main(rt: HostRuntime) -> ExitCode {
     let mut input = rt.stdin();
     let mut output = rt.stdout();
     let mut errors = rt.stderr();
-    ExitCode::from(serve_process(
+    ExitCode::from(serve_words(
         &rt,
         Program::Forestplay,
+        arguments(&rt),
         &mut input,
         &mut output,
         &mut errors,

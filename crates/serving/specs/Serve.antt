@@ -1,5 +1,5 @@
 -- What serving one command leaves in its reader and its two writers, and its status.
-use Rattle.std.specs.Prelude.{◌≡◌, ◌⊎◌, ℕ, List, Option, Some, None, Result, Ok, Err, codes}
+use Rattle.std.specs.Prelude.{◌≡◌, ◌⊎◌, ℕ, List, [], ◌∷◌, Option, Some, None, Result, Ok, Err, codes}
 use Rattle.whole_streams.specs.Streams.{EndsAfter}
 use Rattle.answers.specs.Faults.{fault_line, fault_status, line_with}
 use Rattle.answers.specs.declared.fault.PlanFault.{PlanFault}
@@ -21,6 +21,10 @@ memory_line program = line_with (name_of program) (codes "memory")
 -- the text is written to errors, or a beginning of it, and then a write there failed
 abbrev pub IsReported : Written → List ℕ → Type 0
 IsReported errors text = IsWritten errors text ⊎ IsCutOff errors text
+
+-- the words that are served if a word is no text: the program's name, and U+FFFD in its three bytes
+abbrev pub no_text_of : Program → List (List ℕ)
+no_text_of program = name_of program ∷ (239 ∷ 191 ∷ 189 ∷ []) ∷ []
 
 -- nothing is written to output, the text goes to errors, and the status is the one that is wanted
 abbrev pub Refuses : Written → Written → List ℕ → ℕ → ℕ → Type 0

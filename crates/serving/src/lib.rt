@@ -1,7 +1,7 @@
 //! Serving one command of `forestplan` or `forestplay`: from the words of the command line and the input to what is
 //! written and the status, over a source and two sinks of the caller's.
 //!
-//! Each program calls `serve_process` with the streams that the system gives, and that `serve_all` with its words.
+//! Each program calls `serve_words` with the words and the streams that the system gives.
 //!
 //! ```
 //! let mut input: &[u8] = b"p edge 2 1\ne 1 2\n";
@@ -23,6 +23,6 @@ mod process;
 mod serving;
 mod words;
 
-pub use process::serve_process;
+pub use process::{arguments, serve_words};
 pub use serving::serve;
 pub use words::serve_all;
