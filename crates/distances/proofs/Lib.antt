@@ -1,2 +1,3 @@
 pub mod Walks
 pub mod Chains
+pub mod Classes

@@ -2,7 +2,13 @@
 
 ghost use Rattle.std.specs.Prelude.{ℕ, ◌<◌};
 ghost use Rattle.interference.specs.Net.{Net, IsNetwork, IsVertex, count_of};
-ghost use Rattle.distances.specs.Distance.{IsDistance, IsReached};
+ghost use Rattle.distances.specs.Distance.{AreClasses, IsDistance, IsReached};
+
+/// The components of a network are classes: each vertex is in one, and a vertex that is reached from another has the
+/// component of that one.
+pub fn components_are_classes()
+    ensures classes { (net : Net) → IsNetwork net → AreClasses net }
+{}
 
 /// A vertex that is reached has a distance, which is less than the number of nodes: a shortest way passes no vertex
 /// twice.

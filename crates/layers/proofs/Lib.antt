@@ -2,3 +2,4 @@ pub mod Heard
 pub mod Steps
 pub mod Rounds
 pub mod Reached
+pub mod Following

@@ -1,6 +1,6 @@
 -- After p pulses a node knows the greatest identifier within p links; and what is reached is reached within as many links
 -- as there are nodes.
-use Rattle.std.proofs.Common.{◌≡◌, ℕ, zero, suc, ◌<◌, ◌≤◌, List, refl, ap, ◌∙◌, arith, inl, inr}
+use Rattle.std.proofs.Common.{◌≡◌, ℕ, zero, suc, ◌<◌, ◌≤◌, List, refl, ap, sym, ◌∙◌, arith, inl, inr}
 use Rattle.std.specs.Prelude.{Option}
 use Rattle.interference.specs.Net.{Net, IsNetwork, IsVertex, id_of, count_of, degree_of, neighbour_of}
 use Rattle.node_api.proofs.Runs.{node_at-none, length-inbox}
@@ -9,16 +9,17 @@ use Rattle.sync_rounds.specs.Reach.{IsGreatestWithin, IsWithinLinks}
 use Rattle.distances.specs.Distance.{IsReached}
 use Rattle.distances.proofs.Walks.{distance-to, within-more}
 use Rattle.distances.proofs.Chains.{distance-below}
+use Rattle.distances.proofs.Classes.{classes}
 use Rattle.leader.specs.declared.candidate.Candidate.{Candidate}
 use Rattle.leader.specs.Election.{election}
-use Rattle.leader.specs.Component.{IsGreatestReached}
+use Rattle.leader.specs.Component.{HaveElected, IsGreatestReached}
 use Rattle.leader.proofs.Rounds.{node, step, from, heard-of}
 
 module _ (net : Net) (ok : IsNetwork net) where
-  abbrev best : ℕ → ℕ → ℕ
+  abbrev pub best : ℕ → ℕ → ℕ
   best p v = (node net ok p v).0.best
 
-  floods : (p v : ℕ) → IsVertex net v → p ≤ count_of net → IsGreatestWithin net p v (best p v)
+  pub floods : (p v : ℕ) → IsVertex net v → p ≤ count_of net → IsGreatestWithin net p v (best p v)
   floods zero v vertex few =
       let own : best zero v ≡ id_of net v = ap (λ (n : Elector × List (Option Candidate)). n.0.best) (node_at-none election net v) in
       record {
@@ -58,3 +59,20 @@ module _ (net : Net) (ok : IsNetwork net) where
         reached = let (w, is_vertex, within, value) = is.reached in (w, is_vertex, (n, within), value);
         bound = λ w reached. is.bound w (soon v w vertex reached);
       }
+
+  -- what is reached from v is known to v
+  known : (v w : ℕ) → IsVertex net v → IsReached net v w → best (count_of net) w ≤ best (count_of net) v
+  known v w vertex reached =
+      let is = classes net ok in
+      let (u, u_is, there, value) = (elects w (is.vertices v w vertex reached)).reached in
+      omega (arith, value, (elects v vertex).bound u (is.transitive v w u reached there))
+
+  pub one-leader : HaveElected net (best (count_of net))
+  one-leader = record {
+    same = λ v w vertex reached.
+        let is = classes net ok in
+        omega (arith, known v w vertex reached, known w v (is.vertices v w vertex reached) (is.symmetric v w vertex reached));
+    leader = λ v vertex.
+        let (w, w_is, there, value) = (elects v vertex).reached in
+        (w, w_is, there, sym value, λ u reached same. ok.distinct u w ((classes net ok).vertices v u vertex reached) w_is (same ∙ value));
+  }
