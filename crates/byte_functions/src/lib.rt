@@ -5,7 +5,8 @@
 //! `serving` calls `forest_bytes`, `plain_bytes`, `plan_bytes`, `transcript_bytes`, `check_bytes`, `events_bytes`,
 //! `replay_bytes`, `rounds_bytes` or `run_bytes` for a command, and `fault_report` if they fail. The three that run
 //! worker threads, `plan_bytes`, `transcript_bytes` and `run_bytes`, are here; the others are in `answers`, which needs
-//! no thread. `transcript_bytes` and `run_bytes` are for any program of nodes.
+//! no thread. `run_bytes` is for any program of nodes, and so is `run_transcript_bytes`, which `transcript_bytes` is of
+//! the colouring.
 //!
 //! ```
 //! let text = b"p edge 3 3\ne 1 2\ne 1 3\ne 2 3\n";
@@ -26,5 +27,5 @@ mod transcript;
 mod workers;
 
 pub use ends::run_bytes;
-pub use transcript::transcript_bytes;
+pub use transcript::{run_transcript_bytes, transcript_bytes};
 pub use workers::plan_bytes;

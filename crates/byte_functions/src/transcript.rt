@@ -1,6 +1,8 @@
 //! The transcript of a run of worker threads.
 
 ghost use Rattle.std.specs.Prelude.{◌≡◌, All, IfOk, IfErr, length, map};
+ghost use Rattle.colour_rules.specs.Program.{colouring};
+ghost use Rattle.colour_rules.specs.Words.{number_in, word_in};
 ghost use Rattle.run_options.specs.Ranges.{AreInRange};
 ghost use Rattle.outcomes.specs.Gathers.{gathered_of};
 ghost use Rattle.stamps.specs.Stamps.{Rises};
@@ -11,6 +13,7 @@ use crate::merged::merged_text;
 use crate::workers::whole_run;
 use actor::Gate;
 use answers::{PlanFault, network_of_text};
+use colour_program::Colouring;
 use gather_laws::laws::whole_outcomes_replay;
 use interference::Memory;
 use node_api::{NodeProgram, Refused};
@@ -69,7 +72,7 @@ fn text_in<P: NodeProgram>(
 ///
 /// # Errors
 /// As of `plan_bytes`.
-pub fn transcript_bytes<P: NodeProgram, G: Gate + Sync, R: Threads + Wait + Sync>(
+pub fn run_transcript_bytes<P: NodeProgram, G: Gate + Sync, R: Threads + Wait + Sync>(
     rt: &R,
     alloc: Global,
     input: &[u8],
@@ -90,4 +93,23 @@ pub fn transcript_bytes<P: NodeProgram, G: Gate + Sync, R: Threads + Wait + Sync
     // The text takes the room of what it doesn't speak of any more.
     drop(network);
     Ok(text_in(alloc, edition, count, outcome.into_actors())?)
+}
+
+/// `run_transcript_bytes` of the colouring.
+///
+/// # Errors
+/// As of `plan_bytes`.
+pub fn transcript_bytes<G: Gate + Sync, R: Threads + Wait + Sync>(
+    rt: &R,
+    alloc: Global,
+    input: &[u8],
+    options: Options,
+    edition: Edition,
+    gate: &G,
+) -> Result<Vec<u8>, PlanFault>
+    ensures ok { IfOk result (λ text. IsTranscriptAnswer colouring word_in number_in edition input.now text.items) }
+    ensures in_range { IfOk result (λ _. AreInRange options) }
+    ensures fault { IfErr result (IsFaultOfWorkers options input.now) }
+{
+    run_transcript_bytes::<Colouring, G, R>(rt, alloc, input, options, edition, gate)
 }

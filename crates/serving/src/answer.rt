@@ -8,7 +8,6 @@ use crate::playing::named_bytes;
 use actor::OpenGate;
 use answers::{PlanFault, check_bytes, forest_bytes, plain_bytes};
 use byte_functions::{plan_bytes, transcript_bytes};
-use colour_program::Colouring;
 use command_line::Request;
 use std::alloc::Global;
 use std::sync::Wait;
@@ -34,9 +33,7 @@ pub fn answer_bytes<T: Threads + Wait + Sync>(
         Request::Plain => plain_bytes(alloc, input),
         Request::Plan(options) => plan_bytes(rt, alloc, input, options, &OpenGate),
         Request::Transcript(options, edition) => {
-            transcript_bytes::<Colouring, OpenGate, T>(
-                rt, alloc, input, options, edition, &OpenGate,
-            )
+            transcript_bytes(rt, alloc, input, options, edition, &OpenGate)
         }
         Request::Check => check_bytes(alloc, input),
         Request::Play(program, play) => named_bytes(rt, alloc, program, play, input),

@@ -6,7 +6,7 @@ ghost use Rattle.serving.specs.Plays.{MayPlay, MayPlayNamed};
 
 use actor::OpenGate;
 use answers::{PlanFault, events_bytes, replay_bytes, rounds_bytes};
-use byte_functions::{run_bytes, transcript_bytes};
+use byte_functions::{run_bytes, run_transcript_bytes};
 use colour_program::Colouring;
 use command_line::{NodeProgramName, Play, Shown};
 use layers::Layers;
@@ -37,7 +37,7 @@ fn play_bytes<P: ProgramText, T: Threads + Wait + Sync>(
         Play::Run(options, Shown::States) => {
             run_bytes::<P, OpenGate, T>(rt, alloc, input, options, &OpenGate)
         }
-        Play::Run(options, Shown::Transcript) => transcript_bytes::<P, OpenGate, T>(
+        Play::Run(options, Shown::Transcript) => run_transcript_bytes::<P, OpenGate, T>(
             rt,
             alloc,
             input,

@@ -59,14 +59,7 @@ fn is_replayed(alloc: Global, transcript: &[u8]) -> bool {
 
 // Whether two workers make a transcript through a gate that is replayed.
 fn make_a_transcript<R: Threads + Wait + Sync>(rt: &R, alloc: Global, gate: &Meeting) -> bool {
-    match transcript_bytes::<Colouring, Meeting, R>(
-        rt,
-        alloc,
-        TRIANGLE,
-        BY_TWO,
-        Edition::Two,
-        gate,
-    ) {
+    match transcript_bytes::<Meeting, R>(rt, alloc, TRIANGLE, BY_TWO, Edition::Two, gate) {
         Ok(transcript) => is_replayed(alloc, transcript.as_slice()),
         Err(_) => false,
     }

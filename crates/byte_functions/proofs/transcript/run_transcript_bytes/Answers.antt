@@ -5,7 +5,7 @@ use Rattle.stamps.specs.Stamps.{Rises}
 use Rattle.gather_laws.specs.Merged.{WholeOutcomesReplay}
 use Rattle.byte_functions.specs.Transcripts.{IsTextIn}
 use Rattle.byte_functions.proofs.Recording.{all-rise, answered, nodes-count}
-use Rattle.byte_functions.proofs.transcript.transcript_bytes.Goals as goal
+use Rattle.byte_functions.proofs.transcript.run_transcript_bytes.Goals as goal
 
 -- The plan: the nodes of a whole outcome are as many as vertices, and their stamps rise; the text of its nodes in the
 -- edition is the answer.
