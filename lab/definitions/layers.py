@@ -27,8 +27,8 @@ class Layers:
 
     @staticmethod
     def last_pulse(net: Network) -> int:
-        """No two nodes of a component are further apart than the number of nodes."""
-        return len(net.neighbours)
+        """No two nodes of a component are as many edges apart as there are nodes."""
+        return max(len(net.neighbours) - 1, 0)
 
     def greet(self) -> list[Slot]:
         """What it sends at pulse 0, by port: its layer, if it is the root."""
@@ -43,8 +43,9 @@ class Layers:
         return [("Hops", self.layer) if pulse < self.last else None] * self.degree
 
     def refuses(self, pulse: int, inbox: list[Slot]) -> bool:
-        """Whether no round has this inbox: what comes at pulse p was sent at distance p - 1."""
-        return any(slot and slot[1] != pulse - 1 for slot in inbox)
+        """Whether no round has this inbox: what comes at pulse p was sent at distance p - 1, and after the last pulse
+        nothing comes."""
+        return any(slot and (pulse > self.last or slot[1] != pulse - 1) for slot in inbox)
 
     def result(self) -> str:
         if self.layer is None:

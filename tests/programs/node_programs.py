@@ -18,29 +18,39 @@ def network(numbers, edges):
 
 
 PATH, TAIL, PAIRS = [(1, 2), (2, 3), (3, 4), (4, 5)], [(1, 2), (1, 3), (2, 3), (3, 4)], [(1, 2), (3, 4)]
-# What the nodes end with: by program and network, the last pulse and the result of each node.
+# What the nodes end with: by program and network, the last pulse, the result of each node, and what `run` adds to it:
+# that a leader is elected, and the neighbour to which a port leads.
 ENDS = [
-    ("colouring", EDGE, 18, ["channel 1", "channel 2"]),
-    ("leader", ROW, 3, ["leader 3"] * 3),
-    ("leader", APART, 3, ["leader 9", "leader 3", "leader 3"]),
-    ("layers", ROW, 3, ["layer 0", "layer 1 by 0", "layer 2 by 0"]),
-    ("layers", APART, 3, ["layer none"] * 3),
-    ("leader", "p edge 0 0|", 0, []),
-    ("layers", "p edge 0 0|", 0, []),
+    ("colouring", EDGE, 18, ["channel 1", "channel 2"], {}),
+    ("leader", ROW, 3, ["leader 3"] * 3, {3: "elected"}),
+    ("leader", APART, 3, ["leader 9", "leader 3", "leader 3"], {1: "elected", 3: "elected"}),
+    ("layers", ROW, 2, ["layer 0", "layer 1 by 0", "layer 2 by 0"], {2: "to 1", 3: "to 2"}),
+    ("layers", APART, 2, ["layer none"] * 3, {}),
+    ("leader", "p edge 0 0|", 0, [], {}),
+    ("layers", "p edge 0 0|", 0, [], {}),
+    # A node alone has no pulse to make before it knows its layer.
+    ("layers", "p edge 1 0|", 0, ["layer 0"], {}),
     # A path whose ends are as far apart as can be, with the greatest identifier at one of them.
-    ("leader", network([9, 1, 4, 5, 20], PATH), 5, ["leader 20"] * 5),
+    ("leader", network([9, 1, 4, 5, 20], PATH), 5, ["leader 20"] * 5, {5: "elected"}),
     # A triangle with a tail, which has the root.
-    ("leader", network([3, 6, 8, 1], TAIL), 4, ["leader 8"] * 4),
-    ("layers", network([8, 6, 3, 1], TAIL), 4, ["layer 2 by 1", "layer 2 by 1", "layer 1 by 2", "layer 0"]),
+    ("leader", network([3, 6, 8, 1], TAIL), 4, ["leader 8"] * 4, {3: "elected"}),
+    ("layers", network([8, 6, 3, 1], TAIL), 3, ["layer 2 by 1", "layer 2 by 1", "layer 1 by 2", "layer 0"],
+     {1: "to 3", 2: "to 3", 3: "to 4"}),
     # Two components, and for the election a vertex alone; without a root nobody is reached.
-    ("leader", network([7, 5, 3, 2, 9], PAIRS), 5, ["leader 7", "leader 7", "leader 3", "leader 3", "leader 9"]),
-    ("layers", network([7, 5, 3, 2], PAIRS), 4, ["layer none"] * 4),
+    ("leader", network([7, 5, 3, 2, 9], PAIRS), 5, ["leader 7", "leader 7", "leader 3", "leader 3", "leader 9"],
+     {1: "elected", 3: "elected", 5: "elected"}),
+    ("layers", network([7, 5, 3, 2], PAIRS), 3, ["layer none"] * 4, {}),
     # A path with the root at vertex 2, and vertex 6 alone.
-    ("layers", network([9, 1, 20, 5, 8, 6], PATH), 6,
-     ["layer 1 by 0", "layer 0", "layer 1 by 0", "layer 2 by 0", "layer 3 by 0", "layer none"]),
+    ("layers", network([9, 1, 20, 5, 8, 6], PATH), 5,
+     ["layer 1 by 0", "layer 0", "layer 1 by 0", "layer 2 by 0", "layer 3 by 0", "layer none"],
+     {1: "to 2", 3: "to 2", 4: "to 3", 5: "to 4"}),
+    # A path with the root at one end: the other end is as far as can be, and hears at the last pulse.
+    ("layers", network([1, 9, 4, 5, 20], PATH), 4,
+     ["layer 0", "layer 1 by 0", "layer 2 by 0", "layer 3 by 0", "layer 4 by 0"],
+     {2: "to 1", 3: "to 2", 4: "to 3", 5: "to 4"}),
     # A square: two ways lead from vertex 1 to the root 4, and the one by the lesser port is taken.
-    ("layers", network([8, 6, 3, 1], [(1, 2), (1, 3), (2, 4), (3, 4)]), 4,
-     ["layer 2 by 0", "layer 1 by 1", "layer 1 by 1", "layer 0"]),
+    ("layers", network([8, 6, 3, 1], [(1, 2), (1, 3), (2, 4), (3, 4)]), 3,
+     ["layer 2 by 0", "layer 1 by 1", "layer 1 by 1", "layer 0"], {1: "to 2", 2: "to 4", 3: "to 4"}),
 ]
 # By program and network. Of an edge, node 2 has the greater identifier, and node 1 is the root. No node sends at the
 # last pulse.
@@ -50,11 +60,10 @@ ROUNDS = [
     ("leader", network([4, 7], [(1, 2)]),
      "rounds 3 leader 2 1 2|pulse 0|1 put 2 payload 0 leader 4|2 put 1 payload 0 leader 7|pulse 1|"
      "1 put 2 payload 1 leader 7|pulse 2|1 leader 7|2 leader 7|"),
-    ("layers", EDGE, "rounds 3 layers 2 1 2|pulse 0|1 put 2 payload 0 hops 0|pulse 1|2 put 1 payload 1 hops 1|pulse 2|"
-                     "1 layer 0|2 layer 1 by 0|"),
+    ("layers", EDGE, "rounds 3 layers 2 1 1|pulse 0|1 put 2 payload 0 hops 0|pulse 1|1 layer 0|2 layer 1 by 0|"),
     ("layers", network([1, 5, 4, 3], [(1, 2), (2, 3)]),
-     "rounds 3 layers 4 2 4|pulse 0|1 put 2 payload 0 hops 0|pulse 1|2 put 1 payload 1 hops 1|"
-     "2 put 3 payload 1 hops 1|pulse 2|3 put 2 payload 2 hops 2|pulse 3|pulse 4|"
+     "rounds 3 layers 4 2 3|pulse 0|1 put 2 payload 0 hops 0|pulse 1|2 put 1 payload 1 hops 1|"
+     "2 put 3 payload 1 hops 1|pulse 2|3 put 2 payload 2 hops 2|pulse 3|"
      "1 layer 0|2 layer 1 by 0|3 layer 2 by 0|4 layer none|"),
 ]
 FIRST = "transcript 1 2|1 put 2 payload 0 "
@@ -80,8 +89,9 @@ def play(words, data):
 class Programs(Case):
     def test_ends(self):
         """By one worker, by three, and in rounds, which show no channels."""
-        for program, net, last, results in ENDS:
-            wanted = "".join(f"node {v} pulse {last} {end}|" for v, end in enumerate(results, 1))
+        for program, net, last, results, added in ENDS:
+            lines = [f"node {v} pulse {last} {end}" for v, end in enumerate(results, 1)]
+            wanted = "".join(f"{line} {added[v]}|" if v in added else f"{line}|" for v, line in enumerate(lines, 1))
             for workers in ("1", "3"):
                 done = play(["run", "--program", program, "--workers", workers], net)
                 self.expect(f"run of {program} on {net} by {workers}", done, 0, text(wanted), b"")

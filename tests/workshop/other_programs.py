@@ -1,6 +1,7 @@
-"""The workshop for other programs than the colouring: its runs, its words, its command. What is right on path3, a row
-of the nodes 1, 2 and 3, is worked by hand. Of the layers: node 1 sends `hops 0` in pulse 0, node 2 `hops 1` in pulse 1,
-node 3 `hops 2` in pulse 2, and pulse 3 is the last. Of the leader: node 2 learns of 3 in pulse 1, node 1 in pulse 2."""
+"""The workshop for other programs than the colouring: its runs, its words, its command. What is right on path3 and
+path4, a row of the nodes 1 to 4, is worked by hand. Of the layers: node 1 sends `hops 0` in pulse 0, node 2 `hops 1` in
+pulse 1, node 3 `hops 2` in pulse 2, and pulse 3 is the last of path4; of path3 it is 2, at which node 3 sends nothing.
+Of the leader: node 2 of path3 learns of 3 in pulse 1, node 1 in pulse 2."""
 import contextlib
 import io
 import json
@@ -25,7 +26,7 @@ OF_ASSIGNMENT = {"rounds": ROUNDS, "alpha": ALPHA}
 # A ring of four whose root is node 3: node 1 is two edges away on both sides, and its port 0 leads to node 2. Node 5
 # has no neighbour.
 RING = Network("ring and one", 5, [(1, 2), (2, 3), (3, 4), (1, 4)], {}, {}, {1: 40, 2: 1 << 100, 3: 1, 4: 7, 5: 2})
-# By mistake, what is found on path3: the verdict, the node and its pulse, with a clock and without one.
+# By mistake, what is found on path4: the verdict, the node and its pulse, with a clock and without one.
 LAYERS = {
     "layers_again": (("differs", 1, 1), ("WrongWire", 1, 1)),
     "layers_last": (("differs", 2, 3), ("result", 2, 3)),
@@ -103,8 +104,8 @@ class OtherPrograms(unittest.TestCase):
 
     def test_what_is_right(self):
         rounds = RightRounds(network("path3"), "layers")
-        self.assertEqual((rounds.forests, rounds.last), (None, 3))
-        self.assertEqual(rounds.puts, [{1: {2: "hops 0"}}, {2: {1: "hops 1", 3: "hops 1"}}, {3: {2: "hops 2"}}, {}])
+        self.assertEqual((rounds.forests, rounds.last), (None, 2))
+        self.assertEqual(rounds.puts, [{1: {2: "hops 0"}}, {2: {1: "hops 1", 3: "hops 1"}}, {}])
         for given, program, right in (
             (network("path3"), "layers", ["layer 0", "layer 1 by 0", "layer 2 by 0"]),
             (RING, "layers", ["layer 2 by 0", "layer 1 by 1", "layer 0", "layer 1 by 1", "layer none"]),
@@ -118,7 +119,7 @@ class OtherPrograms(unittest.TestCase):
     def test_a_node_learns_its_own_data_and_no_forests(self):
         rounds = RightRounds(network("path3"), "layers")
         self.assertEqual(own_data(rounds.network, 2, "rounds", rounds.forests, rounds.last),
-                         ["workshop 1 rounds", "identifier 2", "degree 2", "nodes 3", "delta 2", "bars 0", "last 3",
+                         ["workshop 1 rounds", "identifier 2", "degree 2", "nodes 3", "delta 2", "bars 0", "last 2",
                           "barred 0"])
 
     def test_right_layers(self):
@@ -154,7 +155,7 @@ class OtherPrograms(unittest.TestCase):
                 for assignment, right in zip(("rounds", "alpha"), rights):
                     node = [sys.executable, "-S", os.path.join(folder, name, f"layers_{assignment}_node.py")]
                     with self.subTest(mistake=name, assignment=assignment):
-                        finding = played(assignment, "path3", node, policy="newest", program="layers").finding
+                        finding = played(assignment, "path4", node, policy="newest", program="layers").finding
                         self.assertEqual((finding.kind, finding.node, finding.pulse), right)
                         if assignment == "rounds":
                             self.assertEqual(finding.text(), WORDS[name])
@@ -181,7 +182,7 @@ class OtherPrograms(unittest.TestCase):
     def test_a_result_that_isn_t_said(self):
         """A node that is silent is right in every pulse if nobody is the root, up to the last."""
         finding = played("rounds", "alone4", answering(), program="layers").finding
-        self.assertEqual((finding.kind, finding.node, finding.pulse), ("differs", 1, 4))
+        self.assertEqual((finding.kind, finding.node, finding.pulse), ("differs", 1, 3))
         self.assertIn("wrong  no line `layer N by PORT` or `layer 0` or `layer none`", finding.text())
         self.good(played("rounds", "alone4", answering("layer none"), program="layers"))
 

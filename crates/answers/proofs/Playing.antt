@@ -1,8 +1,9 @@
 -- From what is known of a network text and of the events behind it to what `events` may answer.
-use Rattle.std.proofs.Common.{◌≡◌, inl, inr, ℕ, Ok, List, subst}
+use Rattle.std.proofs.Common.{◌≡◌, inl, inr, ℕ, Ok, List, subst, sym}
 use Rattle.dimacs_col.specs.Lines.{lines_of}
 use Rattle.interference.specs.Net.{IsNetwork, Net}
 use Rattle.node_api.specs.Program.{Program}
+use Rattle.node_api.specs.Run.{last_state}
 use Rattle.event_machine.specs.State.{State}
 use Rattle.event_machine.specs.Step.{run}
 use Rattle.dimacs_col.proofs.Blank.{fault-of, graph-of}
@@ -14,7 +15,7 @@ use Rattle.event_texts.specs.StateText.{state_text}
 use Rattle.event_texts.specs.declared.fault.EventFault.{EventFault}
 use Rattle.program_texts.specs.Texts.{ProgramTexts}
 use Rattle.answers.specs.Answers.{IsFaultOfText, ReadsAs}
-use Rattle.answers.specs.EventAnswers.{IsEventsAnswer, IsFaultOfEvents, IsStateReached}
+use Rattle.answers.specs.EventAnswers.{AreInStep, IsEventsAnswer, IsFaultOfEvents, IsStateReached}
 use Rattle.answers.specs.declared.fault.PlanFault.{PlanFault}
 use Rattle.answers.specs.declared.fault.PlanFault.TheVariants as plan
 
@@ -50,10 +51,16 @@ module _ {S M E : Type 0} (program : Program S M E) where
 module _ {S M E : Type 0} (program : Program S M E) (texts : ProgramTexts S) (word_of : M → List ℕ) (number_of : M → ℕ) where
   pub reached : (input network text : List ℕ) (net : Net) (script : Script) (state : State S M) → AreNetworkLines (lines_of input) (lines_of network) →
       Reads network net → script_of (lines_of input) ≡ Ok script → run program net (events_in script) ≡ Ok state →
-      text ≡ state_text program texts word_of number_of net state →
+      text ≡ state_text program texts word_of number_of net state → (IsNetwork net → AreInStep program net state) →
+      ((net : Net) → IsNetwork net → texts.Solves net (last_state program net)) →
       IsEventsAnswer program texts word_of number_of input text
-  reached input network text net script state are (graph, reads, (ok, same)) read ran is = (
+  reached input network text net script state are (graph, reads, (ok, same)) read ran is in_step solves = (
     graph,
     graph-of event_words (lines_of input) (lines_of network) graph are reads,
-    (ok, subst (λ known. IsStateReached program texts word_of number_of known (lines_of input) text) same (script, state, read, ran, is)),
+    (
+      ok,
+      subst (λ known. IsStateReached program texts word_of number_of known (lines_of input) text) same
+          (script, state, read, ran, is, in_step (subst (λ n. IsNetwork n) (sym same) ok)),
+      solves _ ok,
+    ),
   )

@@ -1,14 +1,19 @@
 -- From what is known of a network text and of the transcript behind it to what `replay` may answer.
-use Rattle.std.proofs.Common.{◌≡◌, ℕ, List, Option, subst}
-use Rattle.dimacs_col.specs.Lines.{lines_of}
+use Rattle.std.proofs.Common.{◌≡◌, ℕ, List, Ok, Option, subst, sym}
+use Rattle.dimacs_col.specs.Lines.{Line, lines_of}
 use Rattle.interference.specs.Net.{IsNetwork, Net}
 use Rattle.node_api.specs.Program.{Program}
+use Rattle.node_api.specs.Run.{last_state}
 use Rattle.event_machine.specs.State.{State}
+use Rattle.event_machine.specs.Step.{run}
+use Rattle.event_machine.specs.declared.event.Event.{Event}
 use Rattle.dimacs_col.proofs.Blank.{fault-of, graph-of}
 use Rattle.event_texts.specs.StateText.{state_text}
 use Rattle.transcripts.specs.Behind.{AreNetworkLines, transcript_word}
+use Rattle.transcripts.specs.Editions.{One, Two}
 use Rattle.program_texts.specs.Texts.{ProgramTexts}
 use Rattle.answers.specs.Answers.{IsFaultOfText, ReadsAs}
+use Rattle.answers.specs.EventAnswers.{AreInStep}
 use Rattle.answers.specs.ReplayAnswers.{IsFaultOfReplay, IsFaultOfTranscript, IsReplayAnswer, IsReplayed}
 use Rattle.answers.specs.declared.fault.PlanFault.{PlanFault}
 use Rattle.answers.specs.declared.fault.PlanFault.TheVariants as plan
@@ -16,6 +21,13 @@ use Rattle.answers.specs.declared.replaying.ReplayFault.{ReplayFault}
 
 abbrev Reads : List ℕ → Net → Type 0
 Reads network net = ReadsAs network (λ read. IsNetwork read × (net ≡ read))
+
+-- the state of a replay is one that events reach
+pub in-step : {S M E : Type 0} (program : Program S M E) (payload_of : List ℕ → ℕ → Option M) (net : Net) (state : State S M) (lines : List Line) →
+    IsReplayed program payload_of net lines state →
+    ((events : List Event) → run program net events ≡ Ok state → AreInStep program net state) → AreInStep program net state
+in-step program payload_of net state lines (One read, is, leads) made = made leads.events leads.is_run
+in-step program payload_of net state lines (Two read, is, leads) made = made leads.replay.replay.events leads.replay.replay.is_run
 
 module _ {S M E : Type 0} (program : Program S M E) (word_of : M → List ℕ) (number_of : M → ℕ) (payload_of : List ℕ → ℕ → Option M) where
   pub fault-network : (input network : List ℕ) (fault : PlanFault) → AreNetworkLines (lines_of input) (lines_of network) → IsFaultOfText network fault →
@@ -41,8 +53,9 @@ module _ {S M E : Type 0} (program : Program S M E) (word_of : M → List ℕ) (
 
   pub reached : (texts : ProgramTexts S) (input network text : List ℕ) (net : Net) (state : State S M) → AreNetworkLines (lines_of input) (lines_of network) →
       Reads network net → IsReplayed program payload_of net (lines_of input) state → text ≡ state_text program texts word_of number_of net state →
+      (IsNetwork net → AreInStep program net state) → ((net : Net) → IsNetwork net → texts.Solves net (last_state program net)) →
       IsReplayAnswer program texts word_of number_of payload_of input text
-  reached texts input network text net state are (graph, reads, (ok, same)) played is = (
+  reached texts input network text net state are (graph, reads, (ok, same)) played is in_step solves = (
     graph,
     graph-of transcript_word (lines_of input) (lines_of network) graph are reads,
     (
@@ -51,6 +64,8 @@ module _ {S M E : Type 0} (program : Program S M E) (word_of : M → List ℕ) (
         state,
         subst (λ known. IsReplayed program payload_of known (lines_of input) state) same played,
         subst (λ known. text ≡ state_text program texts word_of number_of known state) same is,
+        subst (λ known. AreInStep program known state) same (in_step (subst (λ n. IsNetwork n) (sym same) ok)),
       ),
+      solves _ ok,
     ),
   )

@@ -2,10 +2,11 @@
 use Rattle.std.specs.Prelude.{◌≡◌, ◌⊎◌, ℕ, List, Ok}
 use Rattle.dimacs_col.specs.Lines.{Line, lines_of}
 use Rattle.dimacs_col.specs.Reading.{IsFault}
-use Rattle.interference.specs.Net.{Net, IsNetwork}
+use Rattle.interference.specs.Net.{Net, IsNetwork, IsVertex}
 use Rattle.interference.specs.Making.{IsFaultOf}
 use Rattle.node_api.specs.Program.{Program}
-use Rattle.event_machine.specs.State.{State}
+use Rattle.node_api.specs.Run.{last_state, state_at}
+use Rattle.event_machine.specs.State.{State, node_of}
 use Rattle.event_machine.specs.Step.{run}
 use Rattle.event_texts.specs.EventLines.{network_lines}
 use Rattle.event_texts.specs.Played.{IsFaultOfRun, events_in}
@@ -18,17 +19,25 @@ use Rattle.answers.specs.Answers.{LinesReadAs}
 use Rattle.answers.specs.declared.fault.PlanFault.{PlanFault}
 use Rattle.answers.specs.declared.fault.PlanFault.TheVariants as plan
 
+-- each node is in the state of the synchronous run at its pulse, whatever the order of the events: so a node at the last
+-- pulse is in its last state
+abbrev pub AreInStep : {S M E : Type 0} → Program S M E → Net → State S M → Type 0
+AreInStep program net state = (v : ℕ) → IsVertex net v → (node_of program net state v).state
+    ≡ state_at program net (node_of program net state v).view.pulse v
+
 module _ {S M E : Type 0} (program : Program S M E) (texts : ProgramTexts S) (word_of : M → List ℕ)
     (number_of : M → ℕ) where
   -- the text is that of the state to which the events in the lines lead, from the start of the program on the network
   abbrev pub IsStateReached : Net → List Line → List ℕ → Type 0
   IsStateReached net lines text = (script : Script) × (state : State S M) × (script_of lines ≡ Ok script)
       × (run program net (events_in script) ≡ Ok state) × (text ≡ state_text program texts word_of number_of net state)
+      × AreInStep program net state
 
-  -- the answer is the text of the state that the events reach, on the network that stands before them
+  -- the answer is the text of the state that the events reach, on the network that stands before them, and the last
+  -- states of the synchronous run are what the program is for
   abbrev pub IsEventsAnswer : List ℕ → List ℕ → Type 0
   IsEventsAnswer input answer = LinesReadAs (network_lines (lines_of input))
-      (λ net. IsNetwork net × IsStateReached net (lines_of input) answer)
+      (λ net. IsNetwork net × IsStateReached net (lines_of input) answer × texts.Solves net (last_state program net))
 
 module _ {S M E : Type 0} (program : Program S M E) where
   -- the fault of the events in some lines: of their reading, or else of their run

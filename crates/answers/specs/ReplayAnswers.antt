@@ -8,6 +8,7 @@ use Rattle.dimacs_col.specs.Reading.{IsFault}
 use Rattle.interference.specs.Net.{Net, IsNetwork}
 use Rattle.interference.specs.Making.{IsFaultOf}
 use Rattle.node_api.specs.Program.{Program}
+use Rattle.node_api.specs.Run.{last_state}
 use Rattle.event_machine.specs.State.{State}
 use Rattle.event_machine.specs.declared.refused.RunRefused.TheVariants as run
 use Rattle.event_texts.specs.Missing.{expected_text, missing_text}
@@ -29,6 +30,7 @@ use Rattle.transcripts.specs.declared.fault.TextFault.{TextFault}
 use Rattle.transcripts.specs.declared.fault.TextFault.TheVariants as text
 use Rattle.program_texts.specs.Texts.{ProgramTexts}
 use Rattle.answers.specs.Answers.{LinesReadAs}
+use Rattle.answers.specs.EventAnswers.{AreInStep}
 use Rattle.answers.specs.declared.fault.PlanFault.{PlanFault}
 use Rattle.answers.specs.declared.fault.PlanFault.TheVariants as plan
 use Rattle.answers.specs.declared.replaying.ReplayFault.{ReplayFault}
@@ -50,13 +52,15 @@ abbrev pub IsReplayed : {S M E : Type 0} → Program S M E → (List ℕ → ℕ
 IsReplayed program payload_of net lines state =
     (read : AnyTranscript _) × (transcript_in payload_of lines ≡ Ok read) × LeadsTo program net read state
 
--- the answer is the text of the state that the transcript leads to, on the network that stands before it
+-- the answer is the text of the state that the transcript leads to, on the network that stands before it, and the last
+-- states of the synchronous run are what the program is for
 abbrev pub IsReplayAnswer : {S M E : Type 0} → Program S M E → ProgramTexts S → (M → List ℕ) → (M → ℕ) →
     (List ℕ → ℕ → Option M) → List ℕ → List ℕ → Type 0
 IsReplayAnswer program texts word_of number_of payload_of input answer =
     LinesReadAs (network_lines (lines_of input)) (λ net. IsNetwork net
     × ((state : State _ _) × IsReplayed program payload_of net (lines_of input) state
-    × (answer ≡ state_text program texts word_of number_of net state)))
+    × (answer ≡ state_text program texts word_of number_of net state) × AreInStep program net state)
+    × texts.Solves net (last_state program net))
 
 -- the fault of a transcript's text
 abbrev pub fault_of_text : TextFault → ReplayFault

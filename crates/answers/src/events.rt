@@ -5,7 +5,9 @@ ghost use Rattle.answers.specs.EventAnswers.{IsEventsAnswer, IsFaultOfEvents};
 
 use crate::answer::network_of_text;
 use crate::fault::PlanFault;
+use event_machine::laws::every_run_simulates;
 use event_texts::{network_text, play, read_events, text_of_state};
+use node_api::Refused;
 use program_texts::ProgramText;
 use std::alloc::Global;
 
@@ -22,6 +24,8 @@ pub fn events_bytes<P: ProgramText>(alloc: Global, input: &[u8]) -> Result<Vec<u
         IsEventsAnswer P.program P.texts P.Payload.word_of P.Payload.number_of input.now text.items) }
     ensures fault { IfErr result (IsFaultOfEvents P.program input.now) }
 {
+    every_run_simulates::<P, P::Payload, Refused>();
+    P::rounds_solve();
     let network = network_of_text(alloc, network_text(input))?;
     let script = read_events(alloc, input)?;
     let state = play::<P>(alloc, &network, script.as_slice())?;

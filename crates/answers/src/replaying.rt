@@ -15,11 +15,12 @@ use crate::answer::network_of_text;
 use crate::fault::PlanFault;
 use dimacs_col::text_start;
 use entries::{Row, StampedRow};
+use event_machine::laws::every_run_simulates;
 use event_machine::{NetState, RunRefused};
 use event_texts::{expected_words, missing_words, text_of_state};
 use interference::Network;
 use net_core::{ReplayRefused, StampedState, WholeRefused, event_of, replay, replay_whole};
-use node_api::{NodeProgram, PayloadText};
+use node_api::{NodeProgram, PayloadText, Refused};
 use program_texts::ProgramText;
 use std::alloc::{AllocError, Global};
 use transcripts::{TextFault, Transcript, entry_lines, network_text, read_any_behind_network};
@@ -303,6 +304,8 @@ pub fn replay_bytes<P: ProgramText>(alloc: Global, input: &[u8]) -> Result<Vec<u
     ensures fault { IfErr result (IsFaultOfReplay P.program P.Payload.word_of P.Payload.number_of
         P.Payload.payload_of input.now) }
 {
+    every_run_simulates::<P, P::Payload, Refused>();
+    P::rounds_solve();
     let network = network_of_text(alloc, network_text(input))?;
     let state = replayed::<P>(alloc, &network, input)?;
     Ok(text_of_state(alloc, &state)?)

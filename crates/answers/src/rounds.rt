@@ -20,6 +20,7 @@ pub fn rounds_bytes<P: ProgramText>(alloc: Global, input: &[u8]) -> Result<Vec<u
         IsRoundsAnswer P.program P.texts P.Payload.word_of P.Payload.number_of input.now text.items) }
     ensures fault { IfErr result (IsFaultOfText input.now) }
 {
+    P::rounds_solve();
     let network = network_of_text(alloc, input)?;
     Ok(rounds_text::<P>(alloc, &network)?)
 }

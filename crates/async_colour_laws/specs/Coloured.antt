@@ -1,6 +1,6 @@
 -- Nodes of the colouring that have halted, and their colours.
-use Rattle.std.specs.Prelude.{◌≡◌, ◌≢◌, ℕ, ◌≤◌, Bool, IsTrue, List, Ok}
-use Rattle.interference.specs.Net.{Net, IsVertex, IsBarred, IsEdge, span_of}
+use Rattle.std.specs.Prelude.{◌≡◌, ℕ, Bool, IsTrue, List, Ok}
+use Rattle.interference.specs.Net.{Net, IsVertex}
 use Rattle.node_api.specs.Program.{Program, last_pulse_on}
 use Rattle.alpha_core.specs.declared.wire.Wire.{Wire}
 use Rattle.alpha_core.specs.View.{Node, is_halted}
@@ -9,7 +9,7 @@ use Rattle.gather_laws.specs.Outcome.{Outcome, IsOutcome, node_in}
 use Rattle.colour_rules.specs.declared.payload.Payload.{Payload}
 use Rattle.colour_rules.specs.Node as colour
 use Rattle.colour_rules.specs.Program.{colouring}
-use Rattle.colour_laws.specs.Colours.{colours}
+use Rattle.colour_laws.specs.Colours.{AreColours}
 use Rattle.event_machine.specs.declared.event.Event.{Event}
 use Rattle.event_machine.specs.State.{State, node_of}
 use Rattle.event_machine.specs.Step.{run}
@@ -19,13 +19,9 @@ use Rattle.progress_laws.specs.Ends.{IsTerminal}
 abbrev pub AllHalted : {S M E : Type 0} → Program S M E → Net → (ℕ → Node S M) → Type 0
 AllHalted program net nodes = (v : ℕ) → IsVertex net v → IsTrue (is_halted (last_pulse_on program net) (nodes v).view)
 
--- Each node has its colour of the definition; so neighbours differ, each colour is from 0 to the span, and none is
--- barred at its node.
-pub record AreColoured (net : Net) (nodes : ℕ → Node colour.Node Payload) : Type 0 where
-  pub exact : (v : ℕ) → IsVertex net v → (nodes v).state.merged ≡ colours net v
-  pub proper : (v w : ℕ) → IsEdge net v w → (nodes v).state.merged ≢ (nodes w).state.merged
-  pub within : (v : ℕ) → IsVertex net v → (nodes v).state.merged ≤ span_of net
-  pub unbarred : (v : ℕ) → IsVertex net v → IsBarred net v (nodes v).state.merged → ⊥
+-- the nodes have the colours of the network
+abbrev pub AreColoured : Net → (ℕ → Node colour.Node Payload) → Type 0
+AreColoured net nodes = AreColours net (λ v. (nodes v).state.merged)
 
 -- nodes that simulate the synchronous run, and have halted, have these colours, whatever ran them
 abbrev pub HaltedAreColoured : Net → Type 0

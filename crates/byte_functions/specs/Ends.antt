@@ -10,24 +10,26 @@ use Rattle.node_api.specs.Run.{last_state}
 use Rattle.number_rows.specs.Row.{numbered}
 
 -- `node V pulse P`, and the result of a state
-abbrev pub end_line : {S : Type 0} → ProgramTexts S → ℕ → ℕ → S → List ℕ
-end_line texts v p state =
-    numbered (codes "node ") v ++ numbered (codes " pulse ") p ++ texts.result state ++ codes "\n"
+abbrev pub end_line : {S : Type 0} → ProgramTexts S → Net → ℕ → ℕ → S → List ℕ
+end_line texts net v p state =
+    numbered (codes "node ") v ++ numbered (codes " pulse ") p ++ texts.result net v state ++ codes "\n"
 
 -- the same of a node that a run of workers left
-abbrev pub node_end : {S M : Type 0} → ProgramTexts S → ℕ → Node S M → List ℕ
-node_end texts v node = end_line texts v node.view.pulse node.state
+abbrev pub node_end : {S M : Type 0} → ProgramTexts S → Net → ℕ → Node S M → List ℕ
+node_end texts net v node = end_line texts net v node.view.pulse node.state
 
 -- the same of a gathered node
-abbrev pub gathered_end : {S M : Type 0} → ProgramTexts S → Gathered S M → List ℕ
-gathered_end texts g = node_end texts g.vertex g.alpha.node
+abbrev pub gathered_end : {S M : Type 0} → ProgramTexts S → Net → Gathered S M → List ℕ
+gathered_end texts net g = node_end texts net g.vertex g.alpha.node
 
 -- for each vertex, ascending, such a line of its last state in the synchronous run
 abbrev pub ends_text : {S M E : Type 0} → Program S M E → ProgramTexts S → Net → List ℕ
 ends_text program texts net =
-    flat_map (λ v. end_line texts v (last_pulse_on program net) (last_state program net v)) (vertices net)
+    flat_map (λ v. end_line texts net v (last_pulse_on program net) (last_state program net v)) (vertices net)
 
--- the answer is the text of the last states of the synchronous run on the network that the input describes
+-- the answer is the text of the last states of the synchronous run on the network that the input describes, and these
+-- states are what the program is for
 abbrev pub IsEndsAnswer : {S M E : Type 0} → Program S M E → ProgramTexts S → List ℕ → List ℕ → Type 0
 IsEndsAnswer program texts input answer =
-    ReadsAs input (λ net. IsNetwork net × (answer ≡ ends_text program texts net))
+    ReadsAs input (λ net. IsNetwork net × (answer ≡ ends_text program texts net)
+    × texts.Solves net (last_state program net))

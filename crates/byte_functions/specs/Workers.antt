@@ -48,7 +48,7 @@ IsFaultOfRun options (plan.Replay fault) = ⊥
 IsFaultOfRun options plan.Stopped = AreInRange options
 IsFaultOfRun options plan.Memory = ⊥
 
--- The fault of an input of `plan` and of `transcript`: of the network text, or else of the run.
+-- The fault of an input of `plan`, of `transcript` and of `run`: of the network text, or else of the run.
 abbrev pub IsFaultOfWorkers : Options → List ℕ → PlanFault → Type 0
 IsFaultOfWorkers options input (plan.Col fault) = IsFault (lines_of input) fault
 IsFaultOfWorkers options input (plan.Net fault) = ReadsAs input (λ net. IsFaultOf net fault)

@@ -1,6 +1,7 @@
 //! Runs of worker threads, and the last states of their nodes.
 
-ghost use Rattle.std.specs.Prelude.{◌≡◌, ◌++◌, IfOk, IfErr, flat_map, map};
+ghost use Rattle.std.specs.Prelude.{◌≡◌, ◌++◌, All, IfOk, IfErr, flat_map, map};
+ghost use Rattle.interference.specs.Net.{IsVertex};
 ghost use Rattle.run_options.specs.Ranges.{AreInRange};
 ghost use Rattle.outcomes.specs.Gathers.{gathered_of};
 ghost use Rattle.byte_functions.specs.Ends.{IsEndsAnswer, gathered_end};
@@ -10,7 +11,7 @@ use crate::workers::whole_run;
 use actor::Gate;
 use answers::{PlanFault, network_of_text};
 use gather_laws::laws::whole_outcomes_have_ended;
-use interference::Memory;
+use interference::{Memory, Network};
 use node_api::Refused;
 use number_rows::push_numbered;
 use outcomes::Actor;
@@ -21,23 +22,36 @@ use std::sync::Wait;
 use std::thread::Threads;
 
 // Appends the line of a node.
-fn push_end<P: ProgramText>(text: &mut Vec<u8>, actor: &Actor<P>) -> Result<(), AllocError>
-    ensures { IfOk result (λ _. text.new.items ≡ text.old.items ++ gathered_end P.texts (gathered_of actor.now)) }
+fn push_end<P: ProgramText>(
+    text: &mut Vec<u8>,
+    net: &Network,
+    actor: &Actor<P>,
+) -> Result<(), AllocError>
+    requires vertex { IsVertex net.now (gathered_of actor.now).vertex }
+    ensures { IfOk result (λ _. text.new.items
+        ≡ text.old.items ++ gathered_end P.texts net.now (gathered_of actor.now)) }
 {
     push_numbered(text, b"node ", u128::from(actor.node()))?;
     push_numbered(text, b" pulse ", u128::from(actor.alpha().pulse_number()))?;
-    actor.alpha().program().push_result(text)?;
+    let program = actor.alpha().program();
+    program.push_result(text, net, actor.node())?;
     text.push(b'\n')?;
     Ok(())
 }
 
 // A line for each node.
-fn text_of_ends<P: ProgramText>(alloc: Global, actors: &[Actor<P>]) -> Result<Vec<u8>, Memory>
-    ensures { IfOk result (λ text. text.items ≡ flat_map (gathered_end P.texts) (map gathered_of actors.now)) }
+fn text_of_ends<P: ProgramText>(
+    alloc: Global,
+    net: &Network,
+    actors: &[Actor<P>],
+) -> Result<Vec<u8>, Memory>
+    requires vertices { All (λ g. IsVertex net.now g.vertex) (map gathered_of actors.now) }
+    ensures { IfOk result
+        (λ text. text.items ≡ flat_map (gathered_end P.texts net.now) (map gathered_of actors.now)) }
 {
     let mut text = Vec::new(alloc);
     for actor in actors {
-        push_end(&mut text, actor)?;
+        push_end(&mut text, net, actor)?;
     }
     Ok(text)
 }
@@ -62,8 +76,9 @@ pub fn run_bytes<P: ProgramText, G: Gate + Sync, R: Threads + Wait + Sync>(
     ensures fault { IfErr result (IsFaultOfWorkers options input.now) }
 {
     whole_outcomes_have_ended::<P, P::Payload, Refused>();
+    P::rounds_solve();
     let network = network_of_text(alloc, input)?;
     network.is_network();
     let outcome = whole_run::<P, G, R>(rt, alloc, &network, options, false, gate)?;
-    Ok(text_of_ends(alloc, outcome.actors())?)
+    Ok(text_of_ends(alloc, &network, outcome.actors())?)
 }

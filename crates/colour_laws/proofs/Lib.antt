@@ -14,5 +14,6 @@ pub mod Starts
 pub mod Forests
 pub mod Proper
 pub mod Rounds
+pub mod Coloured
 pub mod FirstRefusal
 pub mod StepsInOrder

@@ -1,6 +1,6 @@
 -- The colours of a network: three colours of each forest, merged forest by forest.
-use Rattle.std.specs.Prelude.{ℕ, zero, suc, Bool, Option}
-use Rattle.interference.specs.Net.{Net, bars_of, id_of, neighbours, forest_count_of, span_of}
+use Rattle.std.specs.Prelude.{◌≡◌, ◌≢◌, ◌≤◌, ℕ, zero, suc, Bool, Option}
+use Rattle.interference.specs.Net.{Net, IsBarred, IsEdge, IsVertex, bars_of, id_of, neighbours, forest_count_of, span_of}
 use Rattle.forests.specs.Forests.{parent, number}
 use Rattle.cole_vishkin.specs.BitStep.{six}
 use Rattle.shift_down.specs.Steps.{three_from}
@@ -36,3 +36,11 @@ colours_after net (suc f) v = merge (merging net f (colours_after net f)) v
 -- the colours of the network: those after all its forests
 abbrev pub colours : Net → ℕ → ℕ
 colours net v = colours_after net (forest_count_of net) v
+
+-- These are the colours of the network; so neighbours differ, each colour is from 0 to the span, and none is barred at
+-- its vertex.
+pub record AreColours (net : Net) (colour : ℕ → ℕ) : Type 0 where
+  pub exact : (v : ℕ) → IsVertex net v → colour v ≡ colours net v
+  pub proper : (v w : ℕ) → IsEdge net v w → colour v ≢ colour w
+  pub within : (v : ℕ) → IsVertex net v → colour v ≤ span_of net
+  pub unbarred : (v : ℕ) → IsVertex net v → IsBarred net v (colour v) → ⊥

@@ -11,6 +11,7 @@ use Rattle.colour_rules.specs.declared.phase.Phase.TheVariants.{Greet, Orient, S
 use Rattle.colour_rules.specs.Node.{Node, phase_of}
 use Rattle.colour_rules.specs.Choice.{chooses}
 use Rattle.colour_rules.specs.Program.{colouring}
+use Rattle.colour_laws.specs.Colours.{AreColours}
 use Rattle.number_rows.specs.Row.{row, numbered}
 use Rattle.program_texts.specs.Texts.{HasName, ProgramTexts}
 
@@ -63,6 +64,10 @@ node_text (Work reduction) v node = colours_text v node
 node_text (Merge f s) v node = if chooses node f s then choice_text v node else []
 node_text Halted v node = []
 
+-- the nodes have the colours of the network
+abbrev pub HaveColours : Net → (ℕ → Node) → Type 0
+HaveColours net states = AreColours net (λ v. (states v).merged)
+
 -- all texts of the colouring; the result of a node is its channel, one more than its colour
 abbrev pub colouring_texts : ProgramTexts Node
 colouring_texts =
@@ -71,7 +76,8 @@ colouring_texts =
       head = head_line;
       phase = λ net p. phase_text (sizes_of net) (phase_of (sizes_of net) p);
       lines = λ net p v node. node_text (phase_of (sizes_of net) p) v node;
-      result = λ node. numbered (codes " channel ") (node.merged + 1);
+      result = λ net v node. numbered (codes " channel ") (node.merged + 1);
+      Solves = HaveColours;
     }
 
 -- its name is a word

@@ -90,6 +90,8 @@ impl ProgramText for Colouring {
 
     ghost named = { colouring_named };
 
+    fn rounds_solve() {}
+
     fn name() -> &'static str {
         "colouring"
     }
@@ -125,7 +127,7 @@ impl ProgramText for Colouring {
         push_node(text, node.phase(pulse), v, node)
     }
 
-    fn push_result(&self, text: &mut Vec<u8>) -> Result<(), AllocError> {
+    fn push_result(&self, text: &mut Vec<u8>, _net: &Network, _v: u32) -> Result<(), AllocError> {
         push_numbered(text, b" channel ", u128::from(self.colour()) + 1)
     }
 }

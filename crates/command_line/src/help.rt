@@ -329,7 +329,8 @@ lines are skipped, and lines whose first field begins with c.
 
 Output, for each node V, ascending, a line each:
   node V pulse P           its pulse; at its last one followed by its result:
-                           `channel C`, `leader ID`, `layer N by PORT`, or for
+                           `channel C`; `leader ID`, and `elected` after it of
+                           the node that has it; `layer N by PORT to W`, or for
                            the node of identifier 1 `layer 0`, and for one that
                            no path leads to `layer none`
   link V W taken N WIRES   for each neighbour W, ascending: the number of wires
@@ -394,7 +395,8 @@ Faults of the transcript, reported once the graph has none, each as
 `forestplay: LinkEmpty line 5: link from 2 to 1`, where lines count from the first
 of the graph. The words after the line say what is missing, as for `forestplay
 events`, or what was expected:
-  X1            not a line of a transcript, or, as line 1, no transcript
+  X1            not a line of a transcript, as one with a payload of another program
+                (is --program forgotten?), or, as line 1, no transcript
   NoSuch        there is no such node, or the other is not a neighbour
   NotReady      the node cannot make its next pulse yet
   NothingToPut  the out-list is empty
@@ -476,7 +478,7 @@ as often as --turns says before all nodes were done.
 Example: three nodes in a row, of which node 1 has the identifier 1
   printf 'p edge 3 2\\ne 1 2\\ne 2 3\\n' | forestplay run --program layers
 prints
-  node 1 pulse 3 layer 0
-  node 2 pulse 3 layer 1 by 0
-  node 3 pulse 3 layer 2 by 0",
+  node 1 pulse 2 layer 0
+  node 2 pulse 2 layer 1 by 0 to 1
+  node 3 pulse 2 layer 2 by 0 to 2",
 };

@@ -10,13 +10,13 @@ use Rattle.number_rows.specs.Row.{numbered}
 use Rattle.wire_texts.specs.WireText.{wire_text}
 
 -- at the last pulse, the result of the node
-abbrev pub result_text : {S M : Type 0} → ProgramTexts S → ℕ → Node S M → List ℕ
-result_text texts last node = if is_halted last node.view then texts.result node.state else []
+abbrev pub result_text : {S M : Type 0} → ProgramTexts S → Net → ℕ → ℕ → Node S M → List ℕ
+result_text texts net last v node = if is_halted last node.view then texts.result net v node.state else []
 
 -- `node V pulse P`, and maybe its result
-abbrev pub node_text : {S M : Type 0} → ProgramTexts S → ℕ → ℕ → Node S M → List ℕ
-node_text texts last v node =
-    numbered (codes "node ") v ++ numbered (codes " pulse ") node.view.pulse ++ result_text texts last node
+abbrev pub node_text : {S M : Type 0} → ProgramTexts S → Net → ℕ → ℕ → Node S M → List ℕ
+node_text texts net last v node =
+    numbered (codes "node ") v ++ numbered (codes " pulse ") node.view.pulse ++ result_text texts net last v node
     ++ codes "\n"
 
 module _ {M : Type 0} (word_of : M → List ℕ) (number_of : M → ℕ) where
@@ -36,5 +36,5 @@ module _ {M : Type 0} (word_of : M → List ℕ) (number_of : M → ℕ) where
 abbrev pub state_text : {S M E : Type 0} → Program S M E → ProgramTexts S → (M → List ℕ) → (M → ℕ) → Net →
     State S M → List ℕ
 state_text program texts word_of number_of net state =
-    flat_map (λ v. node_text texts (last_pulse_on program net) v (node_of program net state v)
+    flat_map (λ v. node_text texts net (last_pulse_on program net) v (node_of program net state v)
     ++ links_text word_of number_of net state v) (vertices net)

@@ -23,14 +23,14 @@ fn push_node<P: ProgramText>(
     v: u32,
 ) -> Result<(), AllocError>
     requires vertex { IsVertex state.now.net v }
-    ensures { IfOk result (λ _. text.new.items ≡ text.old.items ++ node_text P.texts
+    ensures { IfOk result (λ _. text.new.items ≡ text.old.items ++ node_text P.texts state.now.net
         (last_pulse_on P.program state.now.net) v (node_of P.program state.now.net state.now.state v)) }
 {
     let node = state.node(v);
     push_numbered(text, b"node ", u128::from(v))?;
     push_numbered(text, b" pulse ", u128::from(node.pulse_number()))?;
     if node.halted() {
-        node.program().push_result(text)?;
+        node.program().push_result(text, state.network(), v)?;
     }
     text.push(b'\n')?;
     Ok(())

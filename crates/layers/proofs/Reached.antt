@@ -1,5 +1,5 @@
 -- After p pulses a node knows its distance from the root if that is p at most, and a port that leads closer.
-use Rattle.std.proofs.Common.{◌≡◌, ℕ, zero, suc, ◌<◌, ◌≤◌, List, refl, ap, sym, subst, ◌∙◌, arith, inl, inr, true, false}
+use Rattle.std.proofs.Common.{◌≡◌, ℕ, zero, suc, ◌-◌, ◌<◌, ◌≤◌, List, refl, ap, sym, subst, ◌∙◌, arith, inl, inr, true, false}
 use Rattle.std.specs.Prelude.{Option, Some, None, nat_eq}
 use Rattle.std.proofs.lemmas.Bool.{eqb-true, eq-eqb}
 use Rattle.std.proofs.lemmas.Bool.Decides.{eqb_tells}
@@ -68,7 +68,7 @@ module _ (net : Net) (ok : IsNetwork net) where
         rw test (λ root is_root within. other.1 (ap (id_of net) (sym within) ∙ is_root.1))
   ]
 
-  advance : (p v : ℕ) → IsVertex net v → p < count_of net → (layer : Layer) → Knows p v layer
+  advance : (p v : ℕ) → IsVertex net v → p < count_of net - 1 → (layer : Layer) → Knows p v layer
       → ((k : ℕ) → k < degree_of net v → Knows p (neighbour_of net v k) (node net ok p (neighbour_of net v k)).0.layer)
       → (first : Option ℕ) → Hears (suc p) 0 (inbox_from net (node net ok p) v) first → Knows (suc p) v (layer_after layer (suc p) first)
   advance p v vertex early Root knows beside first heard = knows
@@ -91,25 +91,25 @@ module _ (net : Net) (ok : IsNetwork net) where
       let in_row : k < degree_of net v = omega (arith, length-inbox net (node net ok p) v) in
       let w : ℕ = neighbour_of net v k in
       let port : k ≡ found = omega (arith, is) in
-      let (root, is_root, near) = due-distance p p w (node net ok p w).0.layer (beside k in_row) (due-if net ok p v k x vertex in_row at) in
+      let (root, is_root, near) = due-distance p p w (node net ok p w).0.layer (beside k in_row) (due-if net ok p v k x vertex early in_row at) in
       let far : IsDistance net v root (suc p) = distance-from net p v root (inr (k, in_row, near.reached)) (knows root is_root) in
       (root, p, is_root, refl, omega arith, omega (arith, is), far, subst (λ (q : ℕ). IsDistance net (neighbour_of net v q) root p) port near)
 
-  knows-at : (p v : ℕ) → IsVertex net v → p ≤ count_of net → Knows p v (node net ok p v).0.layer
+  knows-at : (p v : ℕ) → IsVertex net v → p ≤ count_of net - 1 → Knows p v (node net ok p v).0.layer
   knows-at zero v vertex early =
       subst (λ (n : Layered × List (Option Hops)). Knows zero v n.0.layer) (sym (node_at-none layering net v)) (first-knows v vertex)
   knows-at (suc p) v vertex early =
-      let (first, (new, heard)) = step net ok p v in
+      let (first, (new, heard)) = step net ok p v early in
       subst (λ (n : Layered × List (Option Hops)). Knows (suc p) v n.0.layer) (sym new)
       (advance p v vertex early (node net ok p v).0.layer (knows-at p v vertex (omega arith))
       (λ k below. knows-at p (neighbour_of net v k) (ok.vertices v k vertex below) (omega arith)) first heard)
 
-  soon : (v w : ℕ) → IsVertex net v → IsReached net v w → IsWithinLinks net (count_of net) v w
+  soon : (v w : ℕ) → IsVertex net v → IsReached net v w → IsWithinLinks net (count_of net - 1) v w
   soon v w vertex reached =
       let (d, is) = distance-to net reached.0 v w reached.1 in
-      within-more net d (count_of net) v w (omega (arith, distance-below net ok w d v vertex is)) is.reached
+      within-more net d (count_of net - 1) v w (omega (arith, distance-below net ok w d v vertex is)) is.reached
 
-  is-layer : (v : ℕ) → IsVertex net v → (layer : Layer) → Knows (count_of net) v layer → IsLayer net v layer
+  is-layer : (v : ℕ) → IsVertex net v → (layer : Layer) → Knows (count_of net - 1) v layer → IsLayer net v layer
   is-layer v vertex Unreached knows = record {
     distance = λ hops e. absurd (cc);
     closer = λ hops port e. absurd (cc);
@@ -129,5 +129,5 @@ module _ (net : Net) (ok : IsNetwork net) where
     unreached = (λ e. absurd (cc), λ none. absurd (none root is_root (hops, far.reached)));
   }
 
-  pub finds : (v : ℕ) → IsVertex net v → IsLayer net v (node net ok (count_of net) v).0.layer
-  finds v vertex = is-layer v vertex _ (knows-at (count_of net) v vertex (omega arith))
+  pub finds : (v : ℕ) → IsVertex net v → IsLayer net v (node net ok (count_of net - 1) v).0.layer
+  finds v vertex = is-layer v vertex _ (knows-at (count_of net - 1) v vertex (omega arith))

@@ -1,5 +1,5 @@
 -- Breadth-first layers: what a node makes of an inbox, what it sends, and what it refuses.
-use Rattle.std.specs.Prelude.{ℕ, suc, Bool, false, List, Option, Some, None, Result, Ok, Err, replicate}
+use Rattle.std.specs.Prelude.{ℕ, suc, ◌-◌, Bool, false, List, Option, Some, None, Result, Ok, Err, replicate}
 use Rattle.std.specs.Prelude.{if◌then◌else◌, nat_eq, nat_lt, ◌&&◌}
 use Rattle.std.specs.Option.{option_or}
 use Rattle.node_api.specs.Boxes.{nothing, fold_slots}
@@ -9,7 +9,7 @@ use Rattle.layers.specs.declared.hops.Hops.{Hops}
 use Rattle.layers.specs.declared.layer.Layer.{Layer}
 use Rattle.layers.specs.declared.layer.Layer.TheVariants.{Unreached, Root, Away}
 use Rattle.layers.specs.declared.layer.TheConstants.{ROOT_ID}
-use Rattle.layers.specs.declared.rules.TheConstants.{WRONG_HOPS}
+use Rattle.layers.specs.declared.rules.TheConstants.{AFTER_LAST, WRONG_HOPS}
 use Rattle.layers.specs.Layered.{Layered}
 
 -- at first a node knows only whether it is the root
@@ -17,7 +17,7 @@ abbrev pub first_layer : ℕ → Layer
 first_layer id = if nat_eq id ROOT_ID then Root else Unreached
 
 abbrev pub layered_first : Own → Layered
-layered_first own = record { layer = first_layer own.id; degree = own.degree; last = own.sizes.nodes }
+layered_first own = record { layer = first_layer own.id; degree = own.degree; last = own.sizes.nodes - 1 }
 
 -- a node of this layer sends at this pulse: the pulse is its distance
 abbrev pub is_due : Layer → ℕ → Bool
@@ -34,16 +34,25 @@ sends p s =
 abbrev pub with_sent : ℕ → Layered → Layered × List (Option Hops)
 with_sent p s = (s, sends p s)
 
--- The first port at which something came, with one payload more. What comes at pulse p was sent at distance p - 1.
-abbrev pub and_heard : ℕ → Result (Option ℕ) Refused → ℕ → Hops → Result (Option ℕ) Refused
-and_heard p (Ok first) port x =
-    if nat_eq (suc x.0) p then Ok (option_or first (Some port))
-    else Err (record { rule = WRONG_HOPS; port = Some port })
-and_heard p (Err refused) port x = Err refused
+-- The rule that a distance breaks which comes at pulse p: after the last pulse none may come, and before, what comes was
+-- sent at distance p - 1.
+abbrev pub rule_broken : ℕ → ℕ → ℕ → Option ℕ
+rule_broken last p hops =
+    if nat_lt last p then Some AFTER_LAST else if nat_eq (suc hops) p then None else Some WRONG_HOPS
+
+-- the first port at which something came, and one port more; or the refusal by a rule
+abbrev pub and_port : Option ℕ → ℕ → Option ℕ → Result (Option ℕ) Refused
+and_port first port None = Ok (option_or first (Some port))
+and_port first port (Some rule) = Err (record { rule = rule; port = Some port })
+
+-- the first port at which something came, with one payload more
+abbrev pub and_heard : ℕ → ℕ → Result (Option ℕ) Refused → ℕ → Hops → Result (Option ℕ) Refused
+and_heard last p (Ok first) port x = and_port first port (rule_broken last p x.0)
+and_heard last p (Err refused) port x = Err refused
 
 -- the first port at which something came at this pulse, or the refusal of the first port that broke a rule
-abbrev pub heard : ℕ → List (Option Hops) → Result (Option ℕ) Refused
-heard p inbox = fold_slots (and_heard p) (Ok None) 0 inbox
+abbrev pub heard : ℕ → ℕ → List (Option Hops) → Result (Option ℕ) Refused
+heard last p inbox = fold_slots (and_heard last p) (Ok None) 0 inbox
 
 -- a node that hears for the first time, at pulse p, is p links away, and the port leads towards the root
 abbrev pub layer_after : Layer → ℕ → Option ℕ → Layer
@@ -60,12 +69,12 @@ abbrev pub next_from : Layered → ℕ → Result (Option ℕ) Refused → Resul
 next_from s p (Ok first) = Ok (with_sent p (layered_after s p first))
 next_from s p (Err refused) = Err refused
 
--- the program: its last pulse is the number of nodes
+-- the program: its last pulse is one less than the number of nodes, as every distance is at most
 abbrev pub layering : Program Layered Hops Refused
 layering = record {
-  last = λ sizes. sizes.nodes;
+  last = λ sizes. sizes.nodes - 1;
   ports = λ s. s.degree;
   made = layered_first;
   greet = with_sent 0;
-  next = λ s p inbox. next_from s p (heard p inbox);
+  next = λ s p inbox. next_from s p (heard s.last p inbox);
 }

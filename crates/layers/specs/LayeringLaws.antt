@@ -1,7 +1,7 @@
 -- The layers keep the laws of every program.
-use Rattle.std.proofs.Common.{◌≡◌, ℕ, zero, suc, ◌+◌, ◌<◌, ◌≤◌, List, [], ◌∷◌, length, refl, ap, sym, subst, ◌∙◌}
+use Rattle.std.proofs.Common.{◌≡◌, ℕ, zero, suc, ◌+◌, ◌-◌, ◌<◌, ◌≤◌, List, [], ◌∷◌, length, refl, ap, sym, subst, ◌∙◌}
 use Rattle.std.proofs.Common.{arith, Bool, true, false, cond, replicate}
-use Rattle.std.specs.Prelude.{Option, Some, None, Result, Ok, Err, IsOk, IfOk, nat_lt, nat_eq, ◌&&◌}
+use Rattle.std.specs.Prelude.{Option, Some, None, Result, Ok, Err, IsOk, IfOk, nat_lt, ◌&&◌}
 use Rattle.std.specs.Option.{option_or}
 use Rattle.std.proofs.lemmas.List.{length-replicate, get_or-map, get_or-replicate, get_or_past}
 use native.Mathlib.Decide.{dec_lt}
@@ -17,7 +17,8 @@ use Rattle.node_api.proofs.Runs.{node_at-none, node_at-more, node_at-ports, leng
 use Rattle.node_api.proofs.Slots.{at_port-nothing}
 use Rattle.layers.specs.declared.hops.Hops.{Hops}
 use Rattle.layers.specs.Layered.{Layered}
-use Rattle.layers.specs.Layering.{and_heard, heard, is_due, layered_after, layered_first, layering, next_from, sends}
+use Rattle.layers.specs.Layering.{and_heard, heard, is_due, layered_after, layered_first, layering, next_from}
+use Rattle.layers.specs.Layering.{rule_broken, sends}
 
 either_length : {A : Type 0} (b : Bool) (n : ℕ) (x y : A) → length (cond b (replicate n x) (replicate n y)) ≡ n
 either_length true n x y = length-replicate n x
@@ -37,7 +38,7 @@ pub layering_ports : KeepsPorts layering
 layering_ports = record {
   made_ports = λ own. refl;
   greet_shape = λ s. (refl, length-sends 0 s);
-  next_shape = λ s p inbox h. next-shape s p (heard p inbox);
+  next_shape = λ s p inbox h. next-shape s p (heard s.last p inbox);
 }
 
 sends-late : (p : ℕ) (s : Layered) → s.last ≤ p → sends p s ≡ nothing s.degree
@@ -80,10 +81,10 @@ after-said s p degree (Err refused) e = record {
   pulse = λ port x at. let none : None ≡ Some x = sym (at_port-nothing degree port) ∙ at in absurd (cc);
 }
 
-pub said : (net : Net) (p v : ℕ) → IsSaid (count_of net) (degree_of net v) p (node_at layering net p v)
+pub said : (net : Net) (p v : ℕ) → IsSaid (count_of net - 1) (degree_of net v) p (node_at layering net p v)
 said net zero v =
     let s : Layered = layered_first (own_of net v) in
-    subst (λ (n : Layered × List (Option Hops)). IsSaid (count_of net) (degree_of net v) zero n)
+    subst (λ (n : Layered × List (Option Hops)). IsSaid (count_of net - 1) (degree_of net v) zero n)
     (sym (node_at-none layering net v))
     (record {
       knows = refl;
@@ -92,11 +93,11 @@ said net zero v =
     })
 said net (suc p) v =
     let s : Layered = (node_at layering net p v).0 in
-    let r : Result (Option ℕ) Refused = heard (suc p) (inbox_from net (node_at layering net p) v) in
+    let r : Result (Option ℕ) Refused = heard s.last (suc p) (inbox_from net (node_at layering net p) v) in
     let degree : ℕ = degree_of net v in
     let new : IsSaid s.last degree (suc p) (after s degree (next_from s (suc p) r)) =
     after-said s (suc p) degree r (node_at-ports layering net layering_ports p v).0 in
-    subst (λ (n : Layered × List (Option Hops)). IsSaid (count_of net) degree (suc p) n)
+    subst (λ (n : Layered × List (Option Hops)). IsSaid (count_of net - 1) degree (suc p) n)
     (sym (node_at-more layering net p v))
     (subst (λ (last : ℕ). IsSaid last degree (suc p) (after s degree (next_from s (suc p) r))) (said net p v).knows new)
 
@@ -109,16 +110,19 @@ comes net p v k x below at =
     let sent : ℕ → Option Hops = λ u. at_port (node_at layering net p u).1 (port_to net u v) in
     (said net p w).pulse (port_to net w v) x (sym (get_or-map sent (neighbours net v) k 0 None in_row) ∙ at)
 
-accepted : (p port : ℕ) (first : Option ℕ) (slots : List (Option Hops))
+-- a distance that comes in time and is one less than the pulse breaks no rule
+pub unbroken : (last p hops : ℕ) → p ≤ last → suc hops ≡ p → rule_broken last p hops ≡ None
+unbroken last p hops early same = grind (arith, nat_tests)
+
+accepted : (last p port : ℕ) (first : Option ℕ) (slots : List (Option Hops)) → p ≤ last
     → ((k : ℕ) (x : Hops) → k < length slots → at_port slots k ≡ Some x → suc x.0 ≡ p)
-    → IsOk (fold_slots (and_heard p) (Ok first) port slots)
-accepted p port first [] each = refl
-accepted p port first (None ∷ slots) each =
-    accepted p (port + 1) first slots (λ k x below at. each (suc k) x (omega arith) at)
-accepted p port first (Some x ∷ slots) each =
-    let here : suc x.0 ≡ p = each 0 x (omega arith) refl in
-    let test : nat_eq (suc x.0) p ≡ true = grind (arith, nat_tests) in
-    rw test (accepted p (port + 1) (option_or first (Some port)) slots
+    → IsOk (fold_slots (and_heard last p) (Ok first) port slots)
+accepted last p port first [] early each = refl
+accepted last p port first (None ∷ slots) early each =
+    accepted last p (port + 1) first slots early (λ k x below at. each (suc k) x (omega arith) at)
+accepted last p port first (Some x ∷ slots) early each =
+    let none : rule_broken last p x.0 ≡ None = unbroken last p x.0 early (each 0 x (omega arith) refl) in
+    rw none (accepted last p (port + 1) (option_or first (Some port)) slots early
     (λ k x below at. each (suc k) x (omega arith) at))
 
 next-ok : (s : Layered) (p : ℕ) (r : Result (Option ℕ) Refused) → IsOk r → IsOk (next_from s p r)
@@ -130,7 +134,9 @@ layering_is_program = record {
   keeps_ports = layering_ports;
   accepts = λ net ok p v is_vertex below.
       let inbox : List (Option Hops) = inbox_from net (node_at layering net p) v in
-      next-ok (node_at layering net p v).0 (suc p) (heard (suc p) inbox)
-      (accepted (suc p) 0 None inbox (λ k x low at. omega (arith, comes net p v k x low at)));
-  silent = λ net ok v is_vertex. (said net (count_of net) v).silent (omega arith);
+      let s : Layered = (node_at layering net p v).0 in
+      next-ok s (suc p) (heard s.last (suc p) inbox)
+      (accepted s.last (suc p) 0 None inbox (omega (arith, below, (said net p v).knows))
+      (λ k x low at. omega (arith, comes net p v k x low at)));
+  silent = λ net ok v is_vertex. (said net (count_of net - 1) v).silent (omega arith);
 }

@@ -1,29 +1,43 @@
 //! What a node makes of an inbox.
 
 ghost use Rattle.std.specs.Prelude.{◌≡◌};
-ghost use Rattle.layers.specs.Layering.{heard};
+ghost use Rattle.layers.specs.Layering.{heard, rule_broken};
 
 use crate::hops::Hops;
-use crate::rules::WRONG_HOPS;
+use crate::rules::{AFTER_LAST, WRONG_HOPS};
 use node_api::{Inbox, Refused};
 
+// The rule that a distance breaks which comes at a pulse.
+fn rule_broken(last: u32, pulse: u32, hops: u32) -> Option<u16>
+    ensures { result ≡ rule_broken last pulse hops }
+{
+    if last < pulse {
+        Some(AFTER_LAST)
+    } else if u64::from(hops) + 1 == u64::from(pulse) {
+        None
+    } else {
+        Some(WRONG_HOPS)
+    }
+}
+
 // The first port at which a payload came.
-pub(crate) fn first_port(pulse: u32, inbox: &mut Inbox<Hops>) -> Result<Option<u32>, Refused>
+pub(crate) fn first_port(
+    last: u32,
+    pulse: u32,
+    inbox: &mut Inbox<Hops>,
+) -> Result<Option<u32>, Refused>
     requires rewound { inbox.old.cursor ≡ 0 }
-    ensures heard { result ≡ heard pulse inbox.old.slots }
+    ensures heard { result ≡ heard last pulse inbox.old.slots }
     ensures inbox { inbox.new.slots ≡ inbox.old.slots }
 {
     let mut first = None;
     while inbox.has_next() {
         let Hops(hops) = inbox.next();
         let port = Some(inbox.sender());
-        if u64::from(hops) + 1 != u64::from(pulse) {
-            return Err(Refused {
-                rule: WRONG_HOPS,
-                port,
-            });
+        match rule_broken(last, pulse, hops) {
+            Some(rule) => return Err(Refused { rule, port }),
+            None => first = first.or(port),
         }
-        first = first.or(port);
     }
     Ok(first)
 }

@@ -6,6 +6,8 @@ ghost use Rattle.layers.specs.Layering.{is_due, layer_after, first_layer};
 /// The identifier of the root.
 pub const ROOT_ID: u128 = 1;
 
+const _: () = prove!(ROOT_ID == 1);
+
 /// What a node knows of its distance from the root.
 #[derive(Debug, Clone, Copy, PartialEq, Eq)]
 pub enum Layer {

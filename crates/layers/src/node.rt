@@ -58,14 +58,14 @@ impl NodeProgram for Layers {
     ghost laws = { layering_is_program };
 
     fn last_pulse(net: &Network) -> u32 {
-        net.nodes()
+        net.nodes().saturating_sub(1)
     }
 
     fn make(_alloc: Global, net: &Network, v: u32) -> Result<Self, Memory> {
         Ok(Layers {
             layer: Layer::first(net.id(v)),
             degree: net.degree(v),
-            last: net.nodes(),
+            last: net.nodes().saturating_sub(1),
         })
     }
 
@@ -81,7 +81,7 @@ impl NodeProgram for Layers {
         inbox: &mut Inbox<Hops>,
         out: &mut Outbox<Hops>,
     ) -> Result<(), Refused> {
-        let first = first_port(pulse, inbox)?;
+        let first = first_port(self.last, pulse, inbox)?;
         self.layer = self.layer.after(pulse, first);
         self.send(pulse, out);
         Ok(())

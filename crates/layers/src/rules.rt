@@ -2,3 +2,8 @@
 
 /// A distance that isn't the number of the pulse before: what comes at pulse p was sent at distance p - 1.
 pub const WRONG_HOPS: u16 = 1;
+
+/// A payload after the last pulse, whatever its distance.
+pub const AFTER_LAST: u16 = 2;
+
+const _: () = prove!(WRONG_HOPS == 1 && AFTER_LAST == 2);

@@ -2,3 +2,5 @@
 
 /// A payload after the last pulse.
 pub const AFTER_LAST: u16 = 1;
+
+const _: () = prove!(AFTER_LAST == 1);

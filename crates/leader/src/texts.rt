@@ -1,5 +1,9 @@
 //! The words of the election in texts.
 
+ghost use Rattle.std.specs.Prelude.{◌≡◌, ◌++◌, IfOk};
+ghost use Rattle.leader.specs.Texts.{result_text};
+
+use crate::laws::rounds_end_with_the_leader;
 use crate::node::Leader;
 use interference::Network;
 use node_api::NodeProgram;
@@ -7,12 +11,23 @@ use number_rows::{push_numbered, push_row};
 use program_texts::ProgramText;
 use std::alloc::AllocError;
 
+// Appends the identifier that a node knows.
+fn push_leader(text: &mut Vec<u8>, node: &Leader) -> Result<(), AllocError>
+    ensures { IfOk result (λ _. text.new.items ≡ text.old.items ++ result_text node.now) }
+{
+    push_numbered(text, b" leader ", node.best())
+}
+
 impl ProgramText for Leader {
     ghost use Rattle.leader.specs.Texts.{leader_named, leader_texts};
 
     ghost texts = { leader_texts };
 
     ghost named = { leader_named };
+
+    fn rounds_solve() {
+        rounds_end_with_the_leader();
+    }
 
     fn name() -> &'static str {
         "leader"
@@ -41,12 +56,16 @@ impl ProgramText for Leader {
             return Ok(());
         }
         push_numbered(text, b"", u128::from(v))?;
-        self.push_result(text)?;
+        push_leader(text, self)?;
         text.push(b'\n')?;
         Ok(())
     }
 
-    fn push_result(&self, text: &mut Vec<u8>) -> Result<(), AllocError> {
-        push_numbered(text, b" leader ", self.best())
+    fn push_result(&self, text: &mut Vec<u8>, net: &Network, v: u32) -> Result<(), AllocError> {
+        push_leader(text, self)?;
+        if net.id(v) == self.best() {
+            text.extend_from_slice(b" elected")?;
+        }
+        Ok(())
     }
 }

@@ -1,8 +1,8 @@
 //! Programs have texts.
 
 ghost use Rattle.std.specs.Prelude.{◌≡◌, ◌++◌, IfOk};
-ghost use Rattle.interference.specs.Net.{IsVertex};
-ghost use Rattle.node_api.specs.Run.{state_at};
+ghost use Rattle.interference.specs.Net.{IsNetwork, IsVertex, Net};
+ghost use Rattle.node_api.specs.Run.{last_state, state_at};
 ghost use Rattle.program_texts.specs.Texts.{HasName, ProgramTexts};
 
 use interference::Network;
@@ -12,11 +12,16 @@ use std::alloc::AllocError;
 /// A program of nodes that has texts. Each call appends to `text`; if a growth is refused, `text` may end in a
 /// beginning of what was to be appended.
 pub trait ProgramText: NodeProgram {
-    /// All texts of the program.
+    /// All texts of the program, and what its last states are for.
     ghost texts: { ProgramTexts Self };
 
     /// The name is one or more small ASCII letters.
     ghost named: { HasName texts };
+
+    /// On every network the synchronous run ends with what the program is for. It does nothing: its contract is the
+    /// law, and the answers of `events`, `replay`, `rounds` and `run` rest on it.
+    fn rounds_solve()
+        ensures law { (net : Net) → IsNetwork net → texts.Solves net (last_state Self.program net) };
 
     /// The program's name, a word of the command line and of the first line of the rounds.
     fn name() -> &'static str
@@ -54,11 +59,12 @@ pub trait ProgramText: NodeProgram {
         requires run { self.now ≡ state_at Self.program net.now pulse v }
         ensures { IfOk result (λ _. text.new.items ≡ text.old.items ++ texts.lines net.now pulse v self.now) };
 
-    /// Appends the words for the result of a node that has made its last pulse, with a space before each.
+    /// Appends the words for the result of a vertex's node that has made its last pulse, with a space before each.
     ///
     /// # Errors
     ///
     /// If a growth is refused.
-    fn push_result(&self, text: &mut Vec<u8>) -> Result<(), AllocError>
-        ensures { IfOk result (λ _. text.new.items ≡ text.old.items ++ texts.result self.now) };
+    fn push_result(&self, text: &mut Vec<u8>, net: &Network, v: u32) -> Result<(), AllocError>
+        requires vertex { IsVertex net.now v }
+        ensures { IfOk result (λ _. text.new.items ≡ text.old.items ++ texts.result net.now v self.now) };
 }

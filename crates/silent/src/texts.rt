@@ -1,5 +1,6 @@
 //! The words of the program in texts.
 
+use crate::laws::rounds_end_with_the_numbers;
 use crate::node::Silent;
 use interference::Network;
 use node_api::NodeProgram;
@@ -13,6 +14,10 @@ impl ProgramText for Silent {
     ghost texts = { silent_texts };
 
     ghost named = { silent_named };
+
+    fn rounds_solve() {
+        rounds_end_with_the_numbers();
+    }
 
     fn name() -> &'static str {
         "silent"
@@ -41,12 +46,12 @@ impl ProgramText for Silent {
             return Ok(());
         }
         push_numbered(text, b"", u128::from(v))?;
-        self.push_result(text)?;
+        self.push_result(text, net, v)?;
         text.push(b'\n')?;
         Ok(())
     }
 
-    fn push_result(&self, text: &mut Vec<u8>) -> Result<(), AllocError> {
+    fn push_result(&self, text: &mut Vec<u8>, _net: &Network, _v: u32) -> Result<(), AllocError> {
         push_numbered(text, b" silent ", u128::from(self.number()))
     }
 }

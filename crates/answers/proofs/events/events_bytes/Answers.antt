@@ -1,5 +1,6 @@
 use Rattle.std.proofs.Common.{◌∙◌, Ok, ap, sym}
 use Rattle.std.proofs.lemmas.Result.{err_from_is_err_and}
+use Rattle.event_texts.specs.Played.{events_in}
 use Rattle.event_texts.specs.StateText.{state_text}
 use Rattle.answers.proofs.Playing.{fault-network, fault-reading, fault-run, reached}
 use Rattle.answers.proofs.events.events_bytes.Goals as goal
@@ -34,3 +35,6 @@ returns-clause-ok g c =
     c.as_slice.result.now view.state
     c.network_text.ensures.network c.in_ok-network.ensures.ok (c.in_ok-script.ensures.ok ∙ ap Ok (sym c.as_slice.ensures.value)) c.in_ok-state.ensures.ok
     (c.in_ok-text_of_state.ensures.text ∙ ap (λ net. state_text program texts m.word_of m.number_of net view.state) c.in_ok-state.ensures.net)
+    (λ ok v vertex. ((c.every_run_simulates.ensures.law program g.P.NodeProgram.laws c.in_ok-network.network ok
+    (events_in c.as_slice.result.now) view.state c.in_ok-state.ensures.ok).fits v vertex).state)
+    c.rounds_solve.ensures.law

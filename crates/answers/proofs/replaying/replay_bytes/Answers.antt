@@ -1,7 +1,7 @@
 use Rattle.std.proofs.Common.{◌∙◌, ap}
 use Rattle.std.proofs.lemmas.Result.{err_from_is_err_and}
 use Rattle.event_texts.specs.StateText.{state_text}
-use Rattle.answers.proofs.Replays.{fault-network, fault-transcript, reached}
+use Rattle.answers.proofs.Replays.{fault-network, fault-transcript, in-step, reached}
 use Rattle.answers.proofs.replaying.replay_bytes.Goals as goal
 
 pub returns-in_err-network-clause-fault : goal.returns-in_err-network-clause-fault
@@ -32,3 +32,6 @@ returns-clause-ok g c =
     c.in_ok-network.network view.state
     c.network_text.ensures.network c.in_ok-network.ensures.ok c.in_ok-state.ensures.ok
     (c.in_ok-text_of_state.ensures.text ∙ ap (λ net. state_text program texts m.word_of m.number_of net view.state) c.in_ok-state.ensures.net)
+    (λ ok. in-step program m.payload_of c.in_ok-network.network view.state _ c.in_ok-state.ensures.ok (λ events ran v vertex.
+    ((c.every_run_simulates.ensures.law program g.P.NodeProgram.laws c.in_ok-network.network ok events view.state ran).fits v vertex).state))
+    c.rounds_solve.ensures.law

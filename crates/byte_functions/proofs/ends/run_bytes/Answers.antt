@@ -1,7 +1,17 @@
-use Rattle.std.proofs.Common.{◌∙◌, ap, false, flat_map}
+use Rattle.std.proofs.Common.{◌∙◌, ap, false, flat_map, subst, sym}
+use Rattle.std.specs.Prelude.{All}
+use Rattle.interference.specs.Net.{IsVertex}
 use Rattle.byte_functions.specs.Ends.{gathered_end}
-use Rattle.byte_functions.proofs.Ended.{ends-answer}
+use Rattle.byte_functions.proofs.Ended.{are-vertices, ends-answer}
 use Rattle.byte_functions.proofs.ends.run_bytes.Goals as goal
+
+-- the nodes of an outcome are the vertices
+pub text_of_ends-requires-clause-vertices : goal.text_of_ends-requires-clause-vertices
+text_of_ends-requires-clause-vertices g c κs within =
+    let net = c.in_ok-network.network in
+    let outcome = c.in_ok-outcome.outcome in
+    subst (λ gs. All (λ n. IsVertex net n.vertex) gs) (sym c.actors.ensures.nodes)
+    (are-vertices g.P.NodeProgram.program net c.args.options.capacity false outcome c.in_ok-outcome.ensures.outcome)
 
 -- the nodes of a whole outcome have ended
 pub returns-clause-ok : goal.returns-clause-ok
@@ -15,4 +25,5 @@ returns-clause-ok g c =
     let ended = c.whole_outcomes_have_ended.ensures.law program g.P.NodeProgram.laws net c.is_network.ensures capacity false outcome is
     c.in_ok-outcome.ensures.whole in
     ends-answer program texts net capacity false outcome is ended.nodes_are c.args.input.now c.in_ok-text_of_ends.field-0.items c.in_ok-network.ensures.ok
-    (c.in_ok-text_of_ends.ensures ∙ ap (flat_map (gathered_end texts)) c.actors.ensures.nodes)
+    (c.in_ok-text_of_ends.ensures ∙ ap (flat_map (gathered_end texts net)) c.actors.ensures.nodes)
+    c.rounds_solve.ensures.law

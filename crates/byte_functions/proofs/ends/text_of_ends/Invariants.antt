@@ -5,4 +5,4 @@ use Rattle.byte_functions.proofs.ends.text_of_ends.Given as goal
 
 -- the lines of the nodes so far
 abbrev pub invariant-loop-actor : goal.invariant-loop-actor
-invariant-loop-actor g l = l.text.items ≡ flat_map (gathered_end g.P.ProgramText.texts) (map gathered_of (take l.actor-index l.actors))
+invariant-loop-actor g l = l.text.items ≡ flat_map (gathered_end g.P.ProgramText.texts l.net) (map gathered_of (take l.actor-index l.actors))

@@ -15,7 +15,7 @@ loop-i-preserved g c =
     let program = g.P.NodeProgram.program in
     let words = g.P.Payload.PayloadText in
     let v = c.loop-i.i + 1 in
-    let node_line : ℕ → List ℕ = λ k. node_text g.P.ProgramText.texts (last_pulse_on program state.net) k (node_of program state.net state.state k) in
+    let node_line : ℕ → List ℕ = λ k. node_text g.P.ProgramText.texts state.net (last_pulse_on program state.net) k (node_of program state.net state.state k) in
     let link_lines : ℕ → List ℕ = links_text words.word_of words.number_of state.net state.state in
     let same : 1 + c.loop-i.i ≡ v = omega arith in
     texts-more (λ k. node_line k ++ link_lines k)
@@ -30,7 +30,7 @@ returns g c =
     let words = g.P.Payload.PayloadText in
     record {
       text = c.loop-i.invariant
-          ∙ ap (λ n. flat_map (λ v. node_text g.P.ProgramText.texts (last_pulse_on program state.net) v (node_of program state.net state.state v)
+          ∙ ap (λ n. flat_map (λ v. node_text g.P.ProgramText.texts state.net (last_pulse_on program state.net) v (node_of program state.net state.state v)
           ++ links_text words.word_of words.number_of state.net state.state v) (range_with_len 1 n))
           (at_end c.loop-i.i c.nodes-i-end.result (count_of state.net) c.loop-i.auto.i-end c.loop-i-test.false
           (c.nodes-i-end.ensures.count ∙ ap count_of c.network.ensures.network));

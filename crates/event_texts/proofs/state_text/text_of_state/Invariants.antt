@@ -10,5 +10,5 @@ invariant-loop-i g l =
     let program = g.P.NodeProgram.program in
     let words = g.P.Payload.PayloadText in
     l.text.items
-    ≡ flat_map (λ v. node_text g.P.ProgramText.texts (last_pulse_on program l.state.net) v (node_of program l.state.net l.state.state v)
+    ≡ flat_map (λ v. node_text g.P.ProgramText.texts l.state.net (last_pulse_on program l.state.net) v (node_of program l.state.net l.state.state v)
     ++ links_text words.word_of words.number_of l.state.net l.state.state v) (range_with_len 1 l.i)

@@ -8,7 +8,7 @@ abbrev pub invariant-loop-inbox : goal.invariant-loop-inbox
 invariant-loop-inbox l =
     record {
       same : l.inbox.slots ≡ l.fn.inbox.slots;
-      rest : fold_rest (and_heard l.pulse) (Ok l.first) l.inbox ≡ heard l.pulse l.fn.inbox.slots;
+      rest : fold_rest (and_heard l.last l.pulse) (Ok l.first) l.inbox ≡ heard l.last l.pulse l.fn.inbox.slots;
     }
 
 abbrev pub decreases-loop-inbox : goal.decreases-loop-inbox

@@ -17,7 +17,7 @@ returns-then-is_over c = record {
       let of_layer : Layer → Layered = λ layer. record { layer = layer; degree = s.degree; last = s.last } in
       let over : is_due s.layer q ≡ false =
       subst (λ (t : Layered). is_due t.layer q ≡ false) c.self.view_is (c.is_over.ensures.over c.if-is_over.true q after) in
-      ap (λ (r : Result (Option ℕ) Refused). next_from s q r) (heard-nothing q 0 s.degree None)
+      ap (λ (r : Result (Option ℕ) Refused). next_from s q r) (heard-nothing s.last q 0 s.degree None)
       ∙ (ap (λ (layer : Layer). Ok (with_sent q (of_layer layer))) (unheard s.layer q)
       ∙ ap (λ (out : List (Option Hops)). Ok (s, out)) (sends-undue q s over));
 }

@@ -1,4 +1,4 @@
-use Rattle.std.proofs.Common.{◌≡◌, ℕ, List, [], ◌∷◌, ◌++◌, ap, subst, ◌∙◌}
+use Rattle.std.proofs.Common.{◌≡◌, ℕ, ◌-◌, List, [], ◌∷◌, ◌++◌, ap, subst, ◌∙◌}
 use Rattle.std.specs.Prelude.{codes}
 use Rattle.std.specs.Result.{IfOk}
 use Rattle.std.proofs.lemmas.List.{append_assoc}
@@ -14,8 +14,8 @@ returns c =
     let said : List ℕ = c.from-nodes.result ∷ c.from-degree.result ∷ c.from-last.result ∷ [] in
     let nodes : c.from-nodes.result ≡ count_of net = c.from-nodes.ensures ∙ c.nodes.ensures.count in
     let degree : c.from-degree.result ≡ greatest_degree_of net = c.from-degree.ensures ∙ c.greatest_degree.ensures in
-    let last : c.from-last.result ≡ count_of net = c.from-last.ensures ∙ c.last_pulse.ensures.last in
-    let numbers : said ≡ count_of net ∷ greatest_degree_of net ∷ count_of net ∷ [] = (cc) in
+    let last : c.from-last.result ≡ count_of net - 1 = c.from-last.ensures ∙ c.last_pulse.ensures.last in
+    let numbers : said ≡ count_of net ∷ greatest_degree_of net ∷ (count_of net - 1) ∷ [] = (cc) in
     subst (λ (text : List ℕ). IfOk c.push_row.result (λ x. c.push_row.new.text.items ≡ text))
     (ap (λ (text : List ℕ). text ++ row said) c.in_ok-extend_from_slice.ensures.items
     ∙ (append_assoc before words (row said)
