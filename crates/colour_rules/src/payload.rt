@@ -1,5 +1,8 @@
 //! What the nodes of the colouring tell one another, and its text.
 
+ghost use Rattle.std.specs.Prelude.{◌≡◌};
+ghost use Rattle.colour_rules.specs.declared.payload.Payload.TheVariants.{Chosen, Colour, Hello, Label};
+
 use crate::numbers::{Long, Short};
 use node_api::PayloadText;
 
@@ -15,6 +18,36 @@ pub enum Payload {
     Colour(Long),
     /// The colour that the sender chose in the merge.
     Chosen(Short),
+}
+
+impl Payload {
+    /// `Hello` of an identifier.
+    pub fn hello(id: u128) -> Payload
+        ensures { result ≡ Hello id }
+    {
+        Payload::Hello(Long::new(id))
+    }
+
+    /// `Label` of a forest.
+    pub fn label(forest: u16) -> Payload
+        ensures { result ≡ Label forest }
+    {
+        Payload::Label(Short::new(forest))
+    }
+
+    /// `Colour` of a colour in a forest.
+    pub fn colour(colour: u128) -> Payload
+        ensures { result ≡ Colour colour }
+    {
+        Payload::Colour(Long::new(colour))
+    }
+
+    /// `Chosen` of a colour.
+    pub fn chosen(colour: u16) -> Payload
+        ensures { result ≡ Chosen colour }
+    {
+        Payload::Chosen(Short::new(colour))
+    }
 }
 
 impl PayloadText for Payload {
@@ -45,13 +78,13 @@ impl PayloadText for Payload {
     fn from_words(word: &str, number: u128) -> Option<Self> {
         let is_short = number <= u128::from(u16::MAX);
         if word == "hello" {
-            Some(Payload::Hello(Long::new(number)))
+            Some(Payload::hello(number))
         } else if word == "label" && is_short {
-            Some(Payload::Label(Short::new(number as u16)))
+            Some(Payload::label(number as u16))
         } else if word == "colour" {
-            Some(Payload::Colour(Long::new(number)))
+            Some(Payload::colour(number))
         } else if word == "chosen" && is_short {
-            Some(Payload::Chosen(Short::new(number as u16)))
+            Some(Payload::chosen(number as u16))
         } else {
             None
         }

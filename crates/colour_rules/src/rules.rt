@@ -12,3 +12,13 @@ pub const COLOUR_RANGE: u16 = 4;
 pub const MISSING: u16 = 5;
 /// A payload after the last pulse.
 pub const AFTER_HALT: u16 = 6;
+
+// The numbers that the pages name.
+const _: () = prove!(
+    WRONG_KIND == 1
+        && WRONG_ROLE == 2
+        && FOREST_RANGE == 3
+        && COLOUR_RANGE == 4
+        && MISSING == 5
+        && AFTER_HALT == 6
+);

@@ -8,7 +8,7 @@
 //! ```text
 //! let mut entries = Entries::new(alloc);
 //! entries.reserve()?;                                             // room for one more, of any kind
-//! entries.push_reserved(1, Entry::Put(2, Wire::Payload(0, Payload::Hello(Long::new(1)))));  // can't be refused
+//! entries.push_reserved(1, Entry::Put(2, Wire::Payload(0, Payload::hello(1))));  // can't be refused
 //! for entry in entries.iter() { .. }                              // each by value, from the first
 //! for StampedEntry { stamp, entry } in entries.stamped() { .. }
 //! ```
@@ -21,6 +21,7 @@ mod iter;
 mod list;
 mod recorder;
 mod rows;
+mod tuples;
 
 pub use entry::Entry;
 pub use iter::{Iter, StampedIter};

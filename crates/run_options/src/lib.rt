@@ -22,7 +22,9 @@ pub const MAX_TURNS: u64 = 1_000_000_000_000;
 /// The number of the last edition of transcripts.
 pub const MAX_EDITION: u32 = 2;
 
-const _: () = prove!(MAX_WORKERS == 64 && MAX_CAPACITY == 64 && MAX_TURNS == 1_000_000_000_000);
+const _: () = prove!(
+    MAX_WORKERS == 64 && MAX_CAPACITY == 64 && MAX_TURNS == 1_000_000_000_000 && MAX_EDITION == 2
+);
 
 /// How the nodes of a network are run.
 #[derive(Debug, Clone, Copy, PartialEq, Eq)]
