@@ -217,7 +217,9 @@ class Pages(Case):
         for number, command, shown in shown_commands(lines_of(page)):
             done = run_line(command.removeprefix("./"), limit=LIMIT, cwd=TOP, env=self.environment)
             wanted = "".join(line + "\n" for line in shown)
-            good = [(0, wanted.encode(), b"")] + [(status, b"", wanted.encode()) for status in (1, 3) if wanted]
+            # What `explore` finds broken is no right run.
+            good = [(int(wanted.startswith("broken ")), wanted.encode(), b""),
+                    *((status, b"", wanted.encode()) for status in (1, 3) if wanted)]
             self.note(f"{page}:{number} {command}", (done.returncode, done.stdout, done.stderr) in good,
                       f"shown {wanted!r}, got {done}")
 

@@ -488,7 +488,7 @@ class Schedules(Case):
             rest = sum(not line.startswith("put ") for line in lines)
             events = f"{count} event{'s' * (count != 1)} ({rest} take{' or pulse' if rest == 1 else 's and pulses'})"
             self.note(f"{name} without {without}",
-                      status == 0 and (what is None or first == f"broken after {events}: {what}"), said)
+                      status == 1 and (what is None or first == f"broken after {events}: {what}"), said)
             self.note(f"the list of {name} without {without}",
                       [line.split(":")[0] for line in said.splitlines()[1 : 1 + len(lines)]] == lines, (said, lines))
             self.note(f"{name} without {without}, puts apart: as many events",
