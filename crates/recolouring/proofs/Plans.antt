@@ -1,0 +1,210 @@
+-- The colours that are chosen anew: a node's is the least that isn't barred at it and that no neighbour of a class before
+-- has. From this alone it follows what they are.
+use Rattle.std.proofs.Common.{◌≡◌, ◌≢◌, ℕ, zero, suc, ◌+◌, ◌-◌, ◌<◌, ◌≤◌, ◌++◌, ◌==◌, Bool, true, false, List, [], ◌∷◌, length, refl, ap, sym, ◌∙◌, arith, subst, get_or, inl, inr}
+use Rattle.std.specs.Prelude.{◌⊎◌, ◌&&◌, map, not, nat_le, Contains}
+use Rattle.std.specs.FinSet.{contains}
+use Rattle.std.proofs.lemmas.Bool.Decides.{nat_tests}
+use Rattle.std.proofs.lemmas.Bool.{cases_order}
+use Rattle.std.proofs.lemmas.List.{get_or-map, length-append, length-map}
+use Rattle.std.proofs.lemmas.List.Elements.{Contains-get_or}
+use Rattle.colour_base.proofs.LeastLemmas.{least-at_most, least-first, least-found}
+use Rattle.forest_merge.specs.Free.{is_among, least_free_colour}
+use Rattle.forest_merge.specs.declared.chosen.TheConstants.{COLOURS}
+use Rattle.forest_merge.proofs.Taken.{HasFree-few, is_among-at}
+use Rattle.graph_limits.specs.declared.limits.TheConstants.{MAX_BARS}
+use Rattle.interference.specs.declared.limits.TheConstants.{MAX_DEGREE}
+use Rattle.interference.specs.Net.{Net, IsBarred, IsNetwork, IsVertex, bars_of, bar_count_of, degree_of, neighbours, neighbour_of}
+use Rattle.interference.specs.Net.{greatest_bars_of, greatest_degree_of, span_of}
+use Rattle.interference.proofs.Neighbours.{both-ways, greatest_bars-within, greatest_degree-within, port-of}
+use Rattle.colour_rules.proofs.Barring.{contains-up_to, contains-up_to_low}
+use Rattle.colour_laws.specs.Colours.{colours}
+use Rattle.colour_rules.specs.Node.{up_to}
+use Rattle.colour_laws.proofs.Expected.{IsForest}
+use Rattle.colour_laws.proofs.Forests.{has_forest}
+use Rattle.colour_laws.proofs.Proper.{colours_proper}
+use Rattle.recolouring.specs.Knowing.{is_taken}
+use Rattle.recolouring.proofs.Coming.{or-cases, or-left, or-right}
+use Rattle.recolouring.proofs.Run.{heard, heard-from, heard-has, low-colour, new, new-is, place}
+
+true-or-false : (b : Bool) → (b ≡ true) ⊎ (b ≡ false)
+true-or-false true = inl refl
+true-or-false false = inr refl
+
+and-first : (a b : Bool) → (a && b) ≡ true → a ≡ true
+and-first true b e = refl
+and-first false b e = absurd cc
+
+not-true : (b : Bool) → not b ≡ true → b ≡ false
+not-true false e = refl
+not-true true e = absurd cc
+
+not-false : (b : Bool) → not b ≡ false → b ≡ true
+not-false true e = refl
+not-false false e = absurd cc
+
+among-left : (xs ys : List ℕ) (c : ℕ) → is_among xs c ≡ true → is_among (xs ++ ys) c ≡ true
+among-left [] ys c e = absurd cc
+among-left (x ∷ xs) ys c e = elim (or-cases (x == c) (is_among xs c) e) [
+  | inl here ↦ or-left (x == c) (is_among (xs ++ ys) c) here
+  | inr there ↦ or-right (x == c) (is_among (xs ++ ys) c) (among-left xs ys c there)
+]
+
+among-right : (xs ys : List ℕ) (c : ℕ) → is_among ys c ≡ true → is_among (xs ++ ys) c ≡ true
+among-right [] ys c e = e
+among-right (x ∷ xs) ys c e = or-right (x == c) (is_among (xs ++ ys) c) (among-right xs ys c e)
+
+among-Contains : (xs : List ℕ) (c : ℕ) → is_among xs c ≡ true → Contains xs c
+among-Contains [] c e = absurd cc
+among-Contains (x ∷ xs) c e = elim (or-cases (x == c) (is_among xs c) e) [
+  | inl here ↦ (0, omega arith, (let test : (x == c) ≡ true = here in let same : x ≡ c = grind (arith, nat_tests) in same))
+  | inr there ↦ let more = among-Contains xs c there in (suc more.0, omega (arith, more.1), more.2)
+]
+
+module _ (net : Net) (ok : IsNetwork net) where
+  forest : IsForest net
+  forest = has_forest net ok
+
+  abbrev span : ℕ
+  span = span_of net
+
+  abbrev pub colour : ℕ → ℕ
+  colour v = new net ok v
+
+  -- what is taken for a node when it chooses
+  abbrev taken : ℕ → ℕ → Bool
+  taken v = is_taken (heard net ok (place net ok v) v) (up_to span (bars_of net v))
+
+  abbrev test : ℕ → ℕ → Bool
+  test v c = not (taken v c)
+
+  is : (v : ℕ) → IsVertex net v → colour v ≡ least_free_colour span (taken v)
+  is v is_vertex = new-is net ok v is_vertex
+
+  -- a colour that is taken is barred, or a neighbour's of a class before
+  by : (v c : ℕ) → IsVertex net v → taken v c ≡ true →
+      (is_among (bars_of net v) c ≡ true) ⊎
+      ((k : ℕ) × (k < degree_of net v) × (colours net v < colours net (neighbour_of net v k)) × (colour (neighbour_of net v k) ≡ c))
+  by v c is_vertex e =
+      let q : ℕ = place net ok v in
+      let low : colours net v ≤ span = low-colour net ok v in
+      elim (or-cases (contains (heard net ok q v) c) (contains (up_to span (bars_of net v)) c) e) [
+        | inl near ↦ let there = heard-from net ok q v c is_vertex near in inr (there.0, there.1, omega (arith, there.2, low), there.3)
+        | inr barred ↦ inl (and-first (is_among (bars_of net v) c) (nat_le c span) (sym (contains-up_to span (bars_of net v) c) ∙ barred))
+      ]
+
+  -- one of the first colours is left for it
+  free : (v : ℕ) → IsVertex net v → (c : ℕ) × (c ≤ degree_of net v + bar_count_of net v) × (taken v c ≡ false)
+  free v is_vertex =
+      let near : List ℕ = map colour (neighbours net v) in
+      let all : List ℕ = near ++ bars_of net v in
+      let many : length all ≡ degree_of net v + bar_count_of net v =
+      length-append near (bars_of net v) ∙ ap (λ (n : ℕ). n + length (bars_of net v)) (length-map (neighbours net v) colour) in
+      let some = HasFree-few (degree_of net v + bar_count_of net v) all (omega (arith, many)) in
+      let c : ℕ = some.0 in (
+        c,
+        some.1,
+        elim (true-or-false (taken v c)) [
+          | inr none ↦ none
+          | inl is_so ↦ elim (by v c is_vertex is_so) [
+            | inl barred ↦ let wrong : true ≡ false = sym (among-right near (bars_of net v) c barred) ∙ some.2 in absurd cc
+            | inr there ↦
+                let here : get_or near there.0 c ≡ c = get_or-map colour (neighbours net v) there.0 0 c there.1 ∙ there.3 in
+                let within : there.0 < length near = omega (arith, there.1, length-map (neighbours net v) colour) in
+                let wrong : true ≡ false = sym (among-left near (bars_of net v) c (is_among-at near there.0 c within here)) ∙ some.2 in
+                absurd cc
+          ]
+        ],
+      )
+
+  pub within : (v : ℕ) → IsVertex net v → colour v ≤ degree_of net v + bar_count_of net v
+  within v is_vertex =
+      let some = free v is_vertex in
+      let least : least_free_colour span (taken v) ≤ some.0 = least-at_most (test v) (suc span) some.0 (ap not some.2) in
+      omega (arith, is v is_vertex, some.1, least)
+
+  few : (v : ℕ) → degree_of net v + bar_count_of net v ≤ span
+  few v = omega (arith, forest.few v, forest.few_bars v)
+
+  untaken : (v : ℕ) → IsVertex net v → taken v (colour v) ≡ false
+  untaken v is_vertex =
+      let some = free v is_vertex in
+      let low : some.0 < suc span = omega (arith, some.1, few v) in
+      ap (taken v) (is v is_vertex) ∙ not-true (taken v (least_free_colour span (taken v))) (least-found (test v) (suc span) some.0 low (ap not some.2))
+
+  in_room : (v : ℕ) → IsVertex net v → colour v < COLOURS
+  in_room v is_vertex =
+      let most : greatest_degree_of net ≤ MAX_DEGREE = greatest_degree-within net ok in
+      let bars : greatest_bars_of net ≤ MAX_BARS = greatest_bars-within net ok in
+      omega (arith, within v is_vertex, few v, most, bars)
+
+  -- the colour of a neighbour of a class before is taken
+  before-taken : (v k : ℕ) → IsVertex net v → k < degree_of net v → colours net v < colours net (neighbour_of net v k) →
+      taken v (colour (neighbour_of net v k)) ≡ true
+  before-taken v k is_vertex below less =
+      let low : colours net v ≤ span = low-colour net ok v in
+      let c : ℕ = colour (neighbour_of net v k) in
+      or-left (contains (heard net ok (place net ok v) v) c) (contains (up_to span (bars_of net v)) c)
+      (heard-has net ok (place net ok v) v k is_vertex below (omega arith) (omega (arith, less, low)) (in_room (neighbour_of net v k) (ok.vertices v k is_vertex below)))
+
+  apart : (v k : ℕ) → IsVertex net v → k < degree_of net v → colours net v < colours net (neighbour_of net v k) → colour v ≢ colour (neighbour_of net v k)
+  apart v k is_vertex below less same =
+      let wrong : false ≡ true = sym (untaken v is_vertex) ∙ (ap (taken v) same ∙ before-taken v k is_vertex below less) in cc
+
+  pub proper : (v w : ℕ) → IsVertex net v → Contains (neighbours net v) w → colour v ≢ colour w
+  proper v w is_vertex near same =
+      let port = port-of net ok v w near in
+      let inside : IsVertex net w = subst (IsVertex net) port.2 (ok.vertices v port.0 is_vertex port.1) in
+      let back = port-of net ok w v (both-ways net ok v w is_vertex near) in
+      let differ : colours net v ≢ colours net w = colours_proper net ok v w is_vertex near in
+      elim (cases_order (colours net v) (colours net w)) [
+        | inl equal ↦ differ equal
+        | inr side ↦ elim side [
+          | inl less ↦ apart v port.0 is_vertex port.1 (subst (λ (u : ℕ). colours net v < colours net u) (sym port.2) less) (same ∙ ap colour (sym port.2))
+          | inr more ↦ apart w back.0 inside back.1 (subst (λ (u : ℕ). colours net w < colours net u) (sym back.2) more) (sym same ∙ ap colour (sym back.2))
+        ]
+      ]
+
+  pub unbarred : (v : ℕ) → IsVertex net v → IsBarred net v (colour v) → ⊥
+  unbarred v is_vertex barred =
+      let low : colour v ≤ span = omega (arith, within v is_vertex, few v) in
+      let among : is_among (bars_of net v) (colour v) ≡ true = is_among-at (bars_of net v) barred.0 (colour v) barred.1 barred.2 in
+      let held : contains (up_to span (bars_of net v)) (colour v) ≡ true = contains-up_to_low span (bars_of net v) (colour v) low ∙ among in
+      let wrong : false ≡ true = sym (untaken v is_vertex)
+      ∙ or-right (contains (heard net ok (place net ok v) v) (colour v)) (contains (up_to span (bars_of net v)) (colour v)) held in
+      cc
+
+  pub lowest : (v c : ℕ) → IsVertex net v → c < colour v → (IsBarred net v c → ⊥) → (w : ℕ) × Contains (neighbours net v) w × (colour w ≡ c)
+  lowest v c is_vertex less allowed =
+      let held : taken v c ≡ true = not-false (taken v c) (least-first (test v) (suc span) c (subst (λ (n : ℕ). c < n) (is v is_vertex) less)) in
+      elim (by v c is_vertex held) [
+        | inl barred ↦ absurd (allowed (among-Contains (bars_of net v) c barred))
+        | inr there ↦ (neighbour_of net v there.0, Contains-get_or (neighbours net v) there.0 0 there.1, there.3)
+      ]
+
+  -- without bars a node's new colour is at most as far from 0 as its old one from the greatest
+  module _ (none : (w : ℕ) → IsVertex net w → bars_of net w ≡ []) (greatest : ℕ) (most : (w : ℕ) → IsVertex net w → colours net w ≤ greatest) where
+    step : (v : ℕ) → IsVertex net v → ((w : ℕ) → IsVertex net w → colours net v < colours net w → colour w + colours net w ≤ greatest) →
+        colour v + colours net v ≤ greatest
+    step v is_vertex others =
+        let c : ℕ = greatest - colours net v in
+        let low : colours net v ≤ greatest = most v is_vertex in
+        let free_there : taken v c ≡ false = elim (true-or-false (taken v c)) [
+          | inr none_there ↦ none_there
+          | inl held ↦ elim (by v c is_vertex held) [
+            | inl barred ↦ let wrong : false ≡ true = ap (λ (bars : List ℕ). is_among bars c) (sym (none v is_vertex)) ∙ barred in absurd cc
+            | inr there ↦
+                let w : ℕ = neighbour_of net v there.0 in
+                let bound : colour w + colours net w ≤ greatest = others w (ok.vertices v there.0 is_vertex there.1) there.2 in
+                absurd (omega (arith, low, bound, there.2, there.3))
+          ]
+        ] in
+        let least : least_free_colour span (taken v) ≤ c = least-at_most (test v) (suc span) c (ap not free_there) in
+        omega (arith, is v is_vertex, least, low)
+
+    mirrored : (n v : ℕ) → IsVertex net v → greatest - colours net v ≤ n → colour v + colours net v ≤ greatest
+    mirrored zero v is_vertex h = step v is_vertex (λ w inside less. let bound : colours net w ≤ greatest = most w inside in absurd (omega (arith, h, bound, less)))
+    mirrored (suc n) v is_vertex h = step v is_vertex (λ w inside less.
+        let bound : colours net w ≤ greatest = most w inside in mirrored n w inside (omega (arith, h, bound, less)))
+
+    pub no_more : (v : ℕ) → IsVertex net v → colour v + colours net v ≤ greatest
+    no_more v is_vertex = mirrored (greatest - colours net v) v is_vertex (omega arith)

@@ -1,0 +1,88 @@
+-- The classes of a colouring choose anew, the greatest colour first, a class a pulse: a node takes the least colour that
+-- isn't barred at it and that no neighbour which has chosen anew has, and says so.
+use Rattle.std.specs.Prelude.{ℕ, ◌+◌, ◌-◌, ◌==◌, ◌&&◌, ◌||◌, Bool, if◌then◌else◌, nat_le, nat_lt, List, replicate}
+use Rattle.std.specs.Prelude.{Option, Some, Ok}
+use Rattle.std.specs.Ordering.{nat_cmp}
+use Rattle.std.specs.FinSet.{FinSet, contains, empty, insert}
+use Rattle.forest_merge.specs.Free.{least_free_colour}
+use Rattle.forest_merge.specs.declared.chosen.TheConstants.{COLOURS}
+use Rattle.node_api.specs.Boxes.{fold_slots, nothing}
+use Rattle.node_api.specs.Program.{Program, span}
+use Rattle.node_api.specs.declared.program.Refused.{Refused}
+use Rattle.followed.specs.Followed.{Both, Sequel, followed}
+use Rattle.colour_rules.specs.declared.payload.Payload.{Payload}
+use Rattle.colour_rules.specs.declared.payload.Payload.TheVariants.{Hello, Label, Colour, Chosen}
+use Rattle.colour_rules.specs.Node.{Node, last, ports, up_to}
+use Rattle.colour_rules.specs.Program.{colouring}
+
+-- what a node has beside its first colour
+pub record Recoloured : Type 0 where
+  -- the last pulse of the colouring, and the greatest colour that there may be
+  pub until : ℕ
+  pub greatest : ℕ
+  -- the colours that neighbours have chosen anew, and those that are barred at the node
+  pub chosen : FinSet nat_cmp
+  pub barred : FinSet nat_cmp
+  -- the colour that it has chosen anew
+  pub colour : ℕ
+
+-- what a node that chooses anew sends: its colour
+abbrev pub says : ℕ → Payload
+says c = Chosen c
+
+-- a payload taken into the set of the colours that neighbours have chosen anew
+abbrev pub and_anew : FinSet nat_cmp → ℕ → Payload → FinSet nat_cmp
+and_anew set port (Chosen c) = if nat_lt c COLOURS then insert set c else set
+and_anew set port (Hello id) = set
+and_anew set port (Label f) = set
+and_anew set port (Colour c) = set
+
+-- all that came
+abbrev pub with_anew : FinSet nat_cmp → List (Option Payload) → FinSet nat_cmp
+with_anew set slots = fold_slots and_anew set 0 slots
+
+-- whether a colour is taken for a node that has heard of these
+abbrev pub is_taken : FinSet nat_cmp → FinSet nat_cmp → ℕ → Bool
+is_taken chosen barred c = contains chosen c || contains barred c
+
+-- whether pulse q is that of a node's class
+abbrev pub is_turn : ℕ → ℕ → ℕ → Bool
+is_turn colour greatest q = nat_le q greatest && (colour == greatest - q)
+
+-- its colour after a pulse
+abbrev pub colour_after : Recoloured → FinSet nat_cmp → Bool → ℕ
+colour_after s chosen turn = if turn then least_free_colour s.greatest (is_taken chosen s.barred) else s.colour
+
+abbrev pub recoloured : Recoloured → FinSet nat_cmp → Bool → Recoloured
+recoloured s chosen turn = record s { chosen = chosen; colour = colour_after s chosen turn }
+
+-- what all ports are told: by a node that chooses before the last pulse, its colour
+abbrev pub told : Node → Bool → ℕ → List (Option Payload)
+told node b c = if b then replicate (ports node) (Some (says c)) else nothing (ports node)
+
+-- a pulse, by what a node has heard of, and by whether it is its turn
+abbrev pub chose : Node → Recoloured → ℕ → FinSet nat_cmp → Bool → Recoloured × List (Option Payload)
+chose node s q chosen turn = (recoloured s chosen turn, told node (turn && nat_lt q s.greatest) (colour_after s chosen turn))
+
+-- a pulse, from 0
+abbrev pub anew_next : Node → Recoloured → ℕ → List (Option Payload) → Recoloured × List (Option Payload)
+anew_next node s q inbox = chose node s q (with_anew s.chosen inbox) (is_turn node.merged s.greatest q)
+
+-- what follows the colouring
+abbrev pub recolours : Sequel Node Recoloured Payload
+recolours = record {
+  until = λ s. s.until;
+  last = λ sizes. last sizes + 1 + span sizes;
+  begin = λ own. record {
+    until = last own.sizes;
+    greatest = span own.sizes;
+    chosen = empty;
+    barred = up_to (span own.sizes) own.bars;
+    colour = 0;
+  };
+  next = λ node s q inbox. Ok (anew_next node s q inbox);
+}
+
+-- the program
+abbrev pub recolouring : Program (Both Node Recoloured) Payload Refused
+recolouring = followed colouring recolours

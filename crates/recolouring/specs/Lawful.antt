@@ -1,0 +1,74 @@
+-- The classes may choose anew after the colouring.
+use Rattle.std.proofs.Common.{◌≡◌, ℕ, suc, ◌+◌, ◌-◌, ◌≤◌, ◌&&◌, Bool, true, false, List, length, refl, ap, ◌∙◌, arith, subst}
+use Rattle.std.proofs.lemmas.List.{length-replicate}
+use Rattle.std.proofs.lemmas.Bool.{le-ltb}
+use Rattle.std.specs.Prelude.{nat_lt, Option, Some, None}
+use Rattle.interference.specs.Net.{Net, IsNetwork, IsVertex, degree_of, span_of}
+use Rattle.node_api.specs.Boxes.{nothing}
+use Rattle.node_api.specs.Program.{sizes_of}
+use Rattle.node_api.specs.Run.{node_at, inbox_from, state_at}
+use Rattle.node_api.proofs.Runs.{node_at-ports}
+use Rattle.followed.specs.Followed.{Both, IsCut, IsSequel, beside_of}
+use Rattle.followed.specs.Lemmas.{at-more, kept_beside}
+use Rattle.colour_rules.proofs.KeptPorts.{keeps}
+use Rattle.colour_rules.specs.declared.payload.Payload.{Payload}
+use Rattle.colour_rules.specs.Node.{Node, last, ports}
+use Rattle.colour_rules.specs.Program.{colouring}
+use Rattle.recolouring.specs.Knowing.{Recoloured, anew_next, colour_after, is_turn, recolouring, recolours, says, told, with_anew}
+
+length-told : (node : Node) (b : Bool) (c : ℕ) → length (told node b c) ≡ ports node
+length-told node true c = length-replicate (ports node) (Some (says c))
+length-told node false c = length-replicate (ports node) None
+
+no-and : (a b : Bool) → b ≡ false → (a && b) ≡ false
+no-and true b e = e
+no-and false b e = refl
+
+abbrev pub recolours_cut : IsCut colouring recolours
+recolours_cut = record {
+  cut = last;
+  within = λ sizes. omega arith;
+  begins = λ own. refl;
+  keeps = λ node s q inbox. refl;
+}
+
+module _ (net : Net) (ok : IsNetwork net) where
+  abbrev pub at : ℕ → ℕ → Both Node Recoloured × List (Option Payload)
+  at p v = node_at recolouring net p v
+
+  abbrev pub cut : ℕ
+  cut = last (sizes_of net)
+
+  abbrev pub coloured : ℕ → Node
+  coloured v = state_at colouring net cut v
+
+  pub at-class : (p v : ℕ) → IsVertex net v → cut ≤ p →
+      at (suc p) v ≡ beside_of (coloured v) (anew_next (coloured v) (at p v).0.beside (p - cut) (inbox_from net (at p) v))
+  at-class p v is_vertex h = at-more colouring recolours recolours_cut net ok p v is_vertex h
+      (anew_next (coloured v) (at p v).0.beside (p - cut) (inbox_from net (at p) v)) refl
+
+  pub has_greatest : (p v : ℕ) → (at p v).0.beside.greatest ≡ span_of net
+  has_greatest p v = kept_beside colouring recolours recolours_cut net ok (λ s. s.greatest) (λ node s q inbox. refl) p v
+
+  silent_last : (v : ℕ) → IsVertex net v → (at (cut + 1 + span_of net) v).1 ≡ nothing (degree_of net v)
+  silent_last v is_vertex =
+      let p : ℕ = cut + span_of net in
+      let s : Recoloured = (at p v).0.beside in
+      let turn : Bool = is_turn (coloured v).merged s.greatest (p - cut) in
+      let colour : ℕ = colour_after s (with_anew s.chosen (inbox_from net (at p) v)) turn in
+      let late : nat_lt (p - cut) s.greatest ≡ false = le-ltb (p - cut) s.greatest (omega (arith, has_greatest p v)) in
+      let last_one : suc p ≡ cut + 1 + span_of net = omega arith in
+      subst (λ (n : ℕ). (at n v).1 ≡ nothing (degree_of net v)) last_one
+      (ap (λ (next : Both Node Recoloured × List (Option Payload)). next.1) (at-class p v is_vertex (omega arith))
+      ∙ (ap (λ (b : Bool). told (coloured v) b colour) (no-and turn (nat_lt (p - cut) s.greatest) late)
+      ∙ ap (λ (n : ℕ). nothing n) (node_at-ports colouring net keeps cut v).0))
+
+pub recolours_laws : IsSequel colouring recolours
+recolours_laws = record {
+  cut = recolours_cut;
+  shape = λ node s q inbox h.
+      let turn : Bool = is_turn node.merged s.greatest q in
+      length-told node (turn && nat_lt q s.greatest) (colour_after s (with_anew s.chosen inbox) turn);
+  accepts = λ net ok p v is_vertex late below. refl;
+  silent = λ net ok v is_vertex. silent_last net ok v is_vertex;
+}

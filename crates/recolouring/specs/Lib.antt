@@ -1,0 +1,3 @@
+pub mod Knowing
+pub mod Stored
+pub mod Lawful

@@ -1,0 +1,23 @@
+-- What a node has beside its first colour, as the tuple of its fields.
+use Rattle.std.specs.Prelude.{ℕ, refl}
+use Rattle.std.specs.Coded.{Coded, code_by, coded×, coded_ℕ}
+use Rattle.std.specs.Ordering.{nat_cmp}
+use Rattle.std.specs.FinSet as set
+use Rattle.recolouring.specs.Knowing.{Recoloured}
+
+abbrev Fields : Type 0
+Fields = ℕ × (ℕ × (ℕ × (set.FinSet nat_cmp × set.FinSet nat_cmp)))
+
+abbrev fields_of : Recoloured → Fields
+fields_of s = (s.until, (s.greatest, (s.colour, (s.chosen, s.barred))))
+
+abbrev recoloured_of : Fields → Recoloured
+recoloured_of (until, (greatest, (colour, (chosen, barred)))) =
+    record { until = until; greatest = greatest; chosen = chosen; barred = barred; colour = colour }
+
+-- how it is stored
+abbrev pub recoloured_code : Coded Recoloured
+recoloured_code =
+    code_by Fields
+    (coded× coded_ℕ (coded× coded_ℕ (coded× coded_ℕ (coded× (set.code coded_ℕ) (set.code coded_ℕ)))))
+    fields_of recoloured_of (λ _. refl)
