@@ -71,6 +71,7 @@ tabs.check = {
   click, key, show: showPlan, hint: () => "Click a node for its next channel, or type it; Shift goes back.",
   enter() {
     check.plan = net.nodes.map((_, k) => check.plan[k] || 0);
+    by("judgement").replaceChildren();
     ask();
   },
   link: add => add("plan", check.plan.join("_")),

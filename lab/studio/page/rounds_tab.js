@@ -3,7 +3,7 @@ import {Wrong, call} from "./api.js";
 import {by, hide, ms, picture, seen, show, stage, tabs, took, tried} from "./base.js";
 import {html, patch} from "./marks.js";
 import {net, text} from "./model.js";
-import {RoundsFilm} from "./rounds.js";
+import {RoundsFilm, roundsLegend} from "./rounds.js";
 import {time} from "./timing.js";
 
 export const rounds = {forest: 0, why: null, whyOf: null, film: null, of: null, without: ""};
@@ -90,6 +90,7 @@ tabs.rounds = {
     tried("rounds", "asking for the rounds", async () => {
       if (!await load() || seen.tab !== "rounds") return;
       time.range(0, rounds.film.last);
+      roundsLegend(by("roundslegend"), rounds.film);
       took("rounds: " + ms(rounds.took, "rounds"));
       time.set(time.at);
       await askWhy();

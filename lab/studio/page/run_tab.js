@@ -12,6 +12,7 @@ import {time} from "./timing.js";
 export const run = {film: null, found: null, of: null, key: null, steps: [], transcript: null, other: null, film2: null,
   key2: null, judgedAt: null};
 const second = new Stage(by("second"), net), small = new Stage(by("small"), net);
+const SAID = ["judge", "judgehere", "same", "now", "table"];
 let judgeTimer = null;
 
 function how() {
@@ -62,6 +63,8 @@ function ask() {
     : `The first ${run.steps.length} steps are those of the tab Adversary.`;
   all(".other").forEach(one => { one.hidden = !run.other; });
   time.stop();
+  // What is said of another run isn't left on the page while this one is worked out.
+  if (JSON.stringify(asked()) !== run.key) SAID.forEach(id => by(id).replaceChildren());
   return tried("run", "playing the run", async () => {
     if (!await load() || seen.tab !== "run") return;
     if (by("beside").checked) await tabs.rounds.load();

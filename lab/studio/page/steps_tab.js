@@ -168,6 +168,7 @@ tabs.adversary = {
     by("rule").textContent = rule ? `Left out: ${rule.says}; ${rule.without}.` : "";
     by("search").parentNode.hidden = net.nodes.length > 4;
     steps.found = null;
+    ["stepsaid", "possible"].forEach(id => by(id).replaceChildren());
     if (more.fresh) steps.made = [];
     ask();
   },
