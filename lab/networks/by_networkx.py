@@ -117,6 +117,10 @@ def counts_of_pajek(text: str) -> tuple[int, int]:
     nodes = whole(lines[vertices].split()[1])
     if nodes is None or sizes[vertices] - vertices - 1 != nodes:
         raise ValueError("another number of vertices than it says")
+    names = lines[vertices + 1:vertices + 1 + nodes]
+    # networkx would drop other quotes, and backslashes.
+    if not all(re.fullmatch(r'\S+\s+("[^"\\]*"|[^\s"\'\\]+)(\s.*)?', line) for line in names):
+        raise ValueError("a vertex whose name isn't one word, or words in double quotes")
     return nodes, sum(sizes[at] - at - 1 for at, word in zip(heads, words) if word in ("*edges", "*arcs"))
 
 

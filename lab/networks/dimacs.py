@@ -2,7 +2,7 @@
 the programs wouldn't read."""
 import re
 
-from lab.networks.listed import Listed
+from lab.networks.listed import Listed, clean
 from lab.networks.network_text import IDENTIFIERS, MAX_BARS, MAX_CHANNEL, fields_of, name_of, place_of, shown, whole
 from lab.networks.fields import is_number
 from lab.wrong import wrong_line
@@ -91,4 +91,4 @@ def read_comment(found, raw, fields):
     if place:
         found.places[place[0]] = place[1]
     if name:
-        found.names[name[0]] = name[1]
+        found.names[name[0]] = clean(name[1])

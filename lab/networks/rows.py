@@ -106,7 +106,7 @@ def read_pairs(table: Table, name: str, heading: bool | None, is_sure: bool) -> 
     if not head.body:
         raise Wrong(f"{name}: there is no line after the heading")
     if not is_sure and head.columns is None:
-        refuse_others(head.body, name, table)
+        refuse_others(head.body, name, table, heading is None)
     if head.doubt:
         raise head.doubt
     one, other = head.columns or (0, 1)
@@ -127,8 +127,9 @@ def read_pairs(table: Table, name: str, heading: bool | None, is_sure: bool) -> 
     return found
 
 
-def refuse_others(body: Rows, name: str, table: Table) -> None:
-    """Refuses rows that may be no pairs: places, names beside numbers, or more than a pair and a weight."""
+def refuse_others(body: Rows, name: str, table: Table, is_unknown: bool) -> None:
+    """Refuses rows that may be no pairs: places, names beside numbers, or more than a pair and a weight; if nobody has
+    said whether they have a heading, also a list of names with blanks."""
     fields = [row for _, row in body]
     ones = [row[0] for row in fields]
     others = [row[1] for row in fields if len(row) > 1 and row[1]]
@@ -140,6 +141,10 @@ def refuse_others(body: Rows, name: str, table: Table) -> None:
     if len(fields) > 1 and len(fields[0]) == 1 and all(len(row) > 1 for row in fields[1:]) and not is_closed(body):
         raise unsure(name, f"the first line (`{shown(ones[0])}`) may be a title or a node", PAIRS, NEIGHBOURS)
     known = {field for row in fields for field in row[:2]}
+    alone = [row[0] for row in fields if len(row) == 1]
+    if is_unknown and not table.separator and 2 * len(alone) >= len(fields) > 1 and len(known) == sum(map(len, fields)) and not all(
+            map(is_number, known)):
+        raise unsure(name, "no name comes twice, so these may be names with blanks", PAIRS)
     for line, row in body:
         parts = [part.strip() for field in row[:2] for part in field.split(",") if "," in field]
         if parts and known.issuperset(parts):
@@ -166,7 +171,7 @@ def refuse_others(body: Rows, name: str, table: Table) -> None:
 def are_of_two_kinds(fields: list[list[str]]) -> bool:
     """Whether of the ends of some pairs one is always a number, and the other never."""
     pairs = [row for row in fields if len(row) > 1 and row[1]]
-    return len(pairs) > 1 and any(
+    return (len(pairs) > 1 or any(len(row) > 2 for row in pairs)) and bool(pairs) and any(
         all(is_number(row[at]) and not is_number(row[1 - at]) for row in pairs) for at in (0, 1)
     )
 

@@ -52,6 +52,10 @@ def refuse_rows(rows: list[tuple[int, list[str]]], separator: str | None, text: 
     if have_counts(fields):
         raise Wrong(f"{name}: these may be pairs and single nodes, or nodes and a line for each neighbour: say --as "
                     "pairs or --as multiline")
+    are_first = [row[0].endswith(":") or row[1:2] == [":"] for row in fields]
+    if separator is None and not all(are_first) and all(any(field.endswith(":") for field in row) for row in fields):
+        raise Wrong(f"{name}: names with blanks before a colon can't be separated; write commas between the fields (if "
+                    "these are pairs: --as pairs)")
     if "'" in text and any(are_cut(row) for row in fields):
         raise Wrong(f"{name}: names in quotes with blanks can't be separated: write \"double quotes\", or commas "
                     "between the fields")
