@@ -55,11 +55,11 @@ def shown_commands(lines):
 
 def listed_commands(lines):
     """(line number, command) of each command in a list: an indented line of commands alone, some blanks apart. What
-    calls a program, reads a file or writes a folder of the reader's own is left out."""
+    calls a program, reads a file or writes a folder of the reader's own, and what doesn't end, is left out."""
     for number, line in enumerate(lines, 1):
         if re.match(r" {4}forest(lab|plan|play) ", line):
             for command in re.split(r" {2,}", line.strip()):
-                if command.startswith("forestlab ") and not re.search(r" -- |~/|\bpairs\.csv\b", command):
+                if command.startswith("forestlab ") and not re.search(r" -- |~/|\bpairs\.csv\b|lab studio$", command):
                     yield number, command
 
 
