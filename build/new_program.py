@@ -53,8 +53,8 @@ def check_name(name, top):
         raise Refused(f"{name}: a program's name has at most {LONGEST} letters")
     if name in TAKEN:
         raise Refused(f"{name}: this word is taken in the language or in the crate itself")
-    if os.path.exists(os.path.join(top, "crates", name)):
-        raise Refused(f"{name}: there is a crate of this name")
+    if os.path.exists(os.path.join(top, "crates", name)) or name == "colouring":
+        raise Refused(f"{name}: there is a crate or a program of this name")
 
 
 def renamed(text, name):
