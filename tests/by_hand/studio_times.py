@@ -2,6 +2,7 @@
 of 6, 12, 40 and 100 nodes; and how long it takes from the command to the first answer.
 
   python3 -m tests.by_hand.studio_times [CALLS]"""
+import argparse
 import http.client
 import json
 import signal
@@ -35,7 +36,10 @@ def row(address, call, count, **words):
 
 
 def main():
-    count = int(sys.argv[1]) if len(sys.argv) > 1 else 7
+    summary, _, more = __doc__.partition("\n\n")
+    parser = argparse.ArgumentParser(description=summary, epilog=more, formatter_class=argparse.RawDescriptionHelpFormatter)
+    parser.add_argument("calls", metavar="CALLS", type=int, nargs="?", default=7, help="calls of each kind (default: 7)")
+    count = parser.parse_args().calls
     begun = time.perf_counter()
     process, address = begin()
     asked(address, "hello")

@@ -66,7 +66,7 @@ def of_formats():
     with open(os.path.join(TOP, "docs", "claim", "FORMATS.md"), encoding="utf-8") as file:
         page = file.read()
     codes = {name: "" for name in re.findall(r"^\| ([FNC]\d+) \|", page, re.M)}
-    events = page.partition("### Events after a network")[2].partition("## Texts that are written")[0]
+    events = page.partition("### Events after a network")[2].partition("\n## ")[0]
     for name, more in re.findall(r"^\| `(\w+)` \| (.*) \|$", events, re.M):
         number = re.search(r"\bE\d\b", more)
         codes.setdefault(name, "")

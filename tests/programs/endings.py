@@ -41,7 +41,7 @@ class Endings(Case):
             done = subprocess.run(["bash", "-c", f'exec "$0" "$1" read - {redirected}', FORESTLAB, "network"],
                                   input=b"", capture_output=True, timeout=LIMIT)
             self.note(f"a fault {redirected}", (done.returncode, done.stdout) == (1, b""), done)
-            done = subprocess.run(["bash", "-c", f'exec "$0" read - {redirected}', os.path.join(TOP, "bin", "network")],
+            done = subprocess.run(["bash", "-c", f'exec "$0" "$1" read - {redirected}', FORESTLAB, "network"],
                                   input=b"1,2\n", capture_output=True, timeout=LIMIT)
             self.note(f"no fault {redirected}", (done.returncode, done.stdout) == (0, b"p edge 2 1\ne 1 2\n"), done)
 
