@@ -386,8 +386,8 @@ NODES is not compared with the graph.
 
 A transcript of edition 1 lists all entries of node 1, then all entries of node 2,
 and so on. If two nodes are neighbours, the entries are not possible in this
-order; `bin/replay NETWORK TRANSCRIPT`, a script that comes with this program,
-puts them into an order that is possible, and replays them.
+order; `forestlab transcript replay NETWORK TRANSCRIPT`, which comes with this
+program, puts them into an order that is possible, and replays them.
 
 Output: the state, as `forestplay events` prints it.
 
