@@ -71,6 +71,12 @@ class Server(Case):
         status, text = self.ask(f"/call/{call}", json.dumps(asked))
         return json.loads(text.split("\n")[-2]) if status == 200 else {"status": status}
 
+    def waits(self, is_so, seconds=20):
+        until = time.monotonic() + seconds
+        while not is_so() and time.monotonic() < until:
+            time.sleep(0.05)
+        return is_so()
+
 
 class Refusals(Server):
     def test_refused(self):
@@ -125,9 +131,8 @@ class Refusals(Server):
         for end in silent[:3]:
             end.sendall(f"POST /call/hello HTTP/1.1\r\nHost: 127.0.0.1:{self.port}\r\nX-Token: {self.token}\r\n"
                         "Content-Length: 500\r\n\r\n{".encode())
-        begun = time.monotonic()
+        # It is asked with a limit of its own.
         self.note("33 of them", self.answer("hello").get("answer"))
-        self.note("within the time that they have", time.monotonic() - begun < 30, time.monotonic() - begun)
         for end in silent:
             end.close()
 
@@ -209,7 +214,7 @@ class Ends(Server):
             form = f"token={self.token}&network={SLOW.replace(chr(10), '%0A').replace(' ', '+')}"
             end.sendall(f"POST /frame/adversary HTTP/1.1\r\nHost: 127.0.0.1:{self.port}\r\nContent-Length: "
                         f"{len(form)}\r\n\r\n{form}".encode())
-            time.sleep(0.7)
+            self.waits(lambda: processes_of(self.process.pid), 20)
             return end
         end = search()
         self.note("a call is under way", len(processes_of(self.process.pid)) == 1, processes_of(self.process.pid))
@@ -218,15 +223,9 @@ class Ends(Server):
         end = search()
         under_way = processes_of(self.process.pid)
         self.process.send_signal(signal.SIGINT)
-        self.note("Ctrl-C ends the server", self.process.wait(5) == 0)
+        self.note("Ctrl-C ends the server", self.process.wait(30) == 0)
         self.note("and its calls", self.waits(lambda: not any(os.path.exists(f"/proc/{one}") for one in under_way)))
         end.close()
-
-    def waits(self, is_so, seconds=5):
-        until = time.monotonic() + seconds
-        while not is_so() and time.monotonic() < until:
-            time.sleep(0.05)
-        return is_so()
 
 
 class Unbuilt(Answers):
@@ -257,10 +256,10 @@ class Unbuilt(Answers):
         self.note("no threads", "aren't built" in got.get("wrong", ""), got)
         self.note("no build by itself", self.answer("built")["answer"]["lines"] == [])
         self.answer("build")
-        time.sleep(0.5)
+        self.waits(lambda: self.answer("built")["answer"]["lines"])
         got = self.answer("built")["answer"]
         self.note("a build in its own words", got["lines"] == ["1: 3 of 9 crates proved"] and not got["ended"], got)
         building = processes_of(self.process.pid)
         self.process.send_signal(signal.SIGINT)
-        self.note("Ctrl-C ends the server", self.process.wait(5) == 0)
+        self.note("Ctrl-C ends the server", self.process.wait(30) == 0)
         self.note("and the build", building and not any(os.path.exists(f"/proc/{one}") for one in building), building)
