@@ -25,7 +25,7 @@ from tests.pages.pages import PAGES, listed_commands, lines_of, shown_commands
 from tests.shell import run_line
 
 # Seconds; a busy machine takes long for the many calls of help that the manual pages are made of.
-LIMIT = 300
+LIMIT = 600
 NAMES = [*PROGRAMS, "forestlab"]
 BUILD = [sys.executable, os.path.join(TOP, "build")]
 # Without the toolchain's command.
