@@ -59,7 +59,7 @@ def listed_commands(lines):
     for number, line in enumerate(lines, 1):
         if re.match(r" {4}forest(lab|plan|play) ", line):
             for command in re.split(r" {2,}", line.strip()):
-                if command.startswith("forestlab ") and not re.search(r" -- |~/|\bpairs\.csv\b|lab studio$", command):
+                if command.startswith("forestlab ") and not re.search(r" -- |~/|\b(pairs\.csv|submissions)\b|lab studio$", command):
                     yield number, command
 
 
