@@ -26,6 +26,7 @@ from tests.shell import run_line
 
 # Seconds; a busy machine takes long for the many calls of help that the manual pages are made of.
 LIMIT = 600
+TRIES = 5
 NAMES = [*PROGRAMS, "forestlab"]
 BUILD = [sys.executable, os.path.join(TOP, "build")]
 # Without the toolchain's command.
@@ -231,13 +232,19 @@ class Install(Case):
         folder = os.path.join(self.folder, "ended")
         os.makedirs(os.path.join(folder, ".install-before"))
         for number in (signal.SIGTERM, signal.SIGHUP):
-            with subprocess.Popen([*self.script, folder], stderr=subprocess.PIPE) as started:
-                deadline = time.monotonic() + LIMIT
-                while os.listdir(folder) in ([], [".install-before"]) and time.monotonic() < deadline:
-                    time.sleep(0.001)
-                started.send_signal(number)
-                _, said = started.communicate(timeout=LIMIT)
-            got = started.returncode, os.listdir(folder)
+            # On a busy machine the installation may be done before the signal comes; then once more.
+            for _ in range(TRIES):
+                with subprocess.Popen([*self.script, folder], stderr=subprocess.PIPE) as started:
+                    deadline = time.monotonic() + LIMIT
+                    while os.listdir(folder) in ([], [".install-before"]) and time.monotonic() < deadline:
+                        time.sleep(0.001)
+                    started.send_signal(number)
+                    _, said = started.communicate(timeout=LIMIT)
+                got = started.returncode, os.listdir(folder)
+                if started.returncode:
+                    break
+                shutil.rmtree(folder)
+                os.mkdir(folder)
             self.note(f"{number.name}: nothing is left", got == (128 + number, []), (got, said))
 
     def test_limit(self):
@@ -431,9 +438,9 @@ class Install(Case):
                 here, copy = (os.path.join(top, "crates", crate, part) for top in (TOP, there))
                 self.note(f"{part} of {crate}", subprocess.run(["diff", "-r", here, copy]).returncode == 0)
         self.note("nothing else of a crate", not os.path.exists(os.path.join(there, "crates", "cole_vishkin", "out")))
-        got = run(["python3", os.path.join(there, "build"), "paths"], env=ENVIRONMENT)
-        paths = b"     1 colour_base\n     2 cole_vishkin\n     3 in all\n"
-        self.note("what proves works there", got == (0, paths, b""), got)
+        got = run(["python3", os.path.join(there, "build"), "prove", "cole_vishkin"], env=ENVIRONMENT)
+        self.note("what proves is there, and wants the toolchain",
+                  got[:2] == (2, b"") and got[2].startswith(b"prove: the toolchain's command rt is not on the PATH"), got)
         with open(os.path.join(there, "crates.txt"), "a", encoding="utf-8") as file:
             file.write("mine: cole_vishkin\n")
         changed = os.path.join(there, "crates", "colour_base", "src", "lib.rt")
