@@ -3,7 +3,7 @@ use Rattle.std.proofs.Common.{◌≡◌, ℕ, zero, suc, ◌+◌, ◌<◌, ◌==
 use Rattle.std.specs.Prelude.{◌⊎◌, ◌||◌, if◌then◌else◌, nat_lt, Option, Some, None}
 use Rattle.std.specs.Ordering.{nat_cmp}
 use Rattle.std.specs.FinSet.{FinSet, contains, insert}
-use Rattle.std.proofs.lemmas.Bool.{lt-ltb}
+use Rattle.std.proofs.lemmas.Bool.{lt-ltb, or_cases, or_left, or_right}
 use Rattle.std.proofs.lemmas.Bool.Decides.{nat_tests}
 use Rattle.forest_merge.specs.declared.chosen.TheConstants.{COLOURS}
 use Rattle.forest_merge.proofs.Sets.{contains-insert_colour}
@@ -23,33 +23,18 @@ abbrev number_at : Option Payload → ℕ
 number_at None = 0
 number_at (Some x) = number x
 
-pub or-cases : (a b : Bool) → (a || b) ≡ true → (a ≡ true) ⊎ (b ≡ true)
-or-cases true b e = inl refl
-or-cases false b e = inr e
-
-pub or-right : (a b : Bool) → b ≡ true → (a || b) ≡ true
-or-right true b e = refl
-or-right false b e = e
-
-pub or-left : (a b : Bool) → a ≡ true → (a || b) ≡ true
-or-left true b e = refl
-or-left false b e = absurd cc
-
 same_colour : (c x : ℕ) → (c == x) ≡ true → c ≡ x
 same_colour c x e = grind (arith, nat_tests)
 
-its_own : (c : ℕ) → (c == c) ≡ true
-its_own c = grind (arith, nat_tests)
-
 one-from : (b : Bool) (set : FinSet nat_cmp) (x c : ℕ) → contains (if b then insert set x else set) c ≡ true → (c ≡ x) ⊎ (contains set c ≡ true)
-one-from true set x c e = elim (or-cases (c == x) (contains set c) (sym (contains-insert_colour set x c) ∙ e)) [
+one-from true set x c e = elim (or_cases (c == x) (contains set c) (sym (contains-insert_colour set x c) ∙ e)) [
   | inl same ↦ inl (same_colour c x same)
   | inr before ↦ inr before
 ]
 one-from false set x c e = inr e
 
 one-keeps : (b : Bool) (set : FinSet nat_cmp) (x c : ℕ) → contains set c ≡ true → contains (if b then insert set x else set) c ≡ true
-one-keeps true set x c e = contains-insert_colour set x c ∙ or-right (c == x) (contains set c) e
+one-keeps true set x c e = contains-insert_colour set x c ∙ or_right (c == x) (contains set c) e
 one-keeps false set x c e = e
 
 -- it was there, or it came
@@ -90,7 +75,7 @@ anew-keeps (Some (Chosen x) ∷ slots) set port c e =
     anew-keeps slots (if nat_lt x COLOURS then insert set x else set) (port + 1) c (one-keeps (nat_lt x COLOURS) set x c e)
 
 put : (b : Bool) (set : FinSet nat_cmp) (c : ℕ) → b ≡ true → contains (if b then insert set c else set) c ≡ true
-put true set c e = contains-insert_colour set c c ∙ or-left (c == c) (contains set c) (its_own c)
+put true set c e = contains-insert_colour set c c ∙ or_left (c == c) (contains set c) (grind (arith, nat_tests))
 put false set c e = absurd cc
 
 -- what comes is there then

@@ -4,7 +4,7 @@ use Rattle.std.proofs.Common.{◌≡◌, ◌≢◌, ℕ, zero, suc, ◌+◌, ◌
 use Rattle.std.specs.Prelude.{◌⊎◌, ◌&&◌, map, not, nat_le, Contains}
 use Rattle.std.specs.FinSet.{contains}
 use Rattle.std.proofs.lemmas.Bool.Decides.{nat_tests}
-use Rattle.std.proofs.lemmas.Bool.{cases_order}
+use Rattle.std.proofs.lemmas.Bool.{cases_order, or_cases, or_left, or_right, not-false, cases_Bool, not-true, and_parts}
 use Rattle.std.proofs.lemmas.List.{get_or-map, length-append, length-map}
 use Rattle.std.proofs.lemmas.List.Elements.{Contains-get_or}
 use Rattle.colour_base.proofs.LeastLemmas.{least-at_most, least-first, least-found}
@@ -23,39 +23,22 @@ use Rattle.colour_laws.proofs.Expected.{IsForest}
 use Rattle.colour_laws.proofs.Forests.{has_forest}
 use Rattle.colour_laws.proofs.Proper.{colours_proper}
 use Rattle.recolouring.specs.Knowing.{is_taken}
-use Rattle.recolouring.proofs.Coming.{or-cases, or-left, or-right}
 use Rattle.recolouring.proofs.Run.{heard, heard-from, heard-has, low-colour, new, new-is, place}
-
-true-or-false : (b : Bool) → (b ≡ true) ⊎ (b ≡ false)
-true-or-false true = inl refl
-true-or-false false = inr refl
-
-and-first : (a b : Bool) → (a && b) ≡ true → a ≡ true
-and-first true b e = refl
-and-first false b e = absurd cc
-
-not-true : (b : Bool) → not b ≡ true → b ≡ false
-not-true false e = refl
-not-true true e = absurd cc
-
-not-false : (b : Bool) → not b ≡ false → b ≡ true
-not-false true e = refl
-not-false false e = absurd cc
 
 among-left : (xs ys : List ℕ) (c : ℕ) → is_among xs c ≡ true → is_among (xs ++ ys) c ≡ true
 among-left [] ys c e = absurd cc
-among-left (x ∷ xs) ys c e = elim (or-cases (x == c) (is_among xs c) e) [
-  | inl here ↦ or-left (x == c) (is_among (xs ++ ys) c) here
-  | inr there ↦ or-right (x == c) (is_among (xs ++ ys) c) (among-left xs ys c there)
+among-left (x ∷ xs) ys c e = elim (or_cases (x == c) (is_among xs c) e) [
+  | inl here ↦ or_left (x == c) (is_among (xs ++ ys) c) here
+  | inr there ↦ or_right (x == c) (is_among (xs ++ ys) c) (among-left xs ys c there)
 ]
 
 among-right : (xs ys : List ℕ) (c : ℕ) → is_among ys c ≡ true → is_among (xs ++ ys) c ≡ true
 among-right [] ys c e = e
-among-right (x ∷ xs) ys c e = or-right (x == c) (is_among (xs ++ ys) c) (among-right xs ys c e)
+among-right (x ∷ xs) ys c e = or_right (x == c) (is_among (xs ++ ys) c) (among-right xs ys c e)
 
 among-Contains : (xs : List ℕ) (c : ℕ) → is_among xs c ≡ true → Contains xs c
 among-Contains [] c e = absurd cc
-among-Contains (x ∷ xs) c e = elim (or-cases (x == c) (is_among xs c) e) [
+among-Contains (x ∷ xs) c e = elim (or_cases (x == c) (is_among xs c) e) [
   | inl here ↦ (0, omega arith, (let test : (x == c) ≡ true = here in let same : x ≡ c = grind (arith, nat_tests) in same))
   | inr there ↦ let more = among-Contains xs c there in (suc more.0, omega (arith, more.1), more.2)
 ]
@@ -87,9 +70,9 @@ module _ (net : Net) (ok : IsNetwork net) where
   by v c is_vertex e =
       let q : ℕ = place net ok v in
       let low : colours net v ≤ span = low-colour net ok v in
-      elim (or-cases (contains (heard net ok q v) c) (contains (up_to span (bars_of net v)) c) e) [
+      elim (or_cases (contains (heard net ok q v) c) (contains (up_to span (bars_of net v)) c) e) [
         | inl near ↦ let there = heard-from net ok q v c is_vertex near in inr (there.0, there.1, omega (arith, there.2, low), there.3)
-        | inr barred ↦ inl (and-first (is_among (bars_of net v) c) (nat_le c span) (sym (contains-up_to span (bars_of net v) c) ∙ barred))
+        | inr barred ↦ inl (and_parts (is_among (bars_of net v) c) (nat_le c span) (sym (contains-up_to span (bars_of net v) c) ∙ barred)).0
       ]
 
   -- one of the first colours is left for it
@@ -103,7 +86,7 @@ module _ (net : Net) (ok : IsNetwork net) where
       let c : ℕ = some.0 in (
         c,
         some.1,
-        elim (true-or-false (taken v c)) [
+        elim (cases_Bool (taken v c)) [
           | inr none ↦ none
           | inl is_so ↦ elim (by v c is_vertex is_so) [
             | inl barred ↦ let wrong : true ≡ false = sym (among-right near (bars_of net v) c barred) ∙ some.2 in absurd cc
@@ -143,7 +126,7 @@ module _ (net : Net) (ok : IsNetwork net) where
   before-taken v k is_vertex below less =
       let low : colours net v ≤ span = low-colour net ok v in
       let c : ℕ = colour (neighbour_of net v k) in
-      or-left (contains (heard net ok (place net ok v) v) c) (contains (up_to span (bars_of net v)) c)
+      or_left (contains (heard net ok (place net ok v) v) c) (contains (up_to span (bars_of net v)) c)
       (heard-has net ok (place net ok v) v k is_vertex below (omega arith) (omega (arith, less, low)) (in_room (neighbour_of net v k) (ok.vertices v k is_vertex below)))
 
   apart : (v k : ℕ) → IsVertex net v → k < degree_of net v → colours net v < colours net (neighbour_of net v k) → colour v ≢ colour (neighbour_of net v k)
@@ -170,7 +153,7 @@ module _ (net : Net) (ok : IsNetwork net) where
       let among : is_among (bars_of net v) (colour v) ≡ true = is_among-at (bars_of net v) barred.0 (colour v) barred.1 barred.2 in
       let held : contains (up_to span (bars_of net v)) (colour v) ≡ true = contains-up_to_low span (bars_of net v) (colour v) low ∙ among in
       let wrong : false ≡ true = sym (untaken v is_vertex)
-      ∙ or-right (contains (heard net ok (place net ok v) v) (colour v)) (contains (up_to span (bars_of net v)) (colour v)) held in
+      ∙ or_right (contains (heard net ok (place net ok v) v) (colour v)) (contains (up_to span (bars_of net v)) (colour v)) held in
       cc
 
   pub lowest : (v c : ℕ) → IsVertex net v → c < colour v → (IsBarred net v c → ⊥) → (w : ℕ) × Contains (neighbours net v) w × (colour w ≡ c)
@@ -188,7 +171,7 @@ module _ (net : Net) (ok : IsNetwork net) where
     step v is_vertex others =
         let c : ℕ = greatest - colours net v in
         let low : colours net v ≤ greatest = most v is_vertex in
-        let free_there : taken v c ≡ false = elim (true-or-false (taken v c)) [
+        let free_there : taken v c ≡ false = elim (cases_Bool (taken v c)) [
           | inr none_there ↦ none_there
           | inl held ↦ elim (by v c is_vertex held) [
             | inl barred ↦ let wrong : false ≡ true = ap (λ (bars : List ℕ). is_among bars c) (sym (none v is_vertex)) ∙ barred in absurd cc

@@ -4,7 +4,7 @@ use Rattle.std.specs.Prelude.{replicate, nat_le, nat_lt, Option, Some, None}
 use Rattle.std.specs.Ordering.{nat_cmp}
 use Rattle.std.specs.FinSet.{FinSet, contains, contains-empty, empty}
 use Rattle.std.proofs.lemmas.Bool.Decides.{nat_tests}
-use Rattle.std.proofs.lemmas.Bool.{le-leb, lt-ltb, eq-eqb}
+use Rattle.std.proofs.lemmas.Bool.{le-leb, lt-ltb, eq-eqb, false_from_ne_true, and_parts, and_from}
 use Rattle.std.proofs.lemmas.List.{get_or-map, get_or-replicate}
 use native.Mathlib.Decide.{dec_lt}
 use Prim.{yes, no}
@@ -30,21 +30,9 @@ use Rattle.recolouring.specs.Knowing.{Recoloured, anew_next, chose, colour_after
 use Rattle.recolouring.specs.Lawful.{at, at-class, coloured, cut, has_greatest, recolours_cut}
 use Rattle.recolouring.proofs.Coming.{anew-from, anew-has, anew-keeps, number}
 
-and-cases : (a b : Bool) → (a && b) ≡ true → (a ≡ true) × (b ≡ true)
-and-cases true b e = (refl, e)
-and-cases false b e = absurd cc
-
-both-are : (a b : Bool) → a ≡ true → b ≡ true → (a && b) ≡ true
-both-are true b e h = h
-both-are false b e h = absurd cc
-
-false-unless : (b : Bool) → (b ≡ true → ⊥) → b ≡ false
-false-unless true h = absurd (h refl)
-false-unless false h = refl
-
 turn-then : (colour greatest q : ℕ) → is_turn colour greatest q ≡ true → colour + q ≡ greatest
 turn-then colour greatest q e =
-    let facts = and-cases (nat_le q greatest) (colour == greatest - q) e in
+    let facts = and_parts (nat_le q greatest) (colour == greatest - q) e in
     let test : (colour == greatest - q) ≡ true = facts.1 in
     let same : colour ≡ greatest - q = grind (arith, nat_tests) in
     let bound : nat_le q greatest ≡ true = facts.0 in
@@ -53,7 +41,7 @@ turn-then colour greatest q e =
 
 turn-if : (colour greatest q : ℕ) → colour + q ≡ greatest → is_turn colour greatest q ≡ true
 turn-if colour greatest q e =
-    both-are (nat_le q greatest) (colour == greatest - q) (le-leb q greatest (omega (arith, e))) (eq-eqb colour (greatest - q) (omega (arith, e)))
+    and_from (nat_le q greatest) (colour == greatest - q) (le-leb q greatest (omega (arith, e))) (eq-eqb colour (greatest - q) (omega (arith, e)))
 
 past-all : {M : Type 0} (n k : ℕ) (x : Option M) → n ≤ k → at_port (replicate n x) k ≡ None
 past-all zero k x h = refl
@@ -170,7 +158,7 @@ module _ (net : Net) (ok : IsNetwork net) where
   stays (suc d) v is_vertex =
       let q : ℕ = suc (place v) + d in
       let low : colours net v ≤ span_of net = low-colour v in
-      let over : turn q v ≡ false = false-unless (turn q v) (λ is. let when : colours net v + q ≡ span_of net = turn-is q v is_vertex is in omega (arith, when, low)) in
+      let over : turn q v ≡ false = false_from_ne_true (turn q v) (λ is. let when : colours net v + q ≡ span_of net = turn-is q v is_vertex is in omega (arith, when, low)) in
       ap (λ (n : ℕ). (mine n v).colour) (let e : suc (place v) + suc d ≡ suc q = omega arith in e)
       ∙ (colour-more q v is_vertex ∙ (ap (colour_after (mine q v) (heard q v)) over ∙ stays d v is_vertex))
 
@@ -190,7 +178,7 @@ module _ (net : Net) (ok : IsNetwork net) where
       let there : at_port (told (coloured net ok w) (turn q w && nat_lt q (mine q w).greatest) colour) (port_to net w v) ≡ Some (says c) =
       sym (ap (λ (out : List (Option Payload)). at_port out (port_to net w v)) (sent q w inside)) ∙ (sym (slot (suc q) v k below) ∙ is) in
       let facts = told-some (coloured net ok w) (port_to net w v) (turn q w && nat_lt q (mine q w).greatest) colour (says c) there in
-      let when : colours net w + q ≡ span_of net = turn-is q w inside (and-cases (turn q w) (nat_lt q (mine q w).greatest) facts.0).0 in
+      let when : colours net w + q ≡ span_of net = turn-is q w inside (and_parts (turn q w) (nat_lt q (mine q w).greatest) facts.0).0 in
       let same : colour ≡ c = ap number facts.1 in
       (when, sym (later (suc q) w inside (omega (arith, when))) ∙ (colour-more q w inside ∙ same))
 
@@ -243,7 +231,7 @@ module _ (net : Net) (ok : IsNetwork net) where
             let here : at_port (inbox (suc q) v) k ≡ Some (says (new w)) =
             slot (suc q) v k below
             ∙ (ap (λ (out : List (Option Payload)). at_port out (port_to net w v)) (sent q w inside
-            ∙ (ap (λ (b : Bool). told (coloured net ok w) b colour) (both-are (turn q w) (nat_lt q (mine q w).greatest) turns early)
+            ∙ (ap (λ (b : Bool). told (coloured net ok w) b colour) (and_from (turn q w) (nat_lt q (mine q w).greatest) turns early)
             ∙ ap (told (coloured net ok w) true) is))
             ∙ get_or-replicate (ports (coloured net ok w)) (port_to net w v) (Some (says (new w))) None (omega (arith, many, port))) in
             anew-has (inbox (suc q) v) (mine (suc q) v).chosen 0 k (new w) (omega (arith, below, length-inbox net (at net ok (start + suc q)) v)) few here
