@@ -167,7 +167,8 @@ class Run:
         reached = min(max(during) for during in self.at_pulse.values())
         if pulses and pulses[1] > min(self.last, reached):
             raise Wrong(f"{self.name}: pulses {pulses[0]} to {pulses[1]} are not among 0 to {min(self.last, reached)}")
-        if not pulses and len(every) > MOST_ENTRIES:
+        self.is_too_long = not pulses and len(every) > MOST_ENTRIES
+        if self.is_too_long:
             every.pop()
             pulses = 0, reached - 1
             if reached == 0:
@@ -270,5 +271,7 @@ def about(runs, pulses):
     if len(runs) == 2:
         said += (" At a whole number of the slider each run is at the moment when the last of its nodes makes that "
                  "pulse; its other nodes may be ahead.")
+    if any(one.is_too_long for one in runs):
+        said += f" A page shows at most {MOST_ENTRIES:,} entries of a run; --pulses A..B shows other pulses."
     cut = [one for one in runs if not one.is_whole and not one.is_cut]
     return said + (f" {cut[0].name} ends before the nodes are through." if cut else "")

@@ -8,10 +8,12 @@ import random
 import re
 import subprocess
 import tempfile
+from unittest import mock
 
 from lab.definitions.colours import colours, network_of
 from lab.definitions.nodes import last_pulse
 from lab.networks.network_text import read_network
+from lab.pictures import watch_page
 from lab.pictures.watch_page import Run, Steps, steps_of_text
 from lab.schedules.policies import policy_of
 from lab.schedules.simulate import Player, edges_of, text_of_rows
@@ -172,6 +174,17 @@ class OneRun(Page):
         page = self.drawn(self.file("net.col", data), "-", data=b"".join(lines[:200]))
         self.assertEqual(len(table_of(page)["runs"][0]["rows"]), 199)
         self.assertIn("standard input ends before the nodes are through.", page)
+
+    def test_a_run_that_is_too_long_says_how_to_see_the_rest(self):
+        data = contents("triangle.col")
+        network = read_network(data.decode(), "triangle")
+        text = merged_text(3, made_transcript(random.Random("long"), network_of(data), 3))
+        for most, pulses, is_said in ((20_000, None, False), (100, None, True), (100, (3, 4), False)):
+            with self.subTest(most=most, pulses=pulses), mock.patch.object(watch_page, "MOST_ENTRIES", most):
+                run = Run("triangle", network, steps_of_text("triangle", network, text.decode(), pulses), pulses)
+                self.assertEqual(f"at most {most:,} entries of a run; --pulses A..B shows other" in
+                                 watch_page.draw([run]), is_said)
+                self.assertLessEqual(len(run.moments), most)
 
     def test_run_of_a_player(self):
         """The steps of a player show what its transcript shows, on the way and at the end."""
