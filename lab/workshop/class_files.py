@@ -17,7 +17,7 @@ COPIED = (
     "docs/learn/TUTORIAL.md", "docs/learn/GALLERY.md", "docs/learn/OWN_NETWORK.md", "docs/learn/PROTOCOL.md",
     "docs/learn/WORKSHOP.md", "docs/pictures",
     "examples", "lab/__init__.py", "lab/__main__.py", "lab/door.py", "lab/door.sh", "lab/programs.py",
-    "lab/python", "lab/sums.py", "lab/version.py", "lab/watch.py", "lab/python", "lab/words.py", "lab/wrong.py",
+    "lab/python", "lab/sums.py", "lab/version.py", "lab/watch.py", "lab/words.py", "lab/wrong.py",
     "lab/networks", "lab/workshop",
     "lab/schedules/__init__.py", "lab/schedules/policies.py",
     "lab/transcripts/__init__.py", "lab/transcripts/fields.py", "lab/transcripts/proved_judge.py",

@@ -123,7 +123,8 @@ class ClassFolder(unittest.TestCase):
 
     def test_it_has_no_solution(self):
         for path in ("lab/definitions", "lab/pictures", "lab/transcripts/check.py", "lab/schedules/ruled_node.py",
-                     "examples/workshop/python", "examples/workshop/c", "examples/workshop/mistakes.py", "tests",
+                     "examples/workshop/python", "examples/workshop/c", "examples/workshop/mistakes.py",
+                     "examples/algorithms", "tests",
                      "docs/learn/WORKSHOP_ANSWERS.md", "docs/learn/TEACHING.md"):
             with self.subTest(path):
                 self.assertTrue(os.path.exists(os.path.join(TOP, path)), "it isn't here either")
