@@ -3,13 +3,13 @@
 import argparse
 import os
 import shutil
-import signal
 import subprocess
 import sys
 import tempfile
 
 from build import completion, kit, manuals, readme
 from lab import sums, version
+from lab.door import end_by_signals
 from lab.workshop.class_files import IS_CLASS, class_files, finish_class, write_scripts
 
 TOP = os.path.dirname(os.path.dirname(os.path.realpath(__file__)))
@@ -161,13 +161,6 @@ def install(folder, is_class=False):
         if is_new:
             shutil.rmtree(folder, ignore_errors=True)
         raise
-
-
-def end_by_signals():
-    """Has SIGTERM and SIGHUP end the command as Ctrl-C does, so that nothing is left."""
-    for number in (signal.SIGTERM, signal.SIGHUP):
-        if signal.getsignal(number) != signal.SIG_IGN:
-            signal.signal(number, lambda number, _: sys.exit(128 + number))
 
 
 def main():

@@ -79,6 +79,13 @@ def interrupt(*_):
     raise KeyboardInterrupt
 
 
+def end_by_signals():
+    """Has SIGTERM and SIGHUP end the command as Ctrl-C does, so that nothing is left."""
+    for number in (signal.SIGTERM, signal.SIGHUP):
+        if signal.getsignal(number) != signal.SIG_IGN:
+            signal.signal(number, lambda number, _: sys.exit(128 + number))
+
+
 def note_lost(said):
     """Ctrl-C in the midst of what Python does aside, as when it has imported a module, would be lost with a traceback:
     it comes again at once."""

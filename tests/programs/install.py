@@ -234,18 +234,24 @@ class Install(Case):
         for number in (signal.SIGTERM, signal.SIGHUP):
             # On a busy machine the installation may be done before the signal comes; then once more.
             for _ in range(TRIES):
-                with subprocess.Popen([*self.script, folder], stderr=subprocess.PIPE) as started:
-                    deadline = time.monotonic() + LIMIT
-                    while os.listdir(folder) in ([], [".install-before"]) and time.monotonic() < deadline:
-                        time.sleep(0.001)
-                    started.send_signal(number)
-                    _, said = started.communicate(timeout=LIMIT)
-                got = started.returncode, os.listdir(folder)
-                if started.returncode:
+                status, said = self.ended_by(number, [*self.script, folder],
+                                             lambda: os.listdir(folder) not in ([], [".install-before"]))
+                got = status, os.listdir(folder)
+                if status:
                     break
                 shutil.rmtree(folder)
                 os.mkdir(folder)
             self.note(f"{number.name}: nothing is left", got == (128 + number, []), (got, said))
+
+    def ended_by(self, number, words, has_begun):
+        """The status of a command that gets a signal once it has begun, and what it says."""
+        with subprocess.Popen(words, stdout=subprocess.DEVNULL, stderr=subprocess.PIPE) as started:
+            deadline = time.monotonic() + LIMIT
+            while not has_begun() and started.poll() is None and time.monotonic() < deadline:
+                time.sleep(0.001)
+            started.send_signal(number)
+            _, said = started.communicate(timeout=LIMIT)
+        return started.returncode, said
 
     def test_limit(self):
         """Where a file may not grow, the output can't be written: that is a fault of the stream, and no death."""
@@ -423,6 +429,21 @@ class Install(Case):
         self.note("a changed folder isn't packed", got[:2] == (1, b"") and b"first: README.md" in got[2], got)
         got = run([*pack, self.elsewhere])
         self.note("another folder isn't packed", got[:2] == (2, b"") and b"pack: error: " in got[2], got)
+
+    def test_pack_signals(self):
+        """SIGTERM and SIGHUP leave nothing of an archive that isn't whole."""
+        packs = os.path.join(self.folder, "ended packs")
+        os.mkdir(packs)
+        for number in (signal.SIGTERM, signal.SIGHUP):
+            for _ in range(TRIES):
+                status, said = self.ended_by(number, [*BUILD, "pack", self.target, packs],
+                                             lambda: any(name.endswith(".new") for name in os.listdir(packs)))
+                got = status, os.listdir(packs)
+                if status:
+                    break
+                shutil.rmtree(packs)
+                os.mkdir(packs)
+            self.note(f"{number.name}: nothing is left", got == (128 + number, []), (got, said))
 
     def test_vendor(self):
         """Crates go to another repository with those below them and their lines, and replace nothing unasked."""
