@@ -13,6 +13,7 @@ from lab import programs
 from lab.definitions.colours import plan_text as plan_by_definition
 from lab.definitions.nodes import Colouring
 from lab.definitions.programs import add_program, note_ignored_bars, program_at
+from lab.door import end_by_signals
 from lab.networks.named import network_text
 from lab.networks.network_text import read_network, stem
 from lab.networks.plan_text import read_plan
@@ -556,6 +557,7 @@ def main(words):
     given, others = parser.parse_known_args(words)
     if others:
         kinds[given.kind].error(f"unrecognized arguments: {' '.join(others)}")
+    end_by_signals()  # As SIGTERM ends this command, the program that it runs ends, too.
     try:
         picture = drawn(given)
     except Wrong as why:

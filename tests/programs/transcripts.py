@@ -3,13 +3,16 @@ with the built program's. Edition 2 is in merged.py.
 
 Expected verdicts are worked by hand, or come from the definitions in lab/definitions/nodes.py; none is taken from a
 program."""
+import contextlib
 import json
 import os
 import pickle
 import random
 import re
+import signal
 import subprocess
 import tempfile
+import time
 
 from lab.definitions.colours import network_of
 from lab.definitions.nodes import NetState, Refused, last_pulse, make, wire_words
@@ -273,6 +276,29 @@ def transcript_by(program, words, network):
     return done.returncode, done.stdout, done.stderr
 
 
+def machine_of(run):
+    """The process forestplay that a running command has begun, or None if the command ends before."""
+    while run.poll() is None:
+        with contextlib.suppress(OSError), open(f"/proc/{run.pid}/task/{run.pid}/children", encoding="utf-8") as file:
+            for process in file.read().split():
+                with open(f"/proc/{process}/comm", encoding="utf-8") as name:
+                    if name.read() == "forestplay\n":
+                        return int(process)
+        time.sleep(0.001)
+    return None
+
+
+def wait_in_poll(run):
+    """Waits until a command waits for what it has begun, whose pipe is full. Before, that would find an empty input
+    and end by itself."""
+    end = time.monotonic() + LIMIT
+    while run.poll() is None and time.monotonic() < end:
+        with open(f"/proc/{run.pid}/wchan", encoding="utf-8") as place:
+            if "poll" in place.read():
+                return
+        time.sleep(0.001)
+
+
 def written_anew(data):
     """The text of the entries that are read, the vertices ascending."""
     head, entries = read(data)
@@ -445,6 +471,30 @@ class Transcripts(Case):
                 ).encode()
                 done = script(folder, [*replay, "edge.col"], whole)
                 self.note("forestlab transcript replay of a run", done == (0, wanted, b""), done)
+
+    def test_signals(self):
+        """SIGTERM and SIGHUP end the machine that plays the entries, too, even one that stands still then."""
+        if not PLAY:
+            return
+        with tempfile.TemporaryDirectory() as folder:
+            network, whole = (os.path.join(folder, name) for name in ("ring.col", "whole.transcript"))
+            subprocess.run([FORESTLAB, "network", "ring", "300", "-o", network], check=True)
+            with open(network, "rb") as given, open(whole, "wb") as file:
+                subprocess.run([PLAN, "transcript", "--workers", "1"], stdin=given, stdout=file, check=True)
+            for number in (signal.SIGTERM, signal.SIGHUP):
+                with subprocess.Popen([FORESTLAB, "transcript", "replay", network, whole], stdout=subprocess.DEVNULL,
+                                      stderr=subprocess.DEVNULL) as run:
+                    machine = machine_of(run)
+                    if machine:
+                        os.kill(machine, signal.SIGSTOP)
+                        wait_in_poll(run)
+                    run.send_signal(number)
+                    status = run.wait(LIMIT)
+                is_left = bool(machine) and os.path.exists(f"/proc/{machine}")
+                if is_left:
+                    os.kill(machine, signal.SIGKILL)
+                self.note(f"{number.name}: the machine ends", machine and (status, is_left) == (128 + number, False),
+                          (machine, status, is_left))
 
     def test_large(self):
         """Long transcripts, each read and searched in one go: 60,000 entries of few nodes, or of nodes with many
