@@ -4,9 +4,11 @@ import argparse
 import os
 import shutil
 import sys
+import tempfile
 
 from build import kit
 from build.crate_lists import TOP, listed, with_below
+from lab.door import end_by_signals
 
 # What of a crate is copied: what it is proved from, and what shows that its contracts refuse wrong bodies.
 PARTS = ("src", "specs", "proofs", "must-fail")
@@ -23,6 +25,7 @@ mine: node_api interference sync_rounds
 and `rt try`, `rt check` and `rt ci` work there. With --build the folder build/ goes
 along, so that `python3 build prove mine` takes from the store what ./forestplan has
 proved here. Copies know nothing of later changes: call it again with --replace.
+If it can't be copied to the end, as on a full disk, the repository stays as it was.
 They stay under the licences of this tree, LICENSE-MIT or LICENSE-APACHE.
 """
 
@@ -52,22 +55,34 @@ def differs(crate, top):
     return os.path.isdir(there) and kit.sum_of_texts(there) != kit.sum_of_texts(here)
 
 
-def copy(crate, top):
-    """Copies the parts of a crate, each as a whole."""
+def copy(crate, room):
+    """Copies the parts of a crate."""
     for part in PARTS:
-        source, to = (os.path.join(it, "crates", crate, part) for it in (TOP, top))
-        shutil.rmtree(to, ignore_errors=True)
+        source = os.path.join(TOP, "crates", crate, part)
         if os.path.isdir(source):
-            shutil.copytree(source, to)
+            shutil.copytree(source, os.path.join(room, "crates", crate, part))
 
 
-def copy_build(top):
+def copy_build(room):
     """Copies what proves from the store: build/ without its help texts, and the door that it calls."""
     leave = shutil.ignore_patterns("__pycache__", "help")
-    shutil.copytree(os.path.join(TOP, "build"), os.path.join(top, "build"), ignore=leave, dirs_exist_ok=True)
-    os.makedirs(os.path.join(top, "lab"), exist_ok=True)
+    shutil.copytree(os.path.join(TOP, "build"), os.path.join(room, "build"), ignore=leave)
+    os.mkdir(os.path.join(room, "lab"))
     for name in LAB:
-        shutil.copy(os.path.join(TOP, "lab", name), os.path.join(top, "lab", name))
+        shutil.copy(os.path.join(TOP, "lab", name), os.path.join(room, "lab", name))
+
+
+def put(room, top, crates):
+    """Moves all from a folder beside it into place, whole folders where none is there. A crate loses its old parts."""
+    for crate in crates:
+        for part in PARTS:
+            shutil.rmtree(os.path.join(top, "crates", crate, part), ignore_errors=True)
+    for at, below, names in os.walk(room):
+        to = os.path.join(top, os.path.relpath(at, room))
+        moved = [name for name in below if not os.path.lexists(os.path.join(to, name))]
+        below[:] = [name for name in below if name not in moved]
+        for name in [*moved, *names]:
+            os.replace(os.path.join(at, name), os.path.join(to, name))
 
 
 def handles(top):
@@ -79,22 +94,31 @@ def handles(top):
         return None
 
 
-def vendor(top, crates, replaces):
-    """Copies crates in the order of crates.txt, and adds their lines; returns what is said of it."""
+def vendor(top, crates, replaces, has_build):
+    """Copies crates in the order of crates.txt, and adds their lines; build/ too, if that is asked for."""
     lines, there = lines_of(TOP), lines_of(top)
     changed = [crate for crate in crates if differs(crate, top) or there.get(crate, lines[crate]) != lines[crate]]
     if changed and not replaces:
         raise OSError(f"{top} has another crate {changed[0]}, or another line of it: --replace replaces it")
-    for crate in crates:
-        copy(crate, top)
-    new = [lines[crate] for crate in crates if crate not in there]
-    kept = [line for name, line in there.items() if name not in crates]
-    if new or changed:
-        text = "".join(f"{line}\n" for line in [*(lines[crate] for crate in crates), *kept])
-        with open(os.path.join(top, "crates.txt"), "w", encoding="utf-8") as file:
-            file.write("# one line a crate, lowest layer first:  NAME: DEP DEP ..\n" + text)
-    if handles(top) is None:
-        shutil.copy(os.path.join(TOP, "HANDLES"), top)
+    with tempfile.TemporaryDirectory(prefix=".vendor-", dir=top) as room:
+        for crate in crates:
+            copy(crate, room)
+        new = [lines[crate] for crate in crates if crate not in there]
+        kept = [line for name, line in there.items() if name not in crates]
+        if new or changed:
+            text = "".join(f"{line}\n" for line in [*(lines[crate] for crate in crates), *kept])
+            with open(os.path.join(room, "crates.txt"), "w", encoding="utf-8") as file:
+                file.write("# one line a crate, lowest layer first:  NAME: DEP DEP ..\n" + text)
+        if handles(top) is None:
+            shutil.copy(os.path.join(TOP, "HANDLES"), room)
+        if has_build:
+            copy_build(room)
+        put(room, top, crates)
+
+
+def reason(failed):
+    """In one line why it can't be copied: of a folder whose files can't be copied, the first one's reason."""
+    return failed.args[0][0][2] if isinstance(failed, shutil.Error) else failed
 
 
 def main():
@@ -114,12 +138,11 @@ def main():
     if not os.path.isdir(top) or os.path.realpath(top) == os.path.realpath(TOP):
         words.error("DIR has to be a folder that is there, and not this tree")
     crates = with_below(asked.crates, below)
+    end_by_signals()
     try:
-        vendor(top, crates, asked.replace)
-        if asked.build:
-            copy_build(top)
-    except (OSError, shutil.Error) as failed:
-        print(f"vendor: {failed}", file=sys.stderr)
+        vendor(top, crates, asked.replace, asked.build)
+    except OSError as failed:
+        print(f"vendor: {reason(failed)}", file=sys.stderr)
         return 1
     print(f"vendor: {len(crates)} crates are in {top}/crates: {' '.join(crates)}", file=sys.stderr)
     if handles(top) != handles(TOP):

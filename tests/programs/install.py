@@ -44,6 +44,11 @@ def contents(path):
         return file.read()
 
 
+def all_of(folder):
+    """What each file of a folder says, and its folders."""
+    return {at: {name: contents(os.path.join(at, name)) for name in names} for at, _, names in os.walk(folder)}
+
+
 def lines_of_page(text):
     """The lines of a manual page that are printed unchanged, block by block, under its headings."""
     blocks = re.findall(r'^\.SH "?([^"\n]*)"?\n\.nf\n(.*?)^\.fi\n', text, re.M | re.S)
@@ -475,6 +480,17 @@ class Install(Case):
         text_of_lines = contents(os.path.join(there, "crates.txt"))
         self.note("it is if that is asked for", got[0] == 0 and b"// changed" not in contents(changed), got)
         self.note("a line of one's own stays", b"\nmine: cole_vishkin\n" in text_of_lines, text_of_lines)
+        # The limit is on the size of a file.
+        empty = os.path.join(self.folder, "empty repository")
+        os.mkdir(empty)
+        for top in (there, empty):
+            before = all_of(top)
+            for more in ([], ["--build"]):
+                got = run([*vendor, top, "sync_rounds", "--replace", *more], env=ENVIRONMENT,
+                          preexec_fn=lambda: resource.setrlimit(resource.RLIMIT_FSIZE, (8_000, 8_000)))
+                is_one_line = re.fullmatch(rb"vendor: \[Errno \d+\] File too large: [^\n\[]+\n", got[2])
+                self.note(f"no room in {top} {more}", got[:2] == (1, b"") and is_one_line, got)
+            self.note(f"{top} is as it was", all_of(top) == before)
         for words in ([there, "nothing"], [TOP, "forests"], [os.path.join(there, "away"), "forests"]):
             got = run([*vendor, *words], env=ENVIRONMENT)
             self.note(f"vendor {words}", got[:2] == (2, b"") and b"vendor: error: " in got[2], got)
