@@ -296,6 +296,8 @@ def add_options(kind, name):
             action="store_true",
             help="draw a text of edition 2 up to its first entry that isn't possible, and that one in red",
         )
+        kind.add_argument("--stopped", type=int, metavar="V",
+                          help="with --wrong, of a run that isn't whole: mark the vertex at which it stopped")
 
 
 def add_space_options(kind, name):
@@ -317,6 +319,7 @@ class Options:
     vertex: int | None = None
     only: list[str] | None = None
     wrong: bool = False
+    stopped: int | None = None
     in_words: bool = False
     without: tuple[str, ...] = ()
     columns: tuple[int, int] | None = None
@@ -400,7 +403,7 @@ def draw_run(kind, network, options, texts):
     given, wrong = wanted(texts, "transcript"), None
     text = given.text
     if kind == "run" and options.wrong:
-        text, wrong = wrong_run.cut(text, given.name, network, options.program)
+        text, wrong = wrong_run.cut(text, given.name, network, options.program, options.stopped)
     until = None if wrong else until_of(kind, network, options)
     run = read_transcript(text, given.name, network, until, options.program)
     run.name = given.title or network.name
@@ -557,6 +560,8 @@ def main(words):
     given, others = parser.parse_known_args(words)
     if others:
         kinds[given.kind].error(f"unrecognized arguments: {' '.join(others)}")
+    if getattr(given, "stopped", None) is not None and not given.wrong:
+        kinds[given.kind].error("--stopped is for --wrong")
     end_by_signals()  # As SIGTERM ends this command, the program that it runs ends, too.
     try:
         picture = drawn(given)

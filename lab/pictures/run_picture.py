@@ -8,7 +8,7 @@ from math import sqrt
 from lab.pictures.marks import dash_of, short_name, wire_arrow
 from lab.pictures.palette import BAND, BORDER, INK, PAPER, PULSE, SOFT, WIRES, WRONG
 from lab.pictures.svg import Svg, counted, text_width
-from lab.pictures.wrong_run import draw_untaken, draw_wrong, pulses_around, set_in_time
+from lab.pictures.wrong_run import draw_stop, draw_untaken, draw_wrong, pulses_around, set_in_time
 from lab.wrong import at_most
 
 LEFT, TOP, WIDTH = 64, 136, 1214
@@ -100,6 +100,8 @@ def draw(run, pulses=None, kinds=None, wrong=None):
             draw_untaken(svg, window, kinds)
         if wrong and wrong.entry:
             draw_wrong(svg, window, wrong.entry)
+        if wrong and wrong.stopped:
+            draw_stop(svg, window, wrong.stopped)
     words_y = TOP + upper + extra(window, nodes) + 20
     svg.text(20, words_y, early_words(window, kinds), 11.5, SOFT)
     if wrong:

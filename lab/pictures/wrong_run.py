@@ -17,18 +17,22 @@ PART_OF_ROW, STEPS = 0.55, 2.2
 
 @dataclass
 class WrongEntry:
-    """`words` says which line is wrong and why; `entry` is None if each entry is possible and the run isn't whole."""
+    """`words` says which line is wrong and why; `entry` is None if each entry is possible and the run isn't whole, and
+    then `stopped` is the vertex at which it stopped, if that is known."""
     words: str
     entry: Entry | None = None
+    stopped: int | None = None
 
     @property
     def vertex(self) -> int:
         return self.entry.vertex
 
 
-def cut(text: str, name: str, network, program: type) -> tuple[str, WrongEntry | None]:
+def cut(text: str, name: str, network, program: type, stopped: int | None) -> tuple[str, WrongEntry | None]:
     """The text before its first wrong entry, and that entry; the whole text and None if the judge finds nothing
-    wrong."""
+    wrong. Of a run that isn't whole `stopped` may say at which vertex it stopped."""
+    if stopped is not None and stopped not in network.vertices:
+        raise Wrong(f"{network.name} has no vertex {stopped}")
     if is_own(program):
         raise Wrong(f"--wrong asks the proved judge, which doesn't know {program.name}")
     if [field for field in fields_of(text.lstrip().split("\n", 1)[0]) if field][:2] != ["transcript", "2"]:
@@ -37,7 +41,9 @@ def cut(text: str, name: str, network, program: type) -> tuple[str, WrongEntry |
     if verdict.name is None:
         return text, None
     if verdict.name == "NotWhole":
-        return text, WrongEntry("Each entry is possible, but the run doesn't reach its end (NotWhole).")
+        where = "" if stopped is None else f": it stops at node {stopped}"
+        return text, WrongEntry(f"Each entry is possible, but the run doesn't reach its end (NotWhole){where}.",
+                                stopped=stopped)
     lines, line = text.split("\n"), verdict.at + 2
     fields = [field for field in fields_of(lines[line - 1]) if field]
     if verdict.name in ("X1", "NoSuch"):
@@ -89,6 +95,13 @@ def draw_wrong(svg, window, entry: Entry) -> None:
             svg.line(x - STEPS * window.scale, y + (before - y) * PART_OF_ROW, x, y, WRONG, 2.4)
             svg.head(x, y, STEPS * window.scale, (y - before) * PART_OF_ROW, 9, WRONG)
         svg.circle(x, y, 4, WRONG)
+
+
+def draw_stop(svg, window, v: int) -> None:
+    """A red disc behind the last entry of the vertex at which the run stopped."""
+    own = window.run.entries[v]
+    with svg.group("wrong", f"node {v}, where the run stops"):
+        svg.circle(window.x((own[-1].x if own else 0) + 0.5), window.y(v), 6, WRONG)
 
 
 def draw_stub(svg, window, put: Entry, colour: str, dash: str | None, width: float = 1.4) -> None:

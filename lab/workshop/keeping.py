@@ -79,6 +79,8 @@ def draw(case: Case, file: str) -> str | None:
                 out.write(text)
         command = [os.path.join(TOP, "bin", "forestlab"), "picture", "run", network, "--transcript", run, "--wrong",
                    "--pulses", f"{max(0, last - 1)}..{last}", *words_of(case.run.rounds.program)]
+        if found and found.entry is None:
+            command += ["--stopped", str(found.node)]
         done = subprocess.run(command, capture_output=True, text=True)
     if done.returncode:
         return done.stderr.strip().replace(run, "the run")

@@ -68,6 +68,23 @@ class Pictures(unittest.TestCase):
         self.assertIn("the run doesn't reach its end (NotWhole)", done.stdout)
         self.assertNotIn('class="wrong"', done.stdout)
 
+    def test_the_vertex_at_which_it_stopped_is_marked(self):
+        for v, status in ((1, 0), (2, 0), (0, 1), (3, 1)):
+            with self.subTest(v):
+                done = self.picture("run", "", "--wrong", "--stopped", str(v))
+                self.assertEqual(done.returncode, status, done.stderr)
+                self.assertEqual(f"(NotWhole): it stops at node {v}." in done.stdout, status == 0)
+                self.assertEqual(f"two has no vertex {v}" in done.stderr, status == 1)
+                marks = re.findall('<g class="wrong"><title>([^<]*)<', done.stdout)
+                self.assertEqual(marks, [f"node {v}, where the run stops"] * (status == 0))
+        # An entry that isn't possible says more than where the run ended.
+        done = self.picture("run", ROWS[0][0], "--wrong", "--stopped", "1")
+        self.assertIn("The judge: NotReady", done.stdout)
+        self.assertNotIn("it stops at", done.stdout)
+        done = self.picture("run", "", "--stopped", "1")
+        self.assertEqual((done.returncode, done.stdout), (2, ""))
+        self.assertIn("--stopped is for --wrong", done.stderr)
+
     def test_a_right_run_is_drawn_as_always(self):
         transcript = subprocess.run([os.path.join(TOP, "bin", "forestplan"), "transcript", "--workers", "1"],
                                     stdin=open(TWO, "rb"), capture_output=True, text=True, timeout=LIMIT).stdout
@@ -94,5 +111,6 @@ class Pictures(unittest.TestCase):
         self.assertEqual(done.returncode, 1)
         with open(file, encoding="utf-8") as text:
             svg = text.read()
-        self.assertIn("(NotWhole)", svg)
+        self.assertRegex(svg, r"\(NotWhole\): it stops at node [12]\.")
+        self.assertRegex(done.stdout, f"node {re.search(r'it stops at node ([12])', svg)[1]} at pulse 0 doesn't put")
         self.assertEqual(len(re.findall('<g class="payload"', svg)), 2)
