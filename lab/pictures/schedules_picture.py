@@ -31,7 +31,8 @@ def draw(network, space, window, run_text):
         raise Wrong(
             f"schedules draws at most {MOST_STEPS:,} steps, and {low}..{high} have {sum(steps):,}: draw fewer events"
         )
-    bold = run_of(space, run_text) if run_text is not None else first_fault(space) if space.faults else in_step(space)
+    bold = (run_of(network, space, run_text) if run_text is not None else
+            first_fault(space) if space.faults else in_step(space))
     what = "the run that was given" if run_text is not None else None
     return Lattice(network, space, low, high, last, bold, what).drawn().document()
 
@@ -93,12 +94,14 @@ def in_step(space):
     return found
 
 
-def run_of(space, text):
-    """The run of a list of events; puts are made by themselves, so their lines are passed over."""
+def run_of(network, space, text):
+    """The run of a list of events; puts are made by themselves, so lines of those that the network has are passed
+    over."""
+    puts = {("put", str(v), str(port)) for v in network.vertices for port in range(len(network.neighbours[v]))}
     s, found = 0, []
     for line, raw in enumerate(text.split("\n"), 1):
         fields = raw.split()
-        if not fields or fields[0].startswith("c") or fields[0] == "put":
+        if not fields or fields[0].startswith("c") or tuple(raw.partition(":")[0].split()) in puts:
             continue
         steps = space.steps(s) if s is not None else []
         e = next((k for k, (event, _) in enumerate(steps) if str(event).split() == fields), None)

@@ -389,10 +389,12 @@ class Schedules(PictureCase):
         root = parsed(drawn(self.painter, "schedules", TWO, "--columns", "0..40", "--events", path))
         bold = sorted((ends(list(group)[1])[0][0], title(group).split(":")[0]) for group in marks(root, "bold"))
         self.note("the run that is given is bold", [words for _, words in bold] == takes[:40], bold[:5])
-        with open(path, "w", encoding="utf-8") as file:
-            file.write("c a run\nput 1 0\ntake 2 0\ntake 2 0\n")
-        self.refused("a text that is no run", "schedules", TWO, "--events", path,
-                     words=b"line 4: `take 2 0` is not possible there")
+        for events, words in (("put 1 0\ntake 2 0\ntake 2 0\n", b"line 4: `take 2 0` is not possible there"),
+                              ("put 9 0\n", b"line 2: `put 9 0` is not possible there"),
+                              ("put 2 0\nput 1 1\n", b"line 3: `put 1 1` is not possible there")):
+            with open(path, "w", encoding="utf-8") as file:
+                file.write(f"c a run\n{events}")
+            self.refused("a text that is no run", "schedules", TWO, "--events", path, words=words)
 
     def refused(self, name, kind, network, *options, words=b'', status=1):
         done = self.painter([kind, "-", *options], network)
