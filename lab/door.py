@@ -39,6 +39,16 @@ class Input(io.FileIO):
             return super().readall()
 
 
+class Said(io.FileIO):
+    """Standard error: what can't be written there, as it is full or its reader has gone, is dropped."""
+
+    def write(self, data):
+        try:
+            return super().write(data)
+        except OSError:
+            return len(data)
+
+
 def open_streams():
     """Gives a closed stream a file that refuses what it is for, so that no other file gets its number; what would be
     said on a closed standard error is dropped. In its place bash may have left its script, which is open for reading."""
@@ -57,7 +67,8 @@ def open_streams():
     coding = {"encoding": getattr(sys.stdout, "encoding", None) or "utf-8", "errors": "surrogateescape"}
     sys.stdin = io.TextIOWrapper(io.BufferedReader(Input(0, closefd=False)), **coding)
     sys.stdout = io.TextIOWrapper(open(1, "wb", closefd=False), line_buffering=os.isatty(1), **coding)
-    sys.stderr = sys.stderr or open(2, "w", encoding="utf-8", errors="backslashreplace", closefd=False)
+    sys.stderr = io.TextIOWrapper(io.BufferedWriter(Said(2, "w", closefd=False)), line_buffering=True,
+                                  encoding=getattr(sys.stderr, "encoding", None) or "utf-8", errors="backslashreplace")
 
 
 def said(name, what, status):
