@@ -136,6 +136,8 @@ def run_all(chosen, jobs, folder):
 
 def main():
     signal.signal(signal.SIGTERM, lambda *_: sys.exit(143))
+    # Under nohup it is ignored, and so it would be by what is tested.
+    signal.signal(signal.SIGHUP, signal.SIG_DFL)
     # Python keeps what it compiles apart from the tree, and for all processes, since each of them reads the same.
     with tempfile.TemporaryDirectory(prefix="tests-") as folder:
         os.environ.pop("PYTHONDONTWRITEBYTECODE", None)

@@ -115,14 +115,16 @@ class Programs(Case):
 
     def test_illegal_inboxes(self):
         """Which inboxes no round has, by the definitions' pages: the first rule of the election, and of the layers that
-        a distance is the pulse before."""
-        net = network_of(b"p edge 2 1\ne 1 2\n")
-        for program, pulse, payload, wanted in (
-            (Leader, 1, ("Leader", 1), False), (Leader, 1, ("Leader", 2), False), (Leader, 2, ("Leader", 1), False),
-            (Leader, 3, ("Leader", 1), True), (Leader, 3, None, False), (Layers, 1, ("Hops", 0), False),
-            (Layers, 1, ("Hops", 1), True), (Layers, 2, ("Hops", 1), False), (Layers, 2, None, False),
+        a distance is the pulse before, and that nothing comes after the last pulse, one before the number of nodes."""
+        edge, row = network_of(b"p edge 2 1\ne 1 2\n"), network_of(b"p edge 3 2\ne 1 2\ne 2 3\n")
+        for program, net, pulse, payload, wanted in (
+            (Leader, edge, 1, ("Leader", 1), False), (Leader, edge, 1, ("Leader", 2), False),
+            (Leader, edge, 2, ("Leader", 1), False), (Leader, edge, 3, ("Leader", 1), True),
+            (Leader, edge, 3, None, False), (Layers, row, 1, ("Hops", 0), False), (Layers, row, 1, ("Hops", 1), True),
+            (Layers, row, 2, ("Hops", 1), False), (Layers, row, 2, None, False), (Layers, row, 3, ("Hops", 2), True),
+            (Layers, edge, 2, ("Hops", 1), True),
         ):
-            got = program(net, 2).refuses(pulse, [payload])
+            got = program(net, len(net.neighbours)).refuses(pulse, [payload])
             self.note(f"{program.name} at pulse {pulse}: {payload}", got is wanted, got)
 
     def test_rounds(self):
