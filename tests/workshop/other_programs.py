@@ -43,7 +43,7 @@ WORDS = {
     "layers_last": ["where  node 2, pulse 3", "came   hops 2 by port 1", "wrong  layer 3 by 1", "right  layer 1 by 0",
                     f"why    {FIRST}"],
     "layers_port": ["where  node 2, pulse 3", "came   hops 2 by port 1", "wrong  layer 1", "right  layer 1 by 0",
-                    f"why    {FIRST}", "also   in the same pulse node 3"],
+                    f"why    {FIRST}", "also   in the same pulse nodes 3 and 4"],
 }
 # A right node of the leader, and one that says what it knows in each pulse.
 LEADER = """\
@@ -123,7 +123,7 @@ class OtherPrograms(unittest.TestCase):
                           "barred 0"])
 
     def test_right_layers(self):
-        for given in ("path1", "two", "path5", "triangle", "alone4", "random6", "barred", RING):
+        for given in ("two", "path5", "triangle", "alone4", "random6", "barred", RING):
             for assignment, command in OF_ASSIGNMENT.items():
                 with self.subTest(network=given, assignment=assignment):
                     self.good(played(assignment, given, command, program="layers"))
