@@ -123,7 +123,7 @@ class OtherPrograms(unittest.TestCase):
                           "barred 0"])
 
     def test_right_layers(self):
-        for given in ("two", "path5", "triangle", "alone4", "random6", "barred", RING):
+        for given in ("path1", "two", "path5", "triangle", "alone4", "random6", "barred", RING):
             for assignment, command in OF_ASSIGNMENT.items():
                 with self.subTest(network=given, assignment=assignment):
                     self.good(played(assignment, given, command, program="layers"))

@@ -8,12 +8,15 @@ class RoundsNode:
         self.program = program(own)
 
     def start(self):
-        return puts(self.program.greet())
+        return self.answer(0, self.program.greet())
 
     def react(self, lines):
         pulse = int(lines[0][1])
         inbox = {int(port): (word, int(number)) for _, port, word, number in lines[1:]}
-        answer = puts(self.program.pulse(pulse, inbox)) + self.program.lines(pulse)
+        return self.answer(pulse, self.program.pulse(pulse, inbox))
+
+    def answer(self, pulse, out):
+        answer = puts(out) + self.program.lines(pulse)
         if pulse == self.program.last:
             answer.append(self.program.result())
         return answer
