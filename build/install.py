@@ -1,5 +1,8 @@
 #!/usr/bin/env python3
-"""Copies the built programs and the scripts into a folder, from where they run without this tree and its toolchain."""
+"""Copies the built programs and the scripts into a folder, from where they run without this tree and its toolchain.
+
+All is made in a folder inside the target and moved file by file, so that a full disk leaves nothing half; SHA256SUMS
+says what may be removed later."""
 import argparse
 import os
 import shutil

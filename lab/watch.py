@@ -1,5 +1,6 @@
 """What the script `forestplan` shows of a run of minutes on a terminal: how long it has taken, and how much processor
-time, of about how much that a run of as many messages takes. The program itself says nothing before it ends."""
+time, of about how much that a run of as many messages takes. The program itself says nothing before it ends, so this
+reads /proc; it writes whole lines, since one that is rewritten would garble a plan on the same terminal."""
 import os
 import stat
 import sys
