@@ -15,8 +15,7 @@ from lab.programs import TOP
 from lab.schedules.rules import OF_ROUNDS, OF_SCHEDULES
 from lab.schedules.simulate import HABITS
 from lab.studio.asked import MOST_DRAWN, OPENED, network_asked
-from lab.studio.lessons import LESSONS
-from lab.version import NUMBER
+from lab.studio.lessons import lessons
 from lab.wrong import Wrong
 
 EXAMPLES = os.path.join(TOP, "examples")
@@ -29,12 +28,10 @@ def shown(network, said=()):
     return net_of(network) | {"said": list(said)}
 
 
-
 def hello(_asked, _tell):
     """What there is to choose from."""
     rules = {"orders": OF_SCHEDULES, "rounds": OF_ROUNDS}
     return {
-        "version": NUMBER,
         "proved": OPENED["is_proved"],
         "opened": OPENED["network"],
         "examples": sorted(stem(file) for file in os.listdir(EXAMPLES) if file.endswith(".col")),
@@ -43,7 +40,7 @@ def hello(_asked, _tell):
         "policies": HABITS,
         "rules": {of: {word: {"says": rule.says, "without": rule.without} for word, rule in rules[of].items()}
                   for of in rules},
-        "lessons": LESSONS,
+        "lessons": lessons(),
     }
 
 

@@ -10,7 +10,7 @@ from lab.definitions.pulses import Rounds
 from lab.pictures.picture import OF_PLAN, OF_RUN, Options, Text, drawing
 from lab.pictures.player_page import film_of
 from lab.pictures.program_rounds import ProgramRounds
-from lab.pictures.sizes import last_pulse, least_wires
+from lab.pictures.sizes import last_pulse
 from lab.schedules.reading import network_of
 from lab.schedules.ruled_rounds import RuledRounds
 from lab.schedules.rules import OF_ROUNDS
@@ -28,8 +28,7 @@ def plan(asked, _tell):
     channels = read_plan(plan_of(asked["network"]), "the plan", network)
     last = last_pulse(network)
     return {"plan": [channels[v] for v in network.vertices], "allowed": network.channels, "degree": network.degree,
-            "bars": network.most_bars, "last": last, "forests": (last - 12) // (3 * network.channels),
-            "wires": least_wires(network)}
+            "bars": network.most_bars, "last": last, "forests": (last - 12) // (3 * network.channels)}
 
 
 def check(asked, _tell):
@@ -62,7 +61,7 @@ def why(asked, _tell):
     network = network_asked(asked, MOST_ROUNDS)
     cone = why_picture.Cone(Rounds(network, network.identifiers), int(asked["vertex"]))
     return {"lines": why_picture.text(cone).splitlines(), "identifiers": cone.identifiers(),
-            "messages": [[p, v, w] for p, v, w, _ in sorted(cone.messages)], "summary": why_picture.summary(cone)}
+            "messages": [[p, v, w] for p, v, w, _ in sorted(cone.messages)]}
 
 
 def broken(asked, _tell):

@@ -137,7 +137,7 @@ def judge(asked, _tell):
     except WrongEntry as fault:
         told = {"ok": False, "words": str(fault), "line": fault.line}
     proved = judged(network, asked["network"], text, program) if OPENED["is_proved"] else None
-    return told | {"proved": proved, "before": asked["network"].count("\n") + 1, "nodes": network.nodes}
+    return told | {"proved": proved, "before": asked["network"].count("\n") + 1}
 
 
 def steps(asked, _tell):

@@ -9,7 +9,6 @@ import time
 from lab.definitions.colours import colours, network_of
 from lab.pictures.pages import hues
 from lab.pictures.palette import CHANNEL_HUES, FOREST_COLOURS
-from lab.studio.lessons import LESSONS
 from tests import TOP, browser
 from tests.cases import Case
 from tests.programs.studio import begin
@@ -20,16 +19,6 @@ TABS = ("rounds", "run", "adversary", "check", "pictures")
 
 class Repeated(Case):
     needs_programs = False
-
-    def test_lessons(self):
-        """Titles and questions are those of the tutorial."""
-        with open(os.path.join(TOP, "docs", "learn", "TUTORIAL.md"), encoding="utf-8") as file:
-            page = file.read()
-        found = re.findall(r"^## (\d)\. (.*)\n\n\*(.*?)\*", page, re.M)
-        mine = [(str(one["number"]), one["title"], one["ask"]) for one in LESSONS]
-        for lesson, wanted in zip(mine, found):
-            self.note(f"lesson {lesson[0]}", lesson == wanted, (lesson, wanted))
-        self.note("all lessons", len(mine) == len(found), len(found))
 
     def test_hues(self):
         found = {name: json.loads(value) for name, value in re.findall(r"^export const (\w+) = (.*);$", hues(), re.M)}

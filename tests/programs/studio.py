@@ -166,6 +166,8 @@ class Answers(Server):
         self.note("plan", plan["plan"] == [2, 3, 1], plan)
         self.note("rounds", self.answer("rounds", network=TRIANGLE)["answer"]["last"] == 30)
         run = self.answer("run", network=TRIANGLE, how="seed", policy="random", seed="7")["answer"]
+        lessons = self.answer("hello")["answer"]["lessons"]
+        self.note("all lessons", [one["number"] for one in lessons] == [*range(1, 8)], lessons)
         good = run["judge"]["ok"] and run["results"] == [2, 3, 1] and run["same"][0] == run["same"][1]
         self.note("run", good, run["same"])
         lines = run["text"].split("\n")
@@ -235,7 +237,7 @@ class Unbuilt(Answers):
         folder = tempfile.TemporaryDirectory()
         self.addCleanup(folder.cleanup)
         self.top = folder.name
-        for name in ("lab", "examples", "bin"):
+        for name in ("lab", "examples", "bin", "docs/learn"):
             shutil.copytree(os.path.join(TOP, name), os.path.join(self.top, name), symlinks=True)
         # In place of the script that proves: it says so, and builds nothing.
         with open(os.path.join(self.top, "forestplan"), "w", encoding="ascii") as file:

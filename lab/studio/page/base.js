@@ -3,6 +3,7 @@ import {Wrong, cancel} from "./api.js";
 import {net} from "./model.js";
 import {html} from "./marks.js";
 import {Stage} from "./stage.js";
+import {Time} from "./time.js";
 
 export const by = id => document.getElementById(id), all = words => Array.from(document.querySelectorAll(words));
 // What is seen. `hello` is what there is to choose from, `program` what the nodes run; `slow` and `lazy` are the links
@@ -17,6 +18,16 @@ export function hide(id, isHidden) { by(id).toggleAttribute("hidden", isHidden);
 export function isHidden(id) { return by(id).hasAttribute("hidden"); }
 export function show() { hooks.show(); }
 export function go(tab, more) { hooks.go(tab, more); }
+// The slider below the stage, which the tabs Rounds and No clock share.
+export const time = new Time(Object.fromEntries(["slider", "play", "back", "next", "speed"].map(id => [id, by(id)])), {
+  show,
+  step: way => tabs[seen.tab].step(way),
+  rate: () => tabs[seen.tab].rate(),
+  ended() {
+    hooks.link();
+    if (tabs[seen.tab].stopped) tabs[seen.tab].stopped();
+  },
+});
 
 let wrongKey = null, busyWith = null;
 export function wrong(said, key = null) {

@@ -137,7 +137,7 @@ export async function openFile(file, heading = null) {
   by("heading").hidden = heading !== null || !by("wrong").textContent.includes("--heading");
   all("#heading button").forEach(one => { one.onclick = () => openFile(file, one.dataset.heading === "yes"); });
 }
-export function download(words, name) {
+function download(words, name) {
   const link = html("a", null, {href: URL.createObjectURL(new Blob([words], {type: "text/plain"})), download: name});
   link.click();
   setTimeout(() => URL.revokeObjectURL(link.href), 1000);

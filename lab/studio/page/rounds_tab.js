@@ -1,10 +1,9 @@
 // The tab Rounds: the network at each pulse, why a node has its channel, and what goes wrong without a rule.
 import {Wrong, call} from "./api.js";
-import {by, hide, ms, picture, seen, show, stage, tabs, took, tried} from "./base.js";
+import {by, hide, ms, picture, seen, show, stage, tabs, time, took, tried} from "./base.js";
 import {html, patch} from "./marks.js";
 import {net, text} from "./model.js";
 import {RoundsFilm, roundsLegend} from "./rounds.js";
-import {time} from "./timing.js";
 
 export const rounds = {forest: 0, why: null, whyOf: null, film: null, of: null, without: ""};
 

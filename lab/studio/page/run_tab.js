@@ -1,12 +1,11 @@
 // The tab No clock: a run by a seed or by real threads, its verdicts, another order or the rounds beside it.
 import {call} from "./api.js";
-import {all, by, hide, isHidden, listOf, ms, progress, seen, show, stage, tabs, took, toggleLazy, toggleSlow, tried,
+import {all, by, hide, isHidden, listOf, ms, progress, seen, show, stage, tabs, time, took, toggleLazy, toggleSlow, tried,
   wrong} from "./base.js";
 import {net, text} from "./model.js";
 import {rounds} from "./rounds_tab.js";
 import {RunFilm, runLegend, waitsTable} from "./run.js";
 import {Stage} from "./stage.js";
-import {time} from "./timing.js";
 
 // `steps` come first, as the tab Adversary has made them; `other` is the policy and the seed of a second run.
 export const run = {film: null, found: null, of: null, key: null, steps: [], transcript: null, other: null, film2: null,

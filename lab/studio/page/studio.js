@@ -1,8 +1,8 @@
 // The studio: its tabs, the mouse on the stage, keys, and the address, which says all that is seen.
 import {call, cancel, token} from "./api.js";
-import {all, by, edgesOf, hooks, listOf, measured, option, seen, show, stage, tabs, took, tried, wrong}
+import {all, by, edgesOf, hooks, listOf, measured, option, seen, show, stage, tabs, time, took, tried, wrong}
   from "./base.js";
-import {askPlan, download, drawn, inspect, makeForm, openFile} from "./draw.js";
+import {askPlan, drawn, inspect, makeForm, openFile} from "./draw.js";
 import {check} from "./check.js";
 import {rounds} from "./rounds_tab.js";
 import {run} from "./run_tab.js";
@@ -10,7 +10,6 @@ import {steps} from "./steps_tab.js";
 import {html} from "./marks.js";
 import * as model from "./model.js";
 import {change, net, text} from "./model.js";
-import {time} from "./timing.js";
 import {watchBuild} from "./proved.js";
 
 const TIMED = ["rounds", "run"];
@@ -192,7 +191,6 @@ by("copy").onclick = async () => {
   try { await navigator.clipboard.writeText(location.href); took("The link is copied; it has no token in it."); }
   catch { took("The address of this page is the link; it has no token in it."); }
 };
-by("save").onclick = () => download(text(), (net.name || "network") + ".col");
 by("examples").onchange = async () => {
   const name = by("examples").value;
   by("examples").value = "";
