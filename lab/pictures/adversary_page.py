@@ -12,7 +12,7 @@ from lab.pictures.schedules_space import left_out_words, title_of
 def draw(network, space):
     data = {"table": table_of(space, wire_words), "net": net_of(network), "dares": dares_of(space),
             "events": space.depth[space.ends[0]] if not space.without else 0}
-    return page("adversary.html", "adversary", data, name=network.name,
+    return page("adversary.html", "adversary", data,
                 title=f"{title_of(network, space)}: you are the network", about=about(space),
                 play=play_words(network, space), transcript=transcript_words(network, space),
                 states=f"{space.count:,}", steps=f"{len(space.target):,}")

@@ -73,6 +73,9 @@ Examples:
 """
 
 
+EVENT = re.compile(r"(pulse) ([0-9]{1,10})|(put(?! \S+ \S+ )|take) ([0-9]{1,10}) ([0-9]{1,10})(?: ([0-9]{1,10}))?")
+
+
 class Held:
     """A policy, beside which the steps on slow edges and of lazy nodes wait until no other is possible."""
 
@@ -146,8 +149,8 @@ class Player:
         return next(step for step in self.steps[v] if (step.kind, step.neighbour) == (kind, w))
 
     def play_events(self, events, name):
-        """The events (line, kind, vertex, port) of a list."""
-        for line, kind, v, port in events:
+        """The events of a list, as `events_of` has them."""
+        for line, kind, v, port, _ in events:
             try:
                 self.make(self.step_of(kind, v, port))
             except Refused as refused:
@@ -180,22 +183,22 @@ def played(net, policy="random", seed="1", slow=(), lazy=(), player=None, progra
     return player.rows
 
 
-def events_of(text, name):
-    """(line, kind, vertex, port) of each event of a list; a note after a colon, as `forestlab explore` writes it, is
-    passed over."""
+def events_of(text, name, overtakes=False):
+    """(line, kind, vertex, port, place) of each event of a list; a note after a colon, as `forestlab explore` writes
+    it, is passed over. If links don't keep their order, a take may overtake `place` wires; else that is refused."""
     for line, raw in enumerate(text.split("\n"), 1):
         event, _, note = raw.partition(":")
         words = event.split()
         if not words or words[0].startswith("c"):
             continue
-        if words[0] == "take" and len(words) == 4 or note.endswith(", out of turn"):
+        if words[0] == "take" and len(words) == 4 and not overtakes or note.endswith(", out of turn"):
             refusal = f"`{shown(raw.strip())}` overtakes another message, and links keep their order"
             raise wrong_line(name, line, refusal)
-        found = re.fullmatch(r"(pulse) ([0-9]{1,10})|(put|take) ([0-9]{1,10}) ([0-9]{1,10})", " ".join(words))
+        found = EVENT.fullmatch(" ".join(words))
         if found is None:
             raise wrong_line(name, line, f"`{shown(raw.strip())}` is no event (NoEvent)")
-        pulse, node, kind, v, port = found.groups()
-        yield (line, pulse, int(node), None) if pulse else (line, kind, int(v), int(port))
+        pulse, node, kind, v, port, place = found.groups()
+        yield (line, pulse, int(node), None, 0) if pulse else (line, kind, int(v), int(port), int(place or 0))
 
 
 def played_by_list(net, path, program=Colouring):

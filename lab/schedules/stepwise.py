@@ -9,8 +9,8 @@ import re
 from lab.definitions.nodes import Colouring, Refused, wire_words
 from lab.schedules.policies import Step
 from lab.schedules.ruled_node import Rounds, RuledNode, program_refuses
-from lab.schedules.simulate import Player
-from lab.wrong import Wrong
+from lab.schedules.simulate import Player, events_of
+from lab.wrong import Wrong, wrong_line
 
 
 class Stepwise(Player):
@@ -53,14 +53,31 @@ class Stepwise(Player):
         for number, step in enumerate(steps, 1):
             fields = re.fullmatch(r"(\d{1,5})(?:-(\d{1,5}))?(?:-(\d{1,5}))?", step)
             v, w, place = (int(field or 0) for field in fields.groups()) if fields else (0, 0, 0)
-            kind = "take" if w else "pulse"
-            own = [one for one in self.steps.get(v, ()) if (one.kind, one.neighbour) == (kind, w)]
-            if self.is_over or not own or place and not self.may_overtake(v, w, place):
+            if not self.makes("take" if w else "pulse", v, w, place):
                 raise Wrong(f"step {number} of the list, {step}, isn't possible there")
-            self.step(own[0], step, place)
 
-    def may_overtake(self, v, w, place):
-        return "fifo" in self.without and place < len(self.words_on(w, v))
+    def follow_list(self, text):
+        """The events of a list. Puts make themselves as soon as they can, so one of the list has been made before."""
+        puts = []
+        for line, kind, v, port, place in events_of(text, "the list", "fifo" in self.without):
+            words, near = f"{kind} {v}" if port is None else f"{kind} {v} {port}", self.state.neighbours.get(v, ())
+            if kind == "put":
+                puts.append(words)
+                is_made = puts.count(words) <= self.lines.count(words)
+            elif port is None:
+                is_made = self.makes(kind, v, 0, 0)
+            else:
+                is_made = port < len(near) and self.makes(kind, v, near[port], place)
+            if not is_made:
+                raise wrong_line("the list", line, f"`{words}` isn't possible there")
+
+    def makes(self, kind, v, w, place):
+        """Makes a step if it is possible now, and says whether it was; a take may overtake `place` wires."""
+        own = [one for one in self.steps.get(v, ()) if (one.kind, one.neighbour) == (kind, w)]
+        if self.is_over or not own or place and not ("fifo" in self.without and place < len(self.words_on(w, v))):
+            return False
+        self.step(own[0], "-".join(map(str, [v, *[w] * bool(w), *[place] * bool(place)])), place)
+        return True
 
     def step(self, step: Step, word: str, place: int = 0):
         """One step, and the puts that it makes possible."""

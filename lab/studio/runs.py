@@ -62,7 +62,7 @@ def first_steps(asked, net, program):
     """(kind, vertex, port) of the events that steps of somebody's come to."""
     stepwise = Stepwise(net, program)
     stepwise.follow(listed(asked.get("steps")))
-    for _, kind, v, port in events_of("\n".join(stepwise.lines), "the steps"):
+    for _, kind, v, port, _ in events_of("\n".join(stepwise.lines), "the steps"):
         yield kind, v, port
 
 
@@ -141,15 +141,17 @@ def judge(asked, _tell):
 
 
 def steps(asked, _tell):
-    """A run that is made step by step: where it is after a list of events, and what can come next. `by` steps more are
-    left to chance, or up to all nodes' next pulse `in step`."""
+    """A run that is made step by step: where it is after some steps, or the events of a `list`, and what can come next.
+    `by` steps more are left to chance, or up to all nodes' next pulse `in step`."""
     network, program = network_asked(asked, MOST_RUN), program_asked(asked)
     net = network_of(network)
     player = Stepwise(net, program, rules_asked(asked, OF_SCHEDULES))
-    events = listed(asked.get("steps"))
-    if len(events) > MOST_STEPS:
+    if "list" in asked:
+        player.follow_list(str(asked["list"]))
+    else:
+        player.follow(listed(asked.get("steps")))
+    if len(player.made) > MOST_STEPS:
         raise Wrong(f"at most {MOST_STEPS:,} steps are made by hand; No clock plays the rest")
-    player.follow(events)
     held = Held(None, *held_of(asked, net))
     if asked.get("by"):
         player.by_chance(min(int(asked["by"]), MOST_BY_CHANCE), str(asked.get("seed", "1")), held)

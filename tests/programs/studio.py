@@ -117,7 +117,11 @@ class Refusals(Server):
         rows = [("run", {"policy": "random", "slow": [[1, 9]]}, "isn't in this network"),
                 ("plan", {"network": "p edge 2 1\ne 1 3\n"}, "(F5)"), ("broken", {"without": "x"}, "no such rule"),
                 ("steps", {"without": "x"}, "no such rule"), ("steps", {"steps": "1"}, "isn't possible there"),
-                *(("steps", {"steps": word}, "isn't possible there") for word in ("1-9", "x", "1-2-1", "9", "0"))]
+                *(("steps", {"steps": word}, "isn't possible there") for word in ("1-9", "x", "1-2-1", "9", "0")),
+                *(("steps", {"list": f"c a list\n{event}"}, words) for event, words in {
+                    "put 9 0": "line 2: `put 9 0` isn't", "put 1 0\nput 1 0": "line 3: `put 1 0` isn't",
+                    "take 1 9": "`take 1 9` isn't", "pulse 9": "`pulse 9` isn't", "pulse": "(NoEvent)",
+                    "take 1 0 1": "overtakes", "put 1 0 0": "(NoEvent)"}.items())]
         for call, asked, words in rows:
             got = self.answer(call, **{"network": TRIANGLE} | asked)
             self.note(f"{call} {asked}", words in got.get("wrong", ""), got)
@@ -162,6 +166,8 @@ class Memory(Server):
 
 class Answers(Server):
     def test_answers(self):
+        lessons = self.answer("hello")["answer"]["lessons"]
+        self.note("all lessons", [one["number"] for one in lessons] == [*range(1, 8)], lessons)
         plan = self.answer("plan", network=TRIANGLE)["answer"]
         self.note("plan", plan["plan"] == [2, 3, 1], plan)
         self.note("rounds", self.answer("rounds", network=TRIANGLE)["answer"]["last"] == 30)
@@ -199,6 +205,8 @@ class Answers(Server):
         early = "3-1_1-3_1-2_2-1_1-2_2-1"
         wrong = self.answer("steps", network=TRIANGLE, without="acks,safes", steps="1")["answer"]
         self.note("without safes and acks", "without `hello 2` from 2" in wrong["fault"], wrong)
+        got = self.answer("steps", network=TRIANGLE, list="\n".join(step["list"]))["answer"]
+        self.note("a list is played again", got["made"] == step["made"] and got["looks"] == step["looks"], got)
         run = self.answer("run", network=TRIANGLE, policy="random", seed="1", steps=early)["answer"]
         begins = [line.split()[1:3] for line in run["text"].split("\n")[1:]]
         self.note("the rest by chance", run["judge"]["ok"] and ["3", "take"] in begins, run["judge"])

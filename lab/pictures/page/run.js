@@ -12,17 +12,30 @@ function firstOf(list, isTrue) {
   return low;
 }
 // A wire in words, or if there is no room for them by its number and the first letter of its kind.
-export function wireWords(said, isLong) {
+function wireWords(said, isLong) {
   const [kind, pulse, word, number] = said.split(" ");
   if (kind === "payload") return (isLong ? word + " " : "") + (number.length < 5 ? number : number.slice(0, 3) + "…");
   return isLong ? kind + (pulse ? " " + pulse : "") : kind[0] + (pulse || "");
 }
 // A wire's mark at a place of its way, 0 at its start and 1 at its end.
-export function wireMark(stage, v, w, far, said, isLong, more = {}, look = {}) {
+function wireMark(stage, v, w, far, said, isLong, more = {}, look = {}) {
   const kind = said.split(" ")[0], size = Math.max(9, Math.min(11.5, stage.radius * 0.55));
   const shown = wireWords(said, isLong), [x, y] = stage.beside(v, w, far, pillWidth(shown, size), size + 6, 3);
   return mark("g", {class: "wire", ...more},
     [mark("title", {}, `${said}, from ${v} to ${w}`), ...pill(x, y, shown, kind, size, look)]);
+}
+// The wires that a link holds, the next one nearest to its taker; `look(place)` says which of them are free, and gives
+// more attributes.
+export function queueMarks(stage, v, w, wires, look) {
+  const isLong = stage.net.nodes.length <= 12 && stage.wide > 500;
+  const length = Math.hypot(stage.X(v) - stage.X(w), stage.Y(v) - stage.Y(w));
+  const wide = (isLong ? 92 : 34) / Math.max(1, length - 2 * stage.radius);
+  const apart = Math.min(1 / Math.max(1, wires.length - 1), wide);
+  return wires.map((said, place) => {
+    const {free, ...more} = look(place);
+    return wireMark(stage, v, w, 1 - place * apart, said, isLong, {...more, opacity: free ? null : 0.6},
+      {"stroke-dasharray": free ? null : "3 2", "stroke-width": free ? 2 : 1.2});
+  }).reverse();
 }
 // A node under the synchroniser: its pulse, what it awaits of whom and what it keeps, and what it has found.
 export function alphaMarks(stage, is, v, x, y, r) {

@@ -46,7 +46,7 @@ function step(way) {
 function follow() {
   const words = /^#(entry|pulse)-(\d+)(?:-node-(\d+))?$/.exec(location.hash), n = words ? +words[2] : 0;
   const {rows, stamps, all} = D.runs[0];
-  chosen = words && words[3] ? +words[3] : null;
+  chosen = words && words[3] && +words[3] <= D.net.nodes.length ? +words[3] : null;
   if (two) time.set(words && words[1] === "pulse" ? n : D.pulses[0]);
   else if (words && words[1] === "pulse") time.set((all[n - D.pulses[0]] || stamps)[0]);
   else time.set(n ? (rows[Math.min(n, rows.length) - 1] || stamps)[0] : stamps[0]);

@@ -3,8 +3,8 @@ import {call, token} from "./api.js";
 import {all, busy, by, go, hooks, listOf, seen, show, stage, tabs, toggleLazy, toggleSlow, took, tried}
   from "./base.js";
 import {html} from "./marks.js";
-import {net, neighbours, text} from "./model.js";
-import {SLOW, alphaMarks, waitsWords, wireMark} from "./run.js";
+import {net, text} from "./model.js";
+import {SLOW, alphaMarks, queueMarks, waitsWords} from "./run.js";
 import {nameOf} from "./stage.js";
 
 // `made` are the steps so far, as `3` (node 3 makes its next pulse) or `2-1` (node 2 takes the next wire from node 1).
@@ -34,18 +34,11 @@ function make(step) {
   steps.made = steps.made.concat(step);
   ask();
 }
-function stepOf(v, w, place) { return `${w}-${v}` + (place ? "-" + place : ""); }
-// The wires of a link, the next one nearest to its taker.
 function queue([v, w, wires]) {
-  const isLong = net.nodes.length <= 12 && stage.wide > 500;
-  const length = Math.hypot(stage.X(v) - stage.X(w), stage.Y(v) - stage.Y(w)) || 1;
-  const wide = (isLong ? 92 : 34) / Math.max(1, length - 2 * stage.radius);
-  const apart = Math.min(1 / Math.max(1, wires.length - 1), wide);
-  return wires.map((said, place) => {
-    const step = stepOf(v, w, place), free = isFree(step);
-    return wireMark(stage, v, w, 1 - place * apart, said, isLong, {"data-step": free ? step : null,
-      opacity: free ? null : 0.6}, {"stroke-dasharray": free ? null : "3 2", "stroke-width": free ? 2 : 1.2});
-  }).reverse();
+  return queueMarks(stage, v, w, wires, place => {
+    const step = `${w}-${v}` + (place ? "-" + place : ""), free = isFree(step);
+    return {free, "data-step": free ? step : null};
+  });
 }
 function showAt() {
   const is = steps.found;
@@ -115,18 +108,6 @@ function saidOf(is, step) {
   if (!w) return `make pulse ${is.looks[v - 1].p + 1}`;
   return `${wireOf(is, step).replace(/^payload \d+ /, "")} from ${w}` + (place ? `, before ${place} others` : "");
 }
-// A list of events as `forestplay events` has it: puts make themselves.
-function playList() {
-  const found = [];
-  for (const line of by("list").value.split("\n")) {
-    const [kind, v, port, place] = line.split(":")[0].trim().split(/\s+/);
-    if (kind === "pulse") found.push(v);
-    if (kind === "take") found.push([v, neighbours(+v)[port], place].filter(one => one !== undefined).join("-"));
-  }
-  const before = steps.made;
-  steps.made = found;
-  ask().then(ok => { if (!ok) steps.made = before; });
-}
 // Every order of events of a tiny network, in a frame that can reach nothing.
 function search() {
   const form = html("form", null, {method: "post", action: "/frame/adversary", target: "frame"}), frame = by("frame");
@@ -190,7 +171,7 @@ by("chance20").onclick = () => ask({by: 20, seed: seed()});
 by("instep").onclick = () => ask({in_step: true});
 by("anew").onclick = () => { steps.made = []; ask(); };
 by("handover").onclick = () => { by("made").value = "seed"; go("run", {steps: steps.made, at: 0}); };
-by("playlist").onclick = playList;
+by("playlist").onclick = () => ask({list: by("list").value});
 by("without").onchange = () => {
   steps.without = by("without").value;
   tabs.adversary.enter({fresh: true});
