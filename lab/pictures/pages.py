@@ -4,7 +4,7 @@ import json
 import os
 import re
 
-from lab.pictures.palette import CHANNEL_HUES, DARK_FILLS, FOREST_COLOURS, INK, PALE, PAPER, WIRES, WRONG
+from lab.pictures.palette import BLACK, CHANNEL_HUES, DARK_FILLS, FOREST_COLOURS, INK, PALE, PAPER, WIRES, WRONG
 from lab.pictures.places import places_of, spaced
 from lab.pictures.svg import escaped
 
@@ -29,8 +29,8 @@ var D = @DATA@;
 
 def hues():
     """The colours of all pictures, as the module hues.js."""
-    given = {"INK": INK, "WHITE": PAPER, "WRONG": WRONG, "CHANNELS": CHANNEL_HUES, "FORESTS": FOREST_COLOURS,
-             "DARK": sorted(DARK_FILLS), "WIRES": WIRES, "PALE": PALE}
+    given = {"INK": INK, "BLACK": BLACK, "WHITE": PAPER, "WRONG": WRONG, "CHANNELS": CHANNEL_HUES,
+             "FORESTS": FOREST_COLOURS, "DARK": sorted(DARK_FILLS), "WIRES": WIRES, "PALE": PALE}
     return "".join(f"export const {name} = {json.dumps(value)};\n" for name, value in given.items())
 
 

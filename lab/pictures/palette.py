@@ -3,6 +3,8 @@ and the number is always there too; so colour never speaks alone. The least dist
 tritanopia (Machado's simulation) are 16 and more for any two channels, 22 and more for any two forest colours."""
 
 INK, SOFT, HAIRLINE, PAPER = "#1B1B1B", "#6B6B6B", "#D4D4D4", "#FFFFFF"
+# Numbers on fills: INK has too little contrast on some of them.
+BLACK = "#000000"
 BAND, BORDER, PULSE = "#F3EFE4", "#B7A98A", "#7A6A45"
 WRONG = "#CC0000"
 FONT = "DejaVu Sans, Verdana, Arial, sans-serif"
@@ -14,16 +16,16 @@ CHANNEL_HUES = ["#0072B2", "#E69F00", "#009E73", "#F0E442", "#CC79A7", "#56B4E9"
 FOREST_COLOURS = ["#004488", "#997700", "#994455", "#6699CC", "#EECC66", "#EE99AA"]
 ALONE = "#DDDDDD"
 
-WIRES = {"payload": "#0072B2", "ack": "#9A9A9A", "safe": "#D55E00", "close": "#111111"}
+WIRES = {"payload": "#0072B2", "ack": "#8C8C8C", "safe": "#D55E00", "close": "#111111"}
 # The grounds of wires with words in them.
 PALE = {"payload": "#E3F0F8", "ack": "#F4F4F4", "safe": "#FBE8DC", "close": "#E4E4E4"}
 
-DARK_FILLS = {"#0072B2", "#444444", "#004488", "#994455", "#997700"}
+DARK_FILLS = {"#0072B2", "#444444", "#004488", "#994455"}
 
 
 def text_on(fill):
     """The colour of a number on a fill."""
-    return PAPER if fill in DARK_FILLS else INK
+    return PAPER if fill in DARK_FILLS else BLACK
 
 
 def channel_hue(channel):
@@ -43,7 +45,7 @@ def digits(number):
 def grey(number):
     """The level of the square of a number that is no colour yet: the more digits, the darker."""
     level = 235 - min(140, 7 * digits(number))
-    return f"#{level:02X}{level:02X}{level:02X}", INK if level > 130 else PAPER
+    return f"#{level:02X}{level:02X}{level:02X}", BLACK if level > 120 else PAPER
 
 
 def short(number):

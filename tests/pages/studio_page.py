@@ -8,7 +8,7 @@ import time
 
 from lab.definitions.colours import colours, network_of
 from lab.pictures.pages import hues
-from lab.pictures.palette import CHANNEL_HUES, FOREST_COLOURS
+from lab.pictures.palette import CHANNEL_HUES, FOREST_COLOURS, INK, PALE, PAPER, WIRES, grey, text_on
 from tests import TOP, browser
 from tests.cases import Case
 from tests.programs.studio import begin
@@ -17,12 +17,41 @@ EVIL = "<img src=x onerror=document.title='bad'></script><script>document.title=
 TABS = ("rounds", "run", "adversary", "check", "pictures")
 
 
+def contrast(one, other):
+    """Of two colours, by WCAG 2."""
+    lights = []
+    for colour in (one, other):
+        parts = [int(colour[at:at + 2], 16) / 255 for at in (1, 3, 5)]
+        red, green, blue = (x / 12.92 if x <= 0.04045 else ((x + 0.055) / 1.055) ** 2.4 for x in parts)
+        lights.append(0.2126 * red + 0.7152 * green + 0.0722 * blue + 0.05)
+    return max(lights) / min(lights)
+
+
 class Repeated(Case):
     needs_programs = False
 
     def test_hues(self):
         found = {name: json.loads(value) for name, value in re.findall(r"^export const (\w+) = (.*);$", hues(), re.M)}
         self.note("the palette", (found["CHANNELS"], found["FORESTS"]) == (CHANNEL_HUES, FOREST_COLOURS), found)
+
+    def test_contrast(self):
+        """Text has a contrast of 4.5, a mark (a fill by its rim) one of 3, in the light and in the dark."""
+        with open(os.path.join(TOP, "lab", "pictures", "page", "page.css"), encoding="utf-8") as file:
+            looks = re.findall(r":root\{(.*?)\}", file.read(), re.S)
+        self.note("a light and a dark look", len(looks) == 2)
+        rows = [(ink, fill, 4.5) for fill, ink in [*((hue, text_on(hue)) for hue in CHANNEL_HUES + FOREST_COLOURS), *(
+            grey(1 << digits) for digits in range(24)), *((pale, INK) for pale in PALE.values())]]
+        rows += [(WIRES[kind], PAPER, 3) for kind in ("payload", "ack", "safe")]
+        for variables in looks:
+            here = dict(re.findall(r"--(\w+):(#\w+)", variables))
+            grounds, _ = [here.pop("paper"), here.pop("panel")], here.pop("hair")
+            rows += [(here["ink"], here.pop("chosen"), 4.5)]
+            rows += [(hue, ground, 4.5 if name in ("ink", "soft", "wrong", "good") else 3)
+                     for name, hue in here.items() for ground in grounds]
+            rows += [(max(WIRES[kind], PALE[kind], key=lambda hue: contrast(hue, grounds[0])), grounds[0], 3)
+                     for kind in WIRES]
+        for one, other, least in rows:
+            self.note(f"{one} on {other}", contrast(one, other) >= least, contrast(one, other))
 
     def test_names_in_the_page(self):
         """Each element that the modules ask for by its name is in the page."""

@@ -93,7 +93,7 @@ def level_of(port):
 
 
 def fill_of(kind, wire):
-    hue = dict(zip(WIRES, ("#0072B2", "#9A9A9A", "#D55E00", "#111111")))[wire]
+    hue = dict(zip(WIRES, ("#0072B2", "#8C8C8C", "#D55E00", "#111111")))[wire]
     return (hue, None) if kind == "take" else ("#FFFFFF", hue)
 
 

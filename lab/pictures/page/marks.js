@@ -1,7 +1,7 @@
 // The marks of the pictures, as light descriptions that `patch` makes into elements.
-import {CHANNELS, DARK, FORESTS, INK, PALE, WHITE, WIRES, WRONG} from "./hues.js";
+import {BLACK, CHANNELS, DARK, FORESTS, INK, PALE, WHITE, WIRES, WRONG} from "./hues.js";
 
-const SVG = "http://www.w3.org/2000/svg";
+const SVG = "http://www.w3.org/2000/svg", LEAST_SIZE = 8, MOST_LETTERS = 13;
 // `inside` is a text or a list of marks.
 export function mark(name, attributes = {}, inside = null) { return {name, attributes, inside}; }
 
@@ -50,7 +50,7 @@ export function row(name, cells) {
   cells.forEach(words => line.append(html(name, words)));
   return line;
 }
-export function inkOn(fill) { return DARK.includes(fill) ? WHITE : INK; }
+export function inkOn(fill) { return DARK.includes(fill) ? WHITE : BLACK; }
 export function hue(channel) { return CHANNELS[(channel - 1) % 8]; }
 function isRing(channel) { return Math.floor((channel - 1) / 8) % 2 === 1; }
 function digitsOf(number) { return BigInt(number).toString(2).length; }
@@ -59,9 +59,16 @@ export function short(number) {
   const words = String(number);
   return words.length < 4 ? words : digitsOf(words) + "d";
 }
-export function words(x, y, size, fill, said, more = {}) {
+export function words(x, y, wanted, fill, said, more = {}) {
+  const size = Math.max(LEAST_SIZE, wanted);
   return mark("text", {x, y: y + 0.36 * size, "font-size": size.toFixed(1), fill, "text-anchor": "middle", ...more},
     String(said));
+}
+// What a node has found, in words below it; what has no room, `wide` pixels, is cut, and whole in its title.
+export function resultWords(x, y, size, said, wide) {
+  const most = Math.max(4, Math.min(MOST_LETTERS, Math.floor(wide / size / 0.6))), fits = said.length <= most;
+  return [fits ? null : mark("title", {}, said),
+    words(x, y, size, "var(--ink)", fits ? said : said.slice(0, most - 1) + "…", HALO)];
 }
 const BOLD = {"font-weight": "bold"};
 export const HALO = {"paint-order": "stroke", stroke: "var(--paper)", "stroke-width": 3};
@@ -69,8 +76,9 @@ export const HALO = {"paint-order": "stroke", stroke: "var(--paper)", "stroke-wi
 export function channelCircle(x, y, r, channel) {
   const fill = hue(channel), ring = isRing(channel), wide = Math.max(2, r * 0.25);
   const size = r * (channel < 10 ? 1.12 : 0.92) * (ring ? 0.85 : 1);
-  return [mark("circle", ring ? {cx: x, cy: y, r: r - wide / 2, fill: WHITE, stroke: fill, "stroke-width": wide}
-    : {cx: x, cy: y, r, fill, stroke: "var(--rim)"}), words(x, y, size, ring ? INK : inkOn(fill), channel, BOLD)];
+  return [ring && mark("circle", {cx: x, cy: y, r: r - wide / 2, fill: WHITE, stroke: fill, "stroke-width": wide}),
+    mark("circle", {cx: x, cy: y, r, fill: ring ? "none" : fill, stroke: "var(--rim)"}),
+    words(x, y, size, ring ? BLACK : inkOn(fill), channel, BOLD)];
 }
 // A colour of 0 to 5 in a forest, or in grey a number that is none yet.
 export function colourSquare(x, y, half, colour, isColour) {
@@ -80,7 +88,7 @@ export function colourSquare(x, y, half, colour, isColour) {
   else {
     const level = 235 - Math.min(140, 7 * digitsOf(colour));
     fill = `rgb(${level},${level},${level})`;
-    ink = level > 130 ? INK : WHITE;
+    ink = level > 120 ? BLACK : WHITE;
     size = half * (said.length < 3 ? 1 : 0.8);
   }
   return [mark("rect", {x: x - half, y: y - half, width: 2 * half, height: 2 * half, rx: half * 0.25, fill,

@@ -8,7 +8,7 @@ const film = new RoundsFilm(D.film, D.net), stage = new Stage(element("net"), D.
 let forest = 0, chosen = null;
 
 function show(at) {
-  const p = film.draw(stage, at, {forest, node: chosen}), [caption, said] = film.said(p);
+  const p = film.draw(stage, at, {forest, node: chosen}), [caption, said] = film.said(p, chosen);
   element("when").textContent = `pulse ${p} of ${film.last}`;
   element("said").replaceChildren(html("b", `pulse ${p} of ${film.last} · ${caption}`), html("br"), said);
   element("forests").replaceChildren(...film.chips(p, forest, f => { forest = f; time.set(time.at); }));

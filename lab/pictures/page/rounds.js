@@ -1,9 +1,9 @@
 // The rounds of a network, pulse by pulse, by what lab/ has worked out.
-import {HALO, blank, channelCircle, colourSquare, html, hue, inkOn, mark, pill, pillWidth, short, words}
+import {HALO, blank, channelCircle, colourSquare, html, hue, inkOn, mark, pill, pillWidth, resultWords, short, words}
   from "./marks.js";
 import {nameOf} from "./stage.js";
 
-const ORIENT = 1, SEED = 2, LAST_COLOUR = 12, MOST_LETTERS = 13;
+const ORIENT = 1, SEED = 2, LAST_COLOUR = 12;
 // What the marks mean.
 export function roundsLegend(place, film) {
   place.textContent = film.forests
@@ -34,10 +34,10 @@ export class RoundsFilm {
     for (let at = p - three * width - old; at <= p; at++) if (v in this.found.pulses[at].chosen) return true;
     return false;
   }
-  node(p, forest, v, x, y, r) {
+  node(stage, p, forest, v, x, y, r) {
     const pulse = this.found.pulses[p], parts = [], lit = mark("circle", {cx: x, cy: y, r: 1.4 * r,
       fill: "var(--chosen)", stroke: "var(--glow)", "stroke-width": 1.5});
-    if (pulse.results) return [pulse.new.includes(v) && lit, ...this.resultMarks(pulse, v, x, y, r)];
+    if (pulse.results) return [pulse.new.includes(v) && lit, ...this.resultMarks(stage, pulse, v, x, y, r)];
     if (pulse.colours && forest !== null) {
       const colour = pulse.colours[v - 1][forest];
       parts.push(...colourSquare(x, y, r, colour, p > SEED && colour <= 5));
@@ -48,12 +48,11 @@ export class RoundsFilm {
     return parts;
   }
   // What a node of another program has found: in words, and by its colour.
-  resultMarks(pulse, v, x, y, r) {
-    const said = pulse.results[v - 1], [colour] = pulse.drawn[v] || [null], fits = said.length <= MOST_LETTERS;
+  resultMarks(stage, pulse, v, x, y, r) {
+    const [colour] = pulse.drawn[v] || [null];
     const disc = colour === null ? blank(x, y, r, v) : [mark("circle", {cx: x, cy: y, r, fill: hue(colour + 1),
       stroke: "var(--ink)", class: "found-colour"}), words(x, y, r * 0.9, inkOn(hue(colour + 1)), v)];
-    return [...disc, fits ? null : mark("title", {}, said), words(x, y + r + 12, Math.min(11.5, r), "var(--ink)",
-      fits ? said : said.slice(0, MOST_LETTERS - 2) + "..", HALO)];
+    return [...disc, ...resultWords(x, y + r + 12, Math.min(11.5, r), pulse.results[v - 1], stage.least)];
   }
   // When it is a node's turn in a merge: its colour in the forest, and its old colour.
   turnMark(p, forest, v, x, y, r) {
@@ -93,18 +92,19 @@ export class RoundsFilm {
   draw(stage, at, {forest = 0, node = null, why = null, quiet = false} = {}) {
     const p = Math.min(this.last, Math.floor(at)), pulse = this.found.pulses[p], shown = this.forestAt(p, forest);
     const names = new Set(why ? why.identifiers : []);
-    stage.draw({node: (v, x, y, r) => this.node(p, shown, v, x, y, r), links: () => this.arrows(stage, p, shown),
+    stage.draw({node: (v, x, y, r) => this.node(stage, p, shown, v, x, y, r), links: () => this.arrows(stage, p, shown),
       above: () => quiet ? [] : this.messages(stage, p, at - p, forest, why),
       below: Boolean(pulse.results || pulse.step),
       label: pulse.results ? v => nameOf(this.net, v).slice(String(v).length).trim() : quiet ? v => String(v) : null,
       ring: v => v === node ? "var(--glow)" : names.has(v) ? "var(--edge)" : null,
-      edge: () => ({stroke: p === 0 ? "var(--edge)" : "var(--hair)"})});
+      edge: () => ({"stroke-width": p === 0 ? 1.6 : 0.8})});
     return p;
   }
-  // [caption, sentence] of a pulse.
-  said(p) {
-    const {caption, said} = this.found.pulses[p];
-    return [caption.split(" · ").slice(1).join(" · ") || caption, said];
+  // [caption, sentence] of a pulse, with what the chosen node has found.
+  said(p, node) {
+    const {caption, said, results} = this.found.pulses[p];
+    return [caption.split(" · ").slice(1).join(" · ") || caption, said + (results && node
+      ? ` Node ${node} has found: ${results[node - 1] || "nothing yet"}.` : "")];
   }
   // Buttons of the forests; `choose(f)` is called by a click.
   chips(p, chosen, choose) {

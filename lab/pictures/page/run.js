@@ -1,6 +1,6 @@
 // A run without a clock: rows that lab/pictures/watch_page.py has worked out of a transcript.
 import {PALE, INK, WHITE, WIRES} from "./hues.js";
-import {HALO, channelCircle, html, mark, pill, pillWidth, row, words} from "./marks.js";
+import {channelCircle, html, mark, pill, pillWidth, resultWords, row, words} from "./marks.js";
 import {nameOf} from "./stage.js";
 
 const AWAITS = {ack: WIRES.ack, safe: WIRES.safe, close: WIRES.safe};
@@ -49,7 +49,7 @@ export function alphaMarks(stage, is, v, x, y, r) {
     parts.push(mark("circle", {cx: x + (m[0] - x) / far * r, cy: y + (m[1] - y) / far * r, r: Math.max(3, r * 0.2),
       fill: kept.has(w) ? hue : WHITE, stroke: hue, "stroke-width": 2}));
   }
-  if (typeof is.c === "string") parts.push(words(x, y + r + 10, 11, "var(--ink)", is.c, HALO));
+  if (typeof is.c === "string") parts.push(...resultWords(x, y + r + 10, 11, is.c, stage.least));
   else if (is.c) parts.push(...channelCircle(x + 0.95 * r, y + 0.75 * r, Math.max(6, r * 0.5), is.c));
   return parts;
 }
@@ -147,4 +147,4 @@ export class RunFilm {
     return at;
   }
 }
-export const SLOW = {stroke: "#56B4E9", "stroke-width": 5, "stroke-dasharray": "2 6"};
+export const SLOW = {stroke: "#0072B2", "stroke-width": 5, "stroke-dasharray": "2 6"};

@@ -7,7 +7,7 @@ export class Stage {
   // `net` has nodes {x, y, id, name, bars} from 0, and edges [v, w] from 1.
   constructor(svg, net) {
     Object.assign(this, {svg, net, to: {scale: 1, x: 0, y: 0}, radius: LARGEST, wide: 1, high: 1, apart: 2.9,
-      isZoomed: false, key: "", bends: new Map(), turns: new Map(), close: []});
+      least: 0, isZoomed: false, key: "", bends: new Map(), turns: new Map(), close: []});
     patch(svg, Array.from({length: 4}, () => mark("g", {}, [])));
     [this.edges, this.arrows, this.nodes, this.over] = svg.children;
   }
@@ -92,7 +92,10 @@ export class Stage {
     xs.forEach((x, v) => {
       for (let w = v + 1; w < xs.length; w++) least = Math.min(least, Math.hypot(x - xs[w], ys[v] - ys[w]));
     });
-    this.radius = Math.max(5, Math.min(LARGEST, this.wide / 16, least / this.apart));
+    this.least = least;
+    // Numbers have room if there is any, rather than wires.
+    const room = Math.max(least / this.apart, Math.min(8, least / 2.4));
+    this.radius = Math.max(5, Math.min(LARGEST, this.wide / 16, room));
     this.bends = new Map(edges.map(([a, b]) => [a + " " + b, this.bendOf(a - 1, b - 1, xs, ys)]));
   }
   bendOf(a, b, xs, ys) {

@@ -20,9 +20,8 @@ export async function load(program = seen.program) {
 function isReady() { return rounds.film && rounds.of === seen.program + text(); }
 function showAt() {
   if (!isReady()) return;
-  const {film} = rounds, node = seen.program === "colouring" ? seen.node : null;
-  const why = rounds.whyOf === node ? rounds.why : null;
-  const p = film.draw(stage, time.at, {forest: rounds.forest, node, why}), [caption, said] = film.said(p);
+  const {film} = rounds, {node} = seen, why = rounds.whyOf === node ? rounds.why : null;
+  const p = film.draw(stage, time.at, {forest: rounds.forest, node, why}), [caption, said] = film.said(p, node);
   by("when").textContent = `pulse ${p} of ${film.last}`;
   by("said").replaceChildren(html("b", caption), html("br"), said);
   by("forests").replaceChildren(...film.chips(p, rounds.forest, f => { rounds.forest = f; show(); }));
@@ -75,9 +74,9 @@ function askBroken() {
 }
 tabs.rounds = {
   load, forest: () => rounds.forest, show: showAt,
-  hint: () => seen.program === "colouring" ? "Click a node to see why it has its channel." : "",
+  hint: () => "Click a node to see " + (seen.program === "colouring" ? "why it has its channel." : "all it has found."),
   click(v) {
-    if (!v || seen.program !== "colouring") return;
+    if (!v) return;
     seen.node = v === seen.node ? null : v;
     tried("why", "looking for the reasons", askWhy);
   },
