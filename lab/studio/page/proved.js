@@ -12,7 +12,9 @@ export function watchBuild(done) {
 function show(is) {
   by("unproved").hidden = seen.hello.proved;
   by("begin").hidden = is.lines.length > 0 && !is.ended;
-  by("progress").textContent = is.lines[is.lines.length - 1] || "";
+  // A crate may take minutes, and has a line only when it begins and ends.
+  const since = is.ended || !(is.quiet > 20) ? "" : ` (${Math.round(is.quiet / 6) / 10} min ago)`;
+  by("progress").textContent = (is.lines[is.lines.length - 1] || "") + since;
   by("progress").title = is.lines.join("\n");
 }
 async function ask(name) {
