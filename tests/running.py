@@ -3,8 +3,8 @@
   python3 -m tests.running [--first] MODULE [TEST ..]
 
 A test is a method of a `unittest.TestCase`. A module without one fails, unless it is a helper that another one imports.
-It prints each row that failed, and last 'N passed, M failed'. With --first it stops after the first test in which a row
-fails."""
+It prints each row that failed or was skipped, and last 'N passed, M failed'. With --first it stops after the first test
+in which a row fails."""
 import importlib
 import inspect
 import os
@@ -87,6 +87,10 @@ class Counting(unittest.TestResult):
     def addUnexpectedSuccess(self, test):
         self.failed += 1
         print(f"FAILED {name_of(test)}: it passes, and was expected to fail")
+
+    def addSkip(self, test, reason):
+        super().addSkip(test, reason)
+        print(f"skipped {name_of(getattr(test, 'test_case', test))}: {reason}", flush=True)
 
     def note_failure(self, test, row, err):
         kind, what, _ = err
