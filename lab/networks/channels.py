@@ -51,12 +51,14 @@ def numbers_in(path: str) -> list[int]:
     """The column of channels of a table."""
     try:
         with open(path, "rb") as file:
-            words, rows, _ = sites.table(file.read(), path)
+            words, rows, *_ = sites.table(file.read(), path)
     except OSError as why:
         raise Wrong(f"{path}: {why.strerror}") from None
-    column = next((words.index(word) for word in HEADINGS if word in words), None)
-    if column is None or not rows:
-        raise Wrong(f"{path}: no column is named channel, or it has no row")
+    named = [word for word in HEADINGS if word in words]
+    if len(named) != 1 or not rows:
+        raise Wrong(f"{path}: no column is named channel, or it has no row" if len(named) < 2 or not rows else
+                    f"{path}: {' and '.join(named)} are two columns of channels: leave one of them")
+    column = words.index(named[0])
     for line, fields in rows:
         if column >= len(fields) or not re.fullmatch(r"\d{1,%d}" % MOST_DIGITS, fields[column]):
             raise wrong_line(path, line, f"no channel: `{shown(','.join(fields))}`")

@@ -11,8 +11,8 @@ BEGINS = re.compile(
     r"^[ \t]*(p[ \t]+[a-z]+[ \t]+[0-9]+|p[ \t]+[0-9]+[ \t]+[0-9]+|e[ \t]+[0-9]+[ \t]+[0-9]+)\b", re.M
 )
 
-# The words after `p` that the programs read.
-WORDS = ("edge", "edges", "col")
+# The words after `p` that the programs read, and those of texts that are no networks.
+WORDS, OTHERS = ("edge", "edges", "col"), ("cnf", "wcnf", "sat", "td", "htd", "fhtd")
 
 
 def begins(text: str) -> bool:
@@ -62,6 +62,8 @@ def read_head(found, name, line, fields):
     if len(numbers) != 2 or None in map(whole, numbers):
         raise wrong_line(name, line, f"no number of nodes and of edges: `{shown(' '.join(fields))}`")
     found.nodes = whole(numbers[0])
+    if (word or "").lower() in OTHERS:
+        raise wrong_line(name, line, f"`p {word}` begins a text of another kind than a network")
     if word not in WORDS:
         found.notes.append(f"`{shown(' '.join(fields[:2]))}` is read like `p edge`")
     return word, whole(numbers[1])

@@ -1,5 +1,5 @@
-"""The forms of a network that `forestlab network read` reads. Each reader returns `Listed`: the edges by names, as they are
-in the text, and what was guessed."""
+"""The forms of a network that `forestlab network read` reads. Each reader returns `Listed`: the edges by names, as they
+are in the text, and what was guessed."""
 from lab.networks import by_networkx, dimacs, dot, gml, graphml, matrix_market, metis, node_link, rows
 from lab.networks.listed import Listed
 from lab.networks.unread import refuse_heads

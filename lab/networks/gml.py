@@ -111,6 +111,8 @@ def refuse_others(tree: list, graph: list, name: str) -> None:
             if isinstance(value, list):
                 if key in ("node", "edge") and not is_graph:
                     raise wrong_line(name, line, f"`{key} [` isn't inside `graph [`, or is inside another one")
+                if key != "edge" and {"source", "target"} <= {known for _, known, _ in value}:
+                    raise wrong_line(name, line, f"`{shown(key)} [` has source and target, and only an edge has")
                 below.append((value, value is graph))
 
 

@@ -73,6 +73,8 @@ def read_element(found: Listed, name: str, at: int, element: ElementTree.Element
                 said[word][node] = data.text
             elif plain(data.tag) == "data":
                 read_drawing(node, data, said)
+    if tag != "edge" and element.get("source") and element.get("target"):
+        raise Wrong(f"{name}: an element `{shown(tag)}` has source and target, and only an edge has")
     if tag == "edge":
         ends = [element.get("source"), element.get("target")]
         if not all(ends):

@@ -52,7 +52,7 @@ def heading_of(rows: list, name: str, heading: bool | None) -> Heading:
         if not heading and may_be_heading(first, body):
             return Heading(False, None, body or rows, doubt=unsure(name, line, first))
     elif heading:
-        columns = ends_named(first)
+        columns = one_of(all_ends_named(first), first, name)
     if not heading:
         return Heading(False, None, rows)
     found = Heading(True, columns, body)
@@ -84,19 +84,30 @@ def refuse_tables(first: list[str], name: str) -> None:
 
 
 def ends_named(first: list[str]) -> tuple[int, int] | None:
-    """The columns that a row names as ends."""
+    """The columns that a row names as ends; the first two, if there are more."""
+    return next(iter(all_ends_named(first)), None)
+
+
+def all_ends_named(first: list[str]) -> list[tuple[int, int]]:
     words = [word.lower() for word in first]
     lettered = [re.fullmatch(NOUN + r"[ _.-]?[a1]", word) for word in words]
     pairs = {word: word[:-1] + SECOND[word[-1]] for word, found in zip(words, lettered) if found} | ENDS
-    return next(((words.index(one), words.index(other)) for one, other in pairs.items()
-                 if one in words and other in words), None)
+    return [(words.index(one), words.index(other)) for one, other in pairs.items() if one in words and other in words]
+
+
+def one_of(columns: list[tuple[int, int]], first: list[str], name: str) -> tuple[int, int] | None:
+    """The columns of both ends; two pairs of columns are refused."""
+    if len(columns) > 1:
+        both = " and ".join(f"`{shown(first[one])}`, `{shown(first[other])}`" for one, other in columns[:2])
+        raise Wrong(f"{name}: the columns {both} may be the ends of the edges: leave two of them")
+    return columns[0] if columns else None
 
 
 def columns_named(row: tuple[int, list[str]], body: list, name: str) -> tuple[int, int] | None:
     """The columns that the first row names as ends, unless its words may be names of nodes, as `Site 1` and `Site 2`
     are. Rows that have these words again are refused."""
     line, first = row
-    columns = ends_named(first)
+    columns = one_of(all_ends_named(first), first, name)
     if columns is None:
         return None
     wanted = [first[at].lower() for at in columns]

@@ -7,7 +7,7 @@ from collections.abc import Callable
 from dataclasses import dataclass, field
 
 from lab.networks.fields import shown
-from lab.wrong import Wrong
+from lab.wrong import Wrong, wrong_line
 
 # More bytes than a network within the limits needs in any form.
 MOST_BYTES = 1 << 28
@@ -16,6 +16,9 @@ NO_TEXT = {b"PK\x03\x04": "an Excel or OpenDocument file, or a ZIP archive: save
            b"\xd0\xcf\x11\xe0": "an old Excel file: save the sheet as CSV",
            b"\x1f\x8b": "compressed: gunzip it first", b"BZh": "compressed: bunzip2 it first",
            b"\xfd7zXZ": "compressed: unxz it first", b"%PDF": "a PDF"}
+
+# Marks and letters that nobody sees, beside those that control a text: variants of a letter, and fillers.
+INVISIBLE = re.compile("[\u034f\u115f\u1160\u17b4\u17b5\u180b-\u180f\u3164\ufe00-\ufe0f\uffa0\U000e0100-\U000e01ef]")
 
 
 @dataclass
@@ -62,10 +65,11 @@ class Listed:
 def clean(name: str) -> str:
     """A name as one line has it: one blank in place of several, letters composed, and no invisible ones. So a name is
     the same however it was typed."""
-    if not name.isascii():
-        composed = unicodedata.normalize("NFC", name)
-        name = "".join(letter for letter in composed if unicodedata.category(letter) != "Cf")
-    return " ".join(name.split())
+    name = " ".join(name.split())
+    if name.isascii() and name.isprintable():
+        return name
+    seen = "".join(letter for letter in name if unicodedata.category(letter) not in ("Cf", "Cc"))
+    return " ".join(unicodedata.normalize("NFC", INVISIBLE.sub("", seen)).split())
 
 
 def with_clean_names(found: Listed, name: str) -> None:
@@ -85,6 +89,11 @@ def with_clean_names(found: Listed, name: str) -> None:
         count = "1 name" if len(mended) == 1 else f"{len(mended):,} names"
         found.notes.append(f"{count} mended (blanks, invisible or composed letters), first at line {lines[mended[0]]}: "
                            f"{shown(cleaned[mended[0]])}")
+    lost = [raw for raw in lines if "\ufffd" in raw]
+    if lost:
+        count = "1 name has" if len(lost) == 1 else f"{len(lost):,} names have"
+        found.left_out.append(f"{count} a letter that another program lost, first at line {lines[lost[0]]}: "
+                              f"{shown(lost[0])}, so two names may have become one")
     note_alike(found, sorted(set(cleaned.values()), key=lambda one: (one.casefold(), one)))
 
 
@@ -95,8 +104,8 @@ def twin_of(cleaned: dict[str, str]) -> str:
 
 
 def note_alike(found: Listed, names: list[str]) -> None:
-    """Notes names that a reader may take for one: they differ in capitals, in dashes, in kinds of letters or in the
-    zeros of a number alone."""
+    """Notes names that a reader may take for one: they differ in capitals, in dashes or quotes, in kinds of letters
+    or in the zeros of a number alone."""
     alike: dict[str, str] = {}
     for one in names:
         first = alike.setdefault(likeness(one), one)
@@ -110,7 +119,8 @@ def likeness(name: str) -> str:
     if name.isascii() and re.fullmatch(r"[0-9]+(\.0*)?", name):
         return name.partition(".")[0].lstrip("0") or "0"
     letters = name if name.isascii() else unicodedata.normalize("NFKC", name)
-    return re.sub(r"[\u2010-\u2015\u2212]", "-", letters).casefold()
+    bare = re.sub("[\"'`\u00b4\u2018-\u201e\u00ab\u00bb]", "", letters)
+    return re.sub(r"[\u2010-\u2015\u2212]", "-", bare or letters).casefold()
 
 
 def bytes_of(stream: io.BufferedIOBase, name: str) -> bytes:
@@ -131,7 +141,10 @@ def decoded(data: bytes, name: str) -> tuple[str, list[str]]:
             raise Wrong(f"{name}: it is no text but {what}")
     notes = []
     if data.startswith((codecs.BOM_UTF16_LE, codecs.BOM_UTF16_BE)):
-        text = data.decode("utf-16", "replace")
+        try:
+            text = data.decode("utf-16")
+        except UnicodeDecodeError:
+            raise Wrong(f"{name}: it begins like UTF-16, and isn't: is it cut?") from None
         notes.append("UTF-16 text")
     else:
         if data.startswith(codecs.BOM_UTF8):
@@ -139,6 +152,7 @@ def decoded(data: bytes, name: str) -> tuple[str, list[str]]:
         try:
             text = data.decode("utf-8-sig")
         except UnicodeDecodeError:
+            refuse_both(data, name)
             text, name_of_it = of_windows(data)
             notes.append(f"read as {name_of_it}, since it is no UTF-8")
     if "\0" in text:
@@ -147,6 +161,18 @@ def decoded(data: bytes, name: str) -> tuple[str, list[str]]:
     if "\r" in text:
         notes.append("lines end with a carriage return alone")
     return text.replace("\r", "\n"), notes
+
+
+def refuse_both(data: bytes, name: str) -> None:
+    """Refuses a text of which some lines are UTF-8 and others aren't: one name would have two spellings. That two
+    letters of Windows-1252 are one of UTF-8 by chance is rare."""
+    for number, line in enumerate(data.split(b"\n"), 1):
+        try:
+            is_both = not line.isascii() and bool(line.decode())
+        except UnicodeDecodeError:
+            is_both = False
+        if is_both:
+            raise wrong_line(name, number, f"it is UTF-8, and other lines aren't: `{shown(line.decode().strip())}`")
 
 
 def of_windows(data: bytes) -> tuple[str, str]:

@@ -57,6 +57,8 @@ def read(text: str, name: str) -> Listed:
         if known is None and graph and all(isinstance(beside, list) for beside in graph.values()):
             known = OF_LISTS
         raise unread(name, "JSON, and no object with lists `nodes` and `links`", known)
+    if any(isinstance(inner, dict) and isinstance(inner.get("nodes"), list) for inner in graph.values()):
+        raise Wrong(f"{name}: JSON with a graph inside another one: write the inner one alone")
     found, labels = Listed("JSON of nodes and links", is_exact=True), {}
     ids = [id_of(name, at, node) for at, node in enumerate(nodes)]
     by_place = all(one is None for one in ids)
@@ -70,6 +72,9 @@ def read(text: str, name: str) -> Listed:
     for at, link in enumerate(links, 1 + len(nodes)):
         found.edges.append((at, *ends_of(name, link, names)))
     found.names_by(labels, "label or name")
+    lists = [key for node in nodes for key, value in node.items() if isinstance(value, list) and value]
+    if lists and not links:
+        found.left_out.append(f"there is no link, and lists of nodes aren't read: {shown(lists[0])}")
     if graph.get("directed") is True:
         found.notes.append("directions aren't read")
     return found

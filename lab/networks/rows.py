@@ -1,5 +1,6 @@
 """A network as rows of fields: pairs, and adjacency in one line or in several. What a text is, is guessed only if it
 can be one of them alone."""
+from lab.networks.doubts import NEIGHBOURS, PAIRS, refuse_columns, refuse_names, refuse_others, unsure
 from lab.networks.fields import is_number
 from lab.networks.headings import heading_of
 from lab.networks.lines import Rows, Table, table_of, uneven
@@ -35,8 +36,8 @@ def read_table(table: Table, name: str, form: str | None, heading: bool | None) 
     if form == "multiline" or not form and table.has_groups:
         return read_multiline(rows, name)
     if not form and table.by_networkx and not is_closed(rows):
-        raise Wrong(f"{name}: networkx writes a line for each node of an adjacency list, and some node has none, or two: "
-                    "is it cut, or have names blanks? nx.write_graphml(G, FILE) writes what is read")
+        raise Wrong(f"{name}: networkx writes a line for each node of an adjacency list, and some node has none, or "
+                    "two: is it cut, or have names blanks? nx.write_graphml(G, FILE) writes what is read")
     if form == "adjacency" or not form and table.by_networkx:
         return read_adjacency(rows, name)
     if not form and is_adjacency(rows):
@@ -85,17 +86,17 @@ def parts_of(fields: list[str], has_colon: bool) -> tuple[str, list[str]]:
 def may_be_weighted(rows: Rows) -> bool:
     """Whether lines that could be nodes with their neighbours could be pairs with a number, too: three fields in each,
     the last one a number, and some line names a neighbour that doesn't name its node."""
-    if not all(len(fields) == 3 and fields[0][-1] != ":" and fields[2].isdecimal() for _, fields in rows):
+    # A first row of two fields may be a heading over rows that are numbered.
+    body = rows[len(rows[0][1]) == 2:]
+    if not all(len(fields) == 3 and fields[0][-1] != ":" and fields[2].isdecimal() for _, fields in body):
         return False
+    return not are_mutual(rows)
+
+
+def are_mutual(rows: Rows) -> bool:
+    """Whether each node of a closed list is a neighbour of its neighbours."""
     others = {fields[0]: set(fields[1:]) for _, fields in rows}
-    return not all(node in others[other] for node, ones in others.items() for other in ones)
-
-
-def unsure(name: str, why: str, *choices: str) -> Wrong:
-    return Wrong(f"{name}: {why}; say what it is: {', or '.join(choices)}")
-
-
-PAIRS, NEIGHBOURS = "--as pairs (the first two fields are a pair)", "--as adjacency (a node and its neighbours)"
+    return all(node in others[other] for node, ones in others.items() for other in ones)
 
 
 def read_pairs(table: Table, name: str, heading: bool | None, is_sure: bool) -> Listed:
@@ -106,74 +107,32 @@ def read_pairs(table: Table, name: str, heading: bool | None, is_sure: bool) -> 
     if not head.body:
         raise Wrong(f"{name}: there is no line after the heading")
     if not is_sure and head.columns is None:
-        refuse_others(head.body, name, table, heading is None)
+        refuse_others(head.body, name, table, heading is None, is_closed(head.body) and are_mutual(head.body))
     if head.doubt:
         raise head.doubt
-    one, other = head.columns or (0, 1)
-    for line, fields in head.body:
-        if head.columns and (any(fields[len(titles):]) or len(fields) <= max(one, other)):
-            raise wrong_line(name, line, f"another number of fields than the heading: `{shown(' '.join(fields))}`")
-        ends = [fields[at] if at < len(fields) else "" for at in (one, other)]
-        if not clean(ends[0]) or ends[1] and not clean(ends[1]):
-            raise wrong_line(name, line, f"no pair of nodes: `{shown(' '.join(fields))}`")
-        if ends[1]:
-            found.edges.append((line, *ends))
-        else:
-            found.alone.append((line, ends[0]))
+    columns = head.columns or (0, 1)
+    pairs = [(line, *ends_of(line, fields, columns, len(titles) if head.columns else None, name))
+             for line, fields in head.body]
+    if not is_sure:
+        refuse_names(pairs, table.separator, name)
+        refuse_columns(titles, head.body, columns, {end for _, *ends in pairs for end in ends}, name)
+    found.edges = [pair for pair in pairs if pair[2]]
+    found.alone = [pair[:2] for pair in pairs if not pair[2]]
     if any(any(fields[2:]) for _, fields in head.body):
-        others = [word for at, word in enumerate(titles) if at not in (one, other) and word]
+        others = [word for at, word in enumerate(titles) if at not in columns and word]
         found.notes.append("further columns, as weights are, aren't read" + (f": {shown(', '.join(others))}"
                                                                             if others else ""))
     return found
 
 
-def refuse_others(body: Rows, name: str, table: Table, is_unknown: bool) -> None:
-    """Refuses rows that may be no pairs: places, names beside numbers, or more than a pair and a weight; if nobody has
-    said whether they have a heading, also a list of names with blanks."""
-    fields = [row for _, row in body]
-    ones = [row[0] for row in fields]
-    others = [row[1] for row in fields if len(row) > 1 and row[1]]
-    is_apart = len(set(ones)) == len(ones) and len(ones) > 1 and not set(ones) & set(others)
-    if all(len(row) > 2 and is_number(row[1]) and is_number(row[2]) for row in fields) and is_apart and (
-            not all(map(is_number, ones))):
-        raise Wrong(f"{name}: a name and two numbers in each line look like places, which --sites reads "
-                    "(if they are pairs: --as pairs)")
-    if len(fields) > 1 and len(fields[0]) == 1 and all(len(row) > 1 for row in fields[1:]) and not is_closed(body):
-        raise unsure(name, f"the first line (`{shown(ones[0])}`) may be a title or a node", PAIRS, NEIGHBOURS)
-    known = {field for row in fields for field in row[:2]}
-    alone = [row[0] for row in fields if len(row) == 1]
-    if is_unknown and not table.separator and 2 * len(alone) >= len(fields) > 1 and len(known) == sum(map(len, fields)) and not all(
-            map(is_number, known)):
-        raise unsure(name, "no name comes twice, so these may be names with blanks", PAIRS)
-    for line, row in body:
-        parts = [part.strip() for field in row[:2] for part in field.split(",") if "," in field]
-        if parts and known.issuperset(parts):
-            what = shown(";".join(row))
-            raise wrong_line(name, line, f"`{what}` may name more than two nodes: write a line for each pair")
-    if any(are_of_two_kinds(part) for part in (fields, fields[1:])):
-        raise unsure(name, "names beside numbers may be no pairs of nodes", PAIRS)
-    if all(len(row) <= 2 for row in fields):
-        return
-    if any(len(row) > 3 or len(row) == 3 and row[2] and not is_number(row[2]) for row in fields):
-        raise unsure(name, "lines of more than a pair and a weight, without a heading that names the ends", PAIRS,
-                     NEIGHBOURS)
-    if not (table.is_even if table.separator else all(len(row) == 3 for row in fields)):
-        raise unsure(name, "not each line is a pair and a weight, and not each neighbour has a line", PAIRS, NEIGHBOURS)
-    are_numbers = all(whole(field) is not None for row in fields for field in row)
-    if are_numbers and len(fields) > 1 and [whole(one) for one in ones] in (list(range(len(ones))),
-                                                                           list(range(1, len(ones) + 1))):
-        raise unsure(name, "a first field that counts the lines may be no node", PAIRS, NEIGHBOURS)
-    if is_apart and (len(fields) > 2 or are_numbers) or are_numbers and len(fields) == 1:
-        raise unsure(name, "a first field that comes in no other line may be a line's number, or a node before its "
-                     "neighbours", PAIRS, NEIGHBOURS)
-
-
-def are_of_two_kinds(fields: list[list[str]]) -> bool:
-    """Whether of the ends of some pairs one is always a number, and the other never."""
-    pairs = [row for row in fields if len(row) > 1 and row[1]]
-    return (len(pairs) > 1 or any(len(row) > 2 for row in pairs)) and bool(pairs) and any(
-        all(is_number(row[at]) and not is_number(row[1 - at]) for row in pairs) for at in (0, 1)
-    )
+def ends_of(line: int, fields: list[str], columns: tuple[int, int], width: int | None, name: str) -> list[str]:
+    """Both ends of a row; the other is empty if the row has one node. A heading that names them has a `width`."""
+    if width is not None and (any(fields[width:]) or len(fields) <= max(columns)):
+        raise wrong_line(name, line, f"another number of fields than the heading: `{shown(' '.join(fields))}`")
+    ends = [fields[at] if at < len(fields) else "" for at in columns]
+    if not clean(ends[0]) or ends[1] and not clean(ends[1]):
+        raise wrong_line(name, line, f"no pair of nodes: `{shown(' '.join(fields))}`")
+    return ends
 
 
 def read_adjacency(rows: Rows, name: str) -> Listed:

@@ -22,8 +22,12 @@ PLANES = BARE + tuple((f"{x}{unit}", f"{y}{unit}", factor) for x, y, _ in BARE
 GLOBES = (("lat", "lon"), ("lat", "lng"), ("lat", "long"), ("latitude", "longitude"), ("breite", "länge"),
           ("breitengrad", "längengrad"))
 IDENTIFIER = "identifier"
+# Units of degrees, and what may be said of them.
+DEGREES = ("", "deg", "degree", "degrees", "°", "grad", "decimal", "decimaldegrees", "dd", "dezimal", "dezimalgrad",
+           "wgs84", "wgs 84", "n", "s", "e", "w", "o")
 CHANNELS = ("channel", "channels", "barredchannel", "barredchannels", "barred", "bar", "kanal", "kanäle",
             "gesperrterkanal", "gesperrtekanäle", "gesperrt")
+KNOWN = {*NAMES, *CHANNELS, IDENTIFIER, *(word for pair in (*PLANES, *GLOBES) for word in pair[:2])}
 # The mean radius of the earth in kilometres, and half of its circumference.
 EARTH = 6371.0088
 WIDEST = math.pi * EARTH
@@ -44,8 +48,8 @@ class Sites:
     is_globe: bool = False
 
 
-def table(data: bytes, name: str) -> tuple[list[str], list[tuple[int, list[str]]], list[str]]:
-    """The headings of a table, as the words above, its rows, and what was mended."""
+def table(data: bytes, name: str) -> tuple[list[str], list[tuple[int, list[str]]], str | None, list[str]]:
+    """The headings of a table, as the words above, its rows, what separates their fields, and what was mended."""
     text, mended = decoded(data, name)
     found = table_of(text, name, is_headed=True)
     rows = found.rows
@@ -53,19 +57,25 @@ def table(data: bytes, name: str) -> tuple[list[str], list[tuple[int, list[str]]
         raise Wrong(f"{name}: no table with commas, semicolons or tabs between its columns in each line")
     if found.separator is None:
         rows = [(line, [" ".join(fields)]) for line, fields in rows]
-    titles = rows[0][1]
+    words = [heading_word(title) for title in rows[0][1]]
+    twice = next((word for at, word in enumerate(words) if word in KNOWN and word in words[:at]), None)
+    if twice:
+        raise Wrong(f"{name}: two columns are named {shown(twice)}: which one is meant?")
     for line, fields in rows[1:]:
-        if any(fields[len(titles):]):
+        if any(fields[len(words):]):
             raise wrong_line(name, line, f"more fields than the heading: `{shown(','.join(fields))}`")
-    return [heading_word(title) for title in titles], rows[1:], mended + found.notes
+        if sorted(map(heading_word, filter(None, fields))) == sorted(filter(None, words)):
+            raise wrong_line(name, line, "the heading of a second table: write both into one with the same columns")
+    return words, rows[1:], found.separator, mended + found.notes
 
 
 def heading_word(title: str) -> str:
     """A heading in small letters without blanks, lines and points. Of what is in brackets the unit of a place
-    alone stays."""
+    alone stays, unless it means degrees."""
     title = re.sub(r"[\s_.\-]", "", title.lower())
     word, unit = (re.fullmatch(r"([^(\[]*)[(\[](.*)[)\]]", title) or re.fullmatch("(.*)()", title)).groups()
-    return word + unit if any(word in places[:2] for places in BARE) else word
+    is_other = any(word in places[:2] for places in GLOBES) and unit not in DEGREES
+    return word + unit if is_other or any(word in places[:2] for places in BARE) else word
 
 
 def number_of(field: str) -> float | None:
@@ -88,13 +98,14 @@ def identifier_of(field: str) -> int | None:
 
 def read_sites(data: bytes, name: str) -> Sites:
     """The sites of a table with a heading."""
-    words, rows, mended = table(data, name)
+    words, rows, separator, mended = table(data, name)
     columns = [words.index(word) for word in NAMES if word in words]
     if not columns:
         raise Wrong(f"{name}: no column is named {', '.join(NAMES[:3])}: the first line has to be a heading")
-    plane = next((it for it in PLANES if it[0] in words and it[1] in words), None)
-    globe = next((it for it in GLOBES if it[0] in words and it[1] in words), None)
+    globe, plane = (one_pair(kinds, words, name) for kinds in (GLOBES, PLANES))
     pair = globe or plane
+    if globe and plane:
+        mended = [*mended, f"places by {globe[0]} and {globe[1]}, not by {plane[0]} and {plane[1]}"]
     found = Sites([words[at] for at in columns], [[] for _ in columns], notes=mended, is_globe=globe is not None)
     for line, fields in rows:
         fields = fields + [""] * (len(words) - len(fields))
@@ -102,6 +113,10 @@ def read_sites(data: bytes, name: str) -> Sites:
         for names, at in zip(found.names, columns):
             names.append(clean(fields[at]))
         place = [number_of(fields[words.index(word)]) for word in pair[:2]] if pair else [None]
+        if plane and not globe and (separator == "," or plane[2] != 1.0) and any(
+                re.fullmatch(r"[-+]?\d{1,3}(,\d{3})+", fields[words.index(word)]) for word in plane[:2]):
+            raise wrong_line(name, line, f"a comma before three digits may begin a fraction or thousands: "
+                                         f"`{shown(';'.join(fields))}`")
         if None in place and any(fields[words.index(word)] for word in (pair or ())[:2]):
             raise wrong_line(name, line, f"no place: `{shown(','.join(fields))}`")
         add_place(found, name, line, None if None in place else place, plane[2] if not globe and plane else None)
@@ -122,6 +137,15 @@ def read_sites(data: bytes, name: str) -> Sites:
     if len(found.lines) > MAX_NODES:
         raise Wrong(f"{name}: {len(found.lines)} sites, and a network has at most {MAX_NODES} nodes")
     return found
+
+
+def one_pair(kinds: tuple, words: list[str], name: str) -> tuple | None:
+    """The one pair of columns of a place that the headings have, or None."""
+    there = [it for it in kinds if it[0] in words and it[1] in words]
+    if len(there) > 1:
+        both = " and ".join(f"{one}, {other}" for one, other, *_ in there[:2])
+        raise Wrong(f"{name}: places in two pairs of columns, {both}: leave one of them")
+    return there[0] if there else None
 
 
 def add_place(found: Sites, name: str, line: int, place: list[float] | None, unit: float | None) -> None:
@@ -157,6 +181,10 @@ def names_for(found: Sites, wanted: set[str], name: str) -> list[str]:
     """The names of the sites: of the first column that has all that are wanted, or else most of them."""
     best = max(range(len(found.names)), key=lambda at: (len(wanted & set(found.names[at])), -at))
     names, seen = found.names[best], set()
+    others = [at for at, column in enumerate(found.names) if wanted and wanted <= set(column) and column != names]
+    if others and wanted <= set(names):
+        raise Wrong(f"{name}: the columns {found.titles[best]} and {found.titles[others[0]]} both have all names of "
+                    "the pairs: leave one of them")
     for line, one in zip(found.lines, names):
         if not one:
             raise wrong_line(name, line, f"a site without a name in the column {found.titles[best]}")
@@ -236,11 +264,14 @@ def with_sites(found: Listed, sites: Sites, name: str, reach: float | None) -> N
 
 def with_bars(found: Listed, data: bytes, name: str, licence: list[int] | None) -> None:
     """Bars the channels of a table of site and channel; real numbers, if a licence says which are channels 1, 2, ..."""
-    words, rows, mended = table(data, name)
+    words, rows, _, mended = table(data, name)
     site = next((words.index(word) for word in NAMES if word in words), None)
-    channel = next((words.index(word) for word in CHANNELS if word in words), None)
-    if site is None or channel is None:
+    barred = [word for word in words if re.sub("[0-9]+$", "", word) in CHANNELS]
+    if site is None or not barred:
         raise Wrong(f"{name}: the first line has to be a heading with site and channel")
+    if len(barred) > 1:
+        raise Wrong(f"{name}: {len(barred)} columns of channels, {' and '.join(barred)}: leave that of barred ones")
+    channel = words.index(barred[0])
     known = {end for _, *ends in found.edges + found.alone for end in ends} | set(found.order or ())
     if found.nodes is not None:
         known |= set(numbered_by_text(found, name)[0].values())

@@ -59,7 +59,8 @@ def refuse_rows(rows: list[tuple[int, list[str]]], separator: str | None, text: 
     if "'" in text and any(are_cut(row) for row in fields):
         raise Wrong(f"{name}: names in quotes with blanks can't be separated: write \"double quotes\", or commas "
                     "between the fields")
-    if re.search("[()]", text) and any(field.count("(") != field.count(")") for row in fields for field in row):
+    if re.search(r"[()\[\]]", text) and any(field.count(one) != field.count(other) for row in fields for field in row
+                                           for one, other in ("()", "[]")):
         raise Wrong(f"{name}: names in brackets with blanks or commas can't be separated; "
                     "networkx: nx.convert_node_labels_to_integers(G), or nx.write_graphml(G, FILE)")
     if re.search("[{}]", text) and any(map(is_broken_data, (field for row in fields for field in row))):
@@ -76,7 +77,7 @@ def refuse_rows(rows: list[tuple[int, list[str]]], separator: str | None, text: 
         first = shown(" ".join(fields[0]))
         raise Wrong(f"{name}: the first line (`{first}`) may be how many nodes and edges there are: remove it then; if "
                     "it is a pair or a node: --as pairs, or --as adjacency")
-    if is_matrix(fields) or is_labelled(fields):
+    if is_matrix(fields) or is_labelled(fields) or is_headed(fields) or is_triangle(fields):
         reader = "G = nx.from_numpy_array(numpy.loadtxt(FILE))"
         raise unread(name, "a matrix", reader, "; if these are pairs of nodes: --as pairs")
     if metis.is_like(text):
@@ -130,6 +131,27 @@ def is_labelled(fields: list[list[str]]) -> bool:
     return is_square and is_numbers and names == [row[0] for row in body]
 
 
+def is_headed(fields: list[list[str]]) -> bool:
+    """Whether a square of numbers is below a row with as many names, which may be numbers, too."""
+    side = len(fields[0])
+    if side < 2 or len(fields) != side + 1 or any(len(row) != side for row in fields):
+        return False
+    if any(map(is_number, fields[0])):
+        return is_matrix(fields[1:])
+    body = [[value_of(field or "0") for field in row] for row in fields[1:]]
+    is_symmetric = all(body[at][to] == body[to][at] for at in range(side) for to in range(at))
+    return None not in sum(body, []) and (not any(body[at][at] for at in range(side)) or side > 2 and is_symmetric)
+
+
+def is_triangle(fields: list[list[str]]) -> bool:
+    """Whether it may be the half of a square of numbers on one side of its diagonal."""
+    lengths = [[bool(field) for field in row] for row in fields]
+    side = len(fields)
+    halves = [[[True] * (at + more) + [False] * (side - at - more) for at in range(side)] for more in (0, 1)]
+    are_halves = any(lengths in (half, [row[::-1] for row in half[::-1]]) for half in halves)
+    return side > 2 and are_halves and all(is_number(field) for row in fields for field in row if field)
+
+
 def have_counts(fields: list[list[str]]) -> bool:
     """Whether each row of two has a number, and is followed by as many rows of one; some by one or more."""
     left, most = 0, 0
@@ -164,7 +186,12 @@ def has_counts(fields: list[list[str]]) -> bool:
     single = next((at for at, row in enumerate(fields) if len(row) != 1), len(fields))
     first, body = [whole(field) for field in fields[0]], fields[max(single, 1):]
     ends = [whole(field) for row in body for field in row[:2]]
-    if not body or None in ends or None in first or any(len(row) < 2 for row in body):
+    if not body or None in ends or None in first:
+        return False
+    # METIS that counts each edge twice.
+    if len(body) > 2 and len(body) <= first[0] and max(ends) <= first[0] and first[1:] == [sum(map(len, body))]:
+        return True
+    if any(len(row) < 2 for row in body):
         return False
     if single:
         counts = [whole(row[0]) for row in fields[:single]]
@@ -173,7 +200,10 @@ def has_counts(fields: list[list[str]]) -> bool:
         )
     if len(first) == 3:
         return first[0] == first[1] and (first[2] == len(body) or max(ends) <= first[0])
-    is_count = len(first) == 2 and first[1] == len(body) and max(ends) <= first[0]
+    is_count = first[1:] == [len(body)] and max(ends) <= first[0]
+    if len(body) > 2 and len(first) == 2:
+        least = min(max(ends), len(set(ends)))
+        is_count = first[1] == len(body) and least <= first[0] or first == [len(body), least]
     return is_count and (len(body[0]) == 3 or frozenset(fields[0]) not in {frozenset(row[:2]) for row in body})
 
 

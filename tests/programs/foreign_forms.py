@@ -125,7 +125,7 @@ REFUSED = [
     ("rows, columns and entries", "3 3 2\n1 2 1\n2 3 1\n", "how many nodes and edges"),
     ("a table of channels", "Channel,Frequency (MHz)\n36,5180\n40,5200\n", "the column `Channel` is no end of an edge"),
     ("places with a heading", "name,lat,lon\nUlm,48.4,10.0\n", "look like places, which --sites reads"),
-    ("several nodes in a field", "A;B,C\nB;A\nC;A\n", "line 1: `A;B,C` may name more than two nodes"),
+    ("several nodes in a field", "A;B,C\nB;A\nC;A\n", "line 1: `B,C` may name more than one node"),
     ("names with blanks and a line without a tab", "Upper Hill\tMill\nMill\tDam\nOld Dam\n", "line 3: no tab"),
     ("a table of bars", "Site,Barred Channels\nUlm,6 11\nAue,1\n", "--bars reads a table of site and channel"),
     ("columns between bars", "site_a|site_b\nUlm|Aue\nAue|Hof\n", "`|` isn't read between columns"),

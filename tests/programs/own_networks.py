@@ -262,7 +262,7 @@ FAULTS = [
     ("\ufeffp edge 2 1\ne 1 2\n", "F8 line 1", "byte order mark", True),
     ("p edge 1025 1024\n" + "".join(f"e 1 {v}\n" for v in range(2, 1026)), "N1 vertex 1",
      "vertex 1 has 1024 neighbours", False),
-    ("node 1\n", "F8 line 1", "`node`", True),
+    ("node 1\n", "F8 line 1", "`node`", False),
     ("p edge 2 1\n\x0b\n", "F8 line 2", "`\\x0b`", False),
     ("p\x0bedge 2 1\n", "F8 line 1", "`p\\x0bedge`", False),
     ("i 1 5\np edge 2 1\n", "F10 line 1", "an identifier before", True),
@@ -491,7 +491,10 @@ class OwnNetworks(Case):
                 names = [name.replace(" ", "_") for name in names]
                 edges = {frozenset(name.replace(" ", "_") for name in edge) for edge in edges}
             text = in_form(source, form, names, edges)
-            made, _ = read(text.encode(), "net", None, True if form == "csv" else False if form == "pairs" else None)
+            # A first line of one name may be a title, unless it is said what it is.
+            may_be_title = form == "adjacency" and " " not in text.partition("\n")[0]
+            made, _ = read(text.encode(), "net", form if may_be_title else None,
+                           True if form == "csv" else False if form == "pairs" else None)
             lone = set(names) - set().union(*edges)
             if pairs_in(text_of(made).encode()) != (edges, lone if form != "csv" else set()):
                 wrong.append((text, text_of(made)))

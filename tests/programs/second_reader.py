@@ -23,8 +23,8 @@ def want(good, what="another form"):
 
 def spelt(name):
     """A name with one blank between its words, in composed letters, and without invisible ones."""
-    letters = [letter for letter in unicodedata.normalize("NFC", name) if unicodedata.category(letter) != "Cf"]
-    return " ".join("".join(letters).split())
+    letters = [letter for letter in " ".join(name.split()) if unicodedata.category(letter) not in ("Cf", "Cc")]
+    return " ".join(unicodedata.normalize("NFC", "".join(letters)).split())
 
 
 def network(pairs, nodes=()):

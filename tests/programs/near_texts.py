@@ -1,0 +1,203 @@
+"""Texts that look nearly like a form that `network read` takes, as another program or a tired person writes them, each
+with the network that it means: it is read as that one, or refused, or what is left out is counted."""
+import json
+import random
+
+from lab.networks import sites
+from lab.networks.listed import Listed
+from lab.networks.reading import listed_of, made_of
+from lab.wrong import Wrong
+from tests.cases import Case
+from tests.programs.foreign_texts import as_csv, as_dot, as_gml, as_graphml, as_metis, beside, named
+
+TEXTS, SEED = 40, 20261130
+TOWNS = ("Ulm", "Aue", "Hof", "Köln", "Mörs", "Bonn", "Kiel", "Jena")
+BLANKS = ("Bad Tölz", "New York", "New Haven", "Ulm", "Upper Hill", "Mill", "Hof", "Old Dam")
+CELLS = ("A1", "A2", "B1", "B2", "C-1", "C-2", "x.y", "D4")
+ONES, ZEROS, GAPS = tuple("12345678"), tuple("01234567"), ("10", "20", "21", "5", "7", "101", "33", "8")
+MARKS, NUMBERS, WORDS = ("#1", "#2", "#12", "%3", "#4", "#5"), (ONES, ZEROS, GAPS), (TOWNS, BLANKS, CELLS)
+NO_NAME = ("NA", "NaN", "None", "null", "n/a", "<NA>", r"\N", "#N/A", "#BEZUG!", "?", "nil")
+HEADINGS = (("source", "target"), ("von", "nach"), ("from", "to"), ("site_a", "site_b"))
+
+
+def graph_of(source, names):
+    """Four names or more, and three pairs or more of them, each once."""
+    while True:
+        nodes = source.sample(names, source.randint(4, len(names)))
+        pairs = [source.choice(((a, b), (b, a))) for at, a in enumerate(nodes) for b in nodes[at + 1:]
+                 if source.random() < 0.5]
+        if len(pairs) > 2:
+            return nodes, pairs
+
+
+def rows_of(nodes, pairs, source):
+    """The neighbours of each node that has some, both ways or one way."""
+    return {node: ones for node, ones in beside(nodes, pairs, source.random() < 0.6).items() if ones}
+
+
+def neighbours(before, between, after=""):
+    """A writer of a line for each node, with its neighbours."""
+    return lambda nodes, pairs, source: "".join(
+        f"{node}{before}{between.join(ones)}{after}\n" for node, ones in rows_of(nodes, pairs, source).items())
+
+
+def lines(pairs, mark, *more):
+    return "".join(mark.join((a, b, *more)) + "\n" for a, b in pairs)
+
+
+def with_line(what, is_first):
+    """A writer of pairs with a line before them or after them that is none."""
+    def text(nodes, pairs, source):
+        mark = source.choice(" ,;\t")
+        line = what.format(mark, len(nodes), len(pairs)) + "\n"
+        return line * is_first + lines(pairs, mark) + line * (not is_first)
+    return text
+
+
+def commented(nodes, pairs, source):
+    """The first line's names come again, so that its comment can be seen to be one."""
+    mark, text = source.choice(",;\t"), source.choice((" # planned", " // near", " % x", " -- old", "  # see Hof"))
+    return lines(pairs[:1], mark).replace("\n", text + "\n") + lines(pairs[1:], mark)
+
+
+def second_heading(nodes, pairs, source):
+    at, head, mark = source.randrange(1, len(pairs)), source.choice(HEADINGS), source.choice(",;\t")
+    return lines([head] * source.randrange(2) + pairs[:at] + [head] + pairs[at:], mark)
+
+
+def more_columns(nodes, pairs, source):
+    rows, (one, other) = rows_of(nodes, pairs, source), source.choice(HEADINGS)
+    most, again = max(map(len, rows.values())), source.choice((other, f"{other}.1", "", f"{other} 2"))
+    return as_csv([[one, other] + [again] * (most - 1)] + [[node, *ones] for node, ones in rows.items()])
+
+
+def two_encodings(nodes, pairs, source):
+    return b"".join(f"{a},{b}\n".encode(source.choice(("utf-8", "cp1252"))) for a, b in pairs)
+
+
+def invisible(nodes, pairs, source):
+    marks = "\ufe0f\u034f\u200d\u200b\u00a0\u2060\u3164\u00ad\x7f"
+    return as_csv([[name + source.choice(("", source.choice(marks))) for name in pair] for pair in pairs])
+
+
+def squares(head):
+    """A writer of a matrix, or of a half of it, with names above it or without."""
+    def text(nodes, pairs, source):
+        there, mark = {frozenset(pair) for pair in pairs}, source.choice(",; \t")
+        rows = [["01"[frozenset((a, b)) in there] for b in nodes] for a in nodes]
+        if source.random() < 0.4:
+            rows = [row[:at + 1] for at, row in enumerate(rows)]
+        return (mark.join(nodes) + "\n") * head + "".join(mark.join(row) + "\n" for row in rows)
+    return text
+
+
+def as_cnf(nodes, pairs, source):
+    number = {node: at for at, node in enumerate(nodes, 1)}
+    return f"p cnf {len(nodes)} {len(pairs)}\n" + "".join(f"{number[a]} {number[b]} 0\n" for a, b in pairs)
+
+
+# (what it is, the names that it can have, its writer).
+NEAR = (
+    ("a colon without a blank", (TOWNS, CELLS, *NUMBERS), neighbours(":", " ")),
+    ("a colon before commas", WORDS + NUMBERS, neighbours(": ", ", ")),
+    ("an arrow before commas", WORDS + NUMBERS, neighbours(" -> ", ", ")),
+    ("YAML", WORDS + NUMBERS, neighbours(": [", ", ", "]")),
+    ("TOML", WORDS + NUMBERS, neighbours(" = [", ", ", "]")),
+    ("neighbours with a bar between them", WORDS + NUMBERS, neighbours(",", "|")),
+    ("neighbours in one field", (CELLS, *NUMBERS), lambda nodes, pairs, source: "source,target\n" + "".join(
+        f"{node},{' '.join(ones)}\n" for node, ones in beside(nodes, pairs, True).items() if ones)),
+    ("neighbours in commas", WORDS + NUMBERS, neighbours(",", ",")),
+    ("a count before neighbours", (TOWNS, CELLS), lambda nodes, pairs, source: "".join(
+        f"{node} {len(ones)} {' '.join(ones)}\n" for node, ones in rows_of(nodes, pairs, source).items())),
+    ("more columns of neighbours", WORDS + NUMBERS, more_columns),
+    *((f"a title {line!r}", (TOWNS, CELLS), with_line(line, True))
+      for line in ("Masts", "nodes {1}", "{1} {2}", "{2}", "n={1} m={2} x")),
+    *((f"a last line {line!r}", (TOWNS, CELLS, *NUMBERS), with_line(line, False))
+      for line in ("Total{0}{2}", "({2} rows)", "{2} rows", "END", "Summe{0}{2}")),
+    ("comments after a name", WORDS, commented),
+    ("a second heading", WORDS + NUMBERS, second_heading),
+    ("times before the ends", WORDS + NUMBERS, lambda nodes, pairs, source: as_csv(
+        [("start", "end", "transmitter", "receiver"), *(("2026-01-01", f"2026-01-{at:02}", *pair)
+                                                        for at, pair in enumerate(pairs, 2))])),
+    ("two encodings", (TOWNS, BLANKS), two_encodings),
+    ("letters that are lost", (TOWNS, BLANKS),
+     lambda nodes, pairs, source: as_csv(pairs).encode("ascii", "replace").replace(b"?", "\ufffd".encode())),
+    ("invisible letters", (TOWNS, CELLS), invisible),
+    ("an edge before a weight", (TOWNS, CELLS), lambda nodes, pairs, source: "".join(
+        f"{a}{source.choice(('->', '--', ' - ', ': '))}{b},near\n" for a, b in pairs)),
+    ("a weight between the ends", NUMBERS, lambda nodes, pairs, source: "".join(f"{a} 2.5 {b}\n" for a, b in pairs)),
+    ("a weight before the ends", NUMBERS, lambda nodes, pairs, source: "".join(f"0.5;{a};{b}\n" for a, b in pairs)),
+    ("numbered rows", (TOWNS, CELLS), lambda nodes, pairs, source: ",0,1\n" + "".join(
+        f"{at},{a},{b}\n" for at, (a, b) in enumerate(pairs))),
+    ("a matrix", (TOWNS, CELLS, *NUMBERS), squares(False)),
+    ("a matrix below names", (TOWNS, CELLS, *NUMBERS), squares(True)),
+    ("a formula", NUMBERS, as_cnf),
+    ("LGL", (TOWNS, CELLS), lambda nodes, pairs, source: "".join(
+        f"# {node}\n" + "".join(f"{one} 3\n" for one in ones)
+        for node, ones in rows_of(nodes, pairs, source).items())),
+    ("METIS with twice the edges", (ONES,), lambda nodes, pairs, source: as_metis(nodes, pairs).replace(
+        f" {len(pairs)}\n", f" {2 * len(pairs)}\n", 1)),
+    ("GML with another key", WORDS, lambda nodes, pairs, source: as_gml(nodes, pairs).replace(
+        "  edge [", "  link [", 1)),
+    ("GraphML with another element", WORDS + (MARKS,), lambda nodes, pairs, source: as_graphml(nodes, pairs).replace(
+        "<edge", "<Edge").replace("</edge", "</Edge")),
+    ("DOT of two graphs", WORDS + (MARKS,), lambda nodes, pairs, source: as_dot(nodes, pairs[:2])
+     + as_dot(nodes, pairs[2:])),
+    ("JSON with lists of neighbours", WORDS + NUMBERS, lambda nodes, pairs, source: json.dumps({"links": [], "nodes": [
+        {"id": node, "neighbours": ones} for node, ones in beside(nodes, pairs, True).items()]})),
+)
+# Tables of sites and of bars that have more than is read, or less: each is refused.
+TABLES = (
+    ("a second heading", b"site,height\nUlm,3\nSite,Height\nAue,4\n", b"site,channel\n"),
+    ("two columns of channels", b"site,x,y\nUlm,0,0\n", b"site,channel,channel 2\nUlm,1,6\n"),
+    ("a column beside that of bars", b"site,x,y\nUlm,0,0\n", b"site,channel,barred\nUlm,1,6\n"),
+    ("columns twice", b"site,x,y,x,y\nUlm,0,0,5,5\n", b"site,channel\n"),
+    ("two kinds of places", b"site,x,y,easting,northing\nUlm,1,1,9,9\n", b"site,channel\n"),
+    ("thousands or a fraction", b'site,x,y\nUlm,"1,234",0\n', b"site,channel\n"),
+    ("thousands of metres", b"site;x (m);y (m)\nUlm;1,234;0\n", b"site,channel\n"),
+    ("two encodings", "site\nKöln\n".encode() + "Mörs\n".encode("cp1252"), b"site,channel\n"),
+)
+
+
+def found_in(data):
+    """The network of a text, and what is left out; None if it is refused."""
+    try:
+        made, _, left_out = made_of(listed_of(data, "net"), "net")
+    except Wrong:
+        return None, []
+    return named(made), left_out
+
+
+class NearTexts(Case):
+    needs_programs = False
+
+    def test_near(self):
+        source = random.Random(SEED)
+        for name, kinds, writer in NEAR:
+            wrong = []
+            for _ in range(TEXTS):
+                nodes, pairs = graph_of(source, source.choice(kinds))
+                text = writer(nodes, pairs, source)
+                found, left_out = found_in(text if isinstance(text, bytes) else text.encode())
+                edges = frozenset(map(frozenset, pairs))
+                if found and not left_out and not (found[0] == edges and found[1] <= set(nodes)):
+                    wrong.append((text, found))
+            self.note(f"{name}: its network, or none", not wrong, (len(wrong), wrong[:1]))
+
+    def test_tables(self):
+        for name, places, bars in TABLES:
+            with self.subTest(name), self.assertRaises(Wrong):
+                found = Listed("sites")
+                sites.with_sites(found, sites.read_sites(places, "sites"), "sites", None)
+                sites.with_bars(found, bars, "bars", None)
+
+    def test_one_table_of_several_names(self):
+        """Two columns that both have all names of the pairs, in another order, are refused; equal ones aren't."""
+        for table, is_read in ((b"id,cell,x,y\n1,2,0,0\n2,1,1,1\n", False), (b"id,cell,x,y\n1,1,0,0\n2,2,1,1\n", True)):
+            found = listed_of(b"1 2\n", "pairs")
+            try:
+                sites.with_sites(found, sites.read_sites(table, "sites"), "sites", None)
+                got = True
+            except Wrong:
+                got = False
+            self.note(f"{table}", got == is_read, got)
