@@ -51,10 +51,14 @@ def read(text: str, name: str, form: str) -> Listed:
     except MemoryError:
         raise
     except Exception as why:
+        if form == "gexf":
+            what += ", of which it knows the versions 1.1 and 1.2 (GraphML is always read)"
         raise Wrong(f"{name}: networkx can't read it as {what}: {shown(str(why)) or type(why).__name__}") from None
     edges = [(1, str(one), str(other)) for one, other in graph.edges()]
     found = Listed(what, edges, [(1, str(node)) for node in graph], is_exact=True)
     found.notes.append("read by networkx, and counted again")
+    if form == "leda" and (again := len(pairs_of_leda(text)) - counts[1]):
+        found.left_out.append(f"{again:,} line{'s' * (again > 1)} with an edge that was there before, counted once")
     if (len(graph), len(edges)) != counts or len({node for _, node in found.alone}) < len(graph):
         raise Wrong(f"{name}: {what} with {counts[0]} nodes and {counts[1]} edges, of which networkx reads "
                     f"{len(graph)} and {len(edges)}: have two nodes one name?")
@@ -132,6 +136,13 @@ def counts_of_gexf(text: str) -> tuple[int, int]:
     return tags.count("node"), tags.count("edge")
 
 
+def pairs_of_leda(text: str) -> list[tuple[str, ...]]:
+    """The ends of each line of an edge, the lesser first if directions don't count."""
+    lines = [line for line in lines_of(text) if not line.startswith("#")]
+    pairs = [line.split()[:2] for line in lines[6 + int(lines[4]):]]
+    return [tuple(pair if lines[3] == "-1" else sorted(pair)) for pair in pairs]
+
+
 def counts_of_leda(text: str) -> tuple[int, int]:
     lines = [line for line in lines_of(text) if not line.startswith("#")]
     nodes = int(lines[4])
@@ -140,8 +151,7 @@ def counts_of_leda(text: str) -> tuple[int, int]:
         raise ValueError("another number of lines than it says")
     if any(not re.fullmatch(r"\|\{([^{}|]*)\}\|", line) for line in lines[5:5 + nodes]):
         raise ValueError("a node that isn't |{name}|, or whose name has braces")
-    pairs = [line.split()[:2] for line in lines[6 + nodes:]]
-    return nodes, len({tuple(pair if lines[3] == "-1" else sorted(pair)) for pair in pairs})
+    return nodes, len(set(pairs_of_leda(text)))
 
 
 COUNTS = {"gexf": counts_of_gexf, "pajek": counts_of_pajek, "graph6": counts_of_graph6, "sparse6": counts_of_sparse6,

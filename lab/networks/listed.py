@@ -17,6 +17,8 @@ NO_TEXT = {b"PK\x03\x04": "an Excel or OpenDocument file, or a ZIP archive: save
            b"\x1f\x8b": "compressed: gunzip it first", b"BZh": "compressed: bunzip2 it first",
            b"\xfd7zXZ": "compressed: unxz it first", b"%PDF": "a PDF"}
 
+# The encoding that a text in XML declares.
+DECLARED = re.compile(rb"\s*<\?xml[^>]{0,200}?encoding\s*=\s*[\"']([A-Za-z][\w.-]{0,40})[\"']")
 # Marks and letters that nobody sees, beside those that control a text: variants of a letter, and fillers.
 INVISIBLE = re.compile("[\u034f\u115f\u1160\u17b4\u17b5\u180b-\u180f\u3164\ufe00-\ufe0f\uffa0\U000e0100-\U000e01ef]")
 
@@ -149,18 +151,37 @@ def decoded(data: bytes, name: str) -> tuple[str, list[str]]:
     else:
         if data.startswith(codecs.BOM_UTF8):
             notes.append("a byte order mark is left out")
-        try:
-            text = data.decode("utf-8-sig")
-        except UnicodeDecodeError:
+        text, encoding = as_declared(data, name)
+        if text is None:
             refuse_both(data, name)
-            text, name_of_it = of_windows(data)
-            notes.append(f"read as {name_of_it}, since it is no UTF-8")
+            text, encoding = of_windows(data)
+        if encoding:
+            notes.append(f"read as {encoding}")
     if "\0" in text:
         raise Wrong(f"{name}: it has bytes of value zero, so it is no text")
     text = text.replace("\r\n", "\n")
     if "\r" in text:
         notes.append("lines end with a carriage return alone")
     return text.replace("\r", "\n"), notes
+
+
+def as_declared(data: bytes, name: str) -> tuple[str | None, str]:
+    """The text as UTF-8, or in the encoding that XML says in its first line, which is named then; None if it is
+    neither."""
+    try:
+        text = data.decode("utf-8-sig")
+    except UnicodeDecodeError:
+        text = None
+    declared = DECLARED.match(data)
+    encoding = declared[1].decode().lower() if declared else "utf-8"
+    if encoding in ("utf-8", "utf8") or data.isascii():
+        return text, ""
+    if text is not None:
+        raise Wrong(f"{name}: its first line says {encoding}, and it is UTF-8: correct that line")
+    try:
+        return data.decode(encoding), f"{encoding}, as its first line says"
+    except (LookupError, UnicodeDecodeError):
+        raise Wrong(f"{name}: its first line says {encoding}, and it can't be read so") from None
 
 
 def refuse_both(data: bytes, name: str) -> None:
@@ -178,6 +199,6 @@ def refuse_both(data: bytes, name: str) -> None:
 def of_windows(data: bytes) -> tuple[str, str]:
     """The text as western Windows has it, which is Latin-1 with more letters, or as Latin-1 if a byte is no letter."""
     try:
-        return data.decode("cp1252"), "Windows-1252"
+        return data.decode("cp1252"), "Windows-1252, since it is no UTF-8"
     except UnicodeDecodeError:
-        return data.decode("latin-1"), "Latin-1"
+        return data.decode("latin-1"), "Latin-1, since it is no UTF-8"

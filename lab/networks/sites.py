@@ -107,26 +107,33 @@ def read_sites(data: bytes, name: str) -> Sites:
     if globe and plane:
         mended = [*mended, f"places by {globe[0]} and {globe[1]}, not by {plane[0]} and {plane[1]}"]
     found = Sites([words[at] for at in columns], [[] for _ in columns], notes=mended, is_globe=globe is not None)
+    numbers = []
     for line, fields in rows:
         fields = fields + [""] * (len(words) - len(fields))
         found.lines.append(line)
         for names, at in zip(found.names, columns):
             names.append(clean(fields[at]))
-        place = [number_of(fields[words.index(word)]) for word in pair[:2]] if pair else [None]
-        if plane and not globe and (separator == "," or plane[2] != 1.0) and any(
-                re.fullmatch(r"[-+]?\d{1,3}(,\d{3})+", fields[words.index(word)]) for word in plane[:2]):
-            raise wrong_line(name, line, f"a comma before three digits may begin a fraction or thousands: "
-                                         f"`{shown(';'.join(fields))}`")
-        if None in place and any(fields[words.index(word)] for word in (pair or ())[:2]):
-            raise wrong_line(name, line, f"no place: `{shown(','.join(fields))}`")
+        said = [fields[words.index(word)] for word in (pair or ())[:2]]
+        place = [number_of(field) for field in said] or [None]
+        if None in place and any(said):
+            has_groups = any(re.search(r"\d[ '\u2019\u00a0\u202f.,]\d", field) for field in said)
+            raise wrong_line(name, line, f"no place: `{shown((separator or ',').join(fields))}`" + (
+                "; write numbers without separators of thousands" if has_groups else ""))
+        numbers.append((line, said))
         add_place(found, name, line, None if None in place else place, plane[2] if not globe and plane else None)
         own = fields[words.index(IDENTIFIER)] if IDENTIFIER in words else ""
         number = identifier_of(own)
         if own and (number is None or number >= IDENTIFIERS):
             raise wrong_line(name, line, f"no identifier below 2^128: `{shown(own)}`")
         found.identifiers.append(number)
+    if plane and not globe:
+        found.notes += check_marks(numbers, separator, plane[2] != 1.0, name)
     xs, ys = zip(*(point[:2] for point in found.points if point)) if any(found.points) else ((0,), (0,))
     across = max(max(xs) - min(xs), max(ys) - min(ys))
+    farthest = max(map(abs, (*xs, *ys)))
+    if not globe and plane and farthest > 2 * WIDEST:
+        raise Wrong(f"{name}: {plane[0]} and {plane[1]} reach {farthest:,.0f} km, farther than around the earth: "
+                    "columns in metres are called `x (m)` and `y (m)`, or easting and northing")
     if not globe and across > WIDEST:
         found.notes.append(f"the sites of {name} are up to {across:,.0f} km apart, more than the earth is wide: "
                            "columns in metres are called `x (m)` and `y (m)`")
@@ -137,6 +144,23 @@ def read_sites(data: bytes, name: str) -> Sites:
     if len(found.lines) > MAX_NODES:
         raise Wrong(f"{name}: {len(found.lines)} sites, and a network has at most {MAX_NODES} nodes")
     return found
+
+
+def check_marks(places: list[tuple[int, list[str]]], separator: str | None, is_metres: bool, name: str) -> list[str]:
+    """Refuses numbers of places whose commas or points may begin a fraction or separate thousands; returns what is
+    noted. In kilometres three digits after a point, or after a comma between semicolons, are a fraction."""
+    of = {mark: [(line, field) for line, fields in places for field in fields if mark in field] for mark in ".,"}
+    for line, field in sorted(of["."][:1] + of[","][:1])[1:]:
+        raise wrong_line(name, line, f"`{shown(field)}`, and before it fractions begin with another mark")
+    whole = {mark: [row for row in rows if re.fullmatch(r"[-+]?[1-9]\d{0,2}([.,]\d{3})+", row[1])]
+             for mark, rows in of.items()}
+    doubtful = whole[","] if separator == "," or is_metres else []
+    doubtful += whole["."] if separator != "," and is_metres and len(whole["."]) == len(of["."]) else []
+    for line, field in doubtful:
+        raise wrong_line(name, line, f"`{shown(field)}` may have a fraction or thousands: write it without a separator "
+                         "of thousands, and a fraction with more or fewer digits than three")
+    is_noted = separator != "," and 1 < len(of["."]) == len(whole["."])
+    return [f"`{shown(of['.'][0][1])}` of {name} is read as a number with a fraction"] if is_noted else []
 
 
 def one_pair(kinds: tuple, words: list[str], name: str) -> tuple | None:

@@ -15,6 +15,7 @@ HEADS = [
     (r"\*(partition|arcs|edges|matrix)\b", "Pajek without vertices", None),
     (r">>digraph6<<|&[?-~]+$", "digraph6", None),
     (r"dl\s+n\s*=", "DL of UCINET", None),
+    (r"@(nodes|arcs|edges|attributes)\b", "LGF of LEMON", None),
     (r"nodedef\s*>", "GDF", None),
     (r"\\documentclass|\\begin\b", "TeX", None),
     (r"\[\s*\[", "a matrix or a list in brackets", "G = nx.from_numpy_array(numpy.array(json.load(open(FILE))))"),
@@ -73,6 +74,9 @@ def refuse_rows(rows: list[tuple[int, list[str]]], separator: str | None, text: 
                                              "not each line has one (if these are names: --as pairs)")
     if is_trivial(text):
         raise unread(name, "TGF, nodes and then `#` and edges")
+    if is_grouped(text, {field for row in fields for field in row}):
+        raise unread(name, "LGL, nodes after `#` with their neighbours below", None, "; if these are pairs of nodes: "
+                     "--as pairs")
     if has_counts(fields):
         first = shown(" ".join(fields[0]))
         raise Wrong(f"{name}: the first line (`{first}`) may be how many nodes and edges there are: remove it then; if "
@@ -97,6 +101,13 @@ def is_trivial(text: str) -> bool:
     before, mark, after = text.partition("\n#\n")
     is_begun = any(line.strip() and not line.startswith("#") for line in before.split("\n"))
     return bool(mark and after.strip()) and is_begun
+
+
+def is_grouped(text: str, known: set[str]) -> bool:
+    """Whether lines of `#` and one word, the first line being one, may be nodes: a word is a number, or a name that the
+    other lines have."""
+    words = re.findall(r"(?m)^#[ \t]+(\S+)[ \t]*$", text)
+    return text.lstrip().startswith("#") and any(is_number(word) or word in known for word in words)
 
 
 def is_matrix(fields: list[list[str]]) -> bool:
@@ -136,11 +147,13 @@ def is_headed(fields: list[list[str]]) -> bool:
     side = len(fields[0])
     if side < 2 or len(fields) != side + 1 or any(len(row) != side for row in fields):
         return False
-    if any(map(is_number, fields[0])):
-        return is_matrix(fields[1:])
     body = [[value_of(field or "0") for field in row] for row in fields[1:]]
+    if None in sum(body, []):
+        return False
+    are_zeros = not any(body[at][at] for at in range(side))
     is_symmetric = all(body[at][to] == body[to][at] for at in range(side) for to in range(at))
-    return None not in sum(body, []) and (not any(body[at][at] for at in range(side)) or side > 2 and is_symmetric)
+    are_names = not any(map(is_number, fields[0]))
+    return are_zeros and (is_symmetric or are_names) or side > 2 and is_symmetric
 
 
 def is_triangle(fields: list[list[str]]) -> bool:

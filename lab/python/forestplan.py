@@ -9,6 +9,8 @@ G is a graph of networkx, or a dict with the neighbours of each node. Nodes are 
 weights, edges that come again and edges from a node to itself don't count. Only the text that is written here, and what
 is read of the answer, is not proved."""
 import collections
+import collections.abc
+import operator
 import os
 import shutil
 import site
@@ -88,12 +90,13 @@ def check(G, plan, bars=None, licence=None):
     strange = [node for node in plan if node not in known]
     if strange:
         raise ValueError(f"the plan has {strange[0]!r}, which is no node of the graph")
-    real = None if licence is None else {channel: k for k, channel in enumerate(licence, 1)}
-    outside = [node for node in plan if real is not None and plan[node] not in real]
+    numbers = {node: _whole(channel, f"the channel of {node!r}", licence is None) for node, channel in plan.items()}
+    real = _real(licence)
+    outside = [node for node in plan if real is not None and numbers[node] not in real]
     if outside:
         raise ValueError(f"{outside[0]!r} has channel {plan[outside[0]]!r}, which isn't in the licence")
-    rows = [f"{v} {plan[node] if real is None else real[plan[node]]}\n" for v, node in enumerate(order, 1)
-            if node in plan]
+    rows = [f"{v} {numbers[node] if real is None else real[numbers[node]]}\n" for v, node in enumerate(order, 1)
+            if node in numbers]
     return int(_called("forestplan", ["check"], f"{network}plan\n{''.join(rows)}", order).split()[1])
 
 
@@ -130,27 +133,66 @@ def transcript(G, bars=None, workers=2, identifiers=None):
 
 def text_of(G, bars=None, licence=None, identifiers=None, places=None):
     """The graph as the programs read it, and its nodes in the order of their numbers."""
-    pairs = [(one, other) for one, other, *_ in G.edges()] if hasattr(G, "edges") else [
-        (one, other) for one in G for other in G[one]]
+    pairs = _pairs(G)
     order = list(dict.fromkeys([*G, *(node for pair in pairs for node in pair)]))
     number = {node: v for v, node in enumerate(order, 1)}
     for said in (bars, identifiers, places):
         strange = [node for node in said or () if node not in number]
         if strange:
             raise ValueError(f"{strange[0]!r} is no node of the graph")
-    real = None if licence is None else {channel: k for k, channel in enumerate(licence, 1)}
-    if real is not None and len(real) < len(licence):
-        raise ValueError("the licence names a channel twice")
+    real = _real(licence)
+    barred = {node: {_whole(channel, f"a bar of {node!r}", real is None)
+                     for channel in _items(own, f"bars of {node!r}")} for node, own in (bars or {}).items()}
     edges = {(min(pair), max(pair)) for pair in ((number[one], number[other]) for one, other in pairs)}
     edges = sorted(edge for edge in edges if edge[0] != edge[1])
     lines = [f"c at {number[node]} {x:.3f} {y:.3f}" for node, (x, y) in (places or {}).items()]
     lines += [f"c name {v} {' '.join(str(node).split())}" for v, node in enumerate(order, 1)]
     lines.append(f"p edge {len(order)} {len(edges)}")
     lines += [f"i {number[node]} {own}" for node, own in (identifiers or {}).items()]
-    lines += [f"b {number[node]} {channel if real is None else real[channel]}" for node, own in (bars or {}).items()
+    lines += [f"b {number[node]} {channel if real is None else real[channel]}" for node, own in barred.items()
               for channel in sorted(own) if real is None or channel in real]
     lines += [f"e {v} {w}" for v, w in edges]
     return "\n".join(lines) + "\n", order
+
+
+def _pairs(G):
+    """The edges of a graph; what is neither of networkx nor a dict of lists is refused."""
+    if callable(getattr(G, "edges", None)):
+        return [(one, other) for one, other, *_ in G.edges()]
+    if not isinstance(G, collections.abc.Mapping):
+        raise TypeError(f"a {type(G).__name__} is no graph: a graph of networkx is wanted (Graph makes one of pairs, "
+                        "from_pandas_adjacency of a matrix), or a dict with the neighbours of each node")
+    return [(one, other) for one in G for other in _items(G[one], f"neighbours of {one!r}")]
+
+
+def _items(several, what):
+    """What is in a list or a set; a text isn't taken letter by letter."""
+    if isinstance(several, (str, bytes)) or not isinstance(several, collections.abc.Iterable):
+        raise TypeError(f"the {what} are {several!r}, and have to be a list or a set")
+    return several
+
+
+def _whole(value, what, is_counted):
+    """A channel: a whole number, from 0 on, or if it `is_counted` from 1 on."""
+    try:
+        number = operator.index(value)
+    except TypeError:
+        raise TypeError(f"{what} is {value!r}, and has to be a whole number") from None
+    if not is_counted <= number <= 2048 + (not is_counted) * 10 ** 12:
+        raise ValueError(f"{what} is {number}, and channels count from {int(is_counted)} on")
+    return number
+
+
+def _real(licence):
+    """The channel, counted from 1, of each real number of a licence, or None without one."""
+    if licence is None:
+        return None
+    if isinstance(licence, (str, bytes)) or not isinstance(licence, collections.abc.Sequence):
+        raise TypeError(f"the licence is {licence!r}, and has to be a list of whole numbers, in order of preference")
+    real = {_whole(channel, "a channel of the licence", False): k for k, channel in enumerate(licence, 1)}
+    if len(real) < len(licence):
+        raise ValueError("the licence names a channel twice")
+    return real
 
 
 def home():

@@ -140,6 +140,27 @@ class ByNetworkx(Case):
         ):
             self.note(f"{form}: {text!r}", ours(text, {"form": form}) is None, ours(text, {"form": form}))
 
+    def test_twice(self):
+        """An edge of LEDA that comes twice is counted."""
+        text = LEDA.format(nodes="2\n|{Ulm}|\n|{Aue}|", edges="2\n1 2 0 |{1}|\n2 1 0 |{1}|")
+        made, said, left_out = made_of(listed_of(text.encode(), "net"), "net")
+        self.note("an edge twice", left_out == ["1 line with an edge that was there before, counted once"]
+                  and len(made.edges) == 1, (said, left_out))
+
+    def test_encodings(self):
+        """The encoding that XML declares is obeyed, and one that it hasn't is refused."""
+        import networkx
+        graph = networkx.Graph([("Köln", "Łódź"), ("Łódź", "Praha")])
+        for encoding in ("iso-8859-2", "cp1250", "utf-8"):
+            file = io.BytesIO()
+            networkx.write_graphml_xml(graph, file, encoding=encoding)
+            found = named(made_of(listed_of(file.getvalue(), "net"), "net")[0])
+            self.note(encoding, found == wanted(graph), found)
+        for declared, really in (("iso-8859-2", "utf-8"), ("nothing-8", "latin-1"), ("ascii", "latin-1")):
+            text = f"<?xml version='1.0' encoding='{declared}'?><graphml><graph><node id='Köln'/></graph></graphml>"
+            with self.subTest(declared), self.assertRaises(Wrong):
+                listed_of(text.encode(really), "net")
+
     def test_without_packages(self):
         """Commands start without the packages of the system: they are looked for when they are needed."""
         from tests.programs.own_networks import by_script

@@ -76,6 +76,35 @@ class InPython(Case):
             why = self.refused(name, ValueError, call)
             self.note(f"{name}: not by the program", why and not isinstance(why, forestplan.Refused), why)
 
+    def test_kinds(self):
+        """What is no graph, no list and no whole number is refused, and says where it is; it isn't taken letter by
+        letter."""
+        class Table:
+            def __iter__(self):
+                return iter(("Ulm", "Aue"))
+
+            def __getitem__(self, name):
+                return [0, 1]
+        for kind, words, call in (
+            (TypeError, "a Table is no graph", lambda: forestplan.plan(Table())),
+            (TypeError, "a list is no graph", lambda: forestplan.plan([("Ulm", "Aue")])),
+            (TypeError, "the neighbours of 'Ulm' are 'Aue'", lambda: forestplan.plan({"Ulm": "Aue"})),
+            (TypeError, "the neighbours of 'Ulm' are None", lambda: forestplan.plan({"Ulm": None})),
+            (TypeError, "a bar of 'Ulm' is '6'", lambda: forestplan.plan(SQUARE, {"Ulm": ["6"]}, [6, 1, 11])),
+            (TypeError, "the bars of 'Ulm' are '16'", lambda: forestplan.plan(SQUARE, {"Ulm": "16"})),
+            (TypeError, "the bars of 'Ulm' are 6", lambda: forestplan.plan(SQUARE, {"Ulm": 6})),
+            (ValueError, "a bar of 'Ulm' is 0", lambda: forestplan.plan(SQUARE, {"Ulm": [0]})),
+            (ValueError, "a bar of 'Ulm' is 2049", lambda: forestplan.plan(SQUARE, {"Ulm": [2049]})),
+            (TypeError, "the licence is '1-3'", lambda: forestplan.plan(SQUARE, licence="1-3")),
+            (TypeError, "the licence is {1}", lambda: forestplan.plan(SQUARE, licence={1})),
+            (TypeError, "a channel of the licence is 36.5", lambda: forestplan.plan(SQUARE, licence=[36.5, 40])),
+            (ValueError, "a channel of the licence is -1", lambda: forestplan.plan(SQUARE, licence=[0, -1])),
+            (TypeError, "the channel of 'Ulm' is 2.0", lambda: forestplan.check(SQUARE, {"Ulm": 2.0})),
+            (ValueError, "the channel of 'Ulm' is 0", lambda: forestplan.check(SQUARE, {"Ulm": 0})),
+        ):
+            why = self.refused(words, kind, call)
+            self.note(words, why and words in str(why) and not isinstance(why, forestplan.Refused), why)
+
     def test_refused(self):
         plan = {"Ulm": 1, "Aue": 1, "Hof": 2, "Bonn": 3}
         why = self.refused("a clash", forestplan.Refused, lambda: forestplan.check(SQUARE, plan))

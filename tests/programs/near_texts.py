@@ -131,7 +131,13 @@ NEAR = (
         f"{at},{a},{b}\n" for at, (a, b) in enumerate(pairs))),
     ("a matrix", (TOWNS, CELLS, *NUMBERS), squares(False)),
     ("a matrix below names", (TOWNS, CELLS, *NUMBERS), squares(True)),
+    ("a matrix of weights below numbers", NUMBERS, lambda *graph: squares(True)(*graph).replace("1\n", "2.7\n")),
     ("a formula", NUMBERS, as_cnf),
+    ("LGL of numbers", NUMBERS, lambda nodes, pairs, source: "".join(
+        f"# {node}\n" + "".join(f"{one} 1\n" for one in ones)
+        for node, ones in rows_of(nodes, pairs, source).items())),
+    ("LGF", (ONES, TOWNS), lambda nodes, pairs, source: "@nodes\nlabel\n" + "\n".join(nodes) + "\n@arcs\n" + lines(
+        pairs, " ")),
     ("LGL", (TOWNS, CELLS), lambda nodes, pairs, source: "".join(
         f"# {node}\n" + "".join(f"{one} 3\n" for one in ones)
         for node, ones in rows_of(nodes, pairs, source).items())),
@@ -155,6 +161,10 @@ TABLES = (
     ("two kinds of places", b"site,x,y,easting,northing\nUlm,1,1,9,9\n", b"site,channel\n"),
     ("thousands or a fraction", b'site,x,y\nUlm,"1,234",0\n', b"site,channel\n"),
     ("thousands of metres", b"site;x (m);y (m)\nUlm;1,234;0\n", b"site,channel\n"),
+    ("points of thousands of metres", b"site;easting;northing\nA;412.345;67.890\nB;413.345;67.890\n",
+     b"site,channel\n"),
+    ("two marks of a fraction", b"site;x;y\nA;1.234;0\nB;1,5;0\n", b"site,channel\n"),
+    ("metres in x and y", b"site,X,Y\nA,453000,5600000\nB,453900,5600000\n", b"site,channel\n"),
     ("two encodings", "site\nKöln\n".encode() + "Mörs\n".encode("cp1252"), b"site,channel\n"),
 )
 
