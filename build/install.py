@@ -12,7 +12,7 @@ import tempfile
 
 from build import completion, kit, manuals, readme
 from lab import sums, version
-from lab.door import end_by_signals
+from lab.door import SIGNALS
 from lab.workshop.class_files import IS_CLASS, class_files, finish_class, write_scripts
 
 TOP = os.path.dirname(os.path.dirname(os.path.realpath(__file__)))
@@ -157,7 +157,10 @@ def install(folder, is_class=False):
         if name.startswith(".install-"):
             shutil.rmtree(os.path.join(folder, name), ignore_errors=True)
     try:
-        with tempfile.TemporaryDirectory(prefix=".install-", dir=folder) as room:
+        # A signal between the folder's making and its being known would leave it.
+        with SIGNALS.held():
+            kept = tempfile.TemporaryDirectory(prefix=".install-", dir=folder)
+        with kept as room:
             make(room, is_class)
             put(room, folder)
     except BaseException:
@@ -177,7 +180,6 @@ def main():
     inside = os.path.relpath(os.path.realpath(folder), os.path.realpath(TOP))
     if inside == "." or inside.split(os.sep)[0] in FOLDERS:
         words.error("the folder has to be another one than this tree, and not inside of what is copied")
-    end_by_signals()
     status = build_programs()
     if status:
         return status

@@ -9,7 +9,6 @@ import sys
 import tarfile
 
 from lab import sums
-from lab.door import end_by_signals
 from lab.workshop.class_files import IS_CLASS
 
 HELP = """\
@@ -82,7 +81,6 @@ def main():
     if changed:
         print(f"pack: {len(changed)} files aren't as they were installed, first: {changed[0]}", file=sys.stderr)
         return 1
-    end_by_signals()
     try:
         name = name_of(asked.folder)
         to = os.path.join(asked.to, f"{name}.tar.gz")

@@ -8,12 +8,11 @@ import tempfile
 
 from build import kit
 from build.crate_lists import TOP, listed, with_below
-from lab.door import end_by_signals
 
 # What of a crate is copied: what it is proved from, and what shows that its contracts refuse wrong bodies.
 PARTS = ("src", "specs", "proofs", "must-fail")
 # What `python3 build prove NAME` needs besides build/, which takes what is proved here from the store.
-LAB = ("__init__.py", "door.py", "version.py")
+LAB = ("__init__.py", "door.py", "version.py", "wrong.py")
 
 HELP = """\
 Copies crates of this tree, and all below them, into another repository.
@@ -138,7 +137,6 @@ def main():
     if not os.path.isdir(top) or os.path.realpath(top) == os.path.realpath(TOP):
         words.error("DIR has to be a folder that is there, and not this tree")
     crates = with_below(asked.crates, below)
-    end_by_signals()
     try:
         vendor(top, crates, asked.replace, asked.build)
     except OSError as failed:

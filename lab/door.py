@@ -1,10 +1,8 @@
 """How a command that is written in Python ends: with one line in place of a traceback, whatever happens.
 
-A closed or full output, an input that can't be read, too little memory and Ctrl-C are no faults of the command. A
-reader that has gone away is no fault at all. The scripts of bin/ call Python by door.sh, with Ctrl-C blocked."""
+A closed or full output, too little memory and Ctrl-C are no faults of the command. A reader that has gone away is no
+fault at all."""
 import contextlib
-import errno
-import fcntl
 import io
 import os
 import signal
@@ -13,30 +11,7 @@ import traceback
 
 # The statuses of a fault of the command itself, and of Ctrl-C.
 OWN_FAULT, STOPPED = 70, 130
-INTERRUPT = {signal.SIGINT}
-
-
-class Input(io.FileIO):
-    """Standard input, whose faults have its name. With a folder as standard input Python wouldn't start, so door.sh
-    closes it then."""
-
-    is_folder = os.environ.pop("FOLDER_AS_INPUT", None)
-
-    @contextlib.contextmanager
-    def named(self):
-        try:
-            yield
-        except OSError as why:
-            fault = errno.EISDIR if self.is_folder else why.errno
-            raise OSError(fault, os.strerror(fault), "standard input") from None
-
-    def readinto(self, room):
-        with self.named():
-            return super().readinto(room)
-
-    def readall(self):
-        with self.named():
-            return super().readall()
+NOT_WRITTEN = "the output can't be written"
 
 
 class Said(io.FileIO):
@@ -49,104 +24,83 @@ class Said(io.FileIO):
             return len(data)
 
 
+class Signals:
+    """Ctrl-C, SIGTERM and SIGHUP end a command so that nothing is left of it and of what it runs. In what is `held`
+    they wait for its end: `depth` counts what is held now, one in the other, and `waiting` is a signal that came."""
+
+    depth, waiting = 0, None
+
+    def install(self):
+        for number in (signal.SIGINT, signal.SIGTERM, signal.SIGHUP):
+            if signal.getsignal(number) != signal.SIG_IGN:      # as `nohup` has it, and a shell in the background
+                signal.signal(number, self.came)
+
+    def came(self, number, _):
+        if self.depth:
+            self.waiting = number
+        elif number == signal.SIGINT:
+            signal.signal(number, signal.SIG_IGN)       # a second one doesn't disturb how the command ends
+            raise KeyboardInterrupt
+        else:
+            sys.exit(128 + number)
+
+    @contextlib.contextmanager
+    def held(self):
+        self.depth += 1
+        try:
+            yield
+        finally:
+            self.depth -= 1
+            if not self.depth and self.waiting is not None:
+                number, self.waiting = self.waiting, None
+                self.came(number, None)
+
+
+SIGNALS = Signals()
+
+
 def open_streams():
     """Gives a closed stream a file that refuses what it is for, so that no other file gets its number; what would be
-    said on a closed standard error is dropped. In its place bash may have left its script, which is open for reading."""
+    said on a closed standard error is dropped."""
     for number, mode in ((0, os.O_WRONLY), (1, os.O_RDONLY), (2, os.O_WRONLY)):
         try:
-            access = fcntl.fcntl(number, fcntl.F_GETFL) & os.O_ACCMODE
-            is_closed = number == 2 and access == os.O_RDONLY
+            os.fstat(number)
         except OSError:
-            is_closed = True
-        if is_closed:
-            opened = os.open(os.devnull, mode)
-            if opened != number:
-                os.dup2(opened, number)
-                os.close(opened)
+            os.dup2(os.open(os.devnull, mode), number)
     # Buffered, whatever Python is asked for: argparse passes over a text of help that can't be written at once.
     coding = {"encoding": getattr(sys.stdout, "encoding", None) or "utf-8", "errors": "surrogateescape"}
-    sys.stdin = io.TextIOWrapper(io.BufferedReader(Input(0, closefd=False)), **coding)
-    sys.stdout = io.TextIOWrapper(open(1, "wb", closefd=False), line_buffering=os.isatty(1), **coding)
+    sys.stdin, sys.stdout = open(0, closefd=False, **coding), open(1, "w", closefd=False, **coding)
     sys.stderr = io.TextIOWrapper(io.BufferedWriter(Said(2, "w", closefd=False)), line_buffering=True,
                                   encoding=getattr(sys.stderr, "encoding", None) or "utf-8", errors="backslashreplace")
 
 
-def said(name, what, status):
-    """Says one line, if that can be, and returns the status."""
+def ended(status, line=""):
+    """Says the line, if there is one and that can be, and returns the status; standard output gets nothing more."""
     with contextlib.suppress(OSError, ValueError):
-        print(f"{name}: {what}", file=sys.stderr, flush=True)
+        os.dup2(os.open(os.devnull, os.O_WRONLY), 1)
+        sys.stderr.write(line and line + "\n")
     return status
 
 
-def without_output():
-    """Has nothing more written to standard output, which is closed or full."""
-    with contextlib.suppress(OSError, ValueError):
-        os.dup2(os.open(os.devnull, os.O_WRONLY), 1)
-
-
-def interrupt(*_):
-    """Ctrl-C ends the command once: further ones don't disturb how it ends."""
-    signal.pthread_sigmask(signal.SIG_BLOCK, INTERRUPT)
-    raise KeyboardInterrupt
-
-
-def end_by_signals():
-    """Has SIGTERM and SIGHUP end the command as Ctrl-C does, so that nothing is left."""
-    for number in (signal.SIGTERM, signal.SIGHUP):
-        if signal.getsignal(number) != signal.SIG_IGN:
-            signal.signal(number, lambda number, _: sys.exit(128 + number))
-
-
-def note_lost(said):
-    """Ctrl-C in the midst of what Python does aside, as when it has imported a module, would be lost with a traceback:
-    it comes again at once."""
-    if issubclass(said.exc_type, KeyboardInterrupt):
-        signal.signal(signal.SIGALRM, interrupt)
-        signal.setitimer(signal.ITIMER_REAL, 0.001)
-    else:
-        sys.__unraisablehook__(said)
-
-
 def run(name, load):
-    """Runs the command that `load` imports, a function that returns its status, and returns the status to end with.
-    Ctrl-C waits while modules are imported, and is of no effect once the command has ended."""
-    signal.pthread_sigmask(signal.SIG_BLOCK, INTERRUPT)
-    # A shell has what it runs in the background ignore Ctrl-C.
-    if signal.getsignal(signal.SIGINT) == signal.default_int_handler:
-        signal.signal(signal.SIGINT, interrupt)
-        sys.unraisablehook = note_lost
-    try:
-        try:
-            return ended(name, load)
-        finally:
-            signal.pthread_sigmask(signal.SIG_BLOCK, INTERRUPT)
-    except KeyboardInterrupt:
-        without_output()
-        return said(name, "interrupted", STOPPED)
-
-
-def ended(name, load):
-    """The status of a command that nobody interrupts."""
+    """Runs the command that `load` imports, a function that returns its status, and returns the status to end with."""
     try:
         open_streams()
+        SIGNALS.install()
         try:
-            command = load()
-            signal.pthread_sigmask(signal.SIG_UNBLOCK, INTERRUPT)
-            return command()
+            return load()()
         finally:
             sys.stdout.flush()
+            signal.signal(signal.SIGINT, signal.SIG_IGN)
+    except KeyboardInterrupt:
+        return ended(STOPPED, f"{name}: interrupted")
     except BrokenPipeError:
-        without_output()
-        return 0
+        return ended(0)
     except OSError as why:
-        without_output()
-        what = why.strerror or str(why)
-        return said(name, f"{why.filename}: {what}" if why.filename else f"the output can't be written: {what}", 1)
+        return ended(1, f"{name}: {why.filename or NOT_WRITTEN}: {why.strerror or why}")
     except MemoryError:
-        without_output()
-        return said(name, "out of memory", 1)
+        return ended(1, f"{name}: out of memory")
     except Exception as why:
-        without_output()
         at = traceback.extract_tb(why.__traceback__)[-1]
-        return said(name, f"a fault of this command itself, please report it: {type(why).__name__}: "
-                          f"{' '.join(str(why).split())} ({os.path.basename(at.filename)} line {at.lineno})", OWN_FAULT)
+        return ended(OWN_FAULT, f"{name}: a fault of this command itself, please report it: {type(why).__name__}: "
+                                f"{' '.join(str(why).split())} ({os.path.basename(at.filename)} line {at.lineno})")

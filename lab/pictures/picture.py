@@ -13,7 +13,6 @@ from lab import programs
 from lab.definitions.colours import plan_text as plan_by_definition
 from lab.definitions.nodes import Colouring
 from lab.definitions.programs import add_program, note_ignored_bars, program_at
-from lab.door import end_by_signals
 from lab.networks.named import network_text
 from lab.networks.network_text import read_network, stem
 from lab.networks.plan_text import read_plan
@@ -562,7 +561,6 @@ def main(words):
         kinds[given.kind].error(f"unrecognized arguments: {' '.join(others)}")
     if getattr(given, "stopped", None) is not None and not given.wrong:
         kinds[given.kind].error("--stopped is for --wrong")
-    end_by_signals()  # As SIGTERM ends this command, the program that it runs ends, too.
     try:
         picture = drawn(given)
     except Wrong as why:

@@ -6,7 +6,6 @@ import sys
 from lab import programs
 from lab.definitions.nodes import Colouring
 from lab.definitions.own_program import OwnNode
-from lab.door import end_by_signals
 from lab.transcripts.check import add_texts, in_order, texts_of, whole_run
 from lab.transcripts.reading import Wrong as WrongEntry
 from lab.words import add_output, write
@@ -56,7 +55,6 @@ def replayed(net, network, text, program):
 
 def main(words):
     given = command_line().parse_args(words)
-    end_by_signals()  # As SIGTERM ends this command, the machine that it runs ends, too.
     try:
         write(given, replayed(*texts_of(given)))
     except WrongEntry as wrong:

@@ -13,11 +13,11 @@ import tempfile
 import time
 from dataclasses import dataclass, field
 
+from lab.door import SIGNALS
 from lab.programs import TOP
 from lab.schedules.policies import POLICIES
 from lab.workshop.findings import NoVerdict
 from lab.workshop.guard import NOBODY, Guard, end_all, kept_in, shut
-from lab.workshop.interrupts import INTERRUPTS
 from lab.workshop.judge import ask
 from lab.workshop.options import count, parsed, seconds
 from lab.workshop.playing import played
@@ -204,7 +204,7 @@ class Play:
         self.part, self.said = part, bytearray()
         self.pipe, to = os.pipe()
         self.until = time.monotonic() + given.seconds + GRACE
-        with INTERRUPTS.held():
+        with SIGNALS.held():
             self.number = os.fork()
             if self.number == 0:
                 os._exit(self.run(given, room, to))
@@ -214,7 +214,7 @@ class Play:
         """In the process itself: its status is 0 if it has said what there is to say."""
         try:
             os.setpgid(0, 0)            # so that Ctrl-C ends the one that grades, which ends this one
-            INTERRUPTS.depth = 0
+            SIGNALS.depth = 0
             shut()
             with open(to, "w", encoding="utf-8") as pipe:
                 json.dump(play(self.part, given, room), pipe)
@@ -266,7 +266,7 @@ def play_all(parts: list[Part], given: argparse.Namespace, jobs: int, room: str)
                     one.finish([other.number for other in running.values()])
                     tell(one.part)
     finally:
-        with INTERRUPTS.held():
+        with SIGNALS.held():
             for one in running.values():
                 os.kill(one.number, signal.SIGTERM)
             end_all([] if not running else wait_for(running))
@@ -365,7 +365,6 @@ def main(words: list[str]) -> int:
     status, _, why = ask("forestplan", "plain", "p edge 0 0\n")
     if status:
         raise NoVerdict(f"forestplan plain ends with status {status}: {why}")
-    INTERRUPTS.install()
     shut()
     if not given.before and not Guard().edition:
         print("grade: this system has no Landlock, so programs can read what you can read, and end this one; use a "

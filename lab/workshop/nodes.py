@@ -2,9 +2,9 @@
 import time
 from typing import Callable
 
+from lab.door import SIGNALS
 from lab.workshop.findings import Fault
 from lab.workshop.guard import Guard, Limits, end_all, is_reaper
-from lab.workshop.interrupts import INTERRUPTS
 from lab.workshop.processes import Process
 
 Answer = list[str] | Fault
@@ -35,7 +35,7 @@ class Nodes:
         if self.is_shared and same < v:
             self.of[v] = self.of[same]
             return
-        with INTERRUPTS.held():
+        with SIGNALS.held():
             self.processes.append(Process(self.commands[owner], self.limits, self.guard, self.tasks))
         self.of[v] = self.processes[-1]
 
@@ -59,7 +59,7 @@ class Nodes:
     def stop(self, patience: float = 0.0) -> None:
         """Ends all programs. None is left running, and all together are waited for no longer than that."""
         until = time.monotonic() + patience
-        with INTERRUPTS.held():
+        with SIGNALS.held():
             for process in self.processes:
                 process.end()
             while self.processes:

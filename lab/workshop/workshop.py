@@ -7,7 +7,6 @@ import traceback
 from lab.workshop import class_files, grade
 from lab.workshop.findings import NoVerdict
 from lab.workshop.guard import Guard, shut
-from lab.workshop.interrupts import INTERRUPTS
 from lab.workshop.keeping import draw, keep
 from lab.workshop.options import parsed
 from lab.workshop.playing import played
@@ -26,7 +25,6 @@ def main(words: list[str]) -> int:
     except (Wrong, NoVerdict) as why:
         return failed(why, REFUSED)
     try:
-        INTERRUPTS.install()
         shut()
         return run(options)
     except Wrong as why:
