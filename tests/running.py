@@ -1,10 +1,9 @@
 """Finds the tests, and runs one module's in this process; tests/__main__.py calls it for each module.
 
-  python3 -m tests.running [--first] MODULE [TEST ..]
+  python3 -m tests.running MODULE [TEST ..]
 
 A test is a method of a `unittest.TestCase`. A module without one fails, unless it is a helper that another one imports.
-It prints each row that failed or was skipped, and last 'N passed, M failed'. With --first it stops after the first test
-in which a row fails."""
+It prints each row that failed or was skipped, and last 'N passed, M failed'."""
 import importlib
 import inspect
 import os
@@ -97,8 +96,6 @@ class Counting(unittest.TestResult):
         said = str(what) if kind is Wrong else self._exc_info_to_string(err, test).rstrip()
         self.failed += 1
         print(f"FAILED {name_of(test)}: {row}{said}", flush=True)
-        if self.failfast:
-            self.stop()
 
 
 def name_of(test):
@@ -107,10 +104,7 @@ def name_of(test):
 
 
 def main():
-    words = sys.argv[1:]
-    counted = Counting()
-    counted.failfast = words[0] == "--first"
-    module, *chosen = words[counted.failfast:]
+    counted, (module, *chosen) = Counting(), sys.argv[1:]
     tests = tests_of(module)
     unittest.TestSuite(tests[name] for name in chosen or tests if name in tests).run(counted)
     if counted.passed + counted.failed == 0:

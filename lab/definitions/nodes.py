@@ -12,7 +12,7 @@ is a number from 0, a forest and a colour too.
 A payload is (kind, number), the kind being "Hello", "Label", "Colour" or "Chosen"; None is no payload. A wire
 is a tuple: ("Payload", pulse, (kind, number)), ("Ack", pulse), ("Safe", pulse) or ("Close",). An event is
 ("Pulse", vertex, None), ("Put", vertex, port) or ("Take", vertex, port)."""
-from collections.abc import Iterator
+from collections.abc import Iterable, Iterator
 from dataclasses import dataclass, field
 
 from lab.definitions.colours import Network, other_than
@@ -141,13 +141,23 @@ def bit_step(own: int, parent: int | None) -> int:
     return 2 * i + (own >> i & 1)
 
 
+def synchronous_pulses(net: Network, program: type = Colouring, order: Iterable[int] = ()) -> Iterator[tuple]:
+    """(pulse, nodes, inboxes, sent) of each pulse of the synchronous run, from 0: the nodes after it, and what each read
+    in it and sends at each port. They are made and called in an order, by default that of the network."""
+    ports = {v: ports_of(net, v) for v in net.neighbours}
+    nodes = {v: program(net, v) for v in order or net.neighbours}
+    inboxes, sent = {}, {v: nodes[v].greet() for v in nodes}
+    yield 0, nodes, inboxes, sent
+    for pulse in range(1, program.last_pulse(net) + 1):
+        inboxes = {v: [sent[w][ports[w].index(v)] for w in ports[v]] for v in nodes}
+        sent = {v: nodes[v].next(pulse, inboxes[v]) for v in nodes}
+        yield pulse, nodes, inboxes, sent
+
+
 def synchronous_run(net: Network, program: type = Colouring) -> dict:
     """The nodes of a program after the last pulse, all pulses being made at once."""
-    nodes = {v: program(net, v) for v in net.neighbours}
-    sent = {v: nodes[v].greet() for v in nodes}
-    for pulse in range(1, program.last_pulse(net) + 1):
-        inboxes = {v: [sent[w][ports_of(net, w).index(v)] for w in ports_of(net, v)] for v in nodes}
-        sent = {v: nodes[v].next(pulse, inboxes[v]) for v in nodes}
+    for _, nodes, _, _ in synchronous_pulses(net, program):
+        pass
     return nodes
 
 

@@ -28,6 +28,7 @@ import traceback
 from types import SimpleNamespace
 
 from lab.definitions.lots import Lots
+from lab.definitions.nodes import synchronous_pulses
 from lab.definitions.values import frozen
 from lab.wrong import Wrong, wrong_line
 
@@ -225,14 +226,8 @@ def check_repeats(net, program: type) -> None:
 
 def rounds_of(net, program: type, order: list[int]):
     """(node, function, pulse, what it sends or finds) of all rounds, by vertex, the nodes being called in an order."""
-    ports = {v: sorted(net.neighbours[v]) for v in net.neighbours}
-    nodes = {v: program(net, v) for v in order}
-    sent = {v: nodes[v].greet() for v in order}
-    yield from ((nodes[v], "greet", 0, sent[v]) for v in sorted(order))
-    for pulse in range(1, program.last_pulse(net) + 1):
-        inboxes = {v: [sent[w][ports[w].index(v)] for w in ports[v]] for v in order}
-        sent = {v: nodes[v].next(pulse, inboxes[v]) for v in order}
-        yield from ((nodes[v], "next", pulse, sent[v]) for v in sorted(order))
+    for pulse, nodes, _, sent in synchronous_pulses(net, program, order):
+        yield from ((nodes[v], "next" if pulse else "greet", pulse, sent[v]) for v in sorted(order))
     found = {v: nodes[v].result() for v in order}
     yield from ((nodes[v], "result", nodes[v].last, found[v]) for v in sorted(order))
 

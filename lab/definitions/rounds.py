@@ -6,7 +6,7 @@ A pulse p is 0 to R, a vertex v from 1, a forest f and a colour from 0."""
 from collections.abc import Iterator
 
 from lab.definitions.colours import Colours, Network, bit, drop, first_colours, merge, shift, text_of
-from lab.definitions.nodes import Colouring, last_pulse, ports_of
+from lab.definitions.nodes import Colouring, last_pulse, ports_of, synchronous_pulses
 
 FIRST_MERGE = 13
 WORK_NAMES = ["step"] * 4 + ["shift", "drop"] * 3
@@ -125,13 +125,8 @@ class Facts:
 
 def made_text(net: Network) -> bytes:
     """The same text from nodes that hear and send, pulse by pulse."""
-    nodes = {v: Colouring(net, v) for v in net.neighbours}
-    sent = {v: nodes[v].greet() for v in nodes}
     lines = head_of(net)
-    for p in range(last_pulse(net) + 1):
-        if p > 0:
-            inboxes = {v: [sent[w][ports_of(net, w).index(v)] for w in ports_of(net, v)] for v in nodes}
-            sent = {v: nodes[v].next(p, inboxes[v]) for v in nodes}
+    for p, nodes, _, sent in synchronous_pulses(net):
         lines.append(f"pulse {p} {phase_words(net, p)}")
         for v in sorted(nodes):
             lines += state_lines(net, p, v, nodes[v])

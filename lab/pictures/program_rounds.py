@@ -1,7 +1,7 @@
 """The rounds of a program other than the colouring as pictures need them, pulse by pulse, by its definition
 (lab/definitions/programs.py)."""
 from lab.definitions.colours import Network
-from lab.definitions.nodes import Colouring, ports_of
+from lab.definitions.nodes import Colouring, ports_of, synchronous_pulses
 from lab.definitions.own_program import OwnNode, check_repeats, what_is_wrong
 from lab.definitions.programs import PLAYED
 from lab.definitions.pulses import Rounds
@@ -34,13 +34,8 @@ class ProgramRounds:
         if self.last * network.nodes > MOST_STEPS:
             raise Wrong(f"{network.name}: {self.last} pulses of {network.nodes} nodes are too many to be drawn")
         check_repeats(self.net, program)
-        ports = {v: ports_of(self.net, v) for v in network.vertices}
-        nodes = {v: program(self.net, v) for v in network.vertices}
-        sent, self.pulses = {v: nodes[v].greet() for v in nodes}, []
-        self.add(0, nodes, ports, sent)
-        for p in range(1, self.last + 1):
-            inboxes = {v: [sent[w][ports[w].index(v)] for w in ports[v]] for v in nodes}
-            sent = {v: nodes[v].next(p, inboxes[v]) for v in nodes}
+        self.pulses, ports = [], {v: ports_of(self.net, v) for v in network.vertices}
+        for p, nodes, _, sent in synchronous_pulses(self.net, program):
             self.add(p, nodes, ports, sent)
         self.wrong = what_is_wrong(self.net, program, self.pulses[-1].results)
 

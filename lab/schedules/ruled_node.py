@@ -6,7 +6,7 @@ isn't due, and a missing one that is (docs/claim/DEFINITIONS.md, refusals of the
 program of one's own goes on with any."""
 import copy
 
-from lab.definitions.nodes import AlphaNode, Colouring, Refused, ports_of
+from lab.definitions.nodes import AlphaNode, Colouring, Refused, ports_of, synchronous_pulses
 from lab.definitions.own_program import OwnNode
 from lab.definitions.sequel import Sequel
 
@@ -105,13 +105,9 @@ class Rounds:
 
     def __init__(self, net, program=Colouring):
         self.net, self.last = net, program.last_pulse(net)
-        self.ports = {v: ports_of(net, v) for v in net.neighbours}
-        nodes = {v: program(net, v) for v in net.neighbours}
-        sent, self.inbox = {v: nodes[v].greet() for v in nodes}, {}
-        for p in range(1, self.last + 1):
-            for v in nodes:
-                self.inbox[v, p] = [sent[w][self.ports[w].index(v)] for w in self.ports[v]]
-            sent = {v: nodes[v].next(p, self.inbox[v, p]) for v in nodes}
+        self.ports, self.inbox = {v: ports_of(net, v) for v in net.neighbours}, {}
+        for p, nodes, inboxes, _ in synchronous_pulses(net, program):
+            self.inbox |= {(v, p): inbox for v, inbox in inboxes.items()}
         self.results = {v: node.result() for v, node in nodes.items()}
         # Of the colouring alone.
         self.colours = {v: node.merged if program is Colouring else None for v, node in nodes.items()}

@@ -17,7 +17,7 @@ import sys
 import tempfile
 
 from lab.definitions.colours import colours, network_of
-from lab.definitions.nodes import Colouring, last_pulse, ports_of
+from lab.definitions.nodes import last_pulse, ports_of, synchronous_pulses
 from lab.schedules.space import Space
 from tests import TOP
 from tests.by_hand.tally import last_line, note
@@ -54,13 +54,10 @@ def chain(items, other="0"):
 
 def due_of(net):
     """{(v, p, w): number that w sends v at pulse p - 1}, and the colours at the end, by nodes that hear and send."""
-    nodes, due = {v: Colouring(net, v) for v in net.neighbours}, {}
-    sent = {v: nodes[v].greet() for v in nodes}
-    for p in range(1, last_pulse(net) + 1):
-        inbox = {v: [sent[w][ports_of(net, w).index(v)] for w in ports_of(net, v)] for v in nodes}
-        for v in nodes:
-            due |= {(v, p, w): slot[1] for w, slot in zip(ports_of(net, v), inbox[v]) if slot}
-        sent = {v: nodes[v].next(p, inbox[v]) for v in nodes}
+    due = {}
+    for p, nodes, inboxes, _ in synchronous_pulses(net):
+        for v, inbox in inboxes.items():
+            due |= {(v, p, w): slot[1] for w, slot in zip(ports_of(net, v), inbox) if slot}
     return due, {v: node.merged for v, node in nodes.items()}
 
 

@@ -5,7 +5,7 @@ import itertools
 import os
 
 from lab.definitions.colours import Network, bit, colours, drop, first_colours, merge, network_of, shift, three
-from lab.definitions.nodes import AlphaNode, Colouring, NetState, last_pulse, ports_of
+from lab.definitions.nodes import AlphaNode, NetState, last_pulse, synchronous_pulses
 from tests import TOP
 from tests.cases import Case
 
@@ -175,12 +175,7 @@ def inbox_of(node):
 
 def inboxes_of(net):
     """What each node has to read in each of its pulses."""
-    nodes, inboxes = {v: Colouring(net, v) for v in net.neighbours}, {}
-    sent = {v: nodes[v].greet() for v in nodes}
-    for pulse in range(1, last_pulse(net) + 1):
-        inboxes.update({(pulse, v): [sent[w][ports_of(net, w).index(v)] for w in ports_of(net, v)] for v in nodes})
-        sent = {v: nodes[v].next(pulse, inboxes[pulse, v]) for v in nodes}
-    return inboxes
+    return {(pulse, v): inbox for pulse, _, inboxes, _ in synchronous_pulses(net) for v, inbox in inboxes.items()}
 
 
 def put_all(state):

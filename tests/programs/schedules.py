@@ -2,23 +2,17 @@
 
 The table of states and steps is compared with a second search, which walks over the network of
 lab/definitions/nodes.py, puts apart; its numbers with a trial's, which was written before it; its lists of events with
-what `forestplay events` makes of them; and the rounds without a rule with nodes that hear and send. `python3 -m
-tests.programs.schedules` plants mistakes in copies of the explorer, and prints each that these tests let through: it
-takes some minutes, and isn't part of the gate."""
-import argparse
+what `forestplay events` makes of them; and the rounds without a rule with nodes that hear and send."""
 import gc
 import itertools
 import os
 import random
-import shutil
 import subprocess
-import sys
 import tempfile
 from collections import Counter
-from concurrent.futures import ThreadPoolExecutor
 
 from lab.definitions.colours import Network, colours, network_of, other_than
-from lab.definitions.nodes import Colouring, NetState, bit_step, last_pulse, ports_of
+from lab.definitions.nodes import Colouring, NetState, bit_step, last_pulse, synchronous_pulses
 from lab.schedules import ruled_rounds, rules
 from lab.schedules.space import Space, TooMany
 from tests import FORESTLAB, TOP
@@ -154,13 +148,8 @@ def shown(state, v):
 
 def payloads_of(net):
     """How many payloads the rounds send."""
-    nodes = {v: Colouring(net, v) for v in net.neighbours}
-    sent, count = {v: nodes[v].greet() for v in nodes}, 0
-    for pulse in range(1, last_pulse(net) + 1):
-        count += sum(payload is not None for payloads in sent.values() for payload in payloads)
-        inboxes = {v: [sent[w][ports_of(net, w).index(v)] for w in ports_of(net, v)] for v in nodes}
-        sent = {v: nodes[v].next(pulse, inboxes[v]) for v in nodes}
-    return count
+    return sum(payload is not None for _, _, _, sent in synchronous_pulses(net) for payloads in sent.values()
+               for payload in payloads)
 
 
 def count_of_events(net):
@@ -259,13 +248,7 @@ class NodeWithout(Colouring):
 def goes_wrong(net, rule):
     """Whether a node hears its own colour from a parent, or has it at the last pulse of the forests, or the plan of
     some forest and those before it has neighbours of one colour."""
-    nodes = {v: NodeWithout(net, v) for v in net.neighbours}
-    for node in nodes.values():
-        node.rule = rule
-    sent = {v: nodes[v].greet() for v in nodes}
-    for pulse in range(1, last_pulse(net) + 1):
-        inboxes = {v: [sent[w][ports_of(net, w).index(v)] for w in ports_of(net, v)] for v in nodes}
-        sent = {v: nodes[v].next(pulse, inboxes[v]) for v in nodes}
+    for pulse, nodes, _, _ in synchronous_pulses(net, type("NodeWithout", (NodeWithout,), {"rule": rule})):
         if any(node.clash for node in nodes.values()):
             return True
         if pulse == 12 and any(nodes[v].colours[f] == nodes[w].colours[f] for v, ws in net.higher.items()
@@ -312,48 +295,6 @@ REFUSED = [
     (["--without", "digit", "--puts"], "the rounds have no events"),
     (["--without", "safes"], "NETWORK is missing"),
     (["examples/two.col", "x"], "unrecognized arguments: x"),
-]
-
-
-# (file of lab/schedules/, text in it, the mistake that is planted in its place)
-MISTAKES = [
-    ("space.py", "return self.content(wires[:place] + wires[place + 1:])",
-     "return self.content(wires[:place + 1] + wires[place + 2:])"),
-    ("space.py", "self.content(self.contents[c] + more)", "self.content(more + self.contents[c])"),
-    ("space.py", "self.content(self.contents[c] + more)", "self.content(self.contents[c] + more[:1])"),
-    ("space.py", "if node.can_pulse():\n            j, gone",
-     "if node.can_pulse() and node.pulse_number != 7:\n            j, gone"),
-    ("space.py", "len(wires) if \"fifo\" in self.without else min(1, len(wires))", "len(wires)"),
-    ("space.py", "len(wires) if \"fifo\" in self.without else min(1, len(wires))", "min(1, len(wires))"),
-    ("space.py", "self.depth.append(self.depth[s] + 1)", "self.depth.append(self.depth[s])"),
-    ("space.py", "self.from_event.append(e)", "self.from_event.append(0)"),
-    ("space.py", "        if not some:\n",
-     "        if not some and self.is_whole(state):\n            s = 0\n        if not some:\n"),
-    ("space.py", "ways[t] += ways[s]", "ways[t] += 1"),
-    ("space.py", "put_until(link, number + 1)", "put_until(link, len(sent[link]))"),
-    ("space.py", "\"safe\" if waits else \"ready\"", "\"ready\" if waits else \"safe\""),
-    ("space.py", "return max(\n            (abs(pulses", "return min(\n            (abs(pulses"),
-    ("space.py", "key = (a, i, p, wires[place])", "key = (a, i, wires[place])"),
-    ("space.py", "node.wrong = node.wrong or fault is not None", "node.wrong = False"),
-    ("space.py", "if t >= self.limit:", "if t > self.limit:"),
-    ("ruled_node.py", "tuple(port.out))", "len(port.out))"),
-    ("ruled_node.py", "port.early, tuple", "None, tuple"),
-    ("ruled_node.py", "(port.waits, port.safe, port.early_safe,", "(port.waits, port.early_safe,"),
-    ("ruled_node.py", "if got is None and due is not None:", "if got is None:"),
-    ("ruled_node.py", "if ahead == 0 or ahead == 1 and \"early\" in self.without:", "if ahead == 0:"),
-    ("ruled_node.py", "return self.pulse_number != self.last and self.said and self.can_take()",
-     "return self.pulse_number != self.last"),
-    ("ruled_node.py", "if \"acks\" in self.without:\n", "if \"acks\" in self.without and not self.pulse_number:\n"),
-    ("ruled_rounds.py", "colour - colour % 2 if", "colour // 2 if"),
-    ("ruled_rounds.py", "and net.parent(f, v) is None else", "and net.parent(f, v) else"),
-    ("ruled_rounds.py", "if \"children\" in without else [before[v]]", "if \"parent\" in without else [before[v]]"),
-    ("ruled_rounds.py", "old = dict.fromkeys(old, 0)", "old = {v: -colour for v, colour in old.items()}"),
-    ("ruled_rounds.py", "== f} for v, ws", "<= f} for v, ws"),
-    ("ruled_rounds.py", "self.net.number[frozenset((v, w))] <= f and", "self.net.number[frozenset((v, w))] < f and"),
-    ("ruled_rounds.py", "for count in range(1, nodes):", "for count in range(2, nodes):"),
-    ("explore.py", "*event_lines(listed), refused", "*event_lines(listed[:-1]), refused"),
-    ("explore.py", "rest // 2:,} puts", "rest:,} puts"),
-    ("explore.py", "str(node.colour + 1)", "str(node.colour)"),
 ]
 
 
@@ -619,49 +560,3 @@ class Schedules(Case):
             self.note("more states than the limit", Space(net_of("two"), limit=280) is None)
         except TooMany:
             self.note("more states than the limit", True)
-
-
-def plant():
-    """Each mistake in a copy of its own, which these tests have to refuse, as they pass the copy without one."""
-    jobs = [(0, None, None, None), *((number, *mistake) for number, mistake in enumerate(MISTAKES, 1))]
-    with ThreadPoolExecutor(2) as pool:
-        verdicts = list(pool.map(lambda job: planted(*job), jobs))
-    wrong = [number for number, passed in enumerate(verdicts) if passed != (number == 0)]
-    for number in wrong:
-        print(f"FAILED {f'mistake {number} is caught' if number else 'a copy without a mistake'}")
-    print(f"{verdicts[1:].count(False)} of {len(MISTAKES)} mistakes caught")
-    print(f"{len(verdicts) - len(wrong)} passed, {len(wrong)} failed")
-    return 1 if wrong else 0
-
-
-def planted(number, name, there, instead):
-    """Whether a copy with this mistake passes."""
-    with tempfile.TemporaryDirectory(prefix="planted-") as folder:
-        for part in ("lab", "build", "tests", "docs", "examples", "bin", "forestplan", "README.md"):
-            copier = shutil.copytree if os.path.isdir(os.path.join(TOP, part)) else shutil.copy2
-            copier(os.path.join(TOP, part), os.path.join(folder, part))
-        for crate in {rule.crate for rule in rules.ALL.values()}:
-            for edits in ("must-fail", "wrong-bodies"):
-                if os.path.isdir(os.path.join(TOP, "crates", crate, edits)):
-                    shutil.copytree(*(os.path.join(top, "crates", crate, edits) for top in (TOP, folder)))
-        if number:
-            path = os.path.join(folder, "lab", "schedules", name)
-            with open(path, encoding="utf-8") as file:
-                source = file.read()
-            if source.count(there) != 1:
-                print(f"{number}: NOT PLANTED: {there}", flush=True)
-                return True
-            with open(path, "w", encoding="utf-8") as file:
-                file.write(source.replace(there, instead))
-        done = subprocess.run([sys.executable, "-m", "tests.running", "--first", "programs.schedules"], cwd=folder,
-                              env=dict(os.environ, TESTS_PLAN=PLAN, TESTS_PLAY=PLAY), capture_output=True, timeout=1200)
-    first = (done.stdout + done.stderr).decode().strip().split("\n")
-    why = first[-1] if done.stderr else first[0]
-    print(f"{number}: {'caught' if done.returncode else 'passed'} ({why[:100]}): {instead}", flush=True)
-    return done.returncode == 0
-
-
-if __name__ == "__main__":
-    words = argparse.ArgumentParser(description=__doc__, formatter_class=argparse.RawDescriptionHelpFormatter)
-    words.parse_args()
-    sys.exit(plant())

@@ -7,7 +7,7 @@ import re
 import subprocess
 
 from lab.definitions.colours import network_of
-from lab.definitions.nodes import Colouring, last_pulse, ports_of
+from lab.definitions.nodes import synchronous_pulses
 from lab.pictures.sheet import farthest
 from tests import FORESTLAB, TOP
 from tests.cases import Case
@@ -41,19 +41,11 @@ class Played:
 
     def __init__(self, net):
         self.colours, self.payloads, self.merged = {}, 0, {}
-        nodes = {v: Colouring(net, v) for v in net.neighbours}
-        sent = {v: nodes[v].greet() for v in nodes}
-        self.count(sent)
-        for p in range(1, last_pulse(net) + 1):
-            inboxes = {v: [sent[w][ports_of(net, w).index(v)] for w in ports_of(net, v)] for v in nodes}
-            sent = {v: nodes[v].next(p, inboxes[v]) for v in nodes}
-            self.count(sent)
+        for p, nodes, _, sent in synchronous_pulses(net):
+            self.payloads += sum(payload is not None for payloads in sent.values() for payload in payloads)
             for v, node in nodes.items():
                 self.colours[p, v] = list(node.colours)
                 self.merged[p, v] = node.merged
-
-    def count(self, sent):
-        self.payloads += sum(payload is not None for payloads in sent.values() for payload in payloads)
 
 
 class Answers(Case):

@@ -1,25 +1,24 @@
 """What each command answers to any bytes, slow and plain: the texts are read here as docs/claim/FORMATS.md says, byte
-by byte; what is written of a text that has no fault comes from the definitions.
-
-The reader of networks shares nothing with lab/networks/network_text.py, so that the programs are judged by a reader
-that no user's command has, and that one too (two_readers.py). An answer is (status, standard output, standard error).
-"""
+by byte, but networks by lab/networks/network_text.py, so that this is compared with the programs; what is written of a
+text that has no fault comes from the definitions. An answer is (status, standard output, standard error)."""
 import functools
+import re
 
 from lab.definitions.colours import Network, forests_text, network_of, plan_text
 from lab.definitions.nodes import NetState, Refused, entry_words, make
 from lab.definitions.rounds import rounds_text
+from lab.networks.network_text import read_network
 from lab.transcripts.reading import Wrong, read
 from lab.transcripts.stamps import Clock, unfinished
+from lab.wrong import Wrong as NoNetwork
 from tests.commands import PROGRAM_OF
 from tests.programs.events import answer_of, state_text
 from tests.programs.verdicts import wrong_plan
 
-MOST_NODES, MOST_EDGES, MOST_NEIGHBOURS = 20_000, 400_000, 1023
 MOST_VERTEX = 2**32 - 1
-IDENTIFIERS = 2**128
-MOST_CHANNEL, MOST_BARS = 2048, 1024
-FORMATS, EVENTS = (b"edge", b"edges", b"col"), (b"pulse", b"put", b"take")
+EVENTS = (b"pulse", b"put", b"take")
+# Where the words of a fault of a whole network have its vertices.
+AT_VERTICES = {"N1": r"vertex (\d+) has", "N2": r"vertices (\d+) and (\d+) have"}
 
 
 class Fault(Exception):
@@ -63,106 +62,18 @@ def numbers(fields, count):
 
 
 def network_in(rows):
-    """Nodes, identifiers that lines give, edges, and barred channels of the lines of a network text."""
-    nodes, given, edges, bars = None, {}, set(), {}
-    for line, fields in enumerate(rows, 1):
-        first = fields[0] if fields else b"c"
-        if first.startswith(b"c") or first in (b"n", b"d", b"v", b"x"):
-            continue
-        if first == b"p":
-            nodes = nodes_in(line, fields, nodes)
-        elif first == b"e":
-            edges.add(edge_in(line, fields, nodes))
-            if len(edges) > MOST_EDGES:
-                raise Fault(f"F7 line {line}")
-        elif first == b"i":
-            vertex, identifier = identifier_in(line, fields, nodes, given)
-            given[vertex] = identifier
-        elif first == b"b":
-            vertex, channel = bar_in(line, fields, nodes)
-            bars.setdefault(vertex, set()).add(channel)
-            if len(bars[vertex]) > MOST_BARS:
-                raise Fault(f"F14 line {line}")
-        else:
-            raise Fault(f"F8 line {line}")
-    if nodes is None:
-        raise Fault("F1")
-    uncrowded(edges)
-    return (nodes, distinct(nodes, given), frozenset(edges),
-            tuple((v, tuple(sorted(channels))) for v, channels in sorted(bars.items())))
-
-
-def nodes_in(line, fields, nodes):
-    if nodes is not None:
-        raise Fault(f"F2 line {line}")
-    found = numbers(fields[2:], 2)
-    if found is None or fields[1] not in FORMATS:
-        raise Fault(f"F4 line {line}")
-    if found[0] > MOST_NODES:
-        raise Fault(f"F7 line {line}")
-    return found[0]
-
-
-def edge_in(line, fields, nodes):
-    found = numbers(fields[1:], 2)
-    if nodes is None:
-        raise Fault(f"F3 line {line}")
-    if found is None:
-        raise Fault(f"F4 line {line}")
-    if not all(1 <= v <= nodes for v in found):
-        raise Fault(f"F5 line {line}")
-    if found[0] == found[1]:
-        raise Fault(f"F6 line {line}")
-    return min(found), max(found)
-
-
-def said_of_vertex(line, fields, nodes):
-    """The vertex and the number of an `i` or a `b` line."""
-    found = numbers(fields[1:], 2)
-    if nodes is None:
-        raise Fault(f"F10 line {line}")
-    if found is None:
-        raise Fault(f"F4 line {line}")
-    if not 1 <= found[0] <= nodes:
-        raise Fault(f"F5 line {line}")
-    return found
-
-
-def bar_in(line, fields, nodes):
-    found = said_of_vertex(line, fields, nodes)
-    if not 1 <= found[1] <= MOST_CHANNEL:
-        raise Fault(f"F13 line {line}")
-    return found
-
-
-def identifier_in(line, fields, nodes, given):
-    found = said_of_vertex(line, fields, nodes)
-    if found[1] >= IDENTIFIERS:
-        raise Fault(f"F11 line {line}")
-    if found[0] in given:
-        raise Fault(f"F12 line {line}")
-    return found
-
-
-def uncrowded(edges):
-    degrees = {}
-    for edge in edges:
-        for v in edge:
-            degrees[v] = degrees.get(v, 0) + 1
-    crowded = [v for v, degree in degrees.items() if degree > MOST_NEIGHBOURS]
-    if crowded:
-        raise Fault(f"N1 vertex {min(crowded)}")
-
-
-def distinct(nodes, given):
-    """The identifiers that lines give, if no two vertices have one; a vertex without such a line has its number."""
-    vertices_with = {}
-    for v in range(1, nodes + 1):
-        vertices_with.setdefault(given.get(v, v), []).append(v)
-    same = [vertices[:2] for vertices in vertices_with.values() if len(vertices) > 1]
-    if same:
-        raise Fault("N2 vertices {} {}".format(*min(same)))
-    return tuple(sorted(given.items()))
+    """Nodes, identifiers that lines give, edges, and barred channels of the lines of a network text, by the reader of
+    the commands: its faults as the programs print them, without the words."""
+    text = b"".join(b" ".join(fields) + b"\r\n" for fields in rows).decode("utf-8", "replace")
+    try:
+        read = read_network(text, "net")
+    except NoNetwork as why:
+        line, words, code = re.fullmatch(r"net(?: line (\d+))?: (.*) \((\w+)\)", str(why)).groups()
+        vertices = re.search(AT_VERTICES[code], words).groups() if code in AT_VERTICES else ()
+        place = f"line {line}" if line else f"{'vertex' if code == 'N1' else 'vertices'} {' '.join(vertices)}"
+        raise Fault(f"{code} {place}" if line or vertices else code) from None
+    return (read.nodes, tuple(sorted(read.said.items())), frozenset(read.edges),
+            tuple((v, tuple(channels)) for v, channels in read.bars.items()))
 
 
 def definition_of(nodes, given, edges, bars):
