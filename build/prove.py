@@ -14,11 +14,6 @@ What is proved is offered to `rt check` of every checkout, which then builds non
 Standard error shows how far it is; the log of a crate is out/build/CRATE.log. Two calls at once wait for each other.
 What has to be proved is decided by what the sources say, not by the times of files. The status is 0 if all is proved, 1
 if a crate isn't, 2 if nothing could be tried, and 130 after Ctrl-C.
-
-From nothing to the program `forestplan` it took 15 min 52 s and 51 processor minutes on four processors with nothing
-beside, and 32 min 26 s and 103 on a machine of half the speed. Earlier proofs, which on four took 17 min 50 s and 59,
-took 35 min 25 s and 69 on two of four, and 66 min 46 s and 64 on one of four while other checks kept the others busy
-(docs/work/DECISIONS.md, 99 and 103).
 """
 import argparse
 import contextlib
