@@ -6,7 +6,6 @@ the program.
 """
 import itertools
 import os
-import random
 import subprocess
 import tempfile
 
@@ -161,10 +160,10 @@ class BlackBox(Case):
             self.note(f"comment of {name}", network.startswith(b"c "), "an example begins with a comment line")
 
     def test_faults(self):
+        """The order of faults, and limits; codes.py has one of each kind, hostile.py what else a text may be."""
         edge = "p edge 2 1|"
         rows = [
             ("", "F1"),
-            ("c x|", "F1"),
             ("e 1 2|p edge 2 1|", "F3 line 1"),
             ("p edge 2 1|p x|", "F2 line 2"),
             ("p edge 3|", "F4 line 1"),
@@ -172,10 +171,7 @@ class BlackBox(Case):
             ("p edge 20001 0|", "F7 line 1"),
             ("q 1|", "F8 line 1"),
             ("node 1|", "F8 line 1"),
-            ("edge 1 2|", "F8 line 1"),
             ("x1|", "F8 line 1"),
-            ("id 1 5|", "F8 line 1"),
-            ("bar 1 1|", "F8 line 1"),
             ("B 1 1|", "F8 line 1"),
             ("\xff|", "F8 line 1"),
             ("p edge 99999999999999999999999999 x|", "F4 line 1"),
@@ -183,25 +179,14 @@ class BlackBox(Case):
             (edge + "e 1 1|", "F6 line 2"),
             (edge + "e 0 1|", "F5 line 2"),
             (edge + "e 1 3|", "F5 line 2"),
-            (edge + "e 5 5|", "F5 line 2"),
             (edge + "e 1|", "F4 line 2"),
-            (edge + "e 1 x|", "F4 line 2"),
             (edge + "e 0 x|", "F4 line 2"),
-            (edge + "e 1 -2|", "F4 line 2"),
             (edge + "e 1 2\r\r|", "F4 line 2"),
             (edge + "e 340282366920938463463374607431768211457 1|", "F5 line 2"),
             (edge + "e 4294967297 4294967297|", "F5 line 2"),
             (edge + "|c|e 1 1|e 0 0|", "F6 line 4"),
             ("e x|p edge 2 1|", "F3 line 1"),
-            ("b1 2|", "F8 line 1"),
-            ("p edge 20001 x|", "F4 line 1"),
             (edge + "e 1 1|q|", "F6 line 2"),
-            (edge + "id 1 5|", "F8 line 2"),
-            (edge + "I 1 5|", "F8 line 2"),
-            (edge + "\xff 1|", "F8 line 2"),
-            (edge + "bar 1 1|", "F8 line 2"),
-            (edge + "i|", "F4 line 2"),
-            (edge + "i x 1|", "F4 line 2"),
             (edge + "i 1 +1|", "F4 line 2"),
             (edge + "i 340282366920938463463374607431768211457 1|", "F5 line 2"),
             (edge + "i 2 5|i 1 5|e 1 2|i 2 6|", "F12 line 5"),
@@ -209,38 +194,21 @@ class BlackBox(Case):
             (edge + bars_of(1, 1, 1024) + "b 3 1|", "F5 line 1026"),
             (edge + bars_of(2, 1025, 2048) + bars_of(1, 1, 1024) + bars_of(2, 2000, 2048) + "b 2 1024|",
              "F14 line 2099"),
-            ("i 1 5|p edge 2 1|", "F10 line 1"),
             ("i x|p edge 2 1|", "F10 line 1"),
-            (edge + "i 1|", "F4 line 2"),
             (edge + "i 3 x|", "F4 line 2"),
-            (edge + "i 3 5|", "F5 line 2"),
             (edge + "i 0 340282366920938463463374607431768211456|", "F5 line 2"),
             (edge + "i 1 340282366920938463463374607431768211456|", "F11 line 2"),
             (edge + "i 1 5|i 1 5|", "F12 line 3"),
             (edge + "i 1 5|i 1 340282366920938463463374607431768211456|", "F11 line 3"),
             (edge + "i 1 2|e 1 2|", "N2 vertices 1 2"),
-            (edge + "i 2 1|", "N2 vertices 1 2"),
             (edge + "i 1 9|i 2 009|", "N2 vertices 1 2"),
-            (edge + "i 2 9|i 1 9|", "N2 vertices 1 2"),
             ("p edge 4 0|i 4 2|i 3 1|", "N2 vertices 1 3"),
             ("p edge 4 0|i 3 1|i 4 2|", "N2 vertices 1 3"),
-            ("b 1 1|", "F10 line 1"),
-            ("b 1 1|p edge 2 1|", "F10 line 1"),
             ("b x|p edge 2 1|", "F10 line 1"),
-            (edge + "b|", "F4 line 2"),
-            (edge + "b 1|", "F4 line 2"),
-            (edge + "b x 1|", "F4 line 2"),
             (edge + "b 3 x|", "F4 line 2"),
-            (edge + "b 1 -1|", "F4 line 2"),
-            (edge + "b 3 1|", "F5 line 2"),
             (edge + "b 3 0|", "F5 line 2"),
             (edge + "b 0 2049|", "F5 line 2"),
-            (edge + "b 4294967297 1|", "F5 line 2"),
-            (edge + "b 1 0|", "F13 line 2"),
             (edge + "b 1 2049|", "F13 line 2"),
-            (edge + "b 1 65537|", "F13 line 2"),
-            (edge + "b 1 4294967297|", "F13 line 2"),
-            (edge + "b 2 18446744073709551617|", "F13 line 2"),
             (edge + "b 1 340282366920938463463374607431768211457|", "F13 line 2"),
             (edge + "b 1 1|b 2 1|b 1 000|", "F13 line 4"),
             (edge + bars_of(1, 1, 1025), "F14 line 1026"),
@@ -257,21 +225,6 @@ class BlackBox(Case):
             done = run_program(PLAN, ["forests"], text(network))
             self.expect(f"fault {fault} of {network[:50]!r}", done, 1, b"", f"forestplan: {fault}\n".encode())
 
-    def test_beginnings(self):
-        """Each beginning of the triangle's text."""
-        whole = text(TRIANGLE)
-        answers = {0: "F1", 10: "forests 3 0|", 11: "forests 3 0|", 16: "forests 3 1|0 1 2|", 17: "forests 3 1|0 1 2|",
-                   22: "forests 3 2|0 1 2|1 1 3|", 23: "forests 3 2|0 1 2|1 1 3|", 28: TRIANGLE_FORESTS,
-                   29: TRIANGLE_FORESTS}
-        for line, (first, last) in enumerate([(1, 9), (12, 15), (18, 21), (24, 27)], 1):
-            answers.update({k: f"F4 line {line}" for k in range(first, last + 1)})
-        for k in range(len(whole) + 1):
-            done = run_program(PLAN, ["forests"], whole[:k])
-            if answers[k].startswith("F"):
-                self.expect(f"first {k} bytes", done, 1, b"", f"forestplan: {answers[k]}\n".encode())
-            else:
-                self.expect(f"first {k} bytes", done, 0, text(answers[k]), b"")
-
     def test_edge_limit(self):
         """400,000 different edges are read; the one after is refused at its line, also after repeats."""
         pairs = [(v, v + d) for d in range(1, 21) for v in range(1, 20001 - d)][:400_001]
@@ -287,19 +240,6 @@ class BlackBox(Case):
         self.expect("400,001 edges after repeats",
                     run_program(PLAN, ["forests"], head + again + body + over + b"e 0 0\n"), 1, b"",
                     b"forestplan: F7 line 401002\n")
-
-    def test_random_networks(self):
-        """Small random networks against the plain definition."""
-        source = random.Random(2026)
-        wrong = 0
-        for _ in range(200):
-            n = source.randrange(1, 12)
-            edges = [(v, w) for v in range(1, n + 1) for w in range(1, n + 1) if v != w and source.random() < 0.3]
-            source.shuffle(edges)
-            network = f"p edge {n} {len(edges)}\n" + "".join(f"e {v} {w}\n" for v, w in edges)
-            done = run_program(PLAN, ["forests"], network.encode())
-            wrong += (done.returncode, done.stdout, done.stderr) != (0, forests_text(network.encode()), b"")
-        self.note("200 random networks against the definition", wrong == 0, f"{wrong} differ")
 
     def test_help(self):
         """Each help text whole, as build/help/ has it."""

@@ -13,7 +13,6 @@ from lab.transcripts.stamps import Clock, unfinished
 from lab.wrong import Wrong as NoNetwork
 from tests.commands import PROGRAM_OF
 from tests.programs.events import answer_of, state_text
-from tests.programs.verdicts import wrong_plan
 
 MOST_VERTEX = 2**32 - 1
 EVENTS = (b"pulse", b"put", b"take")
@@ -111,6 +110,33 @@ def check(rows):
     if not verdict.startswith("proper"):
         raise Fault(verdict)
     return f"{verdict}\n".encode()
+
+
+def wrong_plan(nodes, edges, plan, bars):
+    """Of a plan the first fault, or that it is proper; `bars` are the channels that are barred at some vertices."""
+    most = (
+        max((sum(v in edge for edge in edges) for v in range(1, nodes + 1)), default=0)
+        + max(map(len, bars.values()), default=0)
+        + 1
+    )
+    channels = {}
+    for v, channel in plan:
+        if not 1 <= v <= nodes:
+            return f"C2 vertex {v}"
+        if v in channels:
+            return f"C3 vertex {v}"
+        if channel > most:
+            return f"C5 vertex {v}"
+        if channel in bars.get(v, ()):
+            return f"C8 vertex {v}"
+        channels[v] = channel
+    missing = [v for v in range(1, nodes + 1) if v not in channels]
+    clashes = sorted(tuple(sorted(edge)) for edge in edges if len({channels.get(v) for v in edge}) == 1)
+    if missing:
+        return f"C1 vertex {missing[0]}"
+    if clashes:
+        return "C4 vertices %d %d" % clashes[0]
+    return f"proper {max(channels.values(), default=0)}"
 
 
 def plan_in(rows):

@@ -1,13 +1,12 @@
-"""`check` on worked plans, on every beginning of a valid input, on random plans beside a plain definition of the
-verdict, on the plans that `plain` writes for the examples, and on 20,000 shuffled rows."""
+"""`check` on worked plans, on the plans that `plain` writes for the examples, and on 20,000 shuffled rows; hostile.py
+has random plans."""
 import os
 import random
-import re
 import subprocess
 
-from lab.definitions.colours import fields_of, network_of
 from tests import TOP
 from tests.cases import Case
+from tests.programs.slow_reader import answer_to
 from tests.settings import PLAN
 
 LIMIT = 60
@@ -83,101 +82,18 @@ def run(program, data, **streams):
     return subprocess.run([program, "check"], input=data, capture_output=True, timeout=LIMIT, **streams)
 
 
-def answer_to(said):
+def wanted_of(said):
     return (0, f"{said}\n".encode(), b"") if said.startswith("proper") else (1, b"", f"forestplan: {said}\n".encode())
 
 
 def one_row(program, name, data, said):
     done = run(program, data)
     got = (done.returncode, done.stdout, done.stderr)
-    return name, got == answer_to(said), f"wanted {said}, got {got}"
+    return name, got == wanted_of(said), f"wanted {said}, got {got}"
 
 
-def verdict_of(data):
-    """The verdict on a plan after a network without a fault, by the definition."""
-    lines = data.split(b"\n")
-    rows = [fields_of(line) for line in lines]
-    start = next((i for i, row in enumerate(rows) if row[:1] == [b"plan"]), len(rows))
-    net = network_of(b"\n".join(lines[:start]))
-    bars = {v: {channel + 1 for channel in barred} for v, barred in net.barred.items()}
-    plan = [row for row in rows[start + 1 :] if row]
-    return wrong_line(rows[start:]) or wrong_plan(len(net.neighbours), set(net.number),
-                                                  [tuple(map(int, row)) for row in plan], bars)
-
-
-def wrong_line(lines):
-    filled = [(n, line) for n, line in enumerate(lines, 1) if line]
-    if not filled:
-        return "C6 line 1"
-    for i, (n, line) in enumerate(filled):
-        is_row = len(line) == 2 and all(re.fullmatch(rb"[0-9]+", field) and int(field) < 2**32 for field in line)
-        if not (line == [b"plan"] if i == 0 else is_row and int(line[1]) > 0):
-            return f"C6 line {n}"
-    return None
-
-
-def wrong_plan(nodes, edges, plan, bars):
-    """Of a plan the first fault, or that it is proper; `bars` are the channels that are barred at some vertices."""
-    most = (
-        max((sum(v in edge for edge in edges) for v in range(1, nodes + 1)), default=0)
-        + max(map(len, bars.values()), default=0)
-        + 1
-    )
-    channels = {}
-    for v, channel in plan:
-        if not 1 <= v <= nodes:
-            return f"C2 vertex {v}"
-        if v in channels:
-            return f"C3 vertex {v}"
-        if channel > most:
-            return f"C5 vertex {v}"
-        if channel in bars.get(v, ()):
-            return f"C8 vertex {v}"
-        channels[v] = channel
-    missing = [v for v in range(1, nodes + 1) if v not in channels]
-    clashes = sorted(tuple(sorted(edge)) for edge in edges if len({channels.get(v) for v in edge}) == 1)
-    if missing:
-        return f"C1 vertex {missing[0]}"
-    if clashes:
-        return "C4 vertices %d %d" % clashes[0]
-    return f"proper {max(channels.values(), default=0)}"
-
-
-def beginnings(whole):
-    """Each beginning of a valid input, and what is said of it: up to the plan a fault of the network, or no plan."""
-    start = whole.index(b"plan")
-    said = {0: "F1", start + 1: "F2 line 5", start + 2: "F8 line 5", start + 3: "F8 line 5"}
-    said.update({k: "F4 line 1" for k in range(1, 10)})
-    for line, first in ((2, 12), (3, 18), (4, 24)):
-        said.update({k: f"F4 line {line}" for k in range(first, first + 4)})
-    return [(k, said.get(k) or verdict_of(whole[:k])) for k in range(len(whole) + 1)]
-
-
-def random_plans(program):
-    source, different = random.Random(SEED), []
-    for _ in range(300):
-        nodes = source.randint(0, 6)
-        edges = [(v, w) for v in range(1, nodes + 1) for w in range(1, v) if source.random() < 0.4]
-        plan = [(v, source.randint(1, 4)) for v in range(1, nodes + 1)]
-        source.shuffle(plan)
-        bars = (
-            [(source.randint(1, nodes), source.randint(1, 4)) for _ in range(source.choice((0, 0, 1, 3)))]
-            if nodes
-            else []
-        )
-        for _ in range(source.choice((0, 0, 1, 2))):
-            plan.insert(source.randint(0, len(plan)), (source.randint(0, nodes + 1), source.randint(0, 5)))
-        plan = plan[source.choice((0, 0, 0, 1)):]
-        data = text_of(nodes, edges, plan, bars)
-        done = run(program, data)
-        if (done.returncode, done.stdout, done.stderr) != answer_to(verdict_of(data)):
-            different.append((data, verdict_of(data), done))
-    return "300 random plans by the definition of the verdict", not different, f"{len(different)}: {different[:1]}"
-
-
-def text_of(nodes, edges, plan, bars=()):
-    return (b"p edge %d %d\n" % (nodes, len(edges)) + b"".join(b"e %d %d\n" % edge for edge in edges)
-            + b"".join(b"b %d %d\n" % bar for bar in bars) + b"plan\n"
+def text_of(nodes, edges, plan):
+    return (b"p edge %d %d\n" % (nodes, len(edges)) + b"".join(b"e %d %d\n" % edge for edge in edges) + b"plan\n"
             + b"".join(b"%d %d\n" % row for row in plan))
 
 
@@ -197,7 +113,7 @@ def largest(program):
     plan[-1] = (20_000, plan[-2][1])
     bad = run(program, text_of(20_000, edges, plan))
     got = [(done.returncode, done.stdout, done.stderr) for done in (good, bad)]
-    return "20,000 rows and 399,790 edges", got == [answer_to("proper 21"), answer_to("C4 vertices 19999 20000")], got
+    return "20,000 rows and 399,790 edges", got == [wanted_of("proper 21"), wanted_of("C4 vertices 19999 20000")], got
 
 
 def piped_rows(program, examples):
@@ -207,7 +123,7 @@ def piped_rows(program, examples):
         with open(os.path.join(examples, name), "rb") as file:
             network = file.read()
         plan = subprocess.run([program, "plain"], input=network, capture_output=True, timeout=LIMIT).stdout
-        said = verdict_of(network + plan)
+        said = b"".join(answer_to("check", network + plan)[1:]).decode().strip()
         rows.append((f"example {name} ends in a line feed", network.endswith(b"\n"), network[-20:]))
         rows.append((f"the plan of example {name} is proper by the definition", said.startswith("proper"), said))
         rows.append(one_row(program, f"check of example {name} and its plan", network + plan, said))
@@ -230,14 +146,6 @@ class Verdicts(Case):
     def test_worked(self):
         for text, said in WORKED_VERDICTS:
             self.note(*one_row(PLAN, f"verdict {said} of {text[-40:]!r}", text.replace("|", "\n").encode(), said))
-
-    def test_beginnings(self):
-        whole = GOOD.replace("|", "\n").encode()
-        for k, said in beginnings(whole):
-            self.note(*one_row(PLAN, f"check of the first {k} bytes", whole[:k], said))
-
-    def test_random(self):
-        self.note(*random_plans(PLAN))
 
     def test_large(self):
         self.note(*shuffled(PLAN))
