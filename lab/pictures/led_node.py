@@ -1,9 +1,9 @@
 """A node of the definitions (lab/definitions/nodes.py) that makes the entries of a transcript one after another,
-without its neighbours: what it sends is what the rounds have. How far its ports are is what the automaton and the
-timing show."""
+without its neighbours: what it sends is what the rounds have. The entries are a run, as lab/transcripts has found. How
+far its ports are is what the automaton and the timing show."""
 from functools import lru_cache
 
-from lab.definitions.nodes import AlphaNode, Refused, wire_words
+from lab.definitions.nodes import AlphaNode
 
 
 class Sends:
@@ -27,7 +27,7 @@ class Sends:
 
 
 class LedNode(AlphaNode):
-    """A node of a network; an entry that it can't make is refused with the words that say why."""
+    """A node of a network."""
 
     def __init__(self, net, v, neighbours, sends, last):
         self.port_to = dict(zip(neighbours, range(len(neighbours))))
@@ -49,32 +49,11 @@ class LedNode(AlphaNode):
     def make(self, entry):
         """An entry of lab/pictures/transcripts.py."""
         if entry.kind == "pulse":
-            self.make_pulse(entry.pulse)
+            self.pulse()
         elif entry.kind == "put":
-            self.put(entry.neighbour, defined(entry.wire))
+            self.ports[self.port_to[entry.neighbour]].out.pop(0)
         else:
-            self.take(entry.neighbour, defined(entry.wire))
-
-    def make_pulse(self, number):
-        if not self.can_pulse():
-            raise Refused(f"it can't begin pulse {number} here")
-        if number != self.pulse_number + 1:
-            raise Refused(f"its next pulse is {self.pulse_number + 1}")
-        self.pulse()
-
-    def put(self, w, wire):
-        out = self.ports[self.port_to[w]].out
-        if not out:
-            raise Refused(f"it has nothing to put for {w}")
-        if out[0] != wire:
-            raise Refused(f"what it has to put for {w} is {wire_words(out[0])}")
-        out.pop(0)
-
-    def take(self, w, wire):
-        try:
-            self.on_wire(self.port_to[w], wire)
-        except Refused:
-            raise Refused(f"it can't take {wire_words(wire)} from {w} here") from None
+            self.on_wire(self.port_to[entry.neighbour], defined(entry.wire))
 
 
 @lru_cache(1 << 16)

@@ -1,7 +1,7 @@
 """How often each step of the synchroniser is made in a run, and what one node knew after each of its entries."""
 from collections import Counter
 
-from lab.pictures.transcripts import make, nodes_of
+from lab.pictures.transcripts import nodes_of
 
 
 def steps_of(run, first, last):
@@ -12,7 +12,7 @@ def steps_of(run, first, last):
         node = states[v]
         for entry in listed:
             stage, levels = node.stage(), {w: node.level(w) for w in node.port_to}
-            make(node, entry, run.name)
+            node.make(entry)
             if not first <= node.pulse_number <= last:
                 continue
             cause = "pulse" if entry.kind == "pulse" else entry.wire[0]
@@ -40,6 +40,6 @@ def moments_of(run, v):
     """What v knew, entry by entry."""
     node, moments = nodes_of(run)[v], []
     for entry in run.entries[v]:
-        make(node, entry, run.name)
+        node.make(entry)
         moments.append(Moment(node, entry))
     return moments

@@ -3,7 +3,7 @@ place in time for each, which is its stamp. lab/transcripts reads it, finds an o
 from collections import deque
 
 from lab.definitions.colours import Network
-from lab.definitions.nodes import Colouring, Refused, wire_words
+from lab.definitions.nodes import Colouring, wire_words
 from lab.pictures.led_node import LedNode, defined
 from lab.pictures.program_rounds import rounds_of
 from lab.transcripts.check import find_order, first_fault, first_refused, refusal_of
@@ -99,14 +99,6 @@ def nodes_of(run):
     """A fresh node for each vertex, to be replayed."""
     sends, net = sends_of(run.rounds), run.rounds.net
     return {v: LedNode(net, v, run.network.neighbours[v], sends[v], run.last) for v in run.network.vertices}
-
-
-def make(node, entry, name):
-    """One entry at its node."""
-    try:
-        node.make(entry)
-    except Refused as why:
-        raise wrong_line(name, entry.line, f"node {entry.vertex}: {why}") from None
 
 
 def identifiers_of(network, entries):
