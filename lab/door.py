@@ -1,6 +1,6 @@
 """How a command that is written in Python ends: with one line in place of a traceback, whatever happens.
 
-A closed or full output, too little memory and Ctrl-C are no faults of the command. A reader that has gone away is no
+What was given may be wrong; a closed or full output, too little memory and Ctrl-C are no faults of the command. A reader that has gone away is no
 fault at all."""
 import contextlib
 import io
@@ -8,6 +8,8 @@ import os
 import signal
 import sys
 import traceback
+
+from lab.wrong import Wrong
 
 # The statuses of a fault of the command itself, and of Ctrl-C.
 OWN_FAULT, STOPPED = 70, 130
@@ -92,6 +94,8 @@ def run(name, load):
         finally:
             sys.stdout.flush()
             signal.signal(signal.SIGINT, signal.SIG_IGN)
+    except Wrong as why:
+        return ended(1, f"{name}: {why}")
     except KeyboardInterrupt:
         return ended(STOPPED, f"{name}: interrupted")
     except BrokenPipeError:

@@ -126,14 +126,10 @@ def main(words: list[str]) -> int:
         table = table_of(given.table) if given.table else None
     except Wrong as why:
         asked.error(str(why))
-    try:
-        rows = rows_of(text_at("-"), "the plan")
-        if table is None:
-            table = sorted({number for _, _, number in rows})
-            print(f"channels: 1 to {len(table)} are {' '.join(map(str, table))}", file=sys.stderr)
-        of = (from_real if given.back else to_real)(rows, table, "the plan")
-    except Wrong as why:
-        print(f"channels: {why}", file=sys.stderr)
-        return 1
+    rows = rows_of(text_at("-"), "the plan")
+    if table is None:
+        table = sorted({number for _, _, number in rows})
+        print(f"channels: 1 to {len(table)} are {' '.join(map(str, table))}", file=sys.stderr)
+    of = (from_real if given.back else to_real)(rows, table, "the plan")
     write(given, "plan\n" + "".join(f"{vertex} {of[channel]}\n" for _, vertex, channel in rows))
     return 0

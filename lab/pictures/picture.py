@@ -563,9 +563,6 @@ def main(words):
         kinds[given.kind].error("--stopped is for --wrong")
     try:
         picture = drawn(given)
-    except Wrong as why:
-        print(f"picture: {why}", file=sys.stderr)
-        return 1
     except programs.Refused as why:
         sys.stderr.write(why.words)
         return why.status

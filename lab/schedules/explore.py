@@ -127,11 +127,7 @@ def main(words):
         line.error(f"the rounds have no events: --list, --puts and --reduce are for the rules {rules}")
     if given.reduce and set(given.without) & {"safes", "fifo"}:
         line.error("--reduce is right only if nodes keep the rules safes and fifo")
-    try:
-        found = rounds_found(given) if of_rounds else schedules_found(given)
-    except Wrong as why:
-        print(f"explore: {why}", file=sys.stderr)
-        return 1
+    found = rounds_found(given) if of_rounds else schedules_found(given)
     write(given, json.dumps(found._asdict()) + "\n" if given.json else found.words)
     return int(found.broken)
 

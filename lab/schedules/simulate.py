@@ -272,13 +272,8 @@ def main(words):
         line.error("--to-the-end is for a list of --events")
     if given.network == given.events == "-":
         line.error("standard input is one file, not two")
-    try:
-        name, net = network_at(given.network)
-        check_names(name, net, given)
-        rows = rows_asked(net, given)
-    except Wrong as why:
-        print(f"simulate: {why}", file=sys.stderr)
-        return 1
-    write(given, text_of_rows(len(net.neighbours), rows))
+    name, net = network_at(given.network)
+    check_names(name, net, given)
+    write(given, text_of_rows(len(net.neighbours), rows_asked(net, given)))
     return 0
 

@@ -337,11 +337,7 @@ def main(words):
     given = words_of_command().parse_args(words)
     # Nothing that is made here goes round in a circle that would have to be collected before the end.
     gc.disable()
-    try:
-        net, _, text, program = texts_of(given)
-    except WrongNetwork as failed:
-        print(f"transcript: {failed}", file=sys.stderr)
-        return 1
+    net, _, text, program = texts_of(given)
     note_ignored_bars("transcript", net.barred, program)
     try:
         made, said = whole_run(net, text, program)

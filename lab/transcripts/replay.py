@@ -60,9 +60,6 @@ def main(words):
     except WrongEntry as wrong:
         print(wrong, file=sys.stderr)
         return 1
-    except Wrong as why:
-        print(f"transcript: {why}", file=sys.stderr)
-        return 1
     except programs.Refused as why:
         sys.stderr.write(why.words)
         return why.status

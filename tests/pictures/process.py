@@ -9,8 +9,8 @@ import os
 import signal
 import subprocess
 import sys
-import traceback
 
+from lab import door
 from lab.pictures import picture
 from tests import TOP
 
@@ -50,14 +50,10 @@ def paint(main, request):
     os.dup2(os.open(request["input"], os.O_RDONLY), 0)
     for stream, path in ((1, request["output"]), (2, request["errors"])):
         os.dup2(os.open(path, os.O_WRONLY | os.O_CREAT | os.O_TRUNC), stream)
-    status = 1
     try:
-        status = main(request["words"])
+        status = door.run("picture", lambda: lambda: main(request["words"]))
     except SystemExit as end:
         status = end.code
-    except BaseException:
-        traceback.print_exc()
-    sys.stdout.flush()
     sys.stderr.flush()
     os._exit(status)
 
