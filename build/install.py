@@ -11,7 +11,7 @@ import sys
 import tempfile
 
 from build import completion, kit, manuals, readme
-from lab import sums, version
+from lab import checksums, version
 from lab.door import SIGNALS
 from lab.workshop.class_files import IS_CLASS, class_files, finish_class, write_scripts
 
@@ -125,15 +125,15 @@ def make(room, is_class=False):
     if is_class:
         finish_class(room)
     write(os.path.join(room, "VERSION"), version_text(is_class))
-    write(os.path.join(room, sums.NAME), sums.text_of(room))
+    write(os.path.join(room, checksums.NAME), checksums.text_of(room))
 
 
 def put(room, folder):
     """Moves all from a folder beside it into place, each file in place of what was there, even if that is being run or
     is a link; and removes what an earlier install put there and this one doesn't. Where a folder is in the place of a
     file, or the other way round, nothing is moved."""
-    before, now = sums.read(folder), sums.read(room)
-    for path in [*now, sums.NAME]:
+    before, now = checksums.read(folder), checksums.read(room)
+    for path in [*now, checksums.NAME]:
         *above, last = path.split("/")
         for at in range(1, len(above) + 1):
             place = os.path.join(folder, *above[:at])
@@ -141,11 +141,11 @@ def put(room, folder):
                 raise OSError(f"{place} is no folder")
         if os.path.isdir(os.path.join(folder, path)) and not os.path.islink(os.path.join(folder, path)):
             raise OSError(f"{os.path.join(folder, path)} is a folder")
-    for path in [*now, sums.NAME]:
+    for path in [*now, checksums.NAME]:
         os.makedirs(os.path.dirname(os.path.join(folder, path)), exist_ok=True)
         os.replace(os.path.join(room, path), os.path.join(folder, path))
     for path, known in before.items():
-        if path not in now and sums.of(os.path.join(folder, path)) == known:
+        if path not in now and checksums.of(os.path.join(folder, path)) == known:
             os.remove(os.path.join(folder, path))
 
 

@@ -8,7 +8,7 @@ import platform
 import sys
 import tarfile
 
-from lab import sums
+from lab import checksums
 from lab.workshop.class_files import IS_CLASS
 
 HELP = """\
@@ -56,7 +56,7 @@ def write(folder, name, to):
     try:
         with open(new, "wb") as file, gzip.GzipFile("", "wb", fileobj=file, mtime=0) as packed, \
                 tarfile.open(fileobj=packed, mode="w", format=tarfile.PAX_FORMAT) as archive:
-            for path in sorted([*sums.read(folder), sums.NAME]):
+            for path in sorted([*checksums.read(folder), checksums.NAME]):
                 with open(os.path.join(folder, path), "rb") as content:
                     archive.addfile(entry(folder, path, name), content)
         if os.path.exists(to) and not filecmp.cmp(new, to, shallow=False):
@@ -74,10 +74,10 @@ def main():
     words.add_argument("folder", metavar="FOLDER", help="a folder that python3 build install made")
     words.add_argument("to", metavar="TO", nargs="?", default=".", help="the folder of the archive; default: this one")
     asked = words.parse_args()
-    listed = sums.read(asked.folder)
+    listed = checksums.read(asked.folder)
     if not listed:
-        words.error(f"{asked.folder} has no {sums.NAME}: it isn't what python3 build install makes")
-    changed = [path for path, known in listed.items() if sums.of(os.path.join(asked.folder, path)) != known]
+        words.error(f"{asked.folder} has no {checksums.NAME}: it isn't what python3 build install makes")
+    changed = [path for path, known in listed.items() if checksums.of(os.path.join(asked.folder, path)) != known]
     if changed:
         print(f"pack: {len(changed)} files aren't as they were installed, first: {changed[0]}", file=sys.stderr)
         return 1
@@ -86,7 +86,7 @@ def main():
         to = os.path.join(asked.to, f"{name}.tar.gz")
         write(asked.folder, name, to)
         with open(f"{to}.sha256", "w", encoding="utf-8") as file:
-            file.write(f"{sums.of(to)}  {os.path.basename(to)}\n")
+            file.write(f"{checksums.of(to)}  {os.path.basename(to)}\n")
     except OSError as failed:
         print(f"pack: {failed}", file=sys.stderr)
         return 1

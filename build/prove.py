@@ -9,7 +9,7 @@ docs/work/DECISIONS.md, 93 and 99). What is proved is kept for all checkouts of 
 call that was interrupted goes on where it was, and nothing is proved twice. A program goes into its crate's out/.
 
 What is proved is offered to `rt check` of every checkout, which then builds none of the libraries below a crate
-(shared.py). With --kept the crates are built in their out/ instead, over what earlier checks kept there.
+(offered.py). With --kept the crates are built in their out/ instead, over what earlier checks kept there.
 
 Standard error shows how far it is; the log of a crate is out/build/CRATE.log. Two calls at once wait for each other.
 What has to be proved is decided by what the sources say, not by the times of files. The status is 0 if all is proved, 1
@@ -25,11 +25,11 @@ import subprocess
 import sys
 import time
 
-from build import kit, shared
+from build import kit, offered
 from build.crate_lists import TOP, listed, with_below
+from build.estimates import jobs_with_room, measured_seconds, processors, seconds_of
 from build.order import WAY, Order
-from build.reckoning import jobs_with_room, measured_seconds, processors, seconds_of
-from build.shown import Shown
+from build.progress import Shown
 
 LOGS = os.path.join(TOP, "out", "build")
 
@@ -160,7 +160,7 @@ def prove_anew(crates, below, jobs, shown):
             made = os.path.join(kit.place(crate, keys[crate]), crate)
             if os.path.isfile(made):
                 put_program(crate, made, start)
-        shared.share(crates, keys, is_done=is_done)
+        offered.share(crates, keys, is_done=is_done)
     return failed
 
 

@@ -13,7 +13,7 @@ import sys
 
 from build.order import PROGRAMS, Order
 from build.crate_lists import listed, with_below
-from build.reckoning import measured_seconds, seconds_of
+from build.estimates import measured_seconds, seconds_of
 
 # A crate's reading: these seconds and a share of its own. A further process reads for LOAD seconds. The last piece of a
 # proof is a share LAST of it.

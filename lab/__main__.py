@@ -35,7 +35,7 @@ READERS = {
 }
 COMMANDS = {name: command for commands in READERS.values() for name, command in commands.items()}
 # What scripts ask for besides.
-INNER = {"watch": "lab.watch"}
+INNER = {"progress": "lab.progress"}
 HELP = """\
 Draws, runs, judges and teaches what forestplan computes.
 

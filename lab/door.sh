@@ -15,7 +15,7 @@ begin() {
 run_program() {
   trap '' XFSZ
   if [ -t 2 ] && [[ ${3-} =~ ^(plan|transcript)$ ]]; then
-    (begin lab watch $$ "$2" "$3") </dev/null >/dev/null &
+    (begin lab progress $$ "$2" "$3") </dev/null >/dev/null &
   fi
   GLIBC_TUNABLES=${GLIBC_TUNABLES-glibc.malloc.hugetlb=1} exec "$1" "${@:3}"
 }

@@ -7,7 +7,7 @@ import shutil
 import tempfile
 from typing import Iterator
 
-from lab import sums, version
+from lab import checksums, version
 from lab.programs import FIRST, SCRIPT, TOP, program_file
 from lab.wrong import Wrong
 
@@ -16,8 +16,8 @@ COPIED = (
     "LICENSE-MIT", "LICENSE-APACHE", "bin/forestlab",
     "docs/learn/TUTORIAL.md", "docs/learn/GALLERY.md", "docs/learn/OWN_NETWORK.md", "docs/learn/PROTOCOL.md",
     "docs/learn/WORKSHOP.md", "docs/pictures",
-    "examples", "lab/__init__.py", "lab/__main__.py", "lab/door.py", "lab/door.sh", "lab/programs.py",
-    "lab/python", "lab/sums.py", "lab/version.py", "lab/watch.py", "lab/words.py", "lab/wrong.py",
+    "examples", "lab/__init__.py", "lab/__main__.py", "lab/checksums.py", "lab/door.py", "lab/door.sh",
+    "lab/programs.py", "lab/progress.py", "lab/python", "lab/version.py", "lab/words.py", "lab/wrong.py",
     "lab/networks", "lab/workshop",
     "lab/schedules/__init__.py", "lab/schedules/policies.py",
     "lab/transcripts/__init__.py", "lab/transcripts/fields.py", "lab/transcripts/proved_judge.py",
@@ -136,4 +136,4 @@ def copy_class(room: str) -> None:
     finish_class(room)
     text = version.text()
     write(os.path.join(room, "VERSION"), text if IS_CLASS in text.splitlines() else f"{text}{IS_CLASS}\n")
-    write(os.path.join(room, sums.NAME), sums.text_of(room))
+    write(os.path.join(room, checksums.NAME), checksums.text_of(room))

@@ -423,8 +423,8 @@ class FirstRun(Case):
 
     def test_watch(self):
         """A line of a run now and then, until it ends; of another process, or none, nothing."""
-        script = ("import sys; from lab import watch; watch.MOMENTS = [0.1, 0.2, 60]; "
-                  "sys.exit(watch.main(sys.argv[1:]))")
+        script = ("import sys; from lab import progress; progress.MOMENTS = [0.1, 0.2, 60]; "
+                  "sys.exit(progress.main(sys.argv[1:]))")
         network = os.path.join(TOP, "examples", "triangle.col")
         with open(network, "rb") as given, subprocess.Popen(["sleep", "4"], stdin=given) as run:
             done = subprocess.run([sys.executable, "-c", script, str(run.pid), "forestplan", "plan"], cwd=TOP,
