@@ -20,23 +20,21 @@ compiler, `cc`."""
 import argparse
 import contextlib
 import functools
-import multiprocessing
 import os
 import random
 import resource
 import subprocess
 import sys
 import tempfile
-import time
-from collections import Counter
 from itertools import combinations
 
 from lab.definitions.colours import network_of, plan_text
 from lab.transcripts.check import Wrong, whole_run
 from tests import TOP
+from tests.by_hand.numbered_runs import add_options, all_runs, last_line
 from tests.faults.refused_memory import build_front
 
-LIMIT, BATCH = 60, 100
+LIMIT = 60
 KIB, MIB = 2**10, 2**20
 REFUSALS = {(4, b"", b"forestplan: memory\n"): "memory", (4, b"", b"forestplan: threads\n"): "threads"}
 FRONTS = ("started", "refuse_thread", "limit_under_way")
@@ -159,38 +157,12 @@ def counts_in(name):
 def one_run(given, fronts, folder, number):
     run = Run(given, number)
     came, fault = run.outcome(fronts, folder)
-    return came, fault and f"FAILED run {number}: {fault}; {run.told()}"
-
-
-def all_runs(given, fronts, folder):
-    """What came of the runs, and how often; how many failed. No batch is left unfinished if the minutes are over."""
-    end = None if given.minutes is None else time.monotonic() + 60 * given.minutes
-    came, failed, after = Counter(), 0, given.first + given.runs
-    with multiprocessing.Pool(given.jobs) as pool:
-        for first in range(given.first, after, BATCH):
-            numbers = range(first, min(first + BATCH, after))
-            for what, fault in pool.imap(functools.partial(one_run, given, fronts, folder), numbers):
-                came[what] += 1
-                failed += fault is not None
-                if fault is not None:
-                    print(fault, flush=True)
-            print(f"{passed_of(came, failed)} passed so far; to go on: --first {numbers.stop}", flush=True)
-            if end is not None and time.monotonic() > end:
-                break
-    return came, failed
-
-
-def passed_of(came, failed):
-    return came.total() - came[NOT_LOADED] - failed
+    return {came: 1, "runs": came != NOT_LOADED}, fault and f"{number}: {fault}; {run.told()}"
 
 
 def main():
     words = argparse.ArgumentParser(description=__doc__, formatter_class=argparse.RawDescriptionHelpFormatter)
-    words.add_argument("--runs", type=int, default=1000)
-    words.add_argument("--first", type=int, default=1)
-    words.add_argument("--minutes", type=float, default=None)
-    words.add_argument("--seed", default="2026")
-    words.add_argument("--jobs", type=int, default=max(1, len(os.sched_getaffinity(0)) // 2))
+    add_options(words, max(1, len(os.sched_getaffinity(0)) // 2))
     words.add_argument("--program", type=os.path.abspath,
                        default=os.path.join(TOP, "crates", "forestplan", "out", "forestplan"))
     given = words.parse_args()
@@ -198,13 +170,12 @@ def main():
         fronts = [build_front(folder, name) for name in FRONTS]
         if any(failure is not None for _, failure in fronts):
             sys.exit(f"the libraries before the program don't build: {fronts}")
-        came, failed = all_runs(given, [front for front, _ in fronts], folder)
-    print(f"seed {given.seed}, runs {given.first} to {given.first + came.total() - 1}")
+        counts = all_runs(given, functools.partial(one_run, given, [front for front, _ in fronts], folder))
+    came = {what: count for what, count in counts.items() if what not in ("runs", "tried", "failed")}
     for what, count in sorted(came.items()):
         print(f"{count:8} {what}")
-    late = sum(count for what, count in came.items() if "memory refused, all" in what)
-    print(f"{passed_of(came, failed)} passed, {failed} failed")
-    return 1 if failed or not late else 0
+    is_late = any("memory refused, all" in what for what in came)
+    return 0 if last_line(counts) and is_late else 1
 
 
 if __name__ == "__main__":

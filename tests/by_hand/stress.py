@@ -20,22 +20,19 @@ takes processors too. A transcript has to be accepted by lab/transcripts/check.p
 import argparse
 import contextlib
 import functools
-import multiprocessing
 import os
 import random
 import subprocess
 import sys
 import threading
-import time
-from collections import Counter
 
 from lab.definitions.colours import network_of
 from lab.transcripts.check import Wrong, in_order, whole_run
 from tests import TOP
+from tests.by_hand.numbered_runs import add_options, all_runs, last_line
 from tests.programs.plain_networks import cycle, path, some_bars, star, text_of, tree
 from tests.programs.transcripts import is_counted, replayed_by
 
-BATCH = 100
 PROCESSORS = sorted(os.sched_getaffinity(0))
 # As long as the process is there that started it.
 BUSY = 'while kill -0 "$0" 2>/dev/null; do :; done'
@@ -122,53 +119,27 @@ def fault_in(play, data, answer):
 
 
 def one_run(given, number):
-    """Run of a number: what is wrong, or None; how often threads were moved; and the number of entries."""
+    """Run of a number: how often threads were moved, and the number of entries; and what is wrong, or None."""
     source = random.Random(f"{given.seed} {number}")
     data, workers, capacity = network(source), number_up_to_64(source), number_up_to_64(source)
     words = [given.program, "transcript", "--workers", str(workers), "--capacity", str(capacity)]
     answer, moves = disturbed(source, words, data, given.limit)
     fault = fault_in(given.play, data, answer)
     if fault is not None:
-        fault = f"FAILED run {number}, {workers} workers, capacity {capacity}: {fault}; network {data!r}"
-    return fault, moves, answer[1].count(b"\n") - 1
-
-
-def all_runs(given):
-    """The counts of the runs. No run is left unfinished if the minutes are over: they are looked at after each
-    batch."""
-    end = None if given.minutes is None else time.monotonic() + 60 * given.minutes
-    counts, after = Counter(failed=0), given.first + given.runs
-    with multiprocessing.Pool(given.jobs) as pool:
-        for first in range(given.first, after, BATCH):
-            numbers = range(first, min(first + BATCH, after))
-            for fault, moves, entries in pool.imap(functools.partial(one_run, given), numbers):
-                counts.update(runs=1, failed=fault is not None, moves=moves, entries=entries)
-                if fault is not None:
-                    print(fault, flush=True)
-            print(f"{counts['runs'] - counts['failed']} passed so far; to go on: --first {numbers.stop}", flush=True)
-            if end is not None and time.monotonic() > end:
-                break
-    return counts
+        fault = f"{number}, {workers} workers, capacity {capacity}: {fault}; network {data!r}"
+    return {"runs": 1, "moves": moves, "entries": answer[1].count(b"\n") - 1}, fault
 
 
 def main():
     words = argparse.ArgumentParser(description=__doc__, formatter_class=argparse.RawDescriptionHelpFormatter)
-    words.add_argument("--runs", type=int, default=1000)
-    words.add_argument("--first", type=int, default=1)
-    words.add_argument("--minutes", type=float, default=None)
+    add_options(words, len(PROCESSORS))
     words.add_argument("--limit", type=float, default=300)
-    words.add_argument("--seed", default="2026")
-    words.add_argument("--jobs", type=int, default=len(PROCESSORS))
     for name, program in (("--program", "forestplan"), ("--play", "forestplay")):
         words.add_argument(name, type=os.path.abspath, default=os.path.join(TOP, "crates", program, "out", program))
     given = words.parse_args()
-    counts = all_runs(given)
-    print(
-        f"seed {given.seed}, runs {given.first} to {given.first + counts['runs'] - 1}: {counts['entries']} entries in "
-        f"all, threads moved {counts['moves']} times"
-    )
-    print(f"{counts['runs'] - counts['failed']} passed, {counts['failed']} failed")
-    return 1 if counts["failed"] or not counts["runs"] else 0
+    counts = all_runs(given, functools.partial(one_run, given))
+    print(f"{counts['entries']} entries in all, threads moved {counts['moves']} times")
+    return 0 if last_line(counts) else 1
 
 
 if __name__ == "__main__":
