@@ -9,9 +9,10 @@ SAY = {
     "greet": "Every node tells its neighbours its identifier.",
     "orient": "Each numbers its higher neighbours and tells each its forest: the edges are parted.",
     "seed": "Each begins, in every forest, with its identifier as colour, and sends it to its children.",
-    "step": "Bit step: the place and the digit in which its colour differs from its parent’s.",
+    "step": "Bit step: i is the lowest place in which its binary digits differ from its parent’s; its new colour is "
+            "2·i plus its own digit there.",
     "shift": "Shift: each takes its parent’s colour, a root another one.",
-    "drop": "Drop: who has the colour at hand takes the least of 0, 1, 2 that is free.",
+    "drop": "Drop: who has colour {} takes the least of 0, 1, 2 that is free.",
     "merge": "Merge: those whose turn it is choose the least free channel and tell it.",
 }
 
@@ -47,7 +48,8 @@ def number(value):
 def caption(rounds, number):
     """The title of a pulse, and a sentence of what is done in it."""
     pulse, forests = rounds.pulses[number], rounds.forests
-    title, said = f"pulse {number} of {rounds.last} · {pulse.phase}", SAY[pulse.phase]
+    # The pulses 8, 10 and 12 drop the colours 5, 4 and 3.
+    title, said = f"pulse {number} of {rounds.last} · {pulse.phase}", SAY[pulse.phase].format(9 - number // 2)
     if not forests and number >= SEED:
         least = "the least channel that isn't barred" if rounds.network.bars else "channel 1"
         return title, "No node has a neighbour, so there is no forest" + (

@@ -1,4 +1,6 @@
 """What the page asks with a call: a network as a text, a program by its name. No call names a file."""
+import re
+
 from lab.definitions.nodes import Colouring
 from lab.definitions.programs import PROGRAMS, program_at
 from lab.networks.network_text import read_network
@@ -12,7 +14,12 @@ MOST_DRAWN, MOST_ROUNDS, MOST_RUN, MOST_SEARCHED = 400, 100, 40, 4
 
 
 def network_asked(asked, most=MOST_DRAWN):
-    network = read_network(asked["network"], "the network")
+    try:
+        network = read_network(asked["network"], "the network")
+    except Wrong as why:
+        same = re.fullmatch(r"the network: vertices (\d+) and (\d+) have one identifier \(N2\)", str(why))
+        raise Wrong("nodes {} and {} have one identifier now: give one of them another".format(*same.groups())
+                    if same else str(why)) from None
     network.name = str(asked.get("name") or "this network")[:60]
     if network.nodes == 0:
         raise Wrong("no node yet")

@@ -1,6 +1,7 @@
 """The calls on networks: what there is, examples, files, networks that are made, and layouts."""
 import base64
 import os
+from math import isqrt
 
 from lab.definitions.programs import PROGRAMS
 from lab.networks.command_line import CHANCE, SIZES
@@ -66,7 +67,17 @@ def make(asked, _tell):
     more = [float(asked.get("reach") or 0.26), *seed] if kind == "disk" else seed
     network = read_network(text_of(MAKERS[kind](*sizes, *more)), kind)
     network.name = "-".join(map(str, [kind, *sizes, *more]))
+    network.given = by_shape(kind, *sizes) or network.given
     return shown(network)
+
+
+def by_shape(kind, nodes, *_):
+    """Where the nodes of a long row or ring are: it goes to and fro. What else has a shape has its places already."""
+    if kind not in ("path", "ring") or nodes <= 40:
+        return {}
+    wide = isqrt(3 * nodes // 2)
+    rows = [divmod(k, wide) for k in range(nodes)]
+    return {k + 1: (wide - 1 - column if row % 2 else column, row) for k, (row, column) in enumerate(rows)}
 
 
 def tidy(asked, _tell):

@@ -7,6 +7,7 @@ from lab.networks.codes import code_of
 from lab.networks.plan_text import read_plan
 from lab.pictures import broken_picture, why_picture
 from lab.definitions.pulses import Rounds
+from lab.pictures.pages import net_of
 from lab.pictures.picture import OF_PLAN, OF_RUN, Options, Text, drawing
 from lab.pictures.player_page import film_of
 from lab.pictures.program_rounds import ProgramRounds
@@ -44,7 +45,12 @@ def check(asked, _tell):
     code, where, _ = found
     at = [int(n) for n in re.findall(r"\d+", said.partition(" ")[2])]
     return {"ok": False, "said": said, "code": code.name, "at": at if code.name != "C6" else [],
-            "words": code.what.format(at=where or code.at), "do": code.do}
+            "words": of_nodes(code.what.format(at=where or code.at)), "do": of_nodes(code.do)}
+
+
+def of_nodes(words):
+    """In the page's words: a vertex is a node."""
+    return words.replace("vertices", "nodes").replace("vertex", "node")
 
 
 def rounds(asked, _tell):
@@ -73,7 +79,9 @@ def broken(asked, _tell):
     found = RuledRounds(network_of(network), without)
     here = found.clash is not None
     words = found.words().split("\n") if here else ["the rounds of this network go right without it"]
-    return {"here": here, "words": words, "picture": broken_picture.draw(network if here else None, without)}
+    least = None if here else net_of(broken_picture.network_of_rounds(broken_picture.broken_rounds(None, without)[0]))
+    return {"here": here, "words": words, "found": least,
+            "picture": broken_picture.draw(network if here else None, without)}
 
 
 def picture(asked, _tell):
@@ -85,5 +93,6 @@ def picture(asked, _tell):
         texts = [Text("plan", "the plan", plan_of(asked["network"]))]
     if kind in OF_RUN:
         texts = [Text("transcript", "the run", str(asked["transcript"]))]
-    options = Options(program_asked(asked), forest=asked.get("forest"), vertex=asked.get("vertex"))
+    pulses = tuple(int(pulse) for pulse in asked.get("pulses") or ()) or None
+    options = Options(program_asked(asked), forest=asked.get("forest"), vertex=asked.get("vertex"), pulses=pulses)
     return drawing(kind, network, options, texts)

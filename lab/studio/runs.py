@@ -103,7 +103,16 @@ def run(asked, tell):
                     tell(part=shown(found))
     same, results = compared(found, network, program)
     return shown(found) | {"text": text, "judge": judged(network, asked["network"], text, program), "same": same,
-                           "results": results}
+                           "results": results, "of": singled_out(asked, network)}
+
+
+def singled_out(asked, network):
+    """The link or the node that the policy has chosen by its seed, if it chooses one."""
+    if asked.get("transcript") or asked.get("how") == "threads":
+        return None
+    policy = policy_of(asked["policy"], network.vertices, network.edges, str(asked.get("seed", "1")))
+    of = getattr(policy, "slow", None) or getattr(policy, "fast", None)
+    return of and (f"node {of}" if isinstance(of, int) else "the link {}–{}".format(*of))
 
 
 def compared(found, network, program):

@@ -183,6 +183,30 @@ class More(studio_page.Page):
         self.page.click_on("#search")
         self.sees("every order of two", "!document.getElementById('frame').hidden")
         self.page.click_on("#unsearch")
+        self.page.click_on("[data-tab=draw]")
+        time.sleep(0.5)
+        self.note("which is gone in another tab", self.page.value("document.getElementById('frame').hidden"))
+
+    def test_between_tabs(self):
+        """What one tab has on the stage isn't left there; a place is kept, and the browser's way back leads to it."""
+        self.go_to("example=chain6&tab=run&seed=7&beside=1")
+        self.sees("the rounds beside", "document.querySelectorAll('#small .node').length === 6")
+        self.go_to("example=path&tab=adversary")
+        self.sees("another network", "studio.steps.found && studio.net.nodes.length === 3")
+        high = self.page.value("[studio.stage.high, document.getElementById('stage').clientHeight]")
+        self.note("the stage is as high as it was", high[1] - high[0] < 40, high)
+        self.page.click_on("[data-tab=rounds]")
+        self.sees("its rounds", "studio.rounds.film && document.getElementById('when').textContent.startsWith('pulse')")
+        self.page.click_on("#next")
+        self.page.click_on("[data-tab=check]")
+        self.page.click_on("[data-tab=rounds]")
+        self.note("the same pulse", self.page.value("studio.time.at") == 1, self.page.value("studio.time.at"))
+        self.page.value("history.back()")
+        self.sees("the way back", "studio.seen.tab === 'check'")
+        self.page.click_on("[data-tab=run]")
+        self.sees("a run", "document.getElementById('judgehere').textContent.startsWith('✓')")
+        self.page.click_on("#play")
+        self.sees("what was said of another place is gone", "document.getElementById('judgehere').textContent === ''")
 
     def working(self):
         found = []

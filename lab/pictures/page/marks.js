@@ -100,16 +100,17 @@ export function blank(x, y, r, said) {
 }
 export function barMark(x, y, r, channel) {
   return [mark("circle", {cx: x, cy: y, r, fill: WHITE, stroke: hue(channel)}),
-    words(x, y, r * 1.2, INK, channel, BOLD),
     mark("line", {x1: x - 0.9 * r, y1: y + 0.9 * r, x2: x + 0.9 * r, y2: y - 0.9 * r, stroke: WRONG,
-      "stroke-width": 1.5})];
+      "stroke-width": 1.5}), words(x, y, r * 1.2, BLACK, channel, BOLD)];
 }
 export function pillWidth(said, size) { return said.length * size * 0.62 + 9; }
+// How a message looks that isn't looked at.
+export const FADED = {fill: "var(--paper)", stroke: "var(--edge)", "stroke-dasharray": "2 2", ink: "var(--soft)"};
 // A pill with words: a message on its way.
-export function pill(x, y, said, kind, size, more = {}) {
+export function pill(x, y, said, kind, size, {ink = INK, ...more} = {}) {
   const wide = pillWidth(said, size), high = size + 6;
   return [mark("rect", {x: x - wide / 2, y: y - high / 2, width: wide, height: high, rx: high / 2, fill: PALE[kind],
-    stroke: WIRES[kind], "stroke-width": 1.6, ...more}), words(x, y, size, INK, said)];
+    stroke: WIRES[kind], "stroke-width": 1.6, ...more}), words(x, y, size, ink, said)];
 }
 // A red note on a white ground.
 export function note(x, y, said) {

@@ -1,15 +1,16 @@
 // The rounds of a network, pulse by pulse, by what lab/ has worked out.
-import {HALO, blank, channelCircle, colourSquare, html, hue, inkOn, mark, pill, pillWidth, resultWords, short, words}
-  from "./marks.js";
+import {FADED, HALO, blank, channelCircle, colourSquare, html, hue, inkOn, mark, pill, pillWidth, resultWords, short,
+  words} from "./marks.js";
 import {nameOf} from "./stage.js";
 
 const ORIENT = 1, SEED = 2, LAST_COLOUR = 12;
 // What the marks mean.
 export function roundsLegend(place, film) {
   place.textContent = film.forests
-    ? "A square is a node’s colour in the forest, grey while it is still a name; a circle is its channel, a colour plus"
-      + " one. Arrows go to parents; a number in a pill is a message on its way. Below a node whose turn is to come is"
-      + " its pair: its colour in the forest, and its old colour. Yellow: it chooses now."
+    ? "A square is a node’s colour in the forest, from 0; grey: it is still a name (128d has 128 binary digits). A"
+      + " circle is its channel, a colour plus one. Arrows go to parents. A number in a pill is a message, in a merge a"
+      + " channel; dotted: it didn’t decide what the chosen node found. Below a node whose turn is to come is its pair:"
+      + " its colour in the forest, and its old colour. Yellow: it chooses now."
     : "A number in a pill is a message on its way. Below a node is what it has found; yellow: something new.";
 }
 
@@ -27,7 +28,7 @@ export class RoundsFilm {
   // The forest of a pulse: the one that is merged, or the one that is looked at.
   forestAt(p, chosen) {
     const {step} = this.found.pulses[p];
-    return step ? step[0] : p >= SEED && p <= LAST_COLOUR && this.forests ? chosen : null;
+    return step ? step[0] : p >= ORIENT && p <= LAST_COLOUR && this.forests ? chosen : null;
   }
   hasChosen(v, p) {
     const [, three, old] = this.found.pulses[p].step, width = (this.last - 12) / this.forests / 3;
@@ -58,8 +59,8 @@ export class RoundsFilm {
   turnMark(p, forest, v, x, y, r) {
     const old = v in this.merged[p] ? this.merged[p][v] : this.found.first[v - 1], half = 0.45 * r;
     const colour = this.found.pulses[LAST_COLOUR].colours[v - 1][forest];
-    return [...colourSquare(x - 0.9 * r, y + 1.1 * r, half, colour, true),
-      words(x + 0.15 * r, y + 1.1 * r, half * 1.9, "var(--ink)", old, {...HALO, "font-weight": "bold"})];
+    return [...colourSquare(x - 0.9 * r, y + 1.55 * r, half, colour, true),
+      words(x + 0.15 * r, y + 1.55 * r, half * 1.9, "var(--ink)", old, {...HALO, "font-weight": "bold"})];
   }
   arrows(stage, p, forest) {
     const pulse = this.found.pulses[p], links = [];
@@ -67,7 +68,7 @@ export class RoundsFilm {
     this.parent.forEach((w, key) => {
       const [v, f] = key.split(" ").map(Number);
       if (upTo !== null ? f >= upTo : f !== forest) return;
-      const mine = f === forest || p === ORIENT;
+      const mine = f === forest;
       links.push(...stage.arrow(v, w, mine ? "var(--strong)" : "var(--edge)", mine ? 2 : 1.4));
     });
     for (const v in pulse.drawn || {}) {
@@ -84,8 +85,9 @@ export class RoundsFilm {
       const said = short(word === "chosen" ? sent + 1 : sent);
       const whole = Math.hypot(stage.X(v) - stage.X(w), stage.Y(v) - stage.Y(w)), start = Math.min(0.12, 12 / whole);
       const [x, y] = stage.beside(v, w, start + (1 - start) * part, pillWidth(said, size), size + 6);
-      shown.push(mark("g", {class: "token", opacity: why && !heard.has([p, v, w].join(" ")) ? 0.25 : null},
-        [mark("title", {}, `${v} tells ${w}: ${word} ${sent}`), ...pill(x, y, said, "payload", size)]));
+      const look = why && !heard.has([p, v, w].join(" ")) ? FADED : {};
+      shown.push(mark("g", {class: "token"},
+        [mark("title", {}, `${v} tells ${w}: ${word} ${sent}`), ...pill(x, y, said, "payload", size, look)]));
     }
     return shown;
   }
@@ -95,7 +97,8 @@ export class RoundsFilm {
     stage.draw({node: (v, x, y, r) => this.node(stage, p, shown, v, x, y, r), links: () => this.arrows(stage, p, shown),
       above: () => quiet ? [] : this.messages(stage, p, at - p, forest, why),
       below: Boolean(pulse.results || pulse.step),
-      label: pulse.results ? v => nameOf(this.net, v).slice(String(v).length).trim() : quiet ? v => String(v) : null,
+      label: pulse.results ? v => nameOf(this.net, v).slice(String(v).length).trim()
+        : quiet ? v => stage.radius < 9 ? "" : String(v) : null,
       ring: v => v === node ? "var(--glow)" : names.has(v) ? "var(--edge)" : null,
       edge: () => ({"stroke-width": p === 0 ? 1.6 : 0.8})});
     return p;

@@ -1,6 +1,6 @@
 // A run without a clock: rows that lab/pictures/watch_page.py has worked out of a transcript.
 import {PALE, INK, WHITE, WIRES} from "./hues.js";
-import {channelCircle, html, mark, pill, pillWidth, resultWords, row, words} from "./marks.js";
+import {FADED, channelCircle, html, mark, pill, pillWidth, resultWords, row, words} from "./marks.js";
 import {nameOf} from "./stage.js";
 
 const AWAITS = {ack: WIRES.ack, safe: WIRES.safe, close: WIRES.safe};
@@ -85,7 +85,8 @@ export function runLegend(place) {
     shown.style.background = PALE[kind];
     return shown;
   }), html("br"), "A node has its pulse inside: orange when it has said safe, grey when it is done. On its border, "
-    + "towards a neighbour: open what it awaits (grey: ack, orange: safe), full what came early and is kept.");
+    + "towards a neighbour: open what it awaits (grey: ack, orange: safe), full what came early and is kept. Where "
+    + "there is little room s0 is safe 0, a2 is ack 2, and a number alone a payload’s.");
 }
 
 export class RunFilm {
@@ -132,7 +133,7 @@ export class RunFilm {
       if (only && !said.startsWith("payload")) continue;
       const far = wire[5] === null ? 0.5 : Math.max(0, Math.min(1, (stamp - wire[4]) / (wire[6] - wire[4])));
       const pale = node && wire[0] !== node && wire[1] !== node;
-      shown.push(wireMark(stage, wire[0], wire[1], far, said, isLong, {opacity: pale ? 0.25 : null}));
+      shown.push(wireMark(stage, wire[0], wire[1], far, said, isLong, {}, pale ? FADED : {}));
     }
     return shown;
   }
@@ -143,8 +144,13 @@ export class RunFilm {
       above: () => this.wires(stage, stamp, at, {node, only}), below: isWord,
       ring: v => last && last[1] === v ? "var(--glow)" : node === v ? "var(--edge)" : null,
       label: v => nameOf(this.net, v) + (lazy.includes(v) ? " (waits)" : ""),
-      edge: (v, w) => waits.has(v + "-" + w) ? SLOW : {}});
+      edge: (v, w) => heldEdge(v, w, waits.has(v + "-" + w))});
     return at;
   }
+}
+// An edge whose link can be made to wait, also by a key.
+export function heldEdge(v, w, isHeld) {
+  return {...isHeld ? SLOW : {}, tabindex: 0, role: "button", "aria-pressed": isHeld,
+    "aria-label": `link ${v}–${w} waits`};
 }
 export const SLOW = {stroke: "#0072B2", "stroke-width": 5, "stroke-dasharray": "2 6"};

@@ -19,7 +19,8 @@ export class Stage {
     this.high = box.height || 1;
     this.isZoomed = false;
     const names = Math.max(0, ...this.net.nodes.map(n => Math.min(12, n.name.length) + Math.min(8, n.id.length)));
-    const margin = Math.max(42, Math.min(64, 12 + this.wide / 14)) + Math.min(6 * names, this.wide / 8);
+    const margin = Math.min(Math.max(42, Math.min(64, 12 + this.wide / 14)) + Math.min(6 * names, this.wide / 8),
+      this.wide / 4, this.high / 5);
     const least = list => Math.min(...list), most = list => Math.max(...list);
     if (xs.length < 2) {
       this.to = {scale: 1, x: this.wide / 2 - (xs[0] || 0), y: this.high / 2 - (ys[0] || 0)};
@@ -30,6 +31,11 @@ export class Stage {
     const scale = Math.min(1.4, (this.wide - 2 * margin) / (across || 1), (this.high - 2 * margin) / (up || 1));
     this.to = {scale, x: (this.wide - scale * across) / 2 - scale * least(xs),
       y: (this.high - scale * up) / 2 - scale * least(ys)};
+  }
+  // Fits it once more if there is another size for it.
+  refit() {
+    const {width, height} = this.svg.getBoundingClientRect();
+    if (!this.isZoomed && (width !== this.wide || height !== this.high)) this.fit();
   }
   zoom(by, x = this.wide / 2, y = this.high / 2) {
     const scale = Math.max(0.02, Math.min(20, this.to.scale * by)), real = scale / this.to.scale;
@@ -178,10 +184,15 @@ export class Stage {
     const taken = (below ? [1.57] : []).concat(bars && own.length ? [0.8] : []), turn = this.turn(v, taken);
     // The corners of a square are farther out than a circle.
     const wide = said.length * size * 0.3, far = r * (1 + 0.4 * Math.abs(Math.sin(2 * turn))) + 5 + size / 2;
-    const lx = x + Math.cos(turn) * (far + Math.max(0, wide - 5) * Math.abs(Math.cos(turn)));
+    const free = x + Math.cos(turn) * (far + Math.max(0, wide - 5) * Math.abs(Math.cos(turn)));
+    // What has no room at the side of the stage is above or below its node.
+    const lx = Math.max(wide + 2, Math.min(this.wide - wide - 2, free)), isMoved = Math.abs(lx - free) > 4;
+    const ly = isMoved ? y + (Math.sin(turn) > 0 && !below ? far : -far) : y + Math.sin(turn) * far;
     const parts = [colour && mark("circle", {cx: x, cy: y, r: r + 5, fill: "none", stroke: colour, "stroke-width": 4}),
-      ...node(v, x, y, r), words(lx, y + Math.sin(turn) * far, size, "var(--soft)", said, HALO)];
-    if (bars) own.slice(0, 4).forEach((bar, n) => parts.push(...barMark(x + r + 5 + n * 13, y + r + 3, 6, bar)));
+      ...node(v, x, y, r), words(lx, ly, size, "var(--soft)", said, HALO)];
+    if (bars) own.slice(0, 4).forEach((bar, n) => parts.push(...barMark(x + r + 8 + n * 19, y + r + 5, 9, bar)));
+    const more = `+${own.length - 4}`;
+    if (bars && own.length > 4) parts.push(words(x + r + 90, y + r + 5, 11, "var(--wrong)", more, HALO));
     return mark("g", {class: "node", tabindex: 0, role: "button", "data-node": v, "aria-label": `node ${said || v}`},
       parts);
   }

@@ -18,6 +18,7 @@ export function hide(id, isHidden) { by(id).toggleAttribute("hidden", isHidden);
 export function isHidden(id) { return by(id).hasAttribute("hidden"); }
 export function show() { hooks.show(); }
 export function go(tab, more) { hooks.go(tab, more); }
+export const KEYS = matchMedia("(pointer: coarse)").matches ? "" : "Space plays, arrows step.";
 // The slider below the stage, which the tabs Rounds and No clock share.
 export const time = new Time(Object.fromEntries(["slider", "play", "back", "next", "speed"].map(id => [id, by(id)])), {
   show,
@@ -81,6 +82,21 @@ export function picture(svg, said) {
   shown.onload = () => URL.revokeObjectURL(shown.src);
   return shown;
 }
+// A picture on the stage, as large as there is room.
+let scale = 1;
+export function hang(svg, said) {
+  const shown = picture(svg, said);
+  shown.addEventListener("load", () => zoomPicture(0));
+  by("picture").replaceChildren(shown);
+}
+export function zoomPicture(by_) {
+  const shown = by("picture").firstChild, {clientWidth, clientHeight} = by("picture");
+  if (!shown) return;
+  const wide = (clientWidth - 8) / shown.naturalWidth, high = (clientHeight - 24) / shown.naturalHeight;
+  scale = by_ ? scale * by_ : Math.min(wide, Math.max(1, Math.min(3, high)));
+  shown.style.width = `${Math.round(shown.naturalWidth * scale)}px`;
+}
+export function capital(said) { return said[0].toUpperCase() + said.slice(1); }
 export function count(n, what) { return `${n.toLocaleString("en")} ${what}${n === 1 ? "" : "s"}`; }
 // Edges of an address, as 2-3_4-5.
 export function listOf(said) { return (said || "").split("_").filter(Boolean); }

@@ -1,6 +1,6 @@
 // The tab Check: a plan that is typed or clicked, with the verdict on it, and transcripts.
 import {call} from "./api.js";
-import {by, hooks, listOf, ms, seen, show, stage, tabs, took, tried} from "./base.js";
+import {by, capital, hooks, listOf, ms, seen, show, stage, tabs, took, tried} from "./base.js";
 import {blank, channelCircle, html, note} from "./marks.js";
 import {net, neighbours, text} from "./model.js";
 
@@ -35,16 +35,12 @@ function showPlan() {
   if (!is) return place.replaceChildren();
   const left = plan.filter(channel => !channel).length, who = seen.hello.proved ? "The proved program" : "Python";
   place.className = "verdict " + (is.ok ? "good" : is.code === "C1" ? "" : "bad");
-  const more = is.ok ? [html("p", `${who} finds this plan proper: neighbours differ, no channel is barred at its node, `
-    + `and the greatest is ${is.said.split(" ")[1]}.`)]
-    : is.code === "C1" && left ? [html("p", `${left} of ${net.nodes.length} nodes have no channel yet: the check names `
-      + "the first. Dashed edges are clashes that this page sees.")]
-    : [html("p", sentence(is)), html("p", "What to do: " + is.do + ".", {class: "soft"})];
-  place.replaceChildren(html("b", is.said), ...more);
-}
-function sentence(is) {
-  const words = is.words[0].toUpperCase() + is.words.slice(1) + ".";
-  return is.code === "C4" && is.at.length === 2 ? `${words} Both have channel ${check.plan[is.at[0] - 1]}.` : words;
+  const [head, more] = is.ok ? ["The plan is proper", `${who} finds: neighbours differ, no channel is barred at its `
+    + `node, and the greatest is ${is.said.split(" ")[1]}.`]
+    : is.code === "C1" && left ? [`${left} of ${net.nodes.length} nodes have no channel yet (C1)`,
+      `The check names the first, node ${is.at[0]}. Dashed edges are clashes that this page sees.`]
+    : [`${capital(is.words)}${is.code === "C4" ? `, ${plan[at[0] - 1]}` : ""} (${is.code})`, `What to do: ${is.do}.`];
+  place.replaceChildren(html("b", head), html("p", more, {class: is.ok ? "" : "soft"}));
 }
 function click(v, _edge, event) {
   if (!v) return;

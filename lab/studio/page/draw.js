@@ -1,6 +1,6 @@
 // The tab Draw: the network is drawn with the mouse, a finger or keys, and its plan is shown after each change.
 import {call, cancel} from "./api.js";
-import {all, by, count, go, hooks, ms, picture, seen, show, stage, tabs, took, tried, wrong} from "./base.js";
+import {all, by, count, go, hang, hooks, ms, seen, show, stage, tabs, took, tried, wrong} from "./base.js";
 import {blank, channelCircle, html} from "./marks.js";
 import * as model from "./model.js";
 import {change, net, neighbours, text} from "./model.js";
@@ -23,9 +23,11 @@ function facts() {
   if (!net.nodes.length) return place.replaceChildren(html("p", "Nothing is drawn yet."));
   if (!is) return;
   const bars = is.bars ? ` and ${count(is.bars, "barred channel")}` : "";
-  place.replaceChildren(html("b", `${count(new Set(is.plan).size, "channel")} of the ${is.allowed} allowed`), html("p",
-    `${count(net.nodes.length, "node")}, ${count(net.edges.length, "edge")}, at most ${count(is.degree, "neighbour")}`
-    + `${bars}; ${count(is.forests, "forest")}; the last pulse is ${is.last}. `
+  const used = new Set(is.plan).size, greatest = Math.max(...is.plan);
+  place.replaceChildren(html("b", count(used, "channel") + (greatest > used ? `, the greatest ${greatest},` : "")
+    + ` of the ${is.allowed} allowed`), html("p", `${count(net.nodes.length, "node")}, `
+    + `${count(net.edges.length, "edge")}, at most ${count(is.degree, "neighbour")}${bars}. Found in the rounds `
+    + `(pulses) 0 to ${is.last}, by way of ${count(is.forests, "forest")}: lessons 2 to 4. `
     + (seen.hello.proved ? "The plan is that of the proved program plain." : "The plan is that of the definitions.")));
 }
 // Asks for the plan, a moment after the last change.
@@ -56,25 +58,39 @@ export function inspect() {
   }
   if (!v) return place.replaceChildren();
   const node = net.nodes[v - 1], box = html("div", null, {class: "grid"});
-  const field = (said, value, use, more = {}) => {
+  const field = (said, value, use, more = {}, parse = text_ => text_, refusal = "") => {
     const label = html("label", said), input = html("input", null, {type: "text", ...more});
     input.value = value;
-    input.onchange = () => change(() => use(input.value.trim()));
+    input.onchange = () => {
+      const given = parse(input.value.trim());
+      if (given === null) { wrong(refusal); input.value = value; return; }
+      wrong("");
+      change(() => use(given));
+    };
     label.append(input);
     box.append(label);
   };
   field("name", node.name, value => { node.name = value; }, {maxlength: 40});
-  field("identifier (else its number)", node.id, value => { node.id = value.replace(/\D/g, "").slice(0, 39); },
-    {inputmode: "numeric"});
-  field("barred channels", node.bars.join(", "), value => {
-    node.bars = Array.from(new Set((value.match(/\d+/g) || []).map(Number))).sort((a, b) => a - b);
-  }, {placeholder: "for example 1, 4"});
+  field("identifier", node.id, value => { node.id = value; }, {inputmode: "numeric", placeholder: `${v}, its number`},
+    said => /^\d{0,39}$/.test(said) ? said : null, "An identifier is a whole number, from 0 on: no other node has it.");
+  field("barred channels", node.bars.join(", "), value => { node.bars = value; }, {placeholder: "for example 1, 4-6"},
+    barsOf, "Barred channels are numbers from 1 to 2,048, as 1, 4-6.");
   const channel = drawn.plan && drawn.plan.plan[v - 1];
   place.replaceChildren(html("h2", `Node ${v}` + (channel ? `, channel ${channel}` : "")), box,
     html("p", `neighbours: ${neighbours(v).join(", ") || "none"}`));
   const why = html("button", "why this channel?");
   why.onclick = () => { seen.node = v; go("rounds", {at: 1e9}); };
   if (channel) place.append(why);
+}
+// The channels of a list, as `1, 4-6`; null if it is none.
+function barsOf(said) {
+  const found = new Set();
+  for (const part of said.split(/[\s,;]+/).filter(Boolean)) {
+    const [, low, high] = /^(\d{1,4})(?:-(\d{1,4}))?$/.exec(part) || [0, 0, 0];
+    if (+low < 1 || +(high || low) > 2048) return null;
+    for (let bar = +low; bar <= +(high || low); bar++) found.add(bar);
+  }
+  return Array.from(found).sort((a, b) => a - b);
 }
 function choose(v, edge = null) { seen.node = v; seen.edge = edge; inspect(); show(); }
 function remove() {
@@ -192,18 +208,24 @@ const KINDS = {
   why: "What decided the channel of the chosen node.", run: "Space and time of the run of the tab No clock.",
   overview: "The pulses of that run.", node: "The synchroniser as an automaton.",
   tally: "The wires of that run by pulse."};
-const OF_RUN = ["run", "overview", "node", "tally"];
+const OF_RUN = ["run", "overview", "node", "tally"], OF_NODE = ["why", "bits", "node"];
 let kind = "forests";
 function askPicture() {
   all("#kinds button").forEach(one => one.setAttribute("aria-pressed", one.dataset.kind === kind));
   by("kindsaid").textContent = KINDS[kind];
+  by("ofnode").hidden = !OF_NODE.includes(kind);
+  by("ofrun").hidden = !OF_RUN.includes(kind);
+  const pulses = (/^(\d{1,6})\.\.(\d{1,6})$/.exec(by("pulses").value.trim()) || []).slice(1).map(Number);
+  by("vertex").max = net.nodes.length;
+  by("vertex").value = seen.node || "";
   tried("picture", "drawing", async () => {
-    const transcript = OF_RUN.includes(kind) ? await tabs.run.transcript() : null, v = seen.node;
-    const vertex = kind === "why" ? v || 1 : kind === "bits" ? v : null;
+    const isOfRun = OF_RUN.includes(kind), transcript = isOfRun ? await tabs.run.transcript() : null, v = seen.node;
+    const vertex = kind === "why" ? v || 1 : OF_NODE.includes(kind) ? v : null;
+    if (kind === "why" && !v) by("kindsaid").textContent += " None is chosen, so it is node 1.";
     const got = await call("picture", {kind, network: text(), name: net.name, forest: tabs.rounds.forest(), vertex,
-      transcript});
+      transcript, pulses: isOfRun ? pulses : null});
     if (!got) return;
-    by("picture").replaceChildren(picture(got.answer, kind));
+    hang(got.answer, kind);
     by("keep").href = URL.createObjectURL(new Blob([got.answer], {type: "image/svg+xml"}));
     by("keep").download = `${net.name || "network"}-${kind}.svg`;
     took("picture: " + ms(got, "picture"), "pictures");
@@ -215,6 +237,15 @@ Object.keys(KINDS).forEach(one => {
   by("kinds").append(button);
 });
 tabs.pictures = {
-  hint: () => "", click: () => 0, show: () => 0, enter: askPicture, link: add => add("kind", kind),
-  follow: given => { if (KINDS[given.get("kind")]) kind = given.get("kind"); },
+  hint: () => "", click: () => 0, show: () => 0,
+  follow(given) { if (KINDS[given.get("kind")]) kind = given.get("kind"); },
+  enter(more = {}) { kind = more.kind || kind; askPicture(); },
+  link(add) { add("kind", kind); add("node", seen.node); add("forest", tabs.rounds.forest()); },
+};
+by("pulses").onchange = askPicture;
+by("vertex").onchange = () => {
+  const v = +by("vertex").value;
+  seen.node = v >= 1 && v <= net.nodes.length ? v : null;
+  askPicture();
+  hooks.link();
 };

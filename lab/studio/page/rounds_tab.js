@@ -1,8 +1,8 @@
 // The tab Rounds: the network at each pulse, why a node has its channel, and what goes wrong without a rule.
 import {Wrong, call} from "./api.js";
-import {by, hide, ms, picture, seen, show, stage, tabs, time, took, tried} from "./base.js";
+import {KEYS, by, capital, go, hang, hide, ms, picture, seen, show, stage, tabs, time, took, tried} from "./base.js";
 import {html, patch} from "./marks.js";
-import {net, text} from "./model.js";
+import {load as load_, net, text} from "./model.js";
 import {RoundsFilm, roundsLegend} from "./rounds.js";
 
 export const rounds = {forest: 0, why: null, whyOf: null, film: null, of: null, without: ""};
@@ -19,7 +19,7 @@ export async function load(program = seen.program) {
 }
 function isReady() { return rounds.film && rounds.of === seen.program + text(); }
 function showAt() {
-  if (!isReady()) return;
+  if (!isReady()) return false;
   const {film} = rounds, {node} = seen, why = rounds.whyOf === node ? rounds.why : null;
   const p = film.draw(stage, time.at, {forest: rounds.forest, node, why}), [caption, said] = film.said(p, node);
   by("when").textContent = `pulse ${p} of ${film.last}`;
@@ -47,34 +47,48 @@ async function askWhy() {
 }
 function bitsOf(v) {
   const bits = html("details"), kept = html("figure");
-  bits.append(html("summary", "bit by bit"), kept);
+  bits.append(html("summary", "bit by bit"), html("p", "A click on the picture makes it large.", {class: "soft"}),
+    kept);
   bits.ontoggle = async () => {
     if (!bits.open || kept.childNodes.length) return;
     try {
       const asked = {network: text(), kind: "bits", vertex: v, forest: rounds.forest};
       const got = await call("picture", asked, {key: "bits"});
-      if (got) kept.append(picture(got.answer, `bit steps of node ${v}`));
+      if (!got) return;
+      kept.append(picture(got.answer, `bit steps of node ${v}`));
+      setTimeout(() => bits.scrollIntoView({block: "nearest"}), 100);
+      kept.onclick = () => go("pictures", {kind: "bits"});
     } catch (fault) { if (!(fault instanceof Wrong)) throw fault; kept.append(html("p", fault.message)); }
   };
   return bits;
 }
 // What goes wrong without a rule of the rounds.
 function askBroken() {
-  const place = by("broken");
-  if (!rounds.without) return place.replaceChildren();
+  const place = by("broken"), isLeft = Boolean(rounds.without) && seen.program === "colouring";
+  // What goes wrong is on the stage, in place of the rounds with all rules.
+  by("picture").hidden = !isLeft;
+  by("net").style.display = isLeft ? "none" : "";
+  by("time").hidden = isLeft;
+  by("picture").replaceChildren();
+  place.replaceChildren();
+  if (!isLeft) return stage.fit();
   tried("broken", "looking for what goes wrong", async () => {
     const got = await call("broken", {network: text(), name: net.name, without: rounds.without});
-    if (!got) return;
-    const {here, words, picture: svg} = got.answer, rule = seen.hello.rules.rounds[rounds.without];
-    place.replaceChildren(html("p", `Left out: ${rule.says}; ${rule.without}.`, {class: "soft"}),
-      html("p", words.map(said => said[0].toUpperCase() + said.slice(1)).join(". ") + ".", {class: here ? "bad" : ""}),
-      html("p", here ? "" : "A smallest network on which they go wrong:"), picture(svg, "without " + rounds.without));
-    by("picture").replaceChildren(picture(svg, "without " + rounds.without));
+    if (!got || seen.tab !== "rounds") return;
+    const {here, words, found, picture: svg} = got.answer, rule = seen.hello.rules.rounds[rounds.without];
+    const draw = html("button", "draw this smallest network"), back = html("button", "back to all rules");
+    draw.onclick = () => load_(found);
+    back.onclick = () => { by("without2").value = ""; by("without2").onchange(); };
+    place.append(html("p", `Left out: ${rule.says}; ${rule.without}.`, {class: "soft"}), html("p",
+      words.map(capital).join(". ") + (here ? "." : "; the picture is of a smallest network on"
+      + " which they go wrong."), {class: here ? "bad" : ""}), here ? "" : draw, " ", back);
+    hang(svg, "without " + rounds.without);
   });
 }
 tabs.rounds = {
   load, forest: () => rounds.forest, show: showAt,
-  hint: () => "Click a node to see " + (seen.program === "colouring" ? "why it has its channel." : "all it has found."),
+  hint: () => rounds.without ? ""
+    : `Click a node to see ${seen.program === "colouring" ? "why it has its channel" : "all it has found"}. ${KEYS}`,
   click(v) {
     if (!v) return;
     seen.node = v === seen.node ? null : v;
@@ -83,7 +97,7 @@ tabs.rounds = {
   enter() {
     const isColouring = seen.program === "colouring";
     by("program2").value = seen.program;
-    by("broken").parentNode.hidden = !isColouring;
+    by("without2").parentNode.hidden = !isColouring;
     by("without2").value = rounds.without;
     tried("rounds", "asking for the rounds", async () => {
       if (!await load() || seen.tab !== "rounds") return;

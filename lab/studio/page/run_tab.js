@@ -1,7 +1,7 @@
 // The tab No clock: a run by a seed or by real threads, its verdicts, another order or the rounds beside it.
 import {call} from "./api.js";
-import {all, by, hide, isHidden, listOf, ms, progress, seen, show, stage, tabs, time, took, toggleLazy, toggleSlow, tried,
-  wrong} from "./base.js";
+import {KEYS, all, by, capital, hide, isHidden, listOf, ms, progress, seen, show, stage, tabs, time, took, toggleLazy,
+  toggleSlow, tried, wrong} from "./base.js";
 import {net, text} from "./model.js";
 import {rounds} from "./rounds_tab.js";
 import {RunFilm, runLegend, waitsTable} from "./run.js";
@@ -57,6 +57,8 @@ function ask() {
   const isSeed = by("made").value === "seed";
   all(".seeded").forEach(one => { one.hidden = !isSeed; });
   all(".threads").forEach(one => { one.hidden = isSeed; });
+  by("policysaid").textContent = !isSeed || run.transcript ? "" : capital(seen.hello.policies[by("policy").value])
+    + (seen.slow.length ? "; what goes over a dotted link waits" : "") + ".";
   by("handed").hidden = !run.steps.length && !run.transcript;
   by("handedsaid").textContent = run.transcript ? "This is the transcript of the tab Check."
     : `The first ${run.steps.length} steps are those of the tab Adversary.`;
@@ -68,6 +70,7 @@ function ask() {
     if (!await load() || seen.tab !== "run") return;
     if (by("beside").checked) await tabs.rounds.load();
     place(time.at);
+    if (run.found.of) by("policysaid").textContent += ` Here it is ${run.found.of}.`;
     took("run: " + ms(run.took, "run"));
     judgeSoon();
   });
@@ -98,14 +101,17 @@ function pulses() {
   return [Math.max(a[0], b[0]), Math.min(a[1], b[1]) + 1];
 }
 function showAt() {
-  if (!isReady()) return;
+  if (!isReady()) return false;
   lay();
-  const only = by("payloads").checked, options = {node: seen.node, only, slow: seen.slow, lazy: seen.lazy};
+  stage.refit();
+  // Threads wait for nobody.
+  const only = by("payloads").checked, isSeed = by("made").value === "seed" && !run.transcript;
+  const options = {node: seen.node, only, slow: isSeed ? seen.slow : [], lazy: isSeed ? seen.lazy : []};
   let at;
   if (run.film2) {
     const here = run.film.atPulse(time.at), there = run.film2.atPulse(time.at);
     at = here.at;
-    if (second.wide !== by("second").getBoundingClientRect().width) second.fit();
+    second.refit();
     run.film.draw(stage, here.stamp, {...options, at});
     run.film2.draw(second, there.stamp, {...options, slow: [], lazy: [], at: there.at});
     by("now").textContent = `first run, stamp ${Math.floor(here.stamp)}: ${here.said}; second, stamp `
@@ -113,22 +119,32 @@ function showAt() {
     by("when").textContent = `pulse ${Math.floor(time.at)}`;
   } else {
     at = run.film.draw(stage, time.at, options);
-    by("now").textContent = run.film.said(at);
+    by("now").textContent = `${run.film.said(at)}. ${apart(run.film.looks(at))}`;
     by("when").textContent = "stamp " + Math.floor(time.at);
   }
   run.at = at;
+  // What the judge has said of another place isn't left beside this one.
+  if (run.judgedAt !== at) by("judgehere").textContent = "";
   const results = run.found.results || [], last = run.film.last(at);
   const isFound = (v, is) => is.c === results[v - 1] && (is.e || is.p === run.found.last);
   by("table").replaceChildren(waitsTable(run.film.looks(at), {only: seen.node, lit: last && last[1],
     head: "in the rounds", more: (v, is) => (results[v - 1] || "") + (isFound(v, is) ? " ✓" : "")}));
   showRounds(at);
 }
+// How far apart the pulses of neighbours are, and of all nodes.
+function apart(looks) {
+  const most = pairs => Math.max(0, ...pairs.map(([v, w]) => Math.abs(looks[v - 1].p - looks[w - 1].p)));
+  const pulses_ = looks.map(is => is.p), low = pulses_.indexOf(Math.min(...pulses_)) + 1;
+  const high = pulses_.indexOf(Math.max(...pulses_)) + 1, far = most([[low, high]]);
+  return `Pulses: neighbours are at most ${most(net.edges)} apart, `
+    + (far ? `nodes ${low} and ${high} are ${far} apart.` : "and all are at one.");
+}
 // The rounds, small, at the pulse of the slowest node or of the one that is followed.
 function showRounds(at) {
   if (isHidden("small") || !rounds.film || rounds.of !== seen.program + text()) return;
   const looks = run.film.looks(at);
   const p = seen.node ? looks[seen.node - 1].p : Math.min(...looks.map(is => is.p));
-  if (small.wide !== by("small").getBoundingClientRect().width) small.fit();
+  small.refit();
   rounds.film.draw(small, Math.min(p, rounds.film.last), {forest: rounds.forest, node: seen.node, quiet: true});
   by("small").setAttribute("aria-label", `the rounds, pulse ${p}`);
   by("besidesaid").textContent = ` (pulse ${p})`;
@@ -178,7 +194,7 @@ function lazyBox() {
 tabs.run = {
   transcript, ask, stopped: judgeSoon, rate: () => run.film2 ? 0.4 : 2.5,
   show() { showAt(); lazyBox(); judgeSoon(); },
-  hint: () => "Click an edge to make its link wait, a node to follow it.",
+  hint: () => `Click an edge to make its link wait, a node to follow it. ${KEYS}`,
   click(v, edge) {
     if (v) { seen.node = v === seen.node ? null : v; return show(); }
     if (!edge) return;

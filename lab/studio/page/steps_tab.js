@@ -4,7 +4,7 @@ import {all, busy, by, go, hooks, listOf, seen, show, stage, tabs, toggleLazy, t
   from "./base.js";
 import {html} from "./marks.js";
 import {net, text} from "./model.js";
-import {SLOW, alphaMarks, queueMarks, waitsWords} from "./run.js";
+import {alphaMarks, heldEdge, queueMarks, waitsWords} from "./run.js";
 import {nameOf} from "./stage.js";
 
 // `made` are the steps so far, as `3` (node 3 makes its next pulse) or `2-1` (node 2 takes the next wire from node 1).
@@ -48,7 +48,7 @@ function showAt() {
   stage.draw({node: (v, x, y, r) => alphaMarks(stage, is.looks[v - 1], v, x, y, r), bars: false, apart: 4.6,
     below: isWord, ring: v => isFree(String(v)) ? "var(--good)" : v === seen.node ? "var(--edge)" : null,
     label: v => nameOf(net, v) + (seen.lazy.includes(v) ? " (held)" : ""),
-    edge: (v, w) => slow.has(v + "-" + w) ? SLOW : {}, above: () => is.wires.flatMap(queue)});
+    edge: (v, w) => heldEdge(v, w, slow.has(v + "-" + w)), above: () => is.wires.flatMap(queue)});
   sayWhere(is);
   listSteps(is);
   by("list").value = is.list.join("\n") + "\n";
@@ -119,11 +119,22 @@ function search() {
     form.append(field);
   });
   document.body.append(form);
-  const close = () => { frame.hidden = true; frame.onload = null; frame.src = "about:blank"; };
-  busy("searching all orders of events", "adversary", close);
-  frame.onload = () => { busy(null, "adversary"); frame.hidden = false; by("unsearch").hidden = false; };
+  busy("searching all orders of events", "adversary", closeFrame);
+  frame.onload = () => { busy(null, "adversary"); showFrame(true); };
   form.submit();
   form.remove();
+}
+// While the frame is there, the run that is made step by step isn't.
+function showFrame(isThere) {
+  by("frame").hidden = by("unsearch").hidden = !isThere;
+  document.body.classList.toggle("searched", isThere);
+}
+function closeFrame() {
+  // What is loaded last is nothing, and isn't shown.
+  if (by("frame").onload) by("frame").src = "about:blank";
+  by("frame").onload = null;
+  busy(null, "adversary");
+  showFrame(false);
 }
 tabs.adversary = {
   search, show: showAt,
@@ -136,7 +147,8 @@ tabs.adversary = {
   },
   key(event, on) {
     if (on) return false;
-    const tools = {u: "undostep", r: "chance", s: "instep"}, made = all("#possible [data-step]:not(:disabled)");
+    const tools = {u: "undostep", Backspace: "undostep", r: "chance", s: "instep"};
+    const made = all("#possible [data-step]:not(:disabled)");
     if (/^[1-9]$/.test(event.key) && made[event.key - 1]) made[event.key - 1].click();
     else if (tools[event.key]) by(tools[event.key]).click();
     else return false;
@@ -147,13 +159,15 @@ tabs.adversary = {
     by("program3").value = seen.program;
     by("without").value = steps.without;
     by("rule").textContent = rule ? `Left out: ${rule.says}; ${rule.without}.` : "";
-    by("search").parentNode.hidden = net.nodes.length > 4;
+    closeFrame();
+    by("searchrow").hidden = net.nodes.length > 4;
+    by("handover").disabled = Boolean(rule);
     steps.found = null;
     ["stepsaid", "possible"].forEach(id => by(id).replaceChildren());
     if (more.fresh) steps.made = [];
     ask();
   },
-  leave() { by("frame").hidden = by("unsearch").hidden = true; by("frame").src = "about:blank"; },
+  leave: closeFrame,
   link(add) {
     add("steps", steps.made.join("_"));
     add("without", steps.without);
@@ -179,4 +193,4 @@ by("without").onchange = () => {
 };
 by("program3").onchange = () => { seen.program = by("program3").value; tabs.adversary.enter({fresh: true}); };
 by("search").onclick = search;
-by("unsearch").onclick = () => tabs.adversary.leave();
+by("unsearch").onclick = closeFrame;

@@ -1,32 +1,38 @@
 // The studio: its tabs, the mouse on the stage, keys, and the address, which says all that is seen.
 import {call, cancel, token} from "./api.js";
-import {all, by, edgesOf, hooks, listOf, measured, option, seen, show, stage, tabs, time, took, tried, wrong}
-  from "./base.js";
+import {all, by, edgesOf, hooks, listOf, measured, option, seen, show, stage, tabs, time, took, tried, wrong,
+  zoomPicture} from "./base.js";
 import {askPlan, drawn, inspect, makeForm, openFile} from "./draw.js";
 import {check} from "./check.js";
 import {rounds} from "./rounds_tab.js";
 import {run} from "./run_tab.js";
 import {steps} from "./steps_tab.js";
-import {html} from "./marks.js";
+import {blank, html} from "./marks.js";
 import * as model from "./model.js";
 import {change, net, text} from "./model.js";
 import {watchBuild} from "./proved.js";
 
 const TIMED = ["rounds", "run"];
+// Where each of them was left.
+const left = {};
 const CALLS = ["rounds", "why", "broken", "run", "run2", "replay", "check", "picture", "steps"];
 
 hooks.show = () => {
-  const tab = tabs[seen.tab];
-  if (net.nodes.length || seen.tab === "draw") tab.show();
+  const tab = tabs[seen.tab], isThere = !net.nodes.length && seen.tab !== "draw" || tab.show() !== false;
+  // Nothing is known of this network yet, and nothing of another one is left.
+  if (!isThere) stage.draw({node: (v, x, y, r) => blank(x, y, r)});
+  ["back", "play", "next", "slider"].forEach(id => { by(id).disabled = !isThere; });
   by("empty").hidden = net.nodes.length > 0;
   by("hint").textContent = tab.hint();
+  by("name").textContent = net.name ? `· ${net.name}` : "";
   hooks.link();
 };
 hooks.go = (name, more = {}) => {
   time.stop();
-  if (more.at !== undefined) time.at = more.at;
-  else if (name !== seen.tab) time.at = 0;
-  if (tabs[seen.tab].leave) tabs[seen.tab].leave();
+  left[seen.tab] = time.at;
+  time.at = more.at === undefined ? left[name] || 0 : more.at;
+  // The browser's way back leads to the tab before.
+  if (name !== seen.tab) history.pushState(null, "", location.href);
   seen.tab = name;
   enter(more);
 };
@@ -39,9 +45,11 @@ function enter(more = {}) {
   by("time").hidden = !TIMED.includes(name);
   by("net").style.display = name === "pictures" ? "none" : "";
   by("picture").hidden = name !== "pictures";
+  by("picture").replaceChildren();
   took("");
   wrong("");
   if (name !== "draw" && !net.nodes.length) { tabs.draw.show(); wrong("Draw a network first."); return hooks.link(); }
+  Object.keys(tabs).forEach(other => { if (other !== name && tabs[other].leave) tabs[other].leave(); });
   stage.fit();
   tabs[name].enter(more);
   hooks.show();
@@ -60,7 +68,13 @@ model.onChange(what => {
   steps.made = run.steps = [];
   run.transcript = null;
   if (what === "undo" && stage.isOutside()) stage.fit();
-  if (what === "load") { wrong(""); seen.node = null; check.plan = []; seen.slow = []; seen.lazy = []; stage.fit(); }
+  if (what === "load") {
+    wrong("");
+    Object.assign(left, {rounds: 0, run: 0});
+    Object.assign(seen, {node: null, slow: [], lazy: []});
+    check.plan = [];
+    stage.fit();
+  }
   inspect();
   if (seen.tab === "draw") show();
   askPlan();
@@ -121,13 +135,19 @@ svg.onwheel = event => {
   show();
 };
 function refit() { stage.fit(); show(); }
-by("zoomin").onclick = () => { stage.zoom(1.25); show(); };
-by("zoomout").onclick = () => { stage.zoom(0.8); show(); };
-by("zoomfit").onclick = refit;
+// What is on the stage: the network, or a picture.
+function zoom(by_) {
+  if (!by("picture").hidden) return zoomPicture(by_);
+  if (by_) stage.zoom(by_); else stage.fit();
+  show();
+}
+by("zoomin").onclick = () => zoom(1.25);
+by("zoomout").onclick = () => zoom(0.8);
+by("zoomfit").onclick = () => zoom(0);
 new ResizeObserver(() => { if (!drag && seen.hello && !stage.isZoomed) refit(); }).observe(by("stage"));
 
 // The address.
-let linked = "", isFollowing = false;
+let linked = "", isFollowing = false, follows = 0;
 hooks.link = () => {
   // Another address is about to be followed: it isn't written over.
   if (!seen.hello || isFollowing || time.timer || drag && drag.moved || linked && location.hash !== linked) return;
@@ -149,6 +169,7 @@ function pairsOf(hash) {
 }
 async function follow() {
   if (location.hash === linked && linked) return;
+  const mine = ++follows;
   linked = "";
   isFollowing = true;
   const {hello} = seen;
@@ -157,13 +178,12 @@ async function follow() {
   seen.lesson = lesson ? lesson.number : null;
   if (lesson && !given.has("tab")) given = pairsOf(lesson.open);
   showLesson(lesson);
-  if (tabs[seen.tab].leave) tabs[seen.tab].leave();
   await tried("example", "opening", async () => {
-    const example = given.get("example");
-    let found = null;
-    if (example) found = (await call("example", {name: example})).answer;
-    else if (given.has("net")) found = model.fromCode(given.get("net"));
-    else if (hello.opened && !net.nodes.length) found = hello.opened;
+    const example = given.get("example"), got = example && await call("example", {name: example});
+    // Another address has been followed since.
+    if (mine !== follows || example && !got) return;
+    const found = got ? got.answer : given.has("net") ? model.fromCode(given.get("net"))
+      : net.nodes.length ? null : hello.opened;
     seen.tab = "draw";
     if (found) model.load(found, example || "");
     seen.program = hello.programs.includes(given.get("program")) ? given.get("program") : "colouring";
@@ -174,6 +194,7 @@ async function follow() {
     time.at = +given.get("at") || 0;
     seen.tab = tabs[given.get("tab")] ? given.get("tab") : "draw";
   });
+  if (mine !== follows) return;
   isFollowing = false;
   enter();
 }
@@ -188,8 +209,9 @@ function showLesson(lesson) {
 }
 by("copy").onclick = async () => {
   hooks.link();
-  try { await navigator.clipboard.writeText(location.href); took("The link is copied; it has no token in it."); }
-  catch { took("The address of this page is the link; it has no token in it."); }
+  const said = words => { by("copy").textContent = words; };
+  try { await navigator.clipboard.writeText(location.href); said("copied"); } catch { said("see the address"); }
+  setTimeout(() => said("link"), 2000);
 };
 by("examples").onchange = async () => {
   const name = by("examples").value;
@@ -204,16 +226,25 @@ by("lessons").onchange = () => {
   by("lessons").value = "";
   if (number) location.hash = "lesson=" + number;
 };
+// An arrow on a closed list opens it: it would choose at once.
+["lessons", "examples"].forEach(id => {
+  by(id).onkeydown = event => {
+    if (!/^Arrow(Up|Down)$/.test(event.key) || !by(id).showPicker) return;
+    event.preventDefault();
+    by(id).showPicker();
+  };
+});
 all("nav button").forEach(one => { one.onclick = () => hooks.go(one.dataset.tab); });
 
 document.onkeydown = event => {
   const on = event.target.tagName, mod = event.ctrlKey || event.metaKey, key = event.key;
   if (["INPUT", "TEXTAREA", "SELECT"].includes(on) && event.target.type !== "range") return;
-  const node = on === "g" && event.target.dataset.node ? +event.target.dataset.node : null;
+  const {node: v, edge} = event.target.dataset || {}, node = on === "g" && v ? +v : null;
   if (mod && key.toLowerCase() === "z") { if (event.shiftKey) model.redo(); else model.undo(); }
   else if (mod && key.toLowerCase() === "y") model.redo();
   else if (mod || event.altKey) return;
   else if (node && (key === "Enter" || key === " ")) tabs[seen.tab].click(node, null, event);
+  else if (edge && key === "Enter") tabs[seen.tab].click(null, edgesOf(edge)[0], event);
   else if (key === "+" || key === "=") by("zoomin").click();
   else if (key === "-") by("zoomout").click();
   else if (TIMED.includes(seen.tab) && time.key(event)) return;
@@ -241,6 +272,7 @@ async function begin() {
   stage.fit();
   if (!await tried("hello", "beginning", greet)) return;
   const {hello} = seen;
+  all("nav, .tools").forEach(one => { one.hidden = false; });
   hello.examples.forEach(name => option(by("examples"), name));
   hello.lessons.forEach(one => option(by("lessons"), one.number, `${one.number}. ${one.title}`));
   ["program", "program2", "program3"].forEach(id => hello.programs.forEach(name => option(by(id), name)));
