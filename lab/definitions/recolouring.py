@@ -31,7 +31,7 @@ class Recolouring(Sequel):
         if self.first.merged != self.span - pulse:
             return [None] * self.degree
         self.colour = self.first.least_free(self.held)
-        return [("Chosen", self.colour) if pulse < self.span else None] * self.degree
+        return [("Anew", self.colour) if pulse < self.span else None] * self.degree
 
     def result(self) -> str:
         return f"channel {self.colour + 1}"

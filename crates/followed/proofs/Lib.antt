@@ -1,0 +1,2 @@
+mod HeardTo
+pub mod Outboxes

@@ -2,6 +2,9 @@
 
 ghost use Rattle.std.specs.Prelude.{◌≡◌};
 
+use crate::hearing::{hear, tell};
+use crate::rules::TOO_EARLY;
+use crate::said::Said;
 use crate::sequel::Sequel;
 use interference::{Memory, Network};
 use node_api::{Inbox, NodeProgram, Outbox, Refused};
@@ -14,14 +17,23 @@ use std::marker::Model;
 pub struct Followed<P: NodeProgram, R: Sequel<P>> {
     first: P,
     beside: R,
+    degree: u32,
+    // What the first program hears and sends at a pulse: empty between its pulses.
+    inbox: Inbox<P::Payload>,
+    out: Outbox<P::Payload>,
 }
 
 impl<P: NodeProgram, R: Sequel<P>> Model for Followed<P, R> {
+    ghost use Rattle.std.specs.Prelude.{◌≡◌};
+    ghost use Rattle.node_api.specs.Boxes.{nothing, unread};
     ghost use Rattle.followed.specs.Followed.{Both};
 
     ghost Value = { Both P R };
 
     ghost view = { λ a. record { first = a.first; beside = a.beside } };
+
+    ghost invariant = { λ a. (R.before.ports a.first ≡ a.degree) × (a.inbox ≡ unread (nothing a.degree))
+        × (a.out ≡ nothing a.degree) };
 }
 
 impl<P: NodeProgram, R: Sequel<P>> Followed<P, R> {
@@ -44,7 +56,7 @@ impl<P: NodeProgram, R: Sequel<P>> NodeProgram for Followed<P, R> {
     ghost use Rattle.followed.specs.Followed.{followed};
     ghost use Rattle.followed.specs.FollowedLaws.{followed_is_program};
 
-    type Payload = P::Payload;
+    type Payload = Said<P::Payload, R::Payload>;
 
     ghost program = { followed R.before R.sequel };
 
@@ -55,13 +67,23 @@ impl<P: NodeProgram, R: Sequel<P>> NodeProgram for Followed<P, R> {
     }
 
     fn make(alloc: Global, net: &Network, v: u32) -> Result<Self, Memory> {
+        let degree = net.degree(v);
         let first = P::make(alloc, net, v)?;
         let beside = R::begin(alloc, net, v)?;
-        Ok(Followed { first, beside })
+        let inbox = Inbox::new(alloc, degree)?;
+        let out = Outbox::new(alloc, degree)?;
+        Ok(Followed {
+            first,
+            beside,
+            degree,
+            inbox,
+            out,
+        })
     }
 
-    fn init(&mut self, out: &mut Outbox<P::Payload>) {
-        self.first.init(out);
+    fn init(&mut self, out: &mut Outbox<Self::Payload>) {
+        self.first.init(&mut self.out);
+        tell(self.degree, &mut self.out, out);
     }
 
     fn pre_step(&mut self, pulse: u32) {
@@ -73,8 +95,8 @@ impl<P: NodeProgram, R: Sequel<P>> NodeProgram for Followed<P, R> {
     fn handle_messages(
         &mut self,
         pulse: u32,
-        inbox: &mut Inbox<P::Payload>,
-        out: &mut Outbox<P::Payload>,
+        inbox: &mut Inbox<Self::Payload>,
+        out: &mut Outbox<Self::Payload>,
     ) -> Result<(), Refused> {
         let until = self.beside.until();
         if until < pulse {
@@ -82,7 +104,23 @@ impl<P: NodeProgram, R: Sequel<P>> NodeProgram for Followed<P, R> {
                 .beside
                 .pulse(&self.first, pulse - until - 1, inbox, out);
         }
-        self.first.handle_messages(pulse, inbox, out)
+        if let Some(port) = hear(inbox, &mut self.inbox) {
+            self.inbox.clear();
+            return Err(Refused {
+                rule: TOO_EARLY,
+                port: Some(port),
+            });
+        }
+        if let Err(refused) = self
+            .first
+            .handle_messages(pulse, &mut self.inbox, &mut self.out)
+        {
+            self.inbox.clear();
+            return Err(refused);
+        }
+        self.inbox.clear();
+        tell(self.degree, &mut self.out, out);
+        Ok(())
     }
 
     fn post_step(&mut self, pulse: u32) {

@@ -1,8 +1,9 @@
 //! First one program of nodes, then a sequel: up to a pulse the nodes run the first program, and then each keeps its
-//! state of it, and goes on with what it has beside it (`Sequel`). The two send payloads of one type.
+//! state of it, and goes on with what it has beside it (`Sequel`). What they send is a payload of the first program or
+//! of the sequel (`Said`), each with its own words.
 //!
 //! ```text
-//! type IndependentSet = Followed<Colouring, Classes>; // a program of nodes
+//! type Matching = Followed<Colouring, Turns>; // a program of nodes
 //! ```
 //!
 //! A sequel of a sequel is one of `Followed<P, R>`.
@@ -11,7 +12,11 @@
 #![tactic(auto)]
 
 mod followed;
+mod hearing;
+pub mod rules;
+mod said;
 mod sequel;
 
 pub use followed::Followed;
+pub use said::{Said, WordsBeside};
 pub use sequel::Sequel;

@@ -5,8 +5,10 @@ ghost use Rattle.interference.specs.Net.{IsVertex};
 ghost use Rattle.node_api.specs.Boxes.{nothing};
 ghost use Rattle.node_api.specs.Laws.{IsProgram};
 ghost use Rattle.node_api.specs.Program.{Matches, Program, own_of, sizes_of};
+ghost use Rattle.followed.specs.declared.said.Said.{Said};
 ghost use Rattle.followed.specs.Followed.{Sequel, IsSequel};
 
+use crate::said::{Said, WordsBeside};
 use interference::{Memory, Network};
 use node_api::{Inbox, NodeProgram, Outbox, Refused};
 use std::alloc::Global;
@@ -16,6 +18,9 @@ use std::alloc::Global;
 pub trait Sequel<P: NodeProgram>: Sized + Drop + Send {
     ghost use Rattle.node_api.specs.declared.program.Refused.{Refused};
 
+    /// What nodes send one another, once the first program is over.
+    type Payload: WordsBeside<P::Payload>;
+
     /// What the first program means, and that it is a program: a member of this trait sees no member of `P`, so both
     /// are said again here, and `same` says that they are.
     ghost before: { Program P P.Payload Refused };
@@ -23,7 +28,7 @@ pub trait Sequel<P: NodeProgram>: Sized + Drop + Send {
     ghost before_laws: { IsProgram before };
 
     /// What this part means.
-    ghost sequel: { Sequel P Self P.Payload };
+    ghost sequel: { Sequel P Self P.Payload Self.Payload };
 
     /// The sequel may follow the first program: each node knows when it begins, it refuses nothing on the synchronous
     /// run, and sends nothing at the last pulse.
@@ -56,8 +61,8 @@ pub trait Sequel<P: NodeProgram>: Sized + Drop + Send {
         &mut self,
         first: &P,
         pulse: u32,
-        inbox: &mut Inbox<P::Payload>,
-        out: &mut Outbox<P::Payload>,
+        inbox: &mut Inbox<Said<P::Payload, Self::Payload>>,
+        out: &mut Outbox<Said<P::Payload, Self::Payload>>,
     ) -> Result<(), Refused>
         requires rewound { inbox.old.cursor ≡ 0 }
         requires inbox { length inbox.old.slots ≡ before.ports first.now }

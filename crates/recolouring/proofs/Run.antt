@@ -1,6 +1,6 @@
 -- The run of the classes that choose anew: who has chosen after each pulse, and what each has heard of.
 use Rattle.std.proofs.Common.{◌≡◌, ℕ, zero, suc, ◌+◌, ◌-◌, ◌<◌, ◌≤◌, ◌==◌, ◌&&◌, Bool, true, false, List, refl, ap, sym, ◌∙◌, arith, subst, inl, inr}
-use Rattle.std.specs.Prelude.{replicate, nat_le, nat_lt, Option, Some, None}
+use Rattle.std.specs.Prelude.{map, replicate, nat_le, nat_lt, Option, Some, None}
 use Rattle.std.specs.Ordering.{nat_cmp}
 use Rattle.std.specs.FinSet.{FinSet, contains, contains-empty, empty}
 use Rattle.std.proofs.lemmas.Bool.Decides.{nat_tests}
@@ -17,7 +17,8 @@ use Rattle.colour_rules.proofs.Greets.{same-for_all}
 use Rattle.node_api.proofs.Runs.{length-inbox, node_at-ports}
 use Rattle.node_api.proofs.Slots.{at_port-nothing}
 use Rattle.followed.specs.Followed.{Both, beside_of}
-use Rattle.followed.specs.Lemmas.{kept_beside, same_run}
+use Rattle.followed.specs.Said.{said}
+use Rattle.followed.specs.Lemmas.{kept_beside, said-nothing, same_run}
 use Rattle.colour_rules.proofs.KeptPorts.{keeps}
 use Rattle.colour_laws.specs.Colours.{colours}
 use Rattle.colour_rules.specs.declared.payload.Payload.{Payload}
@@ -26,7 +27,8 @@ use Rattle.colour_rules.specs.Program.{colouring}
 use Rattle.colour_laws.proofs.Choices.{colours_within}
 use Rattle.colour_laws.proofs.Forests.{has_forest, has_start}
 use Rattle.colour_laws.proofs.Starts.{colour_at_last}
-use Rattle.recolouring.specs.Knowing.{Recoloured, anew_next, chose, colour_after, is_taken, is_turn, recolours, says, told, with_anew}
+use Rattle.recolouring.specs.declared.anew.Anew.{Anew}
+use Rattle.recolouring.specs.Knowing.{Recoloured, Wire, anew_next, chose, colour_after, is_taken, is_turn, recolours, says, told, with_anew}
 use Rattle.recolouring.specs.Lawful.{at, at-class, coloured, cut, has_greatest, recolours_cut}
 use Rattle.recolouring.proofs.Coming.{anew-from, anew-has, anew-keeps, number}
 
@@ -48,7 +50,7 @@ past-all zero k x h = refl
 past-all (suc n) zero x h = absurd (omega arith)
 past-all (suc n) (suc k) x h = past-all n k x (omega arith)
 
-told-some : (node : Node) (k : ℕ) (b : Bool) (c : ℕ) (x : Payload) → at_port (told node b c) k ≡ Some x → (b ≡ true) × (says c ≡ x)
+told-some : (node : Node) (k : ℕ) (b : Bool) (c : ℕ) (x : Wire) → at_port (told node b c) k ≡ Some x → (b ≡ true) × (says c ≡ x)
 told-some node k true c x e = elim (dec_lt k (ports node)) [
   | yes below ↦
       let here : Some (says c) ≡ Some x = sym (get_or-replicate (ports node) k (Some (says c)) None below) ∙ e in
@@ -67,7 +69,7 @@ module _ (net : Net) (ok : IsNetwork net) where
   abbrev pub mine : ℕ → ℕ → Recoloured
   mine q v = (at net ok (start + q) v).0.beside
 
-  abbrev inbox : ℕ → ℕ → List (Option Payload)
+  abbrev inbox : ℕ → ℕ → List (Option Wire)
   inbox q v = inbox_from net (at net ok (start + q)) v
 
   -- what it has heard of when the next class chooses
@@ -94,14 +96,14 @@ module _ (net : Net) (ok : IsNetwork net) where
       (let e : start + q - start ≡ q = omega arith in e))
 
   chosen-more : (q v : ℕ) → IsVertex net v → (mine (suc q) v).chosen ≡ heard q v
-  chosen-more q v is_vertex = ap (λ (next : Both Node Recoloured × List (Option Payload)). next.0.beside.chosen) (more q v is_vertex)
+  chosen-more q v is_vertex = ap (λ (next : Both Node Recoloured × List (Option Wire)). next.0.beside.chosen) (more q v is_vertex)
 
   colour-more : (q v : ℕ) → IsVertex net v → (mine (suc q) v).colour ≡ colour_after (mine q v) (heard q v) (turn q v)
-  colour-more q v is_vertex = ap (λ (next : Both Node Recoloured × List (Option Payload)). next.0.beside.colour) (more q v is_vertex)
+  colour-more q v is_vertex = ap (λ (next : Both Node Recoloured × List (Option Wire)). next.0.beside.colour) (more q v is_vertex)
 
   sent : (q v : ℕ) → IsVertex net v → (at net ok (start + suc q) v).1
       ≡ told (coloured net ok v) (turn q v && nat_lt q (mine q v).greatest) (colour_after (mine q v) (heard q v) (turn q v))
-  sent q v is_vertex = ap (λ (next : Both Node Recoloured × List (Option Payload)). next.1) (more q v is_vertex)
+  sent q v is_vertex = ap (λ (next : Both Node Recoloured × List (Option Wire)). next.1) (more q v is_vertex)
 
   greatest_is : (q v : ℕ) → (mine q v).greatest ≡ span_of net
   greatest_is q v = has_greatest net ok (start + q) v
@@ -112,15 +114,17 @@ module _ (net : Net) (ok : IsNetwork net) where
   first : (v : ℕ) → IsVertex net v → (mine 0 v).chosen ≡ empty
   first v is_vertex =
       subst (λ (n : ℕ). (at net ok n v).0.beside.chosen ≡ empty) (let e : start ≡ start + 0 = omega arith in e)
-      (ap (λ (next : Both Node Recoloured × List (Option Payload)). next.0.beside.chosen)
+      (ap (λ (next : Both Node Recoloured × List (Option Wire)). next.0.beside.chosen)
       (same_run colouring recolours recolours_cut net ok start v is_vertex (omega arith)))
 
   first_sent : (v : ℕ) → IsVertex net v → (at net ok (start + 0) v).1 ≡ nothing (degree_of net v)
   first_sent v is_vertex =
       subst (λ (n : ℕ). (at net ok n v).1 ≡ nothing (degree_of net v)) (let e : start ≡ start + 0 = omega arith in e)
-      (ap (λ (next : Both Node Recoloured × List (Option Payload)). next.1)
+      (ap (λ (next : Both Node Recoloured × List (Option Wire)). next.1)
       (same_run colouring recolours recolours_cut net ok start v is_vertex (omega arith))
-      ∙ ((colour_at_last net ok (has_forest net ok) (has_start net ok) v is_vertex).1 ∙ sym (same-for_all None (neighbours net v))))
+      ∙ (ap (map (said {A = Payload} {B = Anew}))
+      ((colour_at_last net ok (has_forest net ok) (has_start net ok) v is_vertex).1 ∙ sym (same-for_all None (neighbours net v)))
+      ∙ said-nothing {A = Payload} {B = Anew} (degree_of net v)))
 
   slot : (q v k : ℕ) → k < degree_of net v → at_port (inbox q v) k
       ≡ at_port (at net ok (start + q) (neighbour_of net v k)).1 (port_to net (neighbour_of net v k) v)
@@ -176,7 +180,7 @@ module _ (net : Net) (ok : IsNetwork net) where
       let inside : IsVertex net w = ok.vertices v k is_vertex below in
       let colour : ℕ = colour_after (mine q w) (heard q w) (turn q w) in
       let there : at_port (told (coloured net ok w) (turn q w && nat_lt q (mine q w).greatest) colour) (port_to net w v) ≡ Some (says c) =
-      sym (ap (λ (out : List (Option Payload)). at_port out (port_to net w v)) (sent q w inside)) ∙ (sym (slot (suc q) v k below) ∙ is) in
+      sym (ap (λ (out : List (Option Wire)). at_port out (port_to net w v)) (sent q w inside)) ∙ (sym (slot (suc q) v k below) ∙ is) in
       let facts = told-some (coloured net ok w) (port_to net w v) (turn q w && nat_lt q (mine q w).greatest) colour (says c) there in
       let when : colours net w + q ≡ span_of net = turn-is q w inside (and_parts (turn q w) (nat_lt q (mine q w).greatest) facts.0).0 in
       let same : colour ≡ c = ap number facts.1 in
@@ -186,7 +190,7 @@ module _ (net : Net) (ok : IsNetwork net) where
   first_none v k c is_vertex below is =
       let w : ℕ = neighbour_of net v k in
       let none : None ≡ Some (says c) =
-      sym (ap (λ (out : List (Option Payload)). at_port out (port_to net w v)) (first_sent w (ok.vertices v k is_vertex below)) ∙ at_port-nothing (degree_of net w) (port_to net w v))
+      sym (ap (λ (out : List (Option Wire)). at_port out (port_to net w v)) (first_sent w (ok.vertices v k is_vertex below)) ∙ at_port-nothing (degree_of net w) (port_to net w v))
       ∙ (sym (slot 0 v k below) ∙ is) in
       cc
 
@@ -230,7 +234,7 @@ module _ (net : Net) (ok : IsNetwork net) where
             let port : port_to net w v < degree_of net w = ok.symmetric v k is_vertex below in
             let here : at_port (inbox (suc q) v) k ≡ Some (says (new w)) =
             slot (suc q) v k below
-            ∙ (ap (λ (out : List (Option Payload)). at_port out (port_to net w v)) (sent q w inside
+            ∙ (ap (λ (out : List (Option Wire)). at_port out (port_to net w v)) (sent q w inside
             ∙ (ap (λ (b : Bool). told (coloured net ok w) b colour) (and_from (turn q w) (nat_lt q (mine q w).greatest) turns early)
             ∙ ap (told (coloured net ok w) true) is))
             ∙ get_or-replicate (ports (coloured net ok w)) (port_to net w v) (Some (says (new w))) None (omega (arith, many, port))) in

@@ -9,11 +9,13 @@ use Rattle.forest_merge.specs.declared.chosen.TheConstants.{COLOURS}
 use Rattle.node_api.specs.Boxes.{fold_slots, nothing}
 use Rattle.node_api.specs.Program.{Program, span}
 use Rattle.node_api.specs.declared.program.Refused.{Refused}
+use Rattle.followed.specs.declared.said.Said.{Said}
+use Rattle.followed.specs.declared.said.Said.TheVariants.{First, Then}
 use Rattle.followed.specs.Followed.{Both, Sequel, followed}
 use Rattle.colour_rules.specs.declared.payload.Payload.{Payload}
-use Rattle.colour_rules.specs.declared.payload.Payload.TheVariants.{Hello, Label, Colour, Chosen}
 use Rattle.colour_rules.specs.Node.{Node, last, ports, up_to}
 use Rattle.colour_rules.specs.Program.{colouring}
+use Rattle.recolouring.specs.declared.anew.Anew.{Anew}
 
 -- what a node has beside its first colour
 pub record Recoloured : Type 0 where
@@ -26,19 +28,21 @@ pub record Recoloured : Type 0 where
   -- the colour that it has chosen anew
   pub colour : ℕ
 
+-- what is sent: a payload of the colouring, or a colour that was chosen anew
+abbrev pub Wire : Type 0
+Wire = Said Payload Anew
+
 -- what a node that chooses anew sends: its colour
-abbrev pub says : ℕ → Payload
-says c = Chosen c
+abbrev pub says : ℕ → Wire
+says c = Then (record { 0 = c })
 
 -- a payload taken into the set of the colours that neighbours have chosen anew
-abbrev pub and_anew : FinSet nat_cmp → ℕ → Payload → FinSet nat_cmp
-and_anew set port (Chosen c) = if nat_lt c COLOURS then insert set c else set
-and_anew set port (Hello id) = set
-and_anew set port (Label f) = set
-and_anew set port (Colour c) = set
+abbrev pub and_anew : FinSet nat_cmp → ℕ → Wire → FinSet nat_cmp
+and_anew set port (First payload) = set
+and_anew set port (Then anew) = if nat_lt anew.0 COLOURS then insert set anew.0 else set
 
 -- all that came
-abbrev pub with_anew : FinSet nat_cmp → List (Option Payload) → FinSet nat_cmp
+abbrev pub with_anew : FinSet nat_cmp → List (Option Wire) → FinSet nat_cmp
 with_anew set slots = fold_slots and_anew set 0 slots
 
 -- whether a colour is taken for a node that has heard of these
@@ -57,19 +61,19 @@ abbrev pub recoloured : Recoloured → FinSet nat_cmp → Bool → Recoloured
 recoloured s chosen turn = record s { chosen = chosen; colour = colour_after s chosen turn }
 
 -- what all ports are told: by a node that chooses before the last pulse, its colour
-abbrev pub told : Node → Bool → ℕ → List (Option Payload)
+abbrev pub told : Node → Bool → ℕ → List (Option Wire)
 told node b c = if b then replicate (ports node) (Some (says c)) else nothing (ports node)
 
 -- a pulse, by what a node has heard of, and by whether it is its turn
-abbrev pub chose : Node → Recoloured → ℕ → FinSet nat_cmp → Bool → Recoloured × List (Option Payload)
+abbrev pub chose : Node → Recoloured → ℕ → FinSet nat_cmp → Bool → Recoloured × List (Option Wire)
 chose node s q chosen turn = (recoloured s chosen turn, told node (turn && nat_lt q s.greatest) (colour_after s chosen turn))
 
 -- a pulse, from 0
-abbrev pub anew_next : Node → Recoloured → ℕ → List (Option Payload) → Recoloured × List (Option Payload)
+abbrev pub anew_next : Node → Recoloured → ℕ → List (Option Wire) → Recoloured × List (Option Wire)
 anew_next node s q inbox = chose node s q (with_anew s.chosen inbox) (is_turn node.merged s.greatest q)
 
 -- what follows the colouring
-abbrev pub recolours : Sequel Node Recoloured Payload
+abbrev pub recolours : Sequel Node Recoloured Payload Anew
 recolours = record {
   until = λ s. s.until;
   last = λ sizes. last sizes + 1 + span sizes;
@@ -84,5 +88,5 @@ recolours = record {
 }
 
 -- the program
-abbrev pub recolouring : Program (Both Node Recoloured) Payload Refused
+abbrev pub recolouring : Program (Both Node Recoloured) Wire Refused
 recolouring = followed colouring recolours

@@ -1,3 +1,4 @@
+pub mod Words
 pub mod Knowing
 pub mod Stored
 pub mod Lawful

@@ -15,9 +15,11 @@
 //! Limits: those of `colour_rules`.
 #![tactic(auto)]
 
+mod anew;
 pub mod laws;
 mod node;
 #[cfg(test)]
 mod tests;
 
+pub use anew::Anew;
 pub use node::{Recolouring, Recolours};

@@ -1,5 +1,5 @@
-use Rattle.std.proofs.Common.{◌≡◌, ◌≤◌, ◌<◌, ◌+◌, ℕ, suc, Bool, true, false, arith}
-use Rattle.std.specs.Prelude.{◌↔◌, IsTrue, nat_lt, not}
+use Rattle.std.proofs.Common.{◌≡◌, ◌≤◌, ◌<◌, ◌+◌, ℕ, suc, Bool, false, arith}
+use Rattle.std.specs.Prelude.{◌↔◌, IsTrue, not}
 use Rattle.std.proofs.lemmas.Bool.{ltb-true}
 use Rattle.colour_base.proofs.LeastLemmas.{least-within}
 use Rattle.colour_rules.proofs.Choosing.{least_free_colour-high}

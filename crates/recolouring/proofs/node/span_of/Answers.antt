@@ -1,4 +1,4 @@
-use Rattle.std.proofs.Common.{◌+◌, ◌<◌, ◌≤◌, ◌≡◌, ◌^◌, arith, rules}
+use Rattle.std.proofs.Common.{◌≤◌, rules}
 use Rattle.graph_limits.specs.declared.limits.TheConstants.{MAX_BARS}
 use Rattle.interference.specs.declared.limits.TheConstants.{MAX_DEGREE}
 use Rattle.interference.specs.Net.{greatest_bars_of, greatest_degree_of}

@@ -1,4 +1,4 @@
-use Rattle.std.proofs.Common.{◌≡◌, ℕ, ◌<◌, ap, arith, subst, sym}
+use Rattle.std.proofs.Common.{◌≡◌, arith, subst, sym}
 use Rattle.node_api.specs.Program.{RestsUntil}
 use Rattle.followed.specs.Followed.{Both, followed}
 use Rattle.followed.specs.Lemmas.{rests-early}
