@@ -53,7 +53,8 @@ def read(text: str, name: str, form: str) -> Listed:
     except Exception as why:
         if form == "gexf":
             what += ", of which it knows the versions 1.1 and 1.2 (GraphML is always read)"
-        raise Wrong(f"{name}: networkx can't read it as {what}: {shown(str(why)) or type(why).__name__}") from None
+        words = type(why).__name__ if str(why) in ("", "None") else shown(str(why))
+        raise Wrong(f"{name}: networkx can't read it as {what}: {words}") from None
     edges = [(1, str(one), str(other)) for one, other in graph.edges()]
     found = Listed(what, edges, [(1, str(node)) for node in graph], is_exact=True)
     found.notes.append("read by networkx, and counted again")

@@ -3,7 +3,8 @@ the programs wouldn't read."""
 import re
 
 from lab.networks.listed import Listed, clean
-from lab.networks.network_text import IDENTIFIERS, MAX_BARS, MAX_CHANNEL, fields_of, name_of, place_of, shown, whole
+from lab.networks.network_text import (
+    IDENTIFIERS, MAX_BARS, MAX_CHANNEL, SKIPPED, fields_of, name_of, place_of, shown, whole)
 from lab.networks.fields import is_number
 from lab.wrong import wrong_line
 
@@ -24,10 +25,11 @@ def read(text: str, name: str) -> Listed:
     A line `i V NUMBER` gives V an identifier, and `b V CHANNEL` bars a channel at V."""
     found = Listed("DIMACS")
     # The word after `p` and the number of edges, if there is a `p` line.
-    head = None, None
+    head, passed = (None, None), 0
     for line, raw in enumerate(text.split("\n"), 1):
         fields = [field for field in fields_of(raw) if field]
-        if not fields or fields[0] in ("n", "d", "v", "x"):
+        if not fields or fields[0] in SKIPPED:
+            passed += bool(fields)
             continue
         if fields[0] == "p":
             head = read_head(found, name, line, fields)
@@ -47,6 +49,8 @@ def read(text: str, name: str) -> Listed:
             found.edges.append((line, str(whole(ends[0])), str(whole(ends[1]))))
     if found.nodes is None:
         found.left_out.append("there is no `p` line, so nodes without an edge aren't known")
+    if passed:
+        found.notes.append(f"lines `n`, `d`, `v` and `x` aren't read: {passed}")
     there = len({frozenset(ends) for _, *ends in found.edges})
     if head[1] not in (None, there, 2 * there, len(found.edges)):
         found.left_out.append(f"the `p` line says {head[1]:,} edges, and the text has {there:,}: is it cut?")

@@ -41,6 +41,8 @@ def tokens_of(text, name):
         elif kind == "strange":
             raise wrong_line(name, line, f"DOT isn't read on from `{shown(value)}`; a name of other letters than these "
                                          "and digits needs quotes")
+        if at is None and kind == "html":
+            raise wrong_line(name, start, "`<` begins a text here, and no `>` ends it: is the text cut?")
         if at is None:
             raise wrong_line(name, start, "DOT ends before its last brace: is the text cut?")
         line += text.count("\n", found.start(), at)

@@ -94,6 +94,12 @@ def read(text: str, name: str) -> Listed:
         for end in ends:
             if end not in lines:
                 raise wrong_line(name, line, f"an edge names {shown(end)}, which is no node")
+    groups = {value_of(entries, "id") for _, key, entries in graphs[0]
+              if key == "node" and value_of(entries, "isgroup") == "1"}
+    groups -= {end for _, *ends in found.edges for end in ends}
+    if groups:
+        found.left_out.append(f"groups of nodes, without an edge of their own, are no nodes: {len(groups)}")
+        found.alone = [(line, node) for line, node in found.alone if node not in groups]
     for word in LABELS:
         if found.names_by(labels[word], word):
             break

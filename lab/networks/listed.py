@@ -54,13 +54,18 @@ class Listed:
         self.bars = {new(node): channels for node, channels in self.bars.items()}
 
     def names_by(self, labels: dict[str, str], word: str) -> bool:
-        """Names the nodes by their labels, if each has one of its own; says whether."""
+        """Names the nodes by their labels, if each has one of its own; says whether, and notes it."""
         nodes = {name for _, name in self.alone}
         cleaned = {node: clean(label) for node, label in labels.items() if node in nodes}
-        is_named = bool(nodes) and len(set(cleaned.values()) - {""}) == len(nodes)
+        different = set(cleaned.values()) - {""}
+        is_named = bool(nodes) and len(different) == len(nodes)
         if is_named and any(cleaned[node] != node for node in nodes):
             self.rename(cleaned.__getitem__)
             self.notes.append(f"nodes are named by their {word}")
+        elif different and not is_named:
+            labelled = [label for label in cleaned.values() if label]
+            why = f"{shown(twin_of(cleaned))} comes twice" if len(different) < len(labelled) else "some have none"
+            self.notes.append(f"nodes aren't named by their {word}: {why}")
         return is_named
 
 
@@ -101,8 +106,8 @@ def with_clean_names(found: Listed, name: str) -> None:
 
 def twin_of(cleaned: dict[str, str]) -> str:
     """The first name that two others become."""
-    seen = set()
-    return next(one for one in cleaned.values() if one in seen or seen.add(one))
+    seen = {""}
+    return next(one for one in cleaned.values() if one and (one in seen or seen.add(one)))
 
 
 def note_alike(found: Listed, names: list[str]) -> None:

@@ -15,7 +15,7 @@ from lab.networks.listed import Listed
 from lab.networks.named import network_bytes, network_text, path_of
 from lab.networks.network_text import read_network
 from lab.networks.numbering import renumbered
-from lab.networks.plan_text import read_plan
+from lab.networks.plan_text import clashes, read_plan
 from lab.networks.reading import listed_of, made_of, other_form
 from lab.networks.telling import tell
 from lab.networks.texts import text_of
@@ -155,6 +155,8 @@ def was_named(given):
     network = read_network(network_text(given.file), given.file)
     table = channels_asked(given, given.channels)
     plan = read_plan(text_at("-"), "the plan", network)
+    for v, w in clashes(network, plan)[:1]:
+        raise Wrong(f"the plan: vertices {v} and {w} are neighbours and share a channel (C4): is it another network's?")
     if table and max(plan.values(), default=0) > len(table):
         raise Wrong(f"the plan takes {max(plan.values())} channels, and the table has {len(table)}")
     rows = [(network.names.get(v, str(v)), table[plan[v] - 1] if table else plan[v]) for v in network.vertices]

@@ -1,7 +1,7 @@
 """`forestlab network read`: a network in one of the forms, as a text that the programs read, and what was guessed and
 left out."""
 from lab.networks.forms import listed
-from lab.networks.listed import decoded, with_clean_names
+from lab.networks.listed import decoded, twin_of, with_clean_names
 from lab.networks.network_text import MAX_DEGREE, MAX_EDGES, MAX_NODES, read_network, shown, stem, two_alike, whole
 from lab.networks.texts import Made, text_of
 from lab.wrong import Wrong
@@ -75,6 +75,8 @@ def made_of(found, name):
     by_number = by_text or found.form == "DIMACS"
     places = found.places if by_number else given(found.places, number, name, "a place")
     names = {v: node for v, node in order.items() if node != str(v)} | found.names
+    if len(set(names.values())) < len(names):
+        found.notes.append(f"two nodes are named {shown(twin_of(names))}")
     made = Made(
         max(order, default=0),
         edges,

@@ -80,10 +80,10 @@ class Held:
     """A policy, beside which the steps on slow edges and of lazy nodes wait until no other is possible."""
 
     def __init__(self, policy, slow=(), lazy=()):
-        self.policy, self.slow, self.lazy = policy, {tuple(sorted(edge)) for edge in slow}, set(lazy)
+        self.policy, self.slow, self.lazy = policy, {pair for v, w in slow for pair in ((v, w), (w, v))}, set(lazy)
 
     def waits(self, step):
-        return step.node in self.lazy or tuple(sorted(step.link)) in self.slow
+        return step.node in self.lazy or (step.node, step.neighbour) in self.slow
 
     def choose(self, steps):
         return self.policy.choose([step for step in steps if not self.waits(step)] or steps)

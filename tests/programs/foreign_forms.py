@@ -233,6 +233,20 @@ class ForeignForms(Case):
             self.note(f"refused: {name}", good, (status, wrote, told))
             self.note(f"tell of {name}", b"can read it" not in call("tell", "-", data=data)[2])
 
+    def test_said(self):
+        """What isn't read of a form is said, and what is left out is counted."""
+        group = ('graph [ node [ id 1 label "A" isGroup 1 ] node [ id 2 label "A" ] node [ id 3 ] '
+                 "edge [ source 2 target 3 ] ]")
+        for text, said in ((group, b"groups of nodes, without an edge of their own, are no nodes: 1"),
+                           (group.replace("isGroup", "x"), b"nodes aren't named by their label: A comes twice"),
+                           (group.replace("isGroup 1", 'name "B"'), b"nodes aren't named by their name: some have none"),
+                           ("p edge 3 2\ne 1 2\nx 1 3\nd 2\n", b"lines `n`, `d`, `v` and `x` aren't read: 2"),
+                           ("c name 1 A\nc name 2 A\np edge 2 1\ne 1 2\n", b"two nodes are named A")):
+            status, _, told = call("read", "-", data=text.encode())
+            self.note(f"said of {text!r}", status == 0 and said in told, told)
+        clash = call("names", "triangle", data=b"plan\n1 2\n2 2\n3 1\n")
+        self.note("names of a clash", clash[0] == 1 and b"vertices 1 and 2 are neighbours" in clash[2], clash)
+
     def test_vouched(self):
         """What the guess refuses is read if its form is named."""
         for words, data, edges in (
