@@ -16,6 +16,7 @@ MARK, LIST = re.compile("[,;|]"), re.compile(r"[\s,;|/&+]+")
 COMMENT, AFTER = re.compile(r"(^|.*\s)([#%!]+|//|--|/\*)\s"), re.compile(r"(.*?\S)\s+([#%!(]|//|--|/\*)")
 # What stands between a node and its neighbours where each has a line of its own.
 BETWEEN = (":", "->", "=>", "--", "=", "|", " - ")
+DATE = re.compile(r"\d{4}-\d\d-\d\d|\d\d?[./]\d\d?[./]\d{4}")
 LETTERED = re.compile(NOUN + "[ _.-]?[ab12]")
 # How spreadsheets and databases write that there is no value, and what the last line of an export may say.
 NO_VALUE = re.compile(r"#[A-Z/0]+[!?]|#n/a|#nv|<na>|\\n|nil", re.I)
@@ -128,18 +129,32 @@ def refuse_edges(body: Rows, name: str, is_unknown: bool, is_closed: bool) -> No
         raise wrong_line(name, last, f"`{shown(' '.join(ends))}` may be no row (if it is a pair or a node: --as pairs)")
     if all(map(is_number, first)) and not any(is_number(end) for _, ends in rows[1:] for end in ends):
         raise unsure(name, f"the first line (`{shown(' '.join(first))}`) may say how many there are", PAIRS)
-    mixed = [(line, ends) for line, ends in rows if len({is_number(end) for end in ends}) > 1]
+    mixed = [row for row in rows if len(set(map(is_number, row[1]))) > 1]
     kinds = {is_number(end) for row in rows if row not in mixed for end in row[1]}
-    if mixed and len(kinds) == 1 and all(times[end] == 1 for _, ends in mixed for end in ends):
-        raise wrong_line(name, mixed[0][0], f"`{shown(' '.join(mixed[0][1]))}` may be no pair: neither comes in "
-                         "another line (if it is a pair: --as pairs)")
+    if mixed and len(kinds) == 1 and all(is_stray(ends, times, kinds == {True}) for _, ends in mixed):
+        raise wrong_line(name, mixed[0][0], f"`{shown(' '.join(mixed[0][1]))}` may be no pair of nodes, beside "
+                         "the other lines (if it is one: --as pairs)")
+
+
+def is_stray(ends: list[str], times: Counter, are_numbers: bool) -> bool:
+    """Whether a number and a name may be no pair beside rows of numbers, or of names: if only the name is new there, or
+    if both are new, or the number has a fraction."""
+    number, word = sorted(ends, key=is_number, reverse=True)
+    is_new = times[word] == 1
+    return is_new if are_numbers else times[number] == 1 and (is_new or whole(number) is None)
 
 
 def are_of_two_kinds(fields: list[list[str]]) -> bool:
-    """Whether of the ends of some pairs one is always a number, and the other never, or always a whole one."""
+    """Whether of the ends of some pairs one is always a number or a date, and the other never, or a whole number."""
     pairs = [row for row in fields if len(row) > 1 and row[1]]
-    kinds = [{is_number(row[at]) + (whole(row[at]) is not None) for row in pairs} for at in (0, 1)]
+    kinds = [{kind_of(row[at]) for row in pairs} for at in (0, 1)]
     return bool(pairs) and len(kinds[0]) == len(kinds[1]) == 1 and kinds[0] != kinds[1]
+
+
+def kind_of(field: str) -> str:
+    if DATE.match(field):
+        return "date"
+    return "whole" if whole(field) is not None else "number" if is_number(field) else "name"
 
 
 def refuse_wide(fields: list[list[str]], name: str, table: Table, is_apart: bool) -> None:

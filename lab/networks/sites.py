@@ -51,6 +51,9 @@ class Sites:
 def table(data: bytes, name: str) -> tuple[list[str], list[tuple[int, list[str]]], str | None, list[str]]:
     """The headings of a table, as the words above, its rows, what separates their fields, and what was mended."""
     text, mended = decoded(data, name)
+    if text.lstrip()[:1] in ("<", "{", "["):
+        raise Wrong(f"{name}: it looks like XML or JSON, as KML, GPX and GeoJSON are: a table is read, with a heading as "
+                    "site,lat,lon")
     found = table_of(text, name, is_headed=True)
     rows = found.rows
     if not rows or found.separator is None and len(rows[0][1]) > 1:
@@ -280,10 +283,12 @@ def with_sites(found: Listed, sites: Sites, name: str, reach: float | None) -> N
     if lost:
         found.left_out.append(f"{counted(len(lost), 'site')} without a place, joined to none by the reach, first: "
                               f"{shown(lost[0])}")
+    there = {frozenset(ends) for _, *ends in found.edges}
     for count, (one, other) in enumerate(near(sites.points, reach, sites.is_globe)):
         if count > MAX_EDGES:
             raise Wrong(f"{name}: more than {MAX_EDGES} edges within {reach:g} km")
-        found.edges.append((sites.lines[other], names[one], names[other]))
+        if frozenset((names[one], names[other])) not in there:
+            found.edges.append((sites.lines[other], names[one], names[other]))
 
 
 def with_bars(found: Listed, data: bytes, name: str, licence: list[int] | None) -> None:
@@ -296,6 +301,9 @@ def with_bars(found: Listed, data: bytes, name: str, licence: list[int] | None) 
     if len(barred) > 1:
         raise Wrong(f"{name}: {len(barred)} columns of channels, {' and '.join(barred)}: leave that of barred ones")
     channel = words.index(barred[0])
+    others = [word for at, word in enumerate(words) if word and at not in (site, channel)]
+    if others:
+        found.notes.append(f"further columns of {name} aren't read: {shown(', '.join(others))}")
     known = {end for _, *ends in found.edges + found.alone for end in ends} | set(found.order or ())
     if found.nodes is not None:
         known |= set(numbered_by_text(found, name)[0].values())

@@ -86,6 +86,8 @@ def check(G, plan, bars=None, licence=None):
     """Has a plan judged, whoever made it: returns how many channels it takes, counted from 1 to the greatest, or raises
     `Refused`."""
     network, order = text_of(G, bars, licence)
+    if not isinstance(plan, collections.abc.Mapping):
+        raise TypeError(f"a {type(plan).__name__} is no plan: a dict with the channel of each node is wanted")
     known = set(order)
     strange = [node for node in plan if node not in known]
     if strange:
@@ -159,7 +161,7 @@ def _pairs(G):
     """The edges of a graph; what is neither of networkx nor a dict of lists is refused."""
     if callable(getattr(G, "edges", None)):
         return [(one, other) for one, other, *_ in G.edges()]
-    if not isinstance(G, collections.abc.Mapping):
+    if not isinstance(G, collections.abc.Mapping) or isinstance(G, collections.abc.Set):
         raise TypeError(f"a {type(G).__name__} is no graph: a graph of networkx is wanted (Graph makes one of pairs, "
                         "from_pandas_adjacency of a matrix), or a dict with the neighbours of each node")
     return [(one, other) for one in G for other in _items(G[one], f"neighbours of {one!r}")]
@@ -180,7 +182,7 @@ def _whole(value, what, is_counted):
         raise TypeError(f"{what} is {value!r}, and has to be a whole number") from None
     if not is_counted <= number <= 2048 + (not is_counted) * 10 ** 12:
         raise ValueError(f"{what} is {number}, and channels count from {int(is_counted)} on")
-    return number
+    return int(number)
 
 
 def _real(licence):

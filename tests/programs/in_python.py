@@ -101,6 +101,8 @@ class InPython(Case):
             (ValueError, "a channel of the licence is -1", lambda: forestplan.plan(SQUARE, licence=[0, -1])),
             (TypeError, "the channel of 'Ulm' is 2.0", lambda: forestplan.check(SQUARE, {"Ulm": 2.0})),
             (ValueError, "the channel of 'Ulm' is 0", lambda: forestplan.check(SQUARE, {"Ulm": 0})),
+            (TypeError, "a list is no plan", lambda: forestplan.check(SQUARE, [1, 2])),
+            (TypeError, "a dict_items is no graph", lambda: forestplan.plan(SQUARE.items())),
         ):
             why = self.refused(words, kind, call)
             self.note(words, why and words in str(why) and not isinstance(why, forestplan.Refused), why)

@@ -112,6 +112,7 @@ NEAR = (
     ("more columns of neighbours", WORDS + NUMBERS, more_columns),
     *((f"a title {line!r}", (TOWNS, CELLS), with_line(line, True))
       for line in ("Masts", "nodes {1}", "{1} {2}", "{2}", "n={1} m={2} x")),
+    *((f"a title {line!r} of numbers", NUMBERS, with_line(line, True)) for line in ("Masts", "nodes{0}{1}", "n {1}")),
     *((f"a last line {line!r}", (TOWNS, CELLS, *NUMBERS), with_line(line, False))
       for line in ("Total{0}{2}", "({2} rows)", "{2} rows", "END", "Summe{0}{2}")),
     ("comments after a name", WORDS, commented),
@@ -129,6 +130,7 @@ NEAR = (
     ("a weight before the ends", NUMBERS, lambda nodes, pairs, source: "".join(f"0.5;{a};{b}\n" for a, b in pairs)),
     ("numbered rows", (TOWNS, CELLS), lambda nodes, pairs, source: ",0,1\n" + "".join(
         f"{at},{a},{b}\n" for at, (a, b) in enumerate(pairs))),
+    ("dates", (TOWNS, CELLS), lambda nodes, pairs, source: "".join(f"{node},2026-11-30\n" for node in nodes)),
     ("a matrix", (TOWNS, CELLS, *NUMBERS), squares(False)),
     ("a matrix below names", (TOWNS, CELLS, *NUMBERS), squares(True)),
     ("a matrix of weights below numbers", NUMBERS, lambda *graph: squares(True)(*graph).replace("1\n", "2.7\n")),
@@ -165,6 +167,7 @@ TABLES = (
      b"site,channel\n"),
     ("two marks of a fraction", b"site;x;y\nA;1.234;0\nB;1,5;0\n", b"site,channel\n"),
     ("metres in x and y", b"site,X,Y\nA,453000,5600000\nB,453900,5600000\n", b"site,channel\n"),
+    ("JSON", b'{"type": "FeatureCollection", "features": []}', b"site,channel\n"),
     ("two encodings", "site\nKöln\n".encode() + "Mörs\n".encode("cp1252"), b"site,channel\n"),
 )
 
@@ -200,6 +203,13 @@ class NearTexts(Case):
                 found = Listed("sites")
                 sites.with_sites(found, sites.read_sites(places, "sites"), "sites", None)
                 sites.with_bars(found, bars, "bars", None)
+
+    def test_pairs_within_the_reach(self):
+        """A pair that is within the reach, too, isn't an edge that comes twice."""
+        found = listed_of(b"B A\nB C\n", "pairs")
+        sites.with_sites(found, sites.read_sites(b"site,x,y\nA,0,0\nB,1,0\nC,9,0\n", "sites"), "sites", 3)
+        made, _, left_out = made_of(found, "pairs")
+        self.note("its edges", (made.edges, left_out) == ([(1, 2), (2, 3)], []), (made.edges, left_out))
 
     def test_one_table_of_several_names(self):
         """Two columns that both have all names of the pairs, in another order, are refused; equal ones aren't."""
