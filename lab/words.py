@@ -1,11 +1,18 @@
 """What the command lines have in common: how a text is read and written, and the options that mean one thing in all
 commands."""
+import argparse
 import contextlib
 import os
 import stat
 import sys
 
 from lab.wrong import Wrong
+
+
+def parser_of(name: str, words: str, what: str, more: str) -> argparse.ArgumentParser:
+    """The parser of `forestlab NAME WORDS`, whose help begins with `what` and ends with `more`, as they stand."""
+    return argparse.ArgumentParser(prog=f"forestlab {name}", usage=f"forestlab {name} {words}", description=what,
+                                   epilog=more, formatter_class=argparse.RawDescriptionHelpFormatter)
 
 
 def bytes_at(path: str) -> bytes:

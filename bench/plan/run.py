@@ -18,7 +18,6 @@ BASELINE's; and the greatest peak memory in MiB with its ratio. Times are of the
 needs cc. Ends with status 1 where the programs didn't write the same bytes, or one failed or took longer than the
 limit.
 """
-import os
 import sys
 import tempfile
 

@@ -6,7 +6,7 @@ from lab.definitions.nodes import last_pulse
 from lab.definitions.rounds import FIRST_MERGE, Facts, head_of, merge_step, phase_words
 from lab.wrong import Wrong
 
-GREET, ORIENT, SEED, LAST_COLOUR = 0, 1, 2, FIRST_MERGE - 1
+SEED, LAST_COLOUR = 2, FIRST_MERGE - 1
 DROPPED = {8: 5, 10: 4, 12: 3}
 
 

@@ -126,11 +126,6 @@ def label_of(network, v):
     return f"{v} {short_name(network, v)}".rstrip()
 
 
-def label_boxes(network, size):
-    """Half the width and half the height of each vertex's label."""
-    return {v: (text_width(label_of(network, v), size) / 2, 0.45 * size) for v in network.vertices}
-
-
 def label_margin(network, size):
     """How much more room than numbers the widest label needs beside a vertex at the edge."""
     widest = max((text_width(label_of(network, v), size) for v in network.vertices if v in network.names), default=0)

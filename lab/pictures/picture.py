@@ -22,8 +22,7 @@ from lab.pictures import (
     schedules_space, tally_picture, timing_picture, watch_page, why_picture, wrong_run,
 )
 from lab.pictures.places import unused_places
-from lab.pictures.program_rounds import is_own, read_program_rounds, rounds_of
-from lab.pictures.rounds import read_rounds
+from lab.pictures.program_rounds import is_own, read_rounds, rounds_of
 from lab.pictures.sizes import MANY_WIRES, check_run, check_size, last_pulse, least_wires
 from lab.pictures.transcripts import read_transcript
 from lab.pictures.watch_page import steps_of_text
@@ -381,9 +380,7 @@ def rounds_in(network, options, texts):
     given, program = texts.get("rounds"), options.program
     if given is None:
         return rounds_of(network, network.identifiers, program)
-    if program is Colouring:
-        return read_rounds(given.text, given.name, network)
-    return read_program_rounds(given.text, given.name, network, program)
+    return read_rounds(given.text, given.name, network, program)
 
 
 def draw_program(kind, options, rounds):

@@ -1,10 +1,11 @@
-"""The rounds of a program other than the colouring as pictures need them, pulse by pulse, by its definition
-(lab/definitions/programs.py)."""
+"""The rounds of any program as pictures need them, pulse by pulse: by its definition (lab/definitions/programs.py), or
+of a text (docs/claim/FORMATS.md) that is, line by line, the rounds of its network."""
 from lab.definitions.colours import Network
 from lab.definitions.nodes import Colouring, ports_of, synchronous_pulses
 from lab.definitions.own_program import OwnNode, check_repeats, what_is_wrong
 from lab.definitions.programs import PLAYED
 from lab.definitions.pulses import Rounds
+from lab.networks.network_text import fields_of, whole
 from lab.wrong import Wrong, wrong_line
 
 # Rounds of more steps of nodes than this take minutes to work out.
@@ -77,10 +78,39 @@ def is_own(program):
     return program not in PLAYED
 
 
-def read_program_rounds(text, name, network, program):
-    """The rounds of a program, if the text has them line by line, or its first line that is wrong."""
-    rounds = ProgramRounds(network, network.identifiers, program)
-    lines, wanted = text.removesuffix("\n").split("\n"), list(rounds.lines())
+def identifiers_of(lines, network, name):
+    """What the vertices call themselves: in their greetings; a vertex without neighbours by its first colour, or as its
+    network says."""
+    found = {}
+    for line, raw in enumerate(lines, 1):
+        fields = fields_of(raw)
+        if fields[1:2] == ["put"] and fields[3:6] == ["payload", "0", "hello"] and len(fields) == 7:
+            vertex, number = whole(fields[0]), whole(fields[6])
+        elif fields[1:3] == ["colour", "0"] and len(fields) == 4:
+            vertex, number = whole(fields[0]), whole(fields[3])
+        else:
+            continue
+        if vertex is not None and number is not None:
+            found.setdefault(vertex, number)
+    taken = {}
+    for v in network.vertices:
+        number = found.setdefault(v, network.identifiers[v])
+        if number in taken:
+            raise Wrong(f"{name}: vertices {taken[number]} and {v} have one identifier")
+        taken[number] = v
+    return {v: found[v] for v in network.vertices}
+
+
+def read_rounds(text, name, network, program):
+    """The rounds of any program, if the text has them line by line, or its first line that is wrong."""
+    lines = text.removesuffix("\n").split("\n")
+    if program is not Colouring:
+        rounds = ProgramRounds(network, network.identifiers, program)
+    elif lines[0].split(" ")[:2] not in (["rounds", "1"], ["rounds", "2"]):
+        raise wrong_line(name, 1, "no line `rounds 1 ..` or `rounds 2 ..`")
+    else:
+        rounds = Rounds(network, identifiers_of(lines, network, name))
+    wanted = list(rounds.lines())
     for number, (line, want) in enumerate(zip(lines, wanted), 1):
         if line != want:
             raise wrong_line(name, number, f"`{line[:60]}`, and the rounds of {network.name} have `{want}`")

@@ -12,7 +12,7 @@ from lab.networks.alike import alike_edges
 from lab.networks.network_text import Network as Drawn
 from lab.pictures.map_picture import draw_map
 from lab.pictures.svg import Svg, escaped
-from lab.words import add_output, add_seed, write
+from lab.words import add_output, add_seed, parser_of, write
 
 LESSONS = (1, 2, 3, 4, 5)
 MOST_SHEETS = 200
@@ -226,8 +226,7 @@ def how_many(text):
 
 
 def command_line():
-    words = argparse.ArgumentParser(prog="forestlab sheet", usage="forestlab sheet [options]", description=HELP,
-                                    epilog=MORE_HELP, formatter_class=argparse.RawDescriptionHelpFormatter)
+    words = parser_of("sheet", "[options]", HELP, MORE_HELP)
     add_seed(words)
     words.add_argument("--sheets", type=how_many, default=1, metavar="COUNT",
                        help="how many sheets: WORD-1, WORD-2, ..")

@@ -13,7 +13,7 @@ from lab.schedules import ruled_rounds
 from lab.schedules.reading import network_at
 from lab.schedules.rules import ALL, OF_FORESTS, OF_ROUNDS, OF_SCHEDULES, table
 from lab.schedules.space import Space, TooMany
-from lab.words import add_output, write
+from lab.words import add_output, parser_of, write
 from lab.wrong import Wrong
 
 MOST_NODES, LIMIT, BYTES_A_STATE = 4, 1_000_000, 420
@@ -42,20 +42,12 @@ NETWORK is a file in the DIMACS format, - for standard input, or a name. A state
 nodes have fewer.
 
 With --reduce a safe or a close that comes next on its link is taken at once, and
-nothing else is tried in that state: such a take sends nothing, and neither helps nor
-hinders what could come before it. Three nodes that are all neighbours then have 4,620
-states in place of 16,473. It still finds each pulse with a wrong inbox, each refusal,
-each standstill and all ends. It doesn't keep the shortest lists, the number of
-schedules, how far neighbours are apart, and how many wires a link holds; and it is
-refused with the rules safes or fifo left out.
+nothing else is tried in that state: it neither helps nor hinders what could come
+before it. Three nodes that are all neighbours then have 4,620 states in place of
+16,473. What goes wrong and all ends are found; shortest lists, the number of
+schedules, how far neighbours are apart and how much a link holds are not.
 
-This is Python over slow definitions, written from the project's pages. It is tested,
-and not proved.
-
-With --program the nodes run another program: leader, layers, matching, independent-set,
-recolouring (these three go on where the colouring ends), or a file of your own with
-the functions greet, next and result (docs/learn/OWN_ALGORITHM.md). The file is run as it
-is, with your rights.
+This is Python over slow definitions: tested, and not proved.
 
 Examples:
   forestlab explore examples/triangle.col
@@ -86,13 +78,7 @@ def positive(text):
 
 
 def command_line():
-    words = argparse.ArgumentParser(
-        prog="forestlab explore",
-        usage="forestlab explore [NETWORK] [options]",
-        description=HELP,
-        epilog=MORE_HELP,
-        formatter_class=argparse.RawDescriptionHelpFormatter,
-    )
+    words = parser_of("explore", "[NETWORK] [options]", HELP, MORE_HELP)
     words.add_argument("network", metavar="NETWORK", nargs="?",
                        help="a file, - for standard input, or a name, as triangle or path3")
     words.add_argument(

@@ -14,7 +14,7 @@ from lab.schedules.policies import POLICIES, Step, policy_of
 from lab.schedules.reading import network_at
 from lab.transcripts.reading import Entry
 from lab.transcripts.stamps import Clock, unfinished
-from lab.words import add_output, add_seed, called, text_at, write
+from lab.words import add_output, add_seed, called, parser_of, text_at, write
 from lab.wrong import Wrong, wrong_line
 
 HABITS = {
@@ -52,14 +52,8 @@ The transcript is of edition 2, as `forestplan transcript` writes it, so that
 in the DIMACS format, - for standard input, or a name, as petersen or path5. 4,500 entries
 (petersen) take half a second, and half a million one to several minutes.
 
-With --program the nodes run another program: leader, layers, matching, independent-set,
-recolouring (these three go on where the colouring ends), or a file of your own with
-the functions greet, next and result (docs/learn/OWN_ALGORITHM.md). The file is run as it
-is, with your rights.
-
-This is Python over slow definitions, written from the project's pages. It is tested,
-and not proved. `forestplay replay`, which is, accepts what it writes of its three
-programs, if it is given the same --program.
+This is Python over slow definitions: tested, and not proved. `forestplay replay`, which
+is, accepts what it writes of its three programs, if it is given the same --program.
 
 Status: 0 done, 1 the network or the list can't be read, an event isn't possible, or the
 network hasn't the slow edge (one line on standard error says why), 2 the command line
@@ -222,9 +216,7 @@ def edge(text):
 
 
 def command_line():
-    words = argparse.ArgumentParser(prog="forestlab simulate", usage="forestlab simulate NETWORK [options]",
-                                    description=HELP, epilog=MORE_HELP,
-                                    formatter_class=argparse.RawDescriptionHelpFormatter)
+    words = parser_of("simulate", "NETWORK [options]", HELP, MORE_HELP)
     words.add_argument("network", metavar="NETWORK",
                        help="a file, - for standard input, or a name, as petersen or path5")
     add_seed(words)

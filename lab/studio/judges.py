@@ -6,8 +6,7 @@ from lab.definitions.colours import plan_text
 from lab.definitions.nodes import Colouring, NetState, Refused, entry_words, make
 from lab.networks.plan_text import clashes
 from lab.definitions.pulses import Rounds
-from lab.pictures.program_rounds import is_own
-from lab.pictures.rounds import read_rounds
+from lab.pictures.program_rounds import is_own, read_rounds
 from lab.programs import called
 from lab.schedules.reading import network_of
 from lab.studio.asked import OPENED
@@ -48,7 +47,7 @@ def plan_of(text):
 def rounds_of(network, text):
     """The rounds of the colouring."""
     if OPENED["is_proved"]:
-        return read_rounds(text_from("forestplay", ["rounds"], text), "the rounds", network)
+        return read_rounds(text_from("forestplay", ["rounds"], text), "the rounds", network, Colouring)
     return Rounds(network, network.identifiers)
 
 

@@ -3,7 +3,6 @@
 A transcript of edition 1 has the entries of each node in that node's own order, and says nothing of the order
 between nodes. This program looks for an order of all entries that is a run, and demands that the run is whole. One
 of edition 2 has an order and stamps: stamps.py checks it. `--help` says how to call it."""
-import argparse
 import gc
 import json
 import sys
@@ -18,7 +17,7 @@ from lab.transcripts.reading import Wrong, read_to_fault, words
 from lab.transcripts.rules import Standing, rule_of, stuck_words
 from lab.transcripts.search import Search
 from lab.transcripts.stamps import check_stamped, stamped_as_it_stands
-from lab.words import add_output, bytes_at, called, write
+from lab.words import add_output, bytes_at, called, parser_of, write
 from lab.wrong import Wrong as WrongNetwork
 
 HELP = """\
@@ -296,13 +295,7 @@ def network_in(data, name):
 
 
 def words_of_command():
-    words = argparse.ArgumentParser(
-        prog="forestlab transcript check",
-        usage="forestlab transcript check NETWORK [TRANSCRIPT] [options]",
-        description=HELP,
-        epilog=MORE_HELP,
-        formatter_class=argparse.RawDescriptionHelpFormatter,
-    )
+    words = parser_of("transcript check", "NETWORK [TRANSCRIPT] [options]", HELP, MORE_HELP)
     words.add_argument(
         "--order",
         action="store_true",

@@ -1,13 +1,12 @@
 """The door: `forestlab transcript convert FORM [TRANSCRIPT]`. Writes a transcript of edition 2 in the form of another
 tool, or one line on standard error."""
-import argparse
 import json
 import sys
 from collections import deque
 
 from lab.definitions.nodes import wire_words
 from lab.transcripts.reading import Wrong, read
-from lab.words import add_output, bytes_at, write
+from lab.words import add_output, bytes_at, parser_of, write
 from lab.wrong import Wrong as WrongText
 
 HELP = """\
@@ -94,9 +93,7 @@ FORMS = {"json": as_json, "shiviz": as_shiviz}
 
 
 def main(words):
-    line = argparse.ArgumentParser(prog="forestlab transcript convert",
-                                   usage="forestlab transcript convert FORM [TRANSCRIPT]", description=HELP,
-                                   epilog=MORE_HELP, formatter_class=argparse.RawDescriptionHelpFormatter)
+    line = parser_of("transcript convert", "FORM [TRANSCRIPT]", HELP, MORE_HELP)
     line.add_argument("form", choices=FORMS, metavar="FORM", help="json or shiviz")
     line.add_argument("transcript", metavar="TRANSCRIPT", nargs="?", default="-",
                       help="a file, or - for standard input; default: -")

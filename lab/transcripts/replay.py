@@ -1,6 +1,5 @@
 """`forestlab transcript replay`: puts the entries of a transcript in an order that is a run, and has the proved machine
 play them."""
-import argparse
 import sys
 
 from lab import programs
@@ -8,7 +7,7 @@ from lab.definitions.nodes import Colouring
 from lab.definitions.own_program import OwnNode
 from lab.transcripts.check import add_texts, in_order, texts_of, whole_run
 from lab.transcripts.reading import Wrong as WrongEntry
-from lab.words import add_output, write
+from lab.words import add_output, parser_of, write
 from lab.wrong import Wrong
 
 HELP = """\
@@ -34,10 +33,7 @@ Example:
 
 
 def command_line():
-    words = argparse.ArgumentParser(prog="forestlab transcript replay",
-                                    usage="forestlab transcript replay NETWORK [TRANSCRIPT] [options]",
-                                    description=HELP, epilog=MORE_HELP,
-                                    formatter_class=argparse.RawDescriptionHelpFormatter)
+    words = parser_of("transcript replay", "NETWORK [TRANSCRIPT] [options]", HELP, MORE_HELP)
     add_texts(words)
     add_output(words)
     return words

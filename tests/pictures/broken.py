@@ -1,7 +1,6 @@
 """Pictures of rounds without a rule: what is left out beside the rounds of ruled_rounds.py (tests/programs/schedules.py
 compares these with nodes that hear and send), what has all rules beside lab/definitions/colours.py, and the words
 beside what `forestlab explore` prints."""
-import os
 import re
 import subprocess
 

@@ -15,8 +15,7 @@ from tests.pictures.base import LIMIT, SEED, PictureCase
 from tests.pictures.marks import centre, ends, marks, parsed, texts, title, titles
 from tests.settings import PLAY
 
-TWO, ROW_OF_FOUR, STAR = (b"p edge 2 1\ne 1 2\n", b"p edge 4 3\ne 1 2\ne 2 3\ne 3 4\n",
-                          b"p edge 4 3\ne 1 4\ne 2 4\ne 3 4\n")
+TWO, STAR = b"p edge 2 1\ne 1 2\n", b"p edge 4 3\ne 1 4\ne 2 4\ne 3 4\n"
 ALL_OF_FOUR, FIVE = b"p edge 4 6\ne 1 2\ne 1 3\ne 1 4\ne 2 3\ne 2 4\ne 3 4\n", b"p edge 5 1\ne 1 2\n"
 WALKS = 100
 

@@ -2,14 +2,13 @@
 
 Each sheet's network is read from its answers, and each answer worked out once more here: from nodes that hear and send
 (lab/definitions/nodes.py), from counts, and by hand for one network."""
-import os
 import re
 import subprocess
 
 from lab.definitions.colours import network_of
 from lab.definitions.nodes import synchronous_pulses
 from lab.pictures.sheet import farthest
-from tests import FORESTLAB, TOP
+from tests import FORESTLAB
 from tests.cases import Case
 
 LIMIT = 120

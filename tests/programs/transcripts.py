@@ -18,7 +18,7 @@ from lab.definitions.colours import network_of
 from lab.definitions.nodes import NetState, Refused, last_pulse, make, wire_words
 from lab.transcripts.check import Wrong, find_order, first_refused, in_order, unfinished, whole_run
 from lab.transcripts.reading import read
-from tests import FORESTLAB, TOP
+from tests import FORESTLAB
 from tests.cases import Case, text
 from tests.programs.made_transcripts import MISTAKES, made_transcript, mixed_text, transcript_text, with_mistake
 from tests.programs.one_worker import Run
