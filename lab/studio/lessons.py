@@ -11,7 +11,7 @@ PLACES = [
      "channels would always be enough: whoever chooses last avoids three others. Move, join and part nodes: the plan "
      "follows.",
      "Number four in a row so that the plan takes three channels: clear, click four nodes, and join them in another "
-     "order than 1 – 2 – 3 – 4."),
+     "order than 1 – 2 – 3 – 4. Then make a path of 4 and one of 400: both take rounds 0 to 21."),
     ("example=four_cycle&tab=rounds&at=1",
      "An arrow goes from a child to its parent, always to the higher identifier, so arrows never close a ring. "
      "Every edge is in one forest.",

@@ -189,8 +189,11 @@ class More(studio_page.Page):
 
     def test_between_tabs(self):
         """What one tab has on the stage isn't left there; a place is kept, and the browser's way back leads to it."""
-        self.go_to("example=chain6&tab=run&seed=7&beside=1")
-        self.sees("the rounds beside", "document.querySelectorAll('#small .node').length === 6")
+        self.go_to("example=chain6&tab=run&seed=7&other=newest.2&at=5")
+        self.sees("another order", "document.querySelectorAll('#second .node').length === 6")
+        self.go_to("example=petersen&tab=run&seed=7&beside=1")
+        self.sees("the rounds beside", "document.querySelectorAll('#small .node').length === 10 && "
+                                       "document.getElementById('judge').textContent.startsWith('✓')")
         self.go_to("example=path&tab=adversary")
         self.sees("another network", "studio.steps.found && studio.net.nodes.length === 3")
         high = self.page.value("[studio.stage.high, document.getElementById('stage').clientHeight]")

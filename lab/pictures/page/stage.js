@@ -199,6 +199,7 @@ export class Stage {
 }
 // A node's number, with its name and its identifier if it has them.
 export function nameOf(net, v) {
-  const {name, id} = net.nodes[v - 1], own = id.length > 8 ? id.slice(0, 6) + "…" : id;
-  return v + (name ? " " + name.slice(0, 12) : "") + (own && own !== String(v) ? ` (${own})` : "");
+  const cut = (words, most, left) => words.length > most ? words.slice(0, left) + "…" : words;
+  const {name, id} = net.nodes[v - 1], own = cut(id, 8, 6);
+  return v + (name ? " " + cut(name, 12, 11) : "") + (own && own !== String(v) ? ` (${own})` : "");
 }

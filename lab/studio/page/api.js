@@ -10,6 +10,10 @@ const running = new Map();
 
 // What the server says isn't so.
 export class Wrong extends Error {}
+// Of what is asked of the network, and of nothing else, a TypeError says that it can't be reached.
+function lost(fault) {
+  throw fault instanceof TypeError ? new Wrong("the server doesn’t answer: has the command studio been ended?") : fault;
+}
 
 export function cancel(key) {
   const control = running.get(key);
@@ -24,12 +28,12 @@ export async function call(name, asked = {}, {key = name, progress, part} = {}) 
   running.set(key, control);
   try {
     const got = await fetch("/call/" + name, {method: "POST", signal: control.signal, body: JSON.stringify(asked),
-      headers: {"X-Token": token, "Content-Type": "application/json"}});
+      headers: {"X-Token": token, "Content-Type": "application/json"}}).catch(lost);
     if (!got.ok) throw new Wrong(await got.text());
     const reader = got.body.getReader(), decoder = new TextDecoder();
     let rest = "", last = null;
     for (;;) {
-      const {value, done} = await reader.read();
+      const {value, done} = await reader.read().catch(lost);
       rest += decoder.decode(value || new Uint8Array(), {stream: !done});
       const lines = rest.split("\n");
       rest = lines.pop();
@@ -45,7 +49,6 @@ export async function call(name, asked = {}, {key = name, progress, part} = {}) 
     return {answer: last.answer, ms: last.ms, whole: performance.now() - begun};
   } catch (fault) {
     if (control.signal.aborted) return null;
-    if (fault instanceof TypeError) throw new Wrong("the server doesn’t answer: has the command studio been ended?");
     throw fault;
   } finally {
     if (running.get(key) === control) running.delete(key);

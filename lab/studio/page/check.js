@@ -89,7 +89,10 @@ by("judged").onclick = () => tried("judge", "judging", async () => {
   const said = proved && proved.said.replace(/line (\d+)/, (_, line) => `line ${line - is.before}`);
   place.className = "verdict " + (is.ok ? "good" : "bad");
   place.replaceChildren(html("p", (is.ok ? "✓ " : "✗ ") + is.words));
-  if (proved) place.append(html("p", proved.ok ? `✓ ${proved.by} accepts it, too.` : `✗ ${proved.by}: ${said}`));
+  // Without a first line all of it is read as more of the network.
+  if (proved && is.line !== 1) {
+    place.append(html("p", proved.ok ? `✓ ${proved.by} accepts it, too.` : `✗ ${proved.by}: ${said}`));
+  }
   if (is.line) choose(by("transcript"), is.line);
 });
 // Chooses a line of a text.

@@ -136,8 +136,9 @@ tabs.draw = {
 };
 
 // Files.
-export async function openFile(file, heading = null) {
+export async function openFile(file, heading = null, name = null) {
   by("heading").hidden = true;
+  by("notes").textContent = "";
   if (file.size > 4e6) return wrong("That file is larger than the studio reads.");
   const bytes = new Uint8Array(await file.arrayBuffer());
   let words = "";
@@ -145,13 +146,14 @@ export async function openFile(file, heading = null) {
   await tried("read", "reading the file", async () => {
     const got = await call("read", {name: file.name, data: btoa(words), heading});
     if (!got) return;
-    model.load(got.answer);
+    model.load({...got.answer, name: name === null ? got.answer.name : name});
     if (seen.tab !== "draw") go("draw");
-    took(got.answer.said.join("; ") || `read: ${ms(got, "read")}`);
+    const {said} = got.answer, all_ = [count(net.nodes.length, "node"), count(net.edges.length, "edge")];
+    by("notes").textContent = `Read: ${(said.length ? said : all_).join("; ")}.`;
   });
   // Whether a table's first row is a heading can't always be seen.
   by("heading").hidden = heading !== null || !by("wrong").textContent.includes("--heading");
-  all("#heading button").forEach(one => { one.onclick = () => openFile(file, one.dataset.heading === "yes"); });
+  all("#heading button").forEach(one => { one.onclick = () => openFile(file, one.dataset.heading === "yes", name); });
 }
 function download(words, name) {
   const link = html("a", null, {href: URL.createObjectURL(new Blob([words], {type: "text/plain"})), download: name});
@@ -197,7 +199,7 @@ by("tidy").onclick = () => tried("tidy", "laying it out", async () => {
   show();
   took("tidied: " + ms(got, "tidied"));
 });
-by("apply").onclick = () => openFile(new File([by("text").value], (net.name || "network") + ".col"));
+by("apply").onclick = () => openFile(new File([by("text").value], "the text"), null, net.name);
 by("file").onchange = () => { if (by("file").files[0]) openFile(by("file").files[0]); by("file").value = ""; };
 by("save").onclick = () => download(text(), (net.name || "network") + ".col");
 

@@ -55,6 +55,7 @@ async function loadOther() {
 function isReady() { return run.film && run.of === text(); }
 function ask() {
   const isSeed = by("made").value === "seed";
+  if (!run.other) run.film2 = null;
   all(".seeded").forEach(one => { one.hidden = !isSeed; });
   all(".threads").forEach(one => { one.hidden = isSeed; });
   by("policysaid").textContent = !isSeed || run.transcript ? "" : capital(seen.hello.policies[by("policy").value])

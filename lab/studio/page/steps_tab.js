@@ -163,6 +163,7 @@ tabs.adversary = {
     by("searchrow").hidden = net.nodes.length > 4;
     by("handover").disabled = Boolean(rule);
     steps.found = null;
+    ["undostep", "chance", "chance20", "instep"].forEach(id => { by(id).disabled = true; });
     ["stepsaid", "possible"].forEach(id => by(id).replaceChildren());
     if (more.fresh) steps.made = [];
     ask();

@@ -66,7 +66,7 @@ model.onChange(what => {
   check.verdict = null;
   by("judgement").replaceChildren();
   steps.made = run.steps = [];
-  run.transcript = null;
+  run.transcript = run.film2 = null;
   if (what === "undo" && stage.isOutside()) stage.fit();
   if (what === "load") {
     wrong("");
@@ -170,6 +170,7 @@ function pairsOf(hash) {
 async function follow() {
   if (location.hash === linked && linked) return;
   const mine = ++follows;
+  time.stop();
   linked = "";
   isFollowing = true;
   const {hello} = seen;
