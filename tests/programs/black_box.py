@@ -7,19 +7,18 @@ the program.
 import itertools
 import os
 import subprocess
-import tempfile
 
 from lab.definitions.colours import forests_text, plan_text
 from tests import TOP
 from tests.cases import Case, run_program, text
-from tests.commands import PROGRAMS, commands_of
-from tests.settings import PLAN, SECOND_PLAN
+from tests.commands import COMMANDS, PROGRAMS, commands_of
+from tests.settings import PLAN, PLAY, SECOND_PLAN
 
 LIMIT = 300
 
 TRIANGLE = "p edge 3 3|e 1 2|e 1 3|e 2 3|"
 TRIANGLE_FORESTS = "forests 3 2|0 1 2|0 2 3|1 1 3|"
-STREAM_LINE = b"forestplan: stream\n"
+PATHS = {"forestplan": PLAN, "forestplay": PLAY}
 # The last line of a refusal of a word that isn't known.
 READS = "forestplan reads the network from standard input: forestplan plan < FILE|"
 # Networks on which `plan` takes seconds: it is run of another star with as great a span, and of that with as great a
@@ -242,14 +241,14 @@ class BlackBox(Case):
                     b"forestplan: F7 line 401002\n")
 
     def test_help(self):
-        """Each help text whole, as build/help/ has it."""
-        texts = [([], PROGRAMS["forestplan"])]
-        texts += [([command.name], f"{command.name}_help") for command in commands_of("forestplan")]
-        for (words, name), (option, end) in itertools.product(texts, [("--help", ""), ("-h", "_short")]):
-            words = [*words, option]
+        """Each help text whole, of both programs, as build/help/ has it."""
+        texts = [(program, [], name) for program, name in PROGRAMS.items()]
+        texts += [(command.program, [command.name], f"{command.name}_help") for command in COMMANDS]
+        for (program, words, name), (option, end) in itertools.product(texts, [("--help", ""), ("-h", "_short")]):
             with open(os.path.join(TOP, "build", "help", f"{name}{end}.txt"), "rb") as file:
                 wanted = file.read()
-            self.expect(f"help by {words}", run_program(PLAN, words, b"no network"), 0, wanted, b"")
+            done = run_program(PATHS[program], [*words, option], b"no network")
+            self.expect(f"help by {program} {words} {option}", done, 0, wanted, b"")
 
     def test_refused_words(self):
         """Each text whole. The first line is the fault, then maybe a tip, the usage of what was named, and where help
@@ -321,22 +320,20 @@ class BlackBox(Case):
         self.expect_refused(["plan", "--workers", "65", "--turns", "x"],
                             "invalid value '65' for '--workers <N>': 65 is not in 1..=64")
 
-    def expect_refused(self, words, fault, hint=""):
-        wanted = f"error: {fault}||For more information, try '--help'.|{hint}".replace("|", "\n")
-        self.expect(f"refused words {words}", run_program(PLAN, words, text(TRIANGLE)), 2, b"", wanted.encode())
+    def test_refused_words_of_lessons(self):
+        names = ", ".join(command.name for command in commands_of("forestplay"))
+        none = f"'forestplay' requires a subcommand but one was not provided|  [subcommands: {names}]"
+        reads = "forestplay reads the network from standard input: forestplay rounds < FILE|"
+        self.expect_refused([], f"{none}||Usage: forestplay <COMMAND>", program=PLAY)
+        for word in ("check", "help", b"\xff"):
+            shown = word if isinstance(word, str) else "\N{REPLACEMENT CHARACTER}"
+            self.expect_refused([word], f"unrecognized subcommand '{shown}'||Usage: forestplay <COMMAND>", reads, PLAY)
+        for it in commands_of("forestplay"):
+            self.expect_refused([it.name, "extra"], f"unexpected argument 'extra' found||Usage: {it.usage}", reads, PLAY)
 
-    def test_example_streams(self):
-        """Each example as input of each command, written to a full device and to a closed pipe."""
-        for name, network in example_texts():
-            for command in ("forests", "plain", "plan"):
-                with open("/dev/full", "wb") as full:
-                    done = run_program(PLAN, [command], network, stdout=full)
-                self.note(f"{command} of {name} to a full device", (done.returncode, done.stderr) == (4, STREAM_LINE),
-                          done)
-                with closed_pipe() as pipe:
-                    done = run_program(PLAN, [command], network, stdout=pipe)
-                self.note(f"{command} of {name} to a closed pipe", (done.returncode, done.stderr) == (4, STREAM_LINE),
-                          done)
+    def expect_refused(self, words, fault, hint="", program=PLAN):
+        wanted = f"error: {fault}||For more information, try '--help'.|{hint}".replace("|", "\n")
+        self.expect(f"refused words {words}", run_program(program, words, text(TRIANGLE)), 2, b"", wanted.encode())
 
     def test_second_compiler(self):
         """The program as Rattle's own compiler builds it, which the gate leaves beside the other."""
@@ -347,16 +344,19 @@ class BlackBox(Case):
                 self.expect(f"{command} of {name}, built by the second compiler", done, 0, plan_text(network), b"")
 
     def test_streams(self):
-        with open("/dev/full", "wb") as full:
-            done = run_program(PLAN, ["--help"], stdout=full)
-            self.note("help to a full device", (done.returncode, done.stderr) == (4, STREAM_LINE), done)
+        """Each command writes to a full device and to a closed pipe, and reads a folder and a closed stream; and a full
+        device for errors changes no status."""
+        for it in COMMANDS:
+            path, line = PATHS[it.program], f"{it.program}: stream\n".encode()
+            for words, data in ((it.line, text(it.data)), ([it.name, "--help"], b"")):
+                with open("/dev/full", "wb") as full, closed_pipe() as pipe:
+                    for where, stream in (("a full device", full), ("a closed pipe", pipe)):
+                        done = run_program(path, words, data, stdout=stream)
+                        self.note(f"{words} to {where}", (done.returncode, done.stderr) == (4, line), done)
+            for redirected in (f"<{TOP}", "<&-"):
+                done = subprocess.run(["bash", "-c", f'"$0" "$@" {redirected}', path, *it.line], capture_output=True,
+                                      timeout=LIMIT)
+                self.expect(f"{it.line} {redirected}", done, 4, b"", line)
         with open("/dev/full", "wb") as full:
             done = run_program(PLAN, ["forests"], b"", stderr=full)
             self.note("a full device for errors changes no status", (done.returncode, done.stdout) == (1, b""), done)
-        with tempfile.TemporaryDirectory() as folder:
-            handle = os.open(folder, os.O_RDONLY)
-            done = run_program(PLAN, ["forests"], stdin=handle)
-            os.close(handle)
-            self.expect("a folder as standard input", done, 4, b"", STREAM_LINE)
-        closed = subprocess.run(["bash", "-c", '"$0" forests <&-', PLAN], capture_output=True, timeout=LIMIT)
-        self.expect("a closed standard input", closed, 4, b"", STREAM_LINE)

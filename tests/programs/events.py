@@ -3,25 +3,18 @@ output, standard error and status byte by byte.
 
 Expected answers are worked by hand (docs/learn/TUTORIAL.md has the run of the triangle), or come from the definitions
 in lab/definitions/nodes.py; none is taken from the program."""
-import itertools
 import os
 import random
-import subprocess
 import tempfile
 
 from lab.definitions.colours import colours, network_of
 from lab.definitions.nodes import NetState, Refused, last_pulse, missing_words, ports_of, wire_words
 from tests import TOP
 from tests.cases import Case, run_program, text
-from tests.commands import PROGRAMS, commands_of
 from tests.faults.refused_memory import build_front, sweep
 from tests.settings import PLAY, SECOND_PLAY
 
-LIMIT = 60
 SEED = 2026
-STREAM_LINE = b"forestplay: stream\n"
-# The last line of a refusal of a word that isn't known.
-READS = "forestplay reads the network from standard input: forestplay rounds < FILE|"
 EDGE = "p edge 2 1|e 1 2|"
 TRIANGLE = "p edge 3 3|e 1 2|e 1 3|e 2 3|"
 ALL_PUT = "put 1 0|put 1 1|put 2 0|put 2 1|put 3 0|put 3 1|"
@@ -313,46 +306,6 @@ class Events(Case):
             channels = [line.split()[-1].decode() for line in done.stdout.splitlines() if line.startswith(b"node")]
             self.note(f"channels of {network}", channels == [str(c + 1) for _, c in sorted(colours(net).items())],
                       channels)
-
-    def test_help(self):
-        """Each help text whole, as build/help/ has it, and the refusals of words."""
-        texts = [([], PROGRAMS["forestplay"])]
-        texts += [([command.name], f"{command.name}_help") for command in commands_of("forestplay")]
-        for (words, name), (option, end) in itertools.product(texts, [("--help", ""), ("-h", "_short")]):
-            words = [*words, option]
-            with open(os.path.join(TOP, "build", "help", f"{name}{end}.txt"), "rb") as file:
-                wanted = file.read()
-            self.expect(f"help by {words}", run_program(PLAY, words, b"no network"), 0, wanted, b"")
-        names = ", ".join(command.name for command in commands_of("forestplay"))
-        none = f"'forestplay' requires a subcommand but one was not provided|  [subcommands: {names}]"
-        rows = [
-            ([], none, "forestplay <COMMAND>"),
-            (["check"], "unrecognized subcommand 'check'", "forestplay <COMMAND>"),
-            (["help"], "unrecognized subcommand 'help'", "forestplay <COMMAND>"),
-            *(([it.name, "extra"], "unexpected argument 'extra' found", it.usage) for it in commands_of("forestplay")),
-            ([b"\xff"], "unrecognized subcommand '\N{REPLACEMENT CHARACTER}'", "forestplay <COMMAND>"),
-        ]
-        for words, fault, usage in rows:
-            hint = "" if fault == none else READS
-            wanted = f"error: {fault}||Usage: {usage}||For more information, try '--help'.|{hint}".replace("|", "\n")
-            self.expect(f"refused words {words}", run_program(PLAY, words, text(EDGE)), 2, b"", wanted.encode())
-
-    def test_streams(self):
-        with open("/dev/full", "wb") as full:
-            done = run_program(PLAY, ["events"], text(EDGE), stdout=full)
-        self.note("a full device", (done.returncode, done.stderr) == (4, STREAM_LINE), done)
-        reading, writing = os.pipe()
-        os.close(reading)
-        with os.fdopen(writing, "wb") as pipe:
-            done = run_program(PLAY, ["events"], text(EDGE), stdout=pipe)
-        self.note("a closed pipe", (done.returncode, done.stderr) == (4, STREAM_LINE), done)
-        with tempfile.TemporaryDirectory() as folder:
-            handle = os.open(folder, os.O_RDONLY)
-            done = run_program(PLAY, ["events"], stdin=handle)
-            os.close(handle)
-        self.expect("a folder as standard input", done, 4, b"", STREAM_LINE)
-        closed = subprocess.run(["bash", "-c", '"$0" events <&-', PLAY], capture_output=True, timeout=LIMIT)
-        self.expect("a closed standard input", closed, 4, b"", STREAM_LINE)
 
     def test_refused_memory(self):
         """Each growth refused in turn: the right answer, or out of memory."""

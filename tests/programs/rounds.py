@@ -12,7 +12,6 @@ from lab.definitions.colours import network_of
 from lab.definitions.rounds import made_text, rounds_text
 from tests import TOP
 from tests.cases import Case, run_program, text
-from tests.faults.refused_memory import build_front, sweep
 from tests.programs.plain_networks import (
     climbing, complete, cycle, path, random_of, some_bars, star, text_of, tree, two_sided,
 )
@@ -183,15 +182,3 @@ class Rounds(Case):
         for data, fault in FAULTS + [(crowd, "N1 vertex 1"), (crowd + "e 1 1|", "F6 line 1026")]:
             done = run_program(PLAY, ["rounds"], text(data))
             self.expect(f"the fault of {data[-40:]!r}", done, 1, b"", f"forestplay: {fault}\n".encode())
-
-    def test_refused_memory(self):
-        """Each growth refused in turn: the right answer, or out of memory."""
-        with tempfile.TemporaryDirectory() as folder:
-            front, failure = build_front(folder)
-            self.note("the refusing allocator builds", failure is None, failure)
-            if failure is not None:
-                return
-            for data, wanted in [(EDGE, (0, text(EDGE_TEXT), b"")),
-                                 ("p edge 2 1|e 1 1|", (1, b"", b"forestplay: F6 line 2\n"))]:
-                row = sweep(PLAY, front, ["rounds"], text(data), wanted, "forestplay")
-                self.note(f"{row[0]} of {data!r}", row[1], row[2])

@@ -78,8 +78,8 @@ WORKED_VERDICTS = [
 ]
 
 
-def run(program, data, **streams):
-    return subprocess.run([program, "check"], input=data, capture_output=True, timeout=LIMIT, **streams)
+def run(program, data):
+    return subprocess.run([program, "check"], input=data, capture_output=True, timeout=LIMIT)
 
 
 def wanted_of(said):
@@ -130,18 +130,6 @@ def piped_rows(program, examples):
     return rows
 
 
-def stream_rows(program, data):
-    line = b"forestplan: stream\n"
-    with open("/dev/full", "wb") as full:
-        done = subprocess.run([program, "check"], input=data, stdout=full, stderr=subprocess.PIPE, timeout=LIMIT)
-    closed = subprocess.run(["bash", "-c", '"$0" check <&-', program], capture_output=True, timeout=LIMIT)
-    return [
-        ("check to a full device", (done.returncode, done.stderr) == (4, line), done),
-        ("check of a closed standard input", (closed.returncode, closed.stdout, closed.stderr) == (4, b"", line),
-         closed),
-    ]
-
-
 class Verdicts(Case):
     def test_worked(self):
         for text, said in WORKED_VERDICTS:
@@ -153,6 +141,3 @@ class Verdicts(Case):
 
     def test_examples(self):
         self.note_all(piped_rows(PLAN, os.path.join(TOP, "examples")))
-
-    def test_streams(self):
-        self.note_all(stream_rows(PLAN, GOOD.replace("|", "\n").encode()))
