@@ -54,13 +54,14 @@ class Line:
 class Table:
     """`rows` has (line, fields) of each line that is no comment and not empty. `separator` is None for blanks. If a
     line has one field before its data of networkx, as only adjacency in several lines has, it `has_groups`; it
-    `is_even` if all lines have equally many fields."""
+    `has_data` if any line has, and `is_even` if all lines have equally many fields."""
 
     rows: Rows = field(default_factory=list)
     separator: str | None = None
     notes: list[str] = field(default_factory=list)
     left_out: list[str] = field(default_factory=list)
     has_groups: bool = False
+    has_data: bool = False
     by_networkx: bool = False
     is_even: bool = True
 
@@ -88,6 +89,7 @@ def table_of(text: str, name: str, is_headed: bool = False) -> Table:
         found.notes.append("1 line is a comment" if comments == 1 else f"{comments:,} lines are comments")
     if any(line.data.strip("{ }") for line in kept):
         found.notes.append("data in braces, as weights are, aren't read")
+    found.has_data = any(line.data for line in kept)
     rows = [(line.number, fields_of(line, found.separator, name)) for line in kept]
     found.is_even = len({len(row) for _, row in rows}) < 2
     found.has_groups = any(line.data and len(parts_of(line, found.separator)) == 1 + line.is_apart for line in lines)

@@ -40,7 +40,7 @@ def read_table(table: Table, name: str, form: str | None, heading: bool | None) 
                     "two: is it cut, or have names blanks? nx.write_graphml(G, FILE) writes what is read")
     if form == "adjacency" or not form and table.by_networkx:
         return read_adjacency(rows, name)
-    if not form and is_adjacency(rows):
+    if not form and not table.has_data and is_adjacency(rows):
         if table.separator or may_be_weighted(rows):
             raise unsure(name, "these may be pairs with a weight, or nodes and their neighbours", PAIRS, NEIGHBOURS)
         return read_adjacency(rows, name)
@@ -95,7 +95,8 @@ def may_be_weighted(rows: Rows) -> bool:
 
 def are_mutual(rows: Rows) -> bool:
     """Whether each node of a closed list is a neighbour of its neighbours."""
-    others = {fields[0]: set(fields[1:]) for _, fields in rows}
+    has_colons = have_colons(rows)
+    others = {node: set(ones) for node, ones in (parts_of(fields, has_colons) for _, fields in rows)}
     return all(node in others[other] for node, ones in others.items() for other in ones)
 
 

@@ -52,8 +52,8 @@ def table(data: bytes, name: str) -> tuple[list[str], list[tuple[int, list[str]]
     """The headings of a table, as the words above, its rows, what separates their fields, and what was mended."""
     text, mended = decoded(data, name)
     if text.lstrip()[:1] in ("<", "{", "["):
-        raise Wrong(f"{name}: it looks like XML or JSON, as KML, GPX and GeoJSON are: a table is read, with a heading as "
-                    "site,lat,lon")
+        raise Wrong(f"{name}: it looks like XML or JSON, as KML, GPX and GeoJSON are: a table is read, with a heading "
+                    "as site,lat,lon")
     found = table_of(text, name, is_headed=True)
     rows = found.rows
     if not rows or found.separator is None and len(rows[0][1]) > 1:
