@@ -1,8 +1,5 @@
-"""Checks what the pages README.md and docs/ show and name.
+"""Checks what the pages README.md and docs/ show and name. Their commands are run by tests/programs/install.py.
 
-- Each command shown, a line `$ ..`, is run at the top of the repository, by bash; what is under it, in the same
-  columns, has to be its output (notes after two blanks are left out), or its refusal. A command in a list has to end
-  well. (tests/programs/install.py runs them in an installed folder.)
 - Each table of docs/learn/TUTORIAL.md is worked out from the definitions (lab/definitions/colours.py,
   lab/definitions/nodes.py), not from the program. tutorial_facts.py has the rest of what it says.
 - These definitions fit together: on small networks the rounds, and any order of events, end with the colours.
@@ -16,51 +13,22 @@ import glob
 import os
 import random
 import re
-import tempfile
 
 from lab.definitions.colours import Network, colours, merge, three
 from lab.definitions.nodes import NetState, synchronous_run, text_of_wire
-from tests import FORESTLAB, TOP
-from tests.cases import Case, run_program
+from tests import TOP
+from tests.cases import Case
 from tests.pages.tutorial_facts import channels_of, dropped, example, pulses_of
-from tests.settings import PLAN, PLAY
-from tests.shell import run_line
 
 PAGES = ["README.md"] + sorted(
     os.path.relpath(path, TOP) for path in glob.glob(os.path.join(TOP, "docs", "**", "*.md"), recursive=True)
 )
-LIMIT = 300
-PROGRAMS = {"forestplan": PLAN, "forestplay": PLAY, "forestlab": FORESTLAB}
 WIDEST = 150
 
 
 def lines_of(page):
     with open(os.path.join(TOP, page), encoding="utf-8") as file:
         return file.read().split("\n")
-
-
-def shown_commands(lines):
-    """(line number, command, lines shown under it), of each command in an indented block."""
-    for number, line in enumerate(lines):
-        found = re.match(r"^( {4}.*?)\$ (.+)$", line)
-        if not found:
-            continue
-        column, shown = len(found.group(1)), []
-        for below in lines[number + 1:]:
-            if not below.startswith("    ") or "$ " in below:
-                break
-            shown.append(re.split(r" {2,}", below[column:].rstrip())[0])
-        yield number + 1, re.split(r" {2,}", found.group(2))[0], shown
-
-
-def listed_commands(lines):
-    """(line number, command) of each command in a list: an indented line of commands alone, some blanks apart. What
-    calls a program, reads a file or writes a folder of the reader's own, and what doesn't end, is left out."""
-    for number, line in enumerate(lines, 1):
-        if re.match(r" {4}forest(lab|plan|play) ", line):
-            for command in re.split(r" {2,}", line.strip()):
-                if command.startswith("forestlab ") and not re.search(r" -- |~/|\b(pairs\.csv|submissions)\b|lab studio$", command):
-                    yield number, command
 
 
 def tables_of(lines):
@@ -186,24 +154,7 @@ def laws_of_crates():
 
 
 class Pages(Case):
-    @classmethod
-    def setUpClass(cls):
-        """A folder with the three commands, which is the PATH's first: so a page's commands are called by their names
-        alone, and the programs are those of the settings."""
-        folder = cls.enterClassContext(tempfile.TemporaryDirectory())
-        for name, path in PROGRAMS.items():
-            os.symlink(path, os.path.join(folder, name))
-        cls.environment = dict(os.environ, PATH=f"{folder}:{os.environ['PATH']}")
-
-    def test_builds(self):
-        """The scripts build the programs, or find them built."""
-        for name, command in (("forestplan", "plain"), ("forestplay", "events")):
-            built = run_program(os.path.join(TOP, "bin", name), [command], b"p edge 0 0\n")
-            self.note(f"{name} builds", built.returncode == 0, built)
-
-    def test_commands(self):
-        for page in PAGES:
-            self.check_commands(page)
+    needs_programs = False
 
     def test_names(self):
         for page in PAGES:
@@ -212,26 +163,6 @@ class Pages(Case):
     def test_excerpts(self):
         for page in PAGES:
             self.check_excerpts(page)
-
-    def check_commands(self, page):
-        for number, command, shown in shown_commands(lines_of(page)):
-            done = run_line(command.removeprefix("./"), limit=LIMIT, cwd=TOP, env=self.environment)
-            wanted = "".join(line + "\n" for line in shown)
-            # What `explore` finds broken is no right run.
-            good = [(int(wanted.startswith("broken ")), wanted.encode(), b""),
-                    *((status, b"", wanted.encode()) for status in (1, 3) if wanted)]
-            self.note(f"{page}:{number} {command}", (done.returncode, done.stdout, done.stderr) in good,
-                      f"shown {wanted!r}, got {done}")
-
-    def test_listed_commands(self):
-        """Those of docs/pictures/README.md are run by tests/pictures/pictures.py."""
-        count = 0
-        for page in (page for page in PAGES if page != "docs/pictures/README.md"):
-            for number, command in listed_commands(lines_of(page)):
-                count += 1
-                done = run_line(command, limit=LIMIT, cwd=TOP, env=self.environment)
-                self.note(f"{page}:{number} {command}", done.returncode == 0 and done.stdout and not done.stderr, done)
-        self.note("commands in lists", count > 8, count)
 
     def test_definitions(self):
         """On small networks the rounds, and any order of events, end with the colours: so the pages' definitions fit

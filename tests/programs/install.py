@@ -21,7 +21,7 @@ from tests import FORESTLAB, TOP
 from tests.cases import Case, text
 from tests.commands import APART, COMMANDS, PROGRAMS, commands_of
 from tests.commands import SCRIPTS as OF_BIN
-from tests.pages.pages import PAGES, listed_commands, lines_of, shown_commands
+from tests.pages.pages import PAGES, lines_of
 from tests.shell import run_line
 
 # Seconds; a busy machine takes long for the many calls of help that the manual pages are made of.
@@ -58,6 +58,30 @@ def lines_of_page(text):
     }
 
 
+def shown_commands(lines):
+    """(line number, command, lines shown under it), of each command in an indented block."""
+    for number, line in enumerate(lines):
+        found = re.match(r"^( {4}.*?)\$ (.+)$", line)
+        if not found:
+            continue
+        column, shown = len(found.group(1)), []
+        for below in lines[number + 1:]:
+            if not below.startswith("    ") or "$ " in below:
+                break
+            shown.append(re.split(r" {2,}", below[column:].rstrip())[0])
+        yield number + 1, re.split(r" {2,}", found.group(2))[0], shown
+
+
+def listed_commands(lines):
+    """(line number, command) of each command in a list: an indented line of commands alone, some blanks apart. What
+    calls a program, reads a file or writes a folder of the reader's own, and what doesn't end, is left out."""
+    for number, line in enumerate(lines, 1):
+        if re.match(r" {4}forest(lab|plan|play) ", line):
+            for command in re.split(r" {2,}", line.strip()):
+                if command.startswith("forestlab ") and not re.search(r" -- |~/|\b(pairs\.csv|submissions)\b|lab studio$", command):
+                    yield number, command
+
+
 class Install(Case):
     @classmethod
     def setUpClass(cls):
@@ -76,7 +100,7 @@ class Install(Case):
         return run_line(command, limit=LIMIT, cwd=self.target, env=ENVIRONMENT | {"PATH": path})
 
     def test_pages(self):
-        """Each command of the pages prints in the folder what the page shows, as it does at the top of this tree. Only
+        """Each command of the pages prints in the folder what is under it, in the same columns, or is refused so. Only
         README's begins with `./`."""
         count = 0
         for page in PAGES:
