@@ -157,12 +157,12 @@ def is_headed(fields: list[list[str]]) -> bool:
 
 
 def is_triangle(fields: list[list[str]]) -> bool:
-    """Whether it may be the half of a square of numbers on one side of its diagonal."""
-    lengths = [[bool(field) for field in row] for row in fields]
-    side = len(fields)
-    halves = [[[True] * (at + more) + [False] * (side - at - more) for at in range(side)] for more in (0, 1)]
-    are_halves = any(lengths in (half, [row[::-1] for row in half[::-1]]) for half in halves)
-    return side > 2 and are_halves and all(is_number(field) for row in fields for field in row if field)
+    """Whether it may be the half of a square of numbers on one side of its diagonal: each row has one more than the one
+    before, or one less."""
+    side, counts = len(fields), [sum(map(bool, row)) for row in fields]
+    steps = {two - one for one, two in zip(counts, counts[1:])}
+    are_halves = side > 2 and steps in ({1}, {-1}) and min(counts) < 2
+    return are_halves and all(is_number(field) for row in fields for field in row if field)
 
 
 def have_counts(fields: list[list[str]]) -> bool:
