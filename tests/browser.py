@@ -1,59 +1,11 @@
-"""A browser without a window, told what to do over its DevTools protocol: a small client of the websocket that it
-speaks, with the standard library alone."""
+"""A browser without a window, told what to do by its DevTools protocol over a pipe, with the standard library alone."""
 import base64
 import json
 import os
 import shutil
-import socket
-import struct
 import subprocess
 import tempfile
 import time
-import urllib.request
-
-
-class Socket:
-    """The messages of a websocket, as texts."""
-
-    def __init__(self, address):
-        host, _, path = address.removeprefix("ws://").partition("/")
-        name, port = host.split(":")
-        self.end, self.rest = socket.create_connection((name, int(port)), timeout=60), b""
-        key = base64.b64encode(os.urandom(16)).decode()
-        self.end.sendall(f"GET /{path} HTTP/1.1\r\nHost: {host}\r\nUpgrade: websocket\r\nConnection: Upgrade\r\n"
-                         f"Sec-WebSocket-Key: {key}\r\nSec-WebSocket-Version: 13\r\n\r\n".encode())
-        while b"\r\n\r\n" not in self.rest:
-            self.rest += self.end.recv(4096)
-        self.rest = self.rest.partition(b"\r\n\r\n")[2]
-
-    def take(self, count):
-        while len(self.rest) < count:
-            more = self.end.recv(1 << 16)
-            if not more:
-                raise ConnectionError("the browser has closed its end")
-            self.rest += more
-        taken, self.rest = self.rest[:count], self.rest[count:]
-        return taken
-
-    def send(self, text):
-        data, mask = text.encode(), os.urandom(4)
-        size = len(data)
-        head = (bytes([0x81, 0x80 | size]) if size < 126 else b"\x81\xfe" + struct.pack(">H", size) if size < 1 << 16
-                else b"\x81\xff" + struct.pack(">Q", size))
-        self.end.sendall(head + mask + bytes(byte ^ mask[at % 4] for at, byte in enumerate(data)))
-
-    def receive(self):
-        text = b""
-        while True:
-            first, second = self.take(2)
-            size = second & 127
-            if size > 125:
-                size = struct.unpack(">H" if size == 126 else ">Q", self.take(2 if size == 126 else 8))[0]
-            data = self.take(size)
-            if first & 15 in (0, 1):
-                text += data
-                if first & 128:
-                    return text.decode()
 
 
 def command():
@@ -65,29 +17,28 @@ class Browser:
     """One page in a browser of its own; `faults` are what the page's scripts complained of."""
 
     def __init__(self, program):
-        self.folder = tempfile.mkdtemp()
-        self.process = subprocess.Popen(
-            [program, "--headless", "--no-sandbox", "--disable-gpu", "--remote-debugging-port=0", "--no-first-run",
-             f"--user-data-dir={self.folder}", "about:blank"],
-            stderr=subprocess.DEVNULL, stdout=subprocess.DEVNULL)
-        noted = os.path.join(self.folder, "DevToolsActivePort")
-        until = time.monotonic() + 60
-        while not (os.path.exists(noted) and open(noted, encoding="ascii").read().count("\n")):
-            if time.monotonic() > until:
-                raise TimeoutError("the browser doesn't begin")
+        self.folder, (given, writing), (reading, back) = tempfile.mkdtemp(), os.pipe(), os.pipe()
+        words = [program, "--headless", "--no-sandbox", "--disable-gpu", "--no-first-run", "--remote-debugging-pipe",
+                 f"--user-data-dir={self.folder}", "about:blank"]
+        self.process = subprocess.Popen(["sh", "-c", f'exec "$@" 3<&{given} 4>&{back}', "sh", *words],
+                                        pass_fds=(given, back), stderr=subprocess.DEVNULL, stdout=subprocess.DEVNULL)
+        os.close(given)
+        os.close(back)
+        self.reading, self.writing, self.rest, self.number, self.faults = reading, writing, b"", 0, []
+        self.session = {}
+        while not (pages := [one for one in self.ask("Target.getTargets")["targetInfos"] if one["type"] == "page"]):
             time.sleep(0.05)
-        port = open(noted, encoding="ascii").read().split("\n")[0]
-        with urllib.request.urlopen(f"http://127.0.0.1:{port}/json") as listed:
-            page = next(one for one in json.load(listed) if one["type"] == "page")
-        self.socket, self.number, self.faults = Socket(page["webSocketDebuggerUrl"]), 0, []
+        attached = self.ask("Target.attachToTarget", targetId=pages[0]["targetId"], flatten=True)
+        self.session = {"sessionId": attached["sessionId"]}
         for domain in ("Page", "Runtime", "Log"):
             self.ask(domain + ".enable")
 
     def ask(self, method, **words):
         self.number += 1
-        self.socket.send(json.dumps({"id": self.number, "method": method, "params": words}))
+        asked = {"id": self.number, "method": method, "params": words} | self.session
+        os.write(self.writing, json.dumps(asked).encode() + b"\0")
         while True:
-            told = json.loads(self.socket.receive())
+            told = self.told()
             if told.get("method") == "Runtime.exceptionThrown":
                 self.faults.append(told["params"]["exceptionDetails"].get("exception", {}).get("description", "?"))
             if told.get("method") == "Log.entryAdded" and told["params"]["entry"]["level"] == "error":
@@ -96,6 +47,16 @@ class Browser:
                 if "error" in told:
                     raise RuntimeError(f"{method}: {told['error']['message']}")
                 return told["result"]
+
+    def told(self):
+        """The next message."""
+        while b"\0" not in self.rest:
+            more = os.read(self.reading, 1 << 20)
+            if not more:
+                raise ConnectionError("the browser has ended")
+            self.rest += more
+        text, _, self.rest = self.rest.partition(b"\0")
+        return json.loads(text)
 
     def value(self, words):
         """What an expression is on the page."""
@@ -172,4 +133,6 @@ class Browser:
     def end(self):
         self.process.terminate()
         self.process.wait(20)
+        os.close(self.reading)
+        os.close(self.writing)
         shutil.rmtree(self.folder, ignore_errors=True)

@@ -7,7 +7,7 @@ import signal
 import subprocess
 import time
 
-from lab.programs import TOP
+from lab.programs import TOP, built
 from lab.studio.asked import OPENED
 from lab.wrong import Wrong
 
@@ -28,15 +28,9 @@ def are_built():
 
 
 def is_built(name):
-    program = os.path.join(TOP, "crates", name, "out", name)
-    try:
-        with open(program + ".made-from", encoding="ascii") as file:
-            noted = file.read().split("\n")
-    except OSError:
-        return False
-    done = subprocess.run([os.path.join(TOP, "bin", name)], env=dict(os.environ, FORESTPLAN_SOURCES="1"),
-                          stdout=subprocess.PIPE, stdin=subprocess.DEVNULL)
-    return os.access(program, os.X_OK) and noted[1:2] == [done.stdout.decode().strip()]
+    asked = dict(os.environ, FORESTPLAN_IS_BUILT="1")
+    return built(name) is not None and not subprocess.run([os.path.join(TOP, "bin", name)], env=asked,
+                                                          stdin=subprocess.DEVNULL).returncode
 
 
 class Building:

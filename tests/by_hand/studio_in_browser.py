@@ -17,10 +17,12 @@ import threading
 import time
 import unittest
 
-from tests import TOP
+from tests import FORESTLAB, TOP
+from tests.cases import run_program
 from tests.pages import studio_page
 from tests.programs.studio import processes_of
 from tests.running import Counting
+from tests.settings import PLAY
 
 SHOWN = {
     "draw": "example=barred&tab=draw&node=3", "rounds": "example=petersen&tab=rounds&at=4.5&forest=0&node=6",
@@ -52,6 +54,33 @@ EVIL = """<!doctype html><script>
   document.title = "tried: " + said.join(", ");
 })();
 </script><body>"""
+
+
+TWO, ALL_OF_FOUR = "p edge 2 1\ne 1 2\n", "p edge 4 6\ne 1 2\ne 1 3\ne 1 4\ne 2 3\ne 2 4\ne 3 4\n"
+ADVERSARIES = {
+    "two": (TWO, ()), "triangle": ("p edge 3 3\ne 1 2\ne 1 3\ne 2 3\n", ()),
+    "row": ("p edge 4 3\ne 1 2\ne 2 3\ne 3 4\n", ()), "star": ("p edge 4 3\ne 1 4\ne 2 4\ne 3 4\n", ()),
+    "ring": ("p edge 4 4\ne 1 2\ne 2 3\ne 3 4\ne 1 4\n", ()), "two without safes": (TWO, ("--without", "safes")),
+    "two without early": (TWO, ("--without", "early")), "four without safes": (ALL_OF_FOUR, ("--without", "safes"))}
+EVENTS, WIRE = "run.length - 1", "#net [data-step]"
+READY = "T.nodes.map((_, a) => a + 1).filter(v => possible().some(one => !one.take && one.v === v))"
+# The texts and messages of the map that lie outside of it.
+CUT = """Array.from(document.querySelectorAll('#net text, #net rect')).filter(e => { const b = e.getBBox(),
+  v = document.getElementById('net').viewBox.baseVal; return b.x < -1 || b.y < -1 || b.x + b.width > v.width + 1
+  || b.y + b.height > v.height + 1; }).map(e => e.textContent || e.outerHTML)"""
+# The fewest steps to something wrong, as lines of events.
+BROKEN = """(() => { const from = {0: null}, queue = [0];
+  while (queue.length) {
+    let s = queue.shift();
+    for (const step of stepsOf(s)) {
+      if (step.fault) {
+        const keys = [eventLine(step)];
+        for (; from[s]; s = from[s][0]) keys.unshift(from[s][1]);
+        return keys;
+      }
+      if (!(step.to in from)) { from[step.to] = [s, eventLine(step)]; queue.push(step.to); }
+    }
+  } })()"""
 
 
 def lab(*words):
@@ -270,12 +299,141 @@ class More(studio_page.Page):
         server.shutdown()
 
 
+class Adversary(studio_page.Page):
+    """The page of picture adversary, at 1024 by 768 and at a phone's width. The built `forestplay` has to accept its
+    lists."""
+
+    shots = None
+
+    def test_pages(self):
+        for name, (network, options) in ADVERSARIES.items():
+            for wide, high in ((1024, 768), (390, 844)):
+                with tempfile.TemporaryDirectory() as folder:
+                    self.net, page = os.path.join(folder, "net.col"), os.path.join(folder, "page.html")
+                    with open(self.net, "w", encoding="ascii") as file:
+                        file.write(network)
+                    with open(page, "wb") as file:
+                        file.write(lab("picture", "adversary", self.net, *options))
+                    self.page.faults.clear()
+                    self.page.size(wide, high, wide < 600)
+                    self.page.go(f"file://{page}")
+                    self.page.until(f"location.pathname === {json.dumps(page)} && document.readyState === 'complete'")
+                    self.name, self.network = f"{name}, {wide} wide", network.encode()
+                    for rows in [self.broken] if options else [self.looks, self.steps, self.refused, self.listed]:
+                        rows()
+                        self.page.value("restart(); show()")
+                    self.row("no script complained", not self.page.faults, self.page.faults[:1])
+
+    def row(self, what, good, found=""):
+        self.note(f"{self.name}: {what}", good, found)
+
+    def has(self, what, words, wanted=True):
+        got = self.page.value(words)
+        self.row(what, got == wanted, got)
+
+    def type(self, key, **more):
+        self.page.key(key, **(more or {"text": key}))
+
+    def node(self, v):
+        self.page.click_on(f"#net .node[data-node='{v}'] circle")
+
+    def looks(self):
+        for _ in range(40):
+            self.type("r")
+        self.has("no wider than the window", "document.documentElement.scrollWidth <= innerWidth")
+        self.has("nothing of the map is cut off", CUT, [])
+        self.has("buttons are large enough for a finger", "Array.from(document.querySelectorAll('button')).filter("
+                 "one => one.offsetHeight && one.offsetHeight < 30).length", 0)
+        if self.shots:
+            self.page.shot(os.path.join(self.shots, f"adversary-{self.name.replace(', ', '-')}.png"))
+
+    def steps(self):
+        self.page.click_on(WIRE)
+        self.has("a message that is clicked comes", f"{EVENTS} === 1 && now().step.take")
+        self.page.click_on("#undo")
+        self.node(1)
+        self.has("undo, and a node that can't pulse", EVENTS, 0)
+        self.has("nodes say what they wait for", "Array.from(document.querySelectorAll('#net .node')).every(one => "
+                 "one.textContent.includes('waits for '))")
+        while not self.page.value(READY):
+            self.page.click_on(WIRE)
+        before = self.page.value("pulses().join()")
+        self.node(self.page.value(READY)[0])
+        self.has("a node that is clicked makes its pulse", f"pulses().join() !== '{before}' && !now().step.take")
+        self.page.value("restart(); show()")
+        self.type("1")
+        self.type("u")
+        while self.page.value("document.activeElement.dataset.key === undefined"):
+            self.type("Tab", windowsVirtualKeyCode=9)
+        for _ in range(3):
+            self.type("Enter", text="\r", windowsVirtualKeyCode=13)
+        self.has("a digit, u, Tab and Enter, and Enter again", EVENTS, 3)
+        self.page.value("restart(); show()")
+        self.type("s")
+        self.type("s")
+        self.has("twice in step", "pulses().every(p => p === 2)")
+        self.page.value("restart(); show()")
+        v, w = self.page.value("D.net.edges[0]")
+        self.page.click(*self.page.value("(() => { const b = stage.svg.getBoundingClientRect(), "
+                                         f"p = stage.along({v}, {w}, 0.5); return [b.x + p[0], b.y + p[1]]; }})()"))
+        self.page.click_on("#rest")
+        self.has("nothing comes over a frozen line", f"frozen['{v}–{w}'] && T.links.filter(link => edgeOf(link) === "
+                 f"'{v}–{w}').every(link => held(link, now().state).length)")
+        self.page.click_on("#freeze button")
+        self.has("its button thaws it", f"!frozen['{v}–{w}'] && possible().length > 0")
+
+    def refused(self):
+        """What isn't possible is said, in a list and in an address."""
+        for words, line in (("put 9 0", 1), ("put 1 0\nput 1 0", 2), ("take 1 9", 1), ("pulse 9", 1), ("put 1", 1),
+                            ("c x\nputt 1 0", 2)):
+            self.page.value(f"element('list').value = {json.dumps(words)}; element('paste').click()")
+            said = self.page.text("said")
+            self.row(f"a list with {words!r}", said.startswith(f"Line {line}, ") and "isn’t possible" in said, said)
+        for place, words in (("#run-z", "Step 1 of the address"), ("#entry-3", "no place of this page")):
+            self.page.value(f"location.hash = {json.dumps(place)}")
+            self.sees(f"{self.name}: {place}", f"element('said').textContent.includes('{words}')")
+        self.page.value("location.hash = ''")
+
+    def played(self):
+        """What forestplay does with the page's list."""
+        text = self.page.value("element('list').value").encode()
+        return text, run_program(PLAY, ["events"], self.network + text)
+
+    def listed(self):
+        for _ in range(25):
+            self.type("r")
+        for when in ("on the way", "at the end"):
+            if when == "at the end":
+                self.page.click_on("#rest")
+            text, done = self.played()
+            shown = self.page.text("state").encode() + b"\n"
+            self.row(f"forestplay shows the same {when}", (done.returncode, done.stdout) == (0, shown), (done, shown))
+        made = run_program(FORESTLAB, ["simulate", self.net, "--events", "-"], text)
+        again = run_program(PLAY, ["replay"], self.network + made.stdout)
+        self.row("forestplay replays its transcript", (again.returncode, again.stdout) == (0, done.stdout), again)
+        self.has("the end", r"/All have halted, with channels \d+(, \d+)*\.$/.test(element('said').textContent)")
+        self.has("what can't be won isn't", "D.dares.filter(dare => ['wrong', 'plan'].includes(dare.kind) && "
+                 "judged(dare)[0]).length", 0)
+
+    def broken(self):
+        """Along the first list that goes wrong, event by event, by its buttons."""
+        path = self.page.value(BROKEN)
+        for key in path:
+            self.page.click_on(f'#nodes [data-key="{key}"]')
+        self.has("what goes wrong is said, and a dare won", f"element('said').className === 'bad' && {EVENTS} === "
+                 f"{len(path)} && judged(D.dares[0])[0]")
+        _, done = self.played()
+        # The proved machine keeps what comes early apart, so without `early` the events are possible there.
+        good = done.returncode == 0 if "early" in self.name else done.returncode == 1 and b" line " in done.stderr
+        self.row("forestplay accepts the list alone if it goes right there", good, done)
+
+
 def main():
     words = argparse.ArgumentParser(description=__doc__, formatter_class=argparse.RawDescriptionHelpFormatter)
     words.add_argument("--shots", metavar="FOLDER")
-    More.shots = words.parse_args().shots
+    More.shots = Adversary.shots = words.parse_args().shots
     suite, counted = unittest.TestSuite(), Counting()
-    for case in (studio_page.Repeated, studio_page.Drawn, More):
+    for case in (studio_page.Repeated, studio_page.Drawn, Adversary, More):
         suite.addTests(unittest.defaultTestLoader.loadTestsFromTestCase(case))
     suite.run(counted)
     print(f"{counted.passed} passed, {counted.failed} failed")

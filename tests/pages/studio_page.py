@@ -7,7 +7,6 @@ import signal
 import time
 
 from lab.definitions.colours import colours, network_of
-from lab.pictures.pages import hues
 from lab.pictures.palette import CHANNEL_HUES, FOREST_COLOURS, INK, PALE, PAPER, WIRES, grey, text_on
 from tests import TOP, browser
 from tests.cases import Case
@@ -29,10 +28,6 @@ def contrast(one, other):
 
 class Repeated(Case):
     needs_programs = False
-
-    def test_hues(self):
-        found = {name: json.loads(value) for name, value in re.findall(r"^export const (\w+) = (.*);$", hues(), re.M)}
-        self.note("the palette", (found["CHANNELS"], found["FORESTS"]) == (CHANNEL_HUES, FOREST_COLOURS), found)
 
     def test_contrast(self):
         """Text has a contrast of 4.5, a mark (a fill by its rim) one of 3, in the light and in the dark."""
