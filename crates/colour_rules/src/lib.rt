@@ -46,3 +46,4 @@ pub use node::ColourNode;
 pub use numbers::{Long, Short};
 pub use payload::Payload;
 pub use phase::{FIRST_MERGE, Phase, Reduction, Schedule};
+pub use taken::barred_set;

@@ -1,9 +1,12 @@
 //! What a node shows of its colours after a pulse, to those who write its rounds down.
-ghost use Rattle.std.specs.Prelude.{◌≡◌, ◌<◌, slice_index};
+ghost use Rattle.std.specs.Prelude.{◌≡◌, ◌<◌, slice_index, slice_index_or};
+ghost use Rattle.forests.specs.declared.numbering.Role.TheVariants.{Unknown};
 ghost use Rattle.colour_rules.specs.Choice.{chooses};
+ghost use Rattle.colour_rules.specs.Node.{ports};
 
 use crate::node::ColourNode;
 use cole_vishkin::Identifier;
+use forests::Role;
 
 impl ColourNode {
     /// How many forests there are.
@@ -19,6 +22,21 @@ impl ColourNode {
         ensures { result ≡ slice_index self.now.colours forest }
     {
         self.colours.own(self.id, forest)
+    }
+
+    /// How many ports the node has.
+    pub fn degree(&self) -> u32
+        ensures { result ≡ ports self.now }
+    {
+        self.roles.len() as u32
+    }
+
+    /// What a port is to the node.
+    pub fn role(&self, port: u32) -> Role
+        requires port { port < ports self.now }
+        ensures { result ≡ slice_index_or self.now.roles port Unknown }
+    {
+        self.roles[port as usize]
     }
 
     /// Whether the node, after this step of the merging of a forest, is one of those that chose at it: its three-colour

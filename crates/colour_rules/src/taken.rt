@@ -41,8 +41,8 @@ pub(crate) enum TakenColours {
     Many(Box<ChosenSet>, Barred<WORDS>),
 }
 
-// The set of those bars that are 0 to `greatest`.
-fn barred_set<const N: usize>(bars: &[u16], greatest: u16) -> ColourSet<N>
+/// The set of those bars that are 0 to `greatest`.
+pub fn barred_set<const N: usize>(bars: &[u16], greatest: u16) -> ColourSet<N>
     requires room { N ≤ WORDS }
     requires greatest { greatest < 64 * N }
     ensures { result ≡ up_to greatest bars.now }
