@@ -1,0 +1,3 @@
+mod Firsts
+pub mod OneTurn
+pub mod Partners

@@ -1,0 +1,17 @@
+use Rattle.std.proofs.Common.{◌≤◌, rules}
+use Rattle.interference.specs.declared.limits.TheConstants.{MAX_DEGREE}
+use Rattle.interference.specs.Net.{forest_count_of, greatest_degree_of}
+use Rattle.interference.proofs.Neighbours.{forest_count-within, greatest_degree-within}
+use Rattle.matching.proofs.node.TurnsSequelColouring.last_pulse.Goals as goal
+
+pub overflow_mul-result : goal.overflow_mul-result
+overflow_mul-result c =
+    let most : forest_count_of c.args.net.now ≤ greatest_degree_of c.args.net.now = forest_count-within c.args.net.now c.is_network.ensures in
+    let least : greatest_degree_of c.args.net.now ≤ MAX_DEGREE = greatest_degree-within c.args.net.now c.is_network.ensures in
+    search rules
+
+pub overflow_add-result : goal.overflow_add-result
+overflow_add-result c =
+    let most : forest_count_of c.args.net.now ≤ greatest_degree_of c.args.net.now = forest_count-within c.args.net.now c.is_network.ensures in
+    let least : greatest_degree_of c.args.net.now ≤ MAX_DEGREE = greatest_degree-within c.args.net.now c.is_network.ensures in
+    search rules

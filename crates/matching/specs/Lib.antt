@@ -1,0 +1,4 @@
+pub mod First
+pub mod Words
+pub mod Knowing
+pub mod Lawful
