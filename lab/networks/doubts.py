@@ -2,6 +2,7 @@
 are pairs. A row here is (line, one end, other end), the other end empty if the line has one node."""
 import re
 from collections import Counter
+from functools import lru_cache
 
 from lab.networks.fields import is_number, shown, whole
 from lab.networks.headings import NOUN, ENDS, MISSING, ends_named
@@ -151,6 +152,7 @@ def are_of_two_kinds(fields: list[list[str]]) -> bool:
     return bool(pairs) and len(kinds[0]) == len(kinds[1]) == 1 and kinds[0] != kinds[1]
 
 
+@lru_cache(1 << 16)
 def kind_of(field: str) -> str:
     if DATE.match(field):
         return "date"

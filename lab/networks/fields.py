@@ -38,6 +38,7 @@ def why_no_number(fields, names):
     return None
 
 
+@lru_cache(1 << 16)
 def value_of(field: str) -> float | None:
     """A number with a point or a comma before its fraction, as spreadsheets of some countries write it, or with the
     other of both between its thousands; or None."""
