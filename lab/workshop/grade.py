@@ -8,6 +8,7 @@ import select
 import shlex
 import shutil
 import signal
+import subprocess
 import sys
 import tempfile
 import time
@@ -17,7 +18,7 @@ from lab.door import SIGNALS
 from lab.programs import TOP
 from lab.schedules.policies import POLICIES
 from lab.workshop.findings import NoVerdict
-from lab.workshop.guard import NOBODY, Guard, end_all, kept_in, shut
+from lab.workshop.guard import USERS, Guard, end_all, keep_apart, kept_in, shut
 from lab.workshop.judge import ask
 from lab.workshop.options import count, parsed, seconds
 from lab.workshop.playing import played
@@ -40,7 +41,8 @@ EDITION = 1
 HELP = f"""\
 Grades all submissions of a folder: each folder in it is a student's. The program of an
 assignment is the file rounds_node, alpha_node or open_node in it: python3 runs one that
-ends in .py, node .js, java .java, and what may be executed is run as it is. Or a file
+ends in .py, node .js, java .java, and what may be executed is run as it is. A source in
+Java is compiled at each start, which is slow, unless its class is there. Or a file
 `commands` says how, in lines as `alpha: ./mine --fast`.
 
 rounds has {POINTS['rounds']} points times the share of its {RUNS['rounds']} runs that are right,
@@ -51,7 +53,7 @@ or has no result, is played once more, alone, and that counts.
 A submission is played in a copy of its folder, and its programs can write there alone.
 Where the system has Landlock (Linux 5.13 on) they see no other submission, nothing of
 this program, of other processes, or of your home but what is on your PATH. As root they
-run as nobody.
+run as a user of its own.
 """
 MORE_HELP = """\
 After `--` come words that are put before each command, as those of a container, in which
@@ -71,7 +73,7 @@ Examples:
 @dataclass
 class Part:
     """An assignment of a student's folder: its command, or none; and then the result as the workshop prints it for a
-    program, with its report for people; or why there is no result."""
+    program, with its report for people, and whether a signal ended one of its programs; or why there is no result."""
     student: str
     folder: str
     assignment: str
@@ -79,6 +81,7 @@ class Part:
     why: str = ""
     result: dict | None = None
     report: list[str] = field(default_factory=list)
+    was_ended: bool = False
 
     @property
     def points(self) -> int:
@@ -93,7 +96,7 @@ class Part:
 
     def is_in_doubt(self) -> bool:
         """Whether another's program or a busy machine may be the reason."""
-        return bool(self.command) and (self.result is None or any(
+        return bool(self.command) and (self.result is None or self.was_ended or any(
             case["verdict"] in ("silent", "late") for case in self.result["cases"]))
 
 
@@ -127,12 +130,23 @@ def parts_of(folder: str) -> list[Part]:
             try:
                 part.command = command_of(path, assignment)
                 part.why = "" if part.command else "no program"
-                if part.command and kept_in(path) > MOST_COPIED:
-                    raise Wrong(f"its folder has more than {MOST_COPIED >> 20} megabytes")
+                if part.command:
+                    check_folder(path)
             except (Wrong, OSError) as why:
                 part.command, part.why = [], str(why)
             found.append(part)
     return found
+
+
+def check_folder(folder: str) -> None:
+    """Refuses a folder that can't be copied."""
+    if kept_in(folder) > MOST_COPIED:
+        raise Wrong(f"its folder has more than {MOST_COPIED >> 20} megabytes, or is too deep")
+    for at, _, names in os.walk(folder):
+        strange = next((name for name in names if not os.path.isfile(os.path.join(at, name))
+                        and not os.path.islink(os.path.join(at, name))), None)
+        if strange is not None:
+            raise Wrong(f"its folder has a named pipe or a device in it: {clean(strange)}")
 
 
 def command_of(folder: str, assignment: str) -> list[str]:
@@ -142,13 +156,20 @@ def command_of(folder: str, assignment: str) -> list[str]:
         with open(said, encoding="utf-8", errors="replace") as text:
             lines = [line.partition(":") for line in text.read(1 << 16).splitlines()]
         try:
-            return next((shlex.split(words) for name, _, words in lines if name.strip() == assignment), [])
+            found = next((shlex.split(words) for name, _, words in lines if name.strip() == assignment), [])
         except ValueError as why:
             raise Wrong(f"`commands`: {why}") from None
+        if "--" in found:
+            raise Wrong("`commands`: `--` stands between commands, and one is played")
+        return found
     names = [name for name in sorted(os.listdir(folder)) if os.path.splitext(name)[0] in STEMS[assignment]]
+    # Of a class in Java the source isn't compiled again at each start.
+    names = [name for name in names if not (name.endswith(".java") and name[:-5] + ".class" in names)]
     ways = [way for name in names if (way := way_to_run(folder, name))]
     if len(ways) > 1:
         raise Wrong(f"{' and '.join(way[-1] for way in ways)}: which one?")
+    if names and os.path.isdir(os.path.join(folder, names[0])):
+        raise Wrong(f"{names[0]} is a folder")
     if names and not ways:
         raise Wrong(f"{names[0]} can't be run: it has to be compiled, or `chmod +x {names[0]}`")
     return ways[0] if ways else []
@@ -160,6 +181,8 @@ def way_to_run(folder: str, name: str) -> list[str]:
         return []
     if ending in RUNNERS:
         return [RUNNERS[ending], name]
+    if ending == ".class":
+        return ["java", "-Xmx64m", "-XX:+UseSerialGC", "-cp", ".", name.removesuffix(ending)]
     return [os.path.join(".", name)] if os.access(path, os.X_OK) else []
 
 
@@ -170,11 +193,11 @@ def play(part: Part, given: argparse.Namespace, room: str) -> dict:
     copy = os.path.join(tempfile.mkdtemp(dir=room), "submission")
     shutil.copytree(part.folder, copy, symlinks=True)
     hidden = [given.folder, TOP, room, os.path.expanduser("~")]
-    guard = Guard(copy, hidden, programs_at_home([given.folder, TOP]), is_open=bool(given.before))
+    guard = Guard(copy, hidden, programs_at_home([given.folder, TOP]), bool(given.before), given.users[part.student])
     if guard.user is not None:
         for at, folders, files in os.walk(os.path.dirname(copy)):
             for path in (at, *(os.path.join(at, name) for name in (*folders, *files))):
-                os.chown(path, NOBODY, NOBODY, follow_symlinks=False)
+                os.chown(path, guard.user, guard.user, follow_symlinks=False)
     before = [word.replace("{}", copy) for word in given.before]
     options = parsed([part.assignment, "--runs", str(given.runs or RUNS[part.assignment]), "--seed", given.seed,
                       "--timeout", str(given.timeout), "--memory", str(given.memory), "--", *before, *part.command])
@@ -182,7 +205,8 @@ def play(part: Part, given: argparse.Namespace, room: str) -> dict:
         found = played(options, guard, time.monotonic() + given.seconds)
     except NoVerdict as why:
         return {"why": str(why)}
-    return {"result": as_json(options, *found), "report": report(*found)}
+    was_ended = any("it ended with signal" in line for case in found[0] if case.finding for line in case.finding.text())
+    return {"result": as_json(options, *found), "report": report(*found), "ended": was_ended}
 
 
 def programs_at_home(closed: list[str]) -> list[str]:
@@ -207,7 +231,11 @@ class Play:
         with SIGNALS.held():
             self.number = os.fork()
             if self.number == 0:
-                os._exit(self.run(given, room, to))
+                status = 2              # nothing leaves this process, whatever is wrong in it
+                try:
+                    status = self.run(given, room, to)
+                finally:
+                    os._exit(status)
         os.close(to)
 
     def run(self, given: argparse.Namespace, room: str, to: int) -> int:
@@ -215,12 +243,13 @@ class Play:
         try:
             os.setpgid(0, 0)            # so that Ctrl-C ends the one that grades, which ends this one
             SIGNALS.depth = 0
+            keep_apart()
             shut()
             with open(to, "w", encoding="utf-8") as pipe:
                 json.dump(play(self.part, given, room), pipe)
             return 0
         except (shutil.Error, OSError, Wrong) as why:
-            os.write(2, f"grade: {self.part.student} {self.part.assignment}: {why}\n".encode())
+            os.write(2, f"grade: {clean(self.part.student)} {self.part.assignment}: {clean(str(why))}\n".encode())
             return 1
         except BaseException:           # ended from outside, or a mistake of the workshop's own
             return 2
@@ -244,6 +273,7 @@ class Play:
             return
         found = json.loads(self.said)
         part.why, part.result, part.report = found.get("why", ""), found.get("result"), found.get("report", [])
+        part.was_ended = found.get("ended", False)
 
 
 def ending(status: int) -> str:
@@ -331,8 +361,17 @@ def write_reports(parts: list[Part], folder: str) -> None:
         for part in (part for part in parts if part.student == student):
             lines += [f"{part.assignment}: {part.points} of {POINTS[part.assignment]} points",
                       *(part.report or [part.why]), ""]
-        with open(os.path.join(folder, f"{student}.txt"), "w", encoding="utf-8", errors="replace") as file:
-            file.write("".join(line + "\n" for line in lines))
+        try:
+            with open(os.path.join(folder, f"{student}.txt"), "w", encoding="utf-8", errors="replace") as file:
+                file.write("".join(line + "\n" for line in lines))
+        except OSError as why:
+            print(f"grade: the report of {clean(student)} can't be written: {why.strerror}", file=sys.stderr)
+
+
+def remove(room: str) -> None:
+    """Removes the room, whatever is in it: folders that are too deep for Python, or shut."""
+    for words in (["chmod", "-R", "u+rwX"], ["rm", "-rf"]):
+        subprocess.run([*words, room], stdin=subprocess.DEVNULL, stdout=subprocess.DEVNULL, stderr=subprocess.DEVNULL)
 
 
 def command_line() -> argparse.ArgumentParser:
@@ -369,12 +408,22 @@ def main(words: list[str]) -> int:
     if not given.before and not Guard().edition:
         print("grade: this system has no Landlock, so programs can read what you can read, and end this one; use a "
               "container", file=sys.stderr)
-    with tempfile.TemporaryDirectory(prefix="grade-") as room:
+    students = dict.fromkeys(part.student for part in parts)
+    given.users = {student: USERS[at % len(USERS)] for at, student in enumerate(students)}
+    room = tempfile.mkdtemp(prefix="grade-")
+    try:
         os.chmod(room, 0o711)
         play_all([part for part in parts if part.command], given, given.jobs, room)
-        play_all([part for part in parts if part.is_in_doubt()], given, 1, room)
-    if given.reports:
-        write_reports(parts, given.reports)
-    print(json.dumps(as_one(parts, given.seed)) if given.json else
-          "\n".join([*table(parts), "", f"seed {given.seed}"]), flush=True)
+        again = [part for part in parts if part.is_in_doubt()]
+        if again:
+            most = f"{len(again) * given.seconds / 60:.0f}"
+            print(f"grade: {len(again)} of {len(parts)} are played once more, alone: {most} minutes at most",
+                  file=sys.stderr, flush=True)
+        play_all(again, given, 1, room)
+        print(json.dumps(as_one(parts, given.seed)) if given.json else
+              "\n".join([*table(parts), "", f"seed {given.seed}"]), flush=True)
+        if given.reports:
+            write_reports(parts, given.reports)
+    finally:
+        remove(room)
     return 1 if any(part.command and not part.result for part in parts) else 0

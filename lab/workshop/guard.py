@@ -6,16 +6,19 @@ reach the workshop, its judge, or what others have written.
 - Where the system has Landlock, which needs no rights (Linux 5.13), a program can't trace or read another process; from
   Linux 6.12 on it can't signal one either, except what it has started itself.
 - In a folder of its own, as for grading, it also writes there alone, sees nothing below the paths that are hidden from
-  it and nothing of other processes, and has no connections (TCP, Linux 6.7)."""
+  it and nothing of other processes, and has no connections (TCP, Linux 6.7). There a filter of calls (x86-64) keeps it
+  from what Landlock has no rules for: rights and times of files, limits of other processes, and memory and queues that
+  outlive it."""
 import contextlib
 import ctypes
 import os
+import platform
 import resource
 import signal
 import struct
 import time
 from dataclasses import dataclass
-from typing import Iterator, Sequence
+from typing import Collection, Iterator, Sequence
 
 from lab.workshop.findings import Fault
 
@@ -24,18 +27,26 @@ OPEN_FILES = 256
 WRITTEN_IN_ALL = 256 << 20  # by all programs of a run
 CHILDREN, CHILDREN_EACH = 256, 64       # processes and threads of a run, and more for each program
 MEGABYTE = 1 << 20
-MOST_KEPT, MOST_FILES = 256 * MEGABYTE, 10_000      # in a folder of their own
-LOOK = 0.5                  # seconds between two looks at it
-NOBODY = 65534              # what programs are for grading if the workshop is root
+MOST_KEPT, MOST_FILES, DEEPEST = 256 * MEGABYTE, 10_000, 64     # in a folder of their own
+LOOK = 0.5                  # seconds between two looks at it, and at the memory that is used
+# What programs are for grading if the workshop is root: each submission another of the numbers that nobody has.
+USERS = range(61184, 65520)
 NAMES = ("HOME", "LANG", "PATH", "TMPDIR")
 
 # Numbers of Linux, the same on all machines.
 PDEATHSIG, DUMPABLE, DROP_CAPABILITY, SUBREAPER, IS_SUBREAPER, NO_NEW_PRIVS = 1, 4, 24, 36, 37, 38
 CAPABILITIES = 64           # more than there are
+OWN_MESSAGES = 0x08000000   # a namespace for memory that is shared, semaphores and queues
 CREATE_RULESET, ADD_RULE, RESTRICT_SELF = 444, 445, 446
 EXECUTE, WRITE, READ, LIST, MAKE_BLOCK, TRUNCATE = (1 << bit for bit in (0, 1, 2, 3, 11, 14))
 OF_FILES, LOOKS = EXECUTE | WRITE | READ | TRUNCATE, EXECUTE | READ | LIST
 TCP, SIGNALS_AND_SOCKETS = 3, 3
+# Numbers of Linux on x86-64. Refused are calls that change rights, owners, marks and times of files, memory,
+# semaphores, queues and keys by name, and priorities; and of limits and schedules those of other processes.
+SECCOMP, FILTER, X86_64, OTHER_NUMBERS = 22, 2, 0xC000003E, 0x40000000
+REFUSED = (90, 91, 92, 93, 94, 260, 268, 452, 188, 189, 190, 463, 132, 235, 261, 280, 29, 64, 68, 240, 248, 249, 250,
+           141, 251)
+OF_ITSELF = (142, 144, 203, 302, 314)
 SYSTEM = ctypes.CDLL(None, use_errno=True)
 
 
@@ -85,16 +96,25 @@ def shut() -> None:
     control(SUBREAPER, 1)
 
 
+def keep_apart() -> None:
+    """What this process and its programs share by System V, as memory and queues, is theirs alone, and ends with them,
+    if it is root and may say so."""
+    if os.geteuid() == 0:
+        SYSTEM.unshare(OWN_MESSAGES)
+
+
 class Guard:
     """`folder` is the programs' own, or None if they run where the workshop does and may write anywhere. Below the
-    paths that are `hidden` they see nothing but those that are `needed`. `edition` is that of Landlock, 0 if there is
-    none. With `is_open` nothing is restricted: for a container, which guards by itself and whose command may need more
-    rights."""
+    paths that are `hidden` they see nothing but those that are `needed`. `user` is the number of the user that they are
+    then if the workshop is root. `edition` is that of Landlock, 0 if there is none, and `programs` are the processes
+    that run. With `is_open` nothing is restricted: for a container, which guards by itself and whose command may need
+    more rights."""
 
     def __init__(self, folder: str | None = None, hidden: Sequence[str] = (), needed: Sequence[str] = (),
-                 is_open: bool = False):
+                 is_open: bool = False, user: int = USERS[-1]):
         self.folder, self.is_open, self.rules, self.looked = folder, is_open, None, 0.0
-        self.user = NOBODY if folder and not is_open and os.geteuid() == 0 else None
+        self.user = user if folder and not is_open and os.geteuid() == 0 else None
+        self.programs: set[int] = set()
         self.edition = max(0, SYSTEM.syscall(CREATE_RULESET, None, ctypes.c_size_t(0), 1))
         if is_open or not self.edition:
             return
@@ -134,6 +154,11 @@ class Guard:
             control(NO_NEW_PRIVS, 1)
         if self.rules is not None:
             checked(SYSTEM.syscall(RESTRICT_SELF, self.rules, 0))
+        if self.folder and not self.is_open and platform.machine() == "x86_64":
+            code = call_filter()
+            text = ctypes.create_string_buffer(code, len(code))
+            program = struct.pack("HxxxxxxP", len(code) // 8, ctypes.addressof(text))
+            SYSTEM.prctl(SECCOMP, ctypes.c_ulong(FILTER), ctypes.create_string_buffer(program, len(program)))
 
     def environment(self) -> dict[str, str]:
         """Few names, so that a program that is right here is right elsewhere."""
@@ -142,12 +167,18 @@ class Guard:
         own = dict.fromkeys(("HOME", "TMPDIR"), self.folder) if self.folder else {}
         return {name: os.environ[name] for name in NAMES if name in os.environ} | own
 
-    def look(self) -> None:
-        """Raises a fault if the programs' folder is too full; looks now and then."""
-        if self.folder and time.monotonic() - self.looked > LOOK:
-            if kept_in(self.folder) > MOST_KEPT:
-                raise Fault("flood", f"it wrote more than {MOST_KEPT >> 20} megabytes or {MOST_FILES} files")
-            self.looked = time.monotonic()
+    def look(self, program: int, memory: int) -> None:
+        """Raises a fault if the programs' folder is too full, or a program takes too much memory, with all that it has
+        started; looks now and then."""
+        if self.is_open or time.monotonic() - self.looked <= LOOK:
+            return
+        if self.folder and kept_in(self.folder) > MOST_KEPT:
+            raise Fault("flood", f"it wrote more than {MOST_KEPT >> 20} megabytes or {MOST_FILES} files, or folders "
+                                 f"deeper than {DEEPEST}")
+        others = self.programs - {program}
+        if sum(process.memory for process in below_this(others) if not process.is_over) > memory:
+            raise Fault("flood", f"it takes more than {memory >> 20} megabytes of memory")
+        self.looked = time.monotonic()
 
     def tasks(self) -> int:
         """How many processes and threads the programs' user has now."""
@@ -155,16 +186,37 @@ class Guard:
         return sum(process.threads for process in processes() if process.user == user) if user else 0
 
 
+def call_filter() -> bytes:
+    """The program by which Linux judges each call: the machine's kind, the call's number, and of some the process that
+    they are about."""
+    load, is_equal, is_least, answer = 0x20, 0x15, 0x35, 0x06
+    rows = [(load, 0, 0, 4), (is_equal, 0, "no", X86_64), (load, 0, 0, 0), (is_least, "no", 0, OTHER_NUMBERS),
+            *((is_equal, "no", 0, number) for number in REFUSED),
+            *((is_equal, "own", 0, number) for number in OF_ITSELF),
+            (answer, 0, 0, 0x7FFF0000), (load, 0, 0, 16), (is_equal, 0, "no", 0), (answer, 0, 0, 0x7FFF0000),
+            (answer, 0, 0, 0x50001)]
+    places = {"own": len(rows) - 4, "no": len(rows) - 1}
+
+    def jump(to: int | str, at: int) -> int:
+        return places[to] - at - 1 if to in places else to
+    return b"".join(struct.pack("HBBI", code, jump(one, at), jump(other, at), number)
+                    for at, (code, one, other, number) in enumerate(rows))
+
+
 def kept_in(folder: str) -> int:
-    """The bytes of all files below a folder; of too many files, too many bytes."""
-    size = files = 0
-    for at, folders, names in os.walk(folder):
-        files += len(folders) + len(names)
-        if files > MOST_FILES:
-            return MOST_KEPT + 1
-        for name in names:
-            with contextlib.suppress(OSError):
-                size += 512 * os.lstat(os.path.join(at, name)).st_blocks
+    """The bytes of all files below a folder; of too many files, or folders too deep, too many bytes."""
+    size, files, waiting = 0, 0, [(folder, 0)]
+    while waiting:
+        at, depth = waiting.pop()
+        with contextlib.suppress(OSError):
+            for entry in os.scandir(at):
+                files += 1
+                if files > MOST_FILES or depth > DEEPEST:
+                    return MOST_KEPT + 1
+                if entry.is_dir(follow_symlinks=False):
+                    waiting.append((entry.path, depth + 1))
+                else:
+                    size += 512 * entry.stat(follow_symlinks=False).st_blocks
     return size
 
 
@@ -204,6 +256,7 @@ class Running:
     parent: int
     user: int
     threads: int
+    memory: int
     is_over: bool
 
 
@@ -213,7 +266,7 @@ def processes() -> Iterator[Running]:
             with open(f"/proc/{name}/stat", "rb") as file:
                 fields = file.read().rpartition(b") ")[2].split()
                 yield Running(int(name), int(fields[1]), os.fstat(file.fileno()).st_uid, int(fields[17]),
-                              fields[0] in (b"Z", b"X"))
+                              int(fields[21]) * resource.getpagesize(), fields[0] in (b"Z", b"X"))
 
 
 def is_reaper() -> bool:
@@ -223,19 +276,26 @@ def is_reaper() -> bool:
     return bool(said) and any(process.parent == os.getpid() for process in processes())
 
 
-def left_behind(kept: Sequence[int] = ()) -> set[int]:
-    """All processes below this one, but those that are kept with what is below them; what has ended is collected."""
+def below_this(kept: Collection[int] = ()) -> Iterator[Running]:
+    """All processes below this one, but those that are kept with what is below them."""
     below: dict[int, list[Running]] = {}
     for process in processes():
         below.setdefault(process.parent, []).append(process)
-    found, more = set(), [process for process in below.get(os.getpid(), ()) if process.number not in kept]
+    more = [process for process in below.get(os.getpid(), ()) if process.number not in kept]
     for process in more:
+        yield process
+        more += below.get(process.number, ())
+
+
+def left_behind(kept: Collection[int] = ()) -> set[int]:
+    """The numbers of those that go on; what has ended is collected."""
+    found = set()
+    for process in below_this(kept):
         if process.is_over and process.parent == os.getpid():
             with contextlib.suppress(ChildProcessError):
                 os.waitpid(process.number, os.WNOHANG)
         elif not process.is_over:
             found.add(process.number)
-            more += below.get(process.number, ())
     return found
 
 

@@ -45,11 +45,15 @@ class Process:
                 self.errors.close()
             words = f"{shown(' '.join(command))} can't be started: {why.strerror}{hint(why.errno, command[0])}"
             raise Fault("start", words) from None
+        guard.programs.add(self.process.pid)
         self.input, self.output = self.process.stdin.fileno(), self.process.stdout.fileno()
         os.set_blocking(self.input, False)
         self.readable, self.writable = select.poll(), select.poll()
         self.readable.register(self.output, select.POLLIN)
         self.writable.register(self.input, select.POLLOUT)
+
+    def look(self) -> None:
+        self.guard.look(self.process.pid, self.limits.memory)
 
     def ask(self, lines: list[str], if_late: Callable[[], None] | None = None) -> list[str]:
         self.send(lines)
@@ -57,7 +61,7 @@ class Process:
 
     def send(self, lines: list[str]) -> None:
         """Sends a message; what the program wrote without being asked is garbage."""
-        self.guard.look()
+        self.look()
         if self.asked and self.readable.poll(0):
             got = os.read(self.output, 1 << 16)
             raise after_its_end(got) if got else self.ended()
@@ -92,7 +96,7 @@ class Process:
     def wait(self, poll, silent) -> None:
         until = min(self.until, self.limits.over)
         while not poll.poll(1000 * max(0.0, min(LOOK_AT_FILES, until - time.monotonic()))):
-            self.guard.look()
+            self.look()
             found = exit_of(self.process.pid, 0)
             if found and not poll.poll(0):
                 raise Fault("ended", f"it ended with {found}, and what it has started goes on{self.last_errors()}")
@@ -141,6 +145,7 @@ class Process:
         except (ProcessLookupError, PermissionError):
             pass
         self.process.wait()
+        self.guard.programs.discard(self.process.pid)
         self.process.stdout.close()
         self.errors.close()
 

@@ -11,7 +11,7 @@ import time
 import unittest
 
 from lab.workshop.findings import Fault
-from lab.workshop.guard import NOBODY, Guard, beside, kept_in
+from lab.workshop.guard import USERS, Guard, beside, kept_in
 from tests.workshop.base import LIMIT, command_line, call
 from tests.workshop.misbehaving import MARK, left, left_at_last
 
@@ -123,9 +123,19 @@ class Forgers(unittest.TestCase):
                 "        n += 1\nexcept OSError:\n    pass\n") % MARK
         words = command_line("rounds", "path1", "--timeout", "20", "--", "python3", "-S", "-c",
                              program({"started": "n < 1000"}, more))
-        user = {"user": NOBODY, "group": NOBODY, "extra_groups": []} if os.geteuid() == 0 else {}
+        user = {"user": USERS[0], "group": USERS[0], "extra_groups": []} if os.geteuid() == 0 else {}
         done = subprocess.run(words, capture_output=True, text=True, timeout=LIMIT, cwd="/", **user)
         self.assertEqual((done.returncode, got(done.stdout)), (1, {"started": "True"}), done)
+
+    def test_memory_that_is_shared(self):
+        """It is no data of the process, so that the system's own limit doesn't count it; all that it has started
+        counts, too."""
+        more = ("import mmap\nfor _ in range(2):\n    if os.fork() == 0:\n        shared = mmap.mmap(-1, 150 << 20)\n"
+                "        for at in range(0, len(shared), 4096):\n            shared[at] = 1\n"
+                "        time.sleep(60)\ntime.sleep(60)\n")
+        done = call("rounds", "path1", "--memory", "200", "--", sys.executable, "-S", "-c", program({}, more))
+        self.assertIn("wrong: flood", done.stdout)
+        self.assertIn("it takes more than 200 megabytes of memory", done.stdout)
 
     def test_what_it_prints_is_harmless(self):
         """No letter that a terminal obeys, and no line of its own."""
@@ -164,14 +174,14 @@ class Guards(unittest.TestCase):
     def test_a_full_folder(self):
         with tempfile.TemporaryDirectory() as folder:
             guard = Guard(folder)
-            guard.look()
+            guard.look(0, 1 << 40)
             with open(os.path.join(folder, "big"), "wb") as file:
                 file.truncate(1 << 40)
             guard.looked = 0
-            guard.look()                # a file of holes takes no room
+            guard.look(0, 1 << 40)                # a file of holes takes no room
             for number in range(10_001):
                 open(os.path.join(folder, str(number)), "wb").close()
             guard.looked = 0
             self.assertGreater(kept_in(folder), 1 << 28)
             with self.assertRaisesRegex(Fault, "it wrote more than 256 megabytes or 10000 files"):
-                guard.look()
+                guard.look(0, 1 << 40)

@@ -4,6 +4,7 @@ import contextlib
 import io
 import json
 import os
+import platform
 import re
 import shutil
 import socket
@@ -16,9 +17,10 @@ from lab.workshop import grade
 from lab.workshop.cases import NETWORKS
 from lab.workshop.guard import Guard
 from lab.workshop.workshop import main
+from lab.wrong import Wrong
 from tests import TOP
 from tests.workshop.base import EXAMPLES, call
-from tests.workshop.forgers import OUTSIDE, got, program
+from tests.workshop.forgers import BEGIN, OUTSIDE, got, program
 from tests.workshop.misbehaving import MARK, left_at_last
 
 RIGHT = os.path.join(EXAMPLES, "python")
@@ -59,7 +61,8 @@ class Grades(unittest.TestCase):
         found = self.graded()
         table = {student: [*(one[part]["points"] for part in grade.RUNS), one["in_all"]]
                  for student, one in found.items()}
-        self.assertEqual(table, {"anna": [40, 40, 10, "90"], "ben": [None, None, 0, "0"], "cleo": [None, None, None, "0"]})
+        self.assertEqual(table, {"anna": [40, 40, 10, "90"], "ben": [None, None, 0, "0"],
+                                 "cleo": [None, None, None, "0"]})
         self.assertEqual([case["verdict"] for case in found["ben"]["open"]["cases"]], ["garbage"] * 2)
         self.assertEqual(found["ben"]["rounds"]["why"],
                          "rounds_node.c can't be run: it has to be compiled, or `chmod +x rounds_node.c`")
@@ -94,9 +97,83 @@ class Grades(unittest.TestCase):
         self.assertFalse(os.path.exists(names["loot"]))
         self.assertEqual(sorted(os.listdir(os.path.join(self.subs, "anna"))), ["rounds_node.py"])
 
+    def test_what_is_left_behind(self):
+        """Folders that are too deep for Python, and memory and queues of the system: the others have their table, and
+        nothing is left."""
+        def kept():
+            return [open(f"/proc/sysvipc/{what}", encoding="ascii").read().count("\n") for what in ("shm", "msg")]
+        attacks = {"memory": "SYSTEM.shmget(0, 1 << 20, 0o600) >= 0", "queue": "SYSTEM.msgget(0, 0o600) >= 0"}
+        deep = "for _ in range(1500):\n    os.mkdir('d')\n    os.chdir('d')\n"
+        attacks |= {"rights": "os.chmod('..', 0)", "times": "os.utime('../..')", "own": "os.chmod('rounds_node.py', 0)",
+                    "limits": "resource.prlimit(WORKSHOP, resource.RLIMIT_CPU, (0, 0))",
+                    "mine": "resource.setrlimit(resource.RLIMIT_CORE, (0, 0))"}
+        self.submit("anna", rounds_node_py=program(attacks, "import resource\n"))
+        self.submit("cleo", rounds_node_py=program({}, deep))
+        self.submit("ben", rounds_node_py=ZERO)
+        before, room = kept(), os.path.join(self.folder, "room")
+        os.mkdir(room, 0o755)
+        reports = os.path.join(self.folder, "reports")
+        done = call("grade", self.subs, "--runs", "1", "--json", "--reports", reports,
+                    env={**os.environ, "TMPDIR": room})
+        table = {one["student"]: one["rounds"]["cases"] for one in json.loads(done.stdout)["submissions"]}
+        verdicts = {name: cases[0]["verdict"] for name, cases in table.items()}
+        self.assertIn(verdicts.pop("cleo"), ("ended", "flood"))
+        self.assertEqual(verdicts, {"anna": "ended", "ben": "differs"})
+        self.assertEqual((kept(), os.listdir(room)), (before, []))
+        with open(os.path.join(reports, "anna.txt"), encoding="utf-8") as text:
+            found = got(text.read())
+        self.assertEqual((found.pop("mine"), found.keys()), ("None", attacks.keys() - {"mine"}), found)
+        if platform.machine() == "x86_64":
+            self.assertLessEqual(set(found.values()), {"PermissionError", "False"}, found)
+
+    def test_a_neighbours_programs(self):
+        """As root each student is another user, so nobody ends another's programs by their limits; and what a signal
+        ended is played once more, alone."""
+        if os.geteuid():
+            self.skipTest("students have one user if it isn't root who grades")
+        forger = BEGIN + ("import resource\nfor pid in range(2, 1 << 16):\n    if pid != os.getpid():\n        try:\n"
+                          "            resource.prlimit(pid, resource.RLIMIT_CPU, (0, 0))\n        except OSError:\n"
+                          "            pass\n")
+        shutil.copytree(RIGHT, os.path.join(self.subs, "anna"))
+        self.submit("ben", rounds_node_py=forger, alpha_node_py=forger)
+        self.assertEqual(self.graded(runs="3")["anna"]["rounds"]["points"], 40)
+        part = grade.Part("anna", "", "rounds", ["x"], result={"cases": [{"verdict": "ended"}]})
+        self.assertFalse(part.is_in_doubt())
+        part.was_ended = True
+        self.assertTrue(part.is_in_doubt())
+
+    def test_strange_folders(self):
+        """What is no file is no program, and a name that is no text, or is too long for a report, is its student's
+        alone."""
+        os.mkfifo(os.path.join(self.submit("anna", open_node_py=ZERO), "pipe"))
+        os.makedirs(os.path.join(self.submit("ben"), "open_node.py"))
+        self.submit("c" * 253, open_node_py=ZERO)
+        self.submit("em\udcffil", open_node_py=ZERO)
+        done = call("grade", self.subs, "--runs", "1", "--reports", os.path.join(self.folder, "reports"))
+        self.assertIn("open: its folder has a named pipe or a device in it: pipe", done.stdout)
+        self.assertIn("open: open_node.py is a folder", done.stdout)
+        self.assertEqual(done.stdout.count("open: garbage"), 2, done)
+        self.assertIn("can't be written: File name too long", done.stderr)
+        self.assertEqual(done.returncode, 0, done)
+
+    def test_java(self):
+        """A class is run, and not its source, which each start would compile."""
+        folder = self.submit("anna")
+        for name, command in (("RoundsNode.java", ["java", "RoundsNode.java"]),
+                              ("RoundsNode.class", ["java", "-Xmx64m", "-XX:+UseSerialGC", "-cp", ".", "RoundsNode"])):
+            open(os.path.join(folder, name), "w", encoding="ascii").close()
+            self.assertEqual(grade.command_of(folder, "rounds"), command)
+
+    def test_commands(self):
+        """Words that would be two commands are none."""
+        for words in ("rounds: --", "rounds: true -- true"):
+            folder = self.submit("anna", commands=f"{words}\n")
+            with self.subTest(words), self.assertRaisesRegex(Wrong, "`--` stands between commands"):
+                grade.command_of(folder, "rounds")
+
     def test_a_result_is_only_what_the_workshop_says_itself(self):
         """A process that plays a part is ended, ends otherwise, or says what it shouldn't: that is no result."""
-        given = mock.Mock(seconds=1)
+        given = mock.Mock(seconds=1, users={"anna": 0})
         for code, why in (("os._exit(3)", "status 3"), ("os.kill(os.getpid(), 9)", "signal SIGKILL"),
                           ("1 / 0", "status 2")):
             with self.subTest(code):
