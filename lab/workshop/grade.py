@@ -1,6 +1,7 @@
 """Grades submissions: each folder is a student's, and has the programs of the assignments. All are played with the same
 seed, several at a time, each in a process and a folder of its own, guarded and with a limit."""
 import argparse
+import contextlib
 import json
 import os
 import secrets
@@ -41,9 +42,8 @@ EDITION = 1
 HELP = f"""\
 Grades all submissions of a folder: each folder in it is a student's. The program of an
 assignment is the file rounds_node, alpha_node or open_node in it: python3 runs one that
-ends in .py, node .js, java .java, and what may be executed is run as it is. A source in
-Java is compiled at each start, which is slow, unless its class is there. Or a file
-`commands` says how, in lines as `alpha: ./mine --fast`.
+ends in .py, node .js, java .java (once it is compiled) or .class, and what may be
+executed is run as it is. Or a file `commands` says how, in lines as `alpha: ./mine --fast`.
 
 rounds has {POINTS['rounds']} points times the share of its {RUNS['rounds']} runs that are right,
 rounded down; alpha {EACH} for each of the {len(POLICIES)} policies of which all {RUNS_EACH} runs
@@ -182,7 +182,7 @@ def way_to_run(folder: str, name: str) -> list[str]:
     if ending in RUNNERS:
         return [RUNNERS[ending], name]
     if ending == ".class":
-        return ["java", "-Xmx64m", "-XX:+UseSerialGC", "-cp", ".", name.removesuffix(ending)]
+        return class_of(name.removesuffix(ending))
     return [os.path.join(".", name)] if os.access(path, os.X_OK) else []
 
 
@@ -199,14 +199,32 @@ def play(part: Part, given: argparse.Namespace, room: str) -> dict:
             for path in (at, *(os.path.join(at, name) for name in (*folders, *files))):
                 os.chown(path, guard.user, guard.user, follow_symlinks=False)
     before = [word.replace("{}", copy) for word in given.before]
+    command = part.command if before else compiled(part.command, copy, guard)
     options = parsed([part.assignment, "--runs", str(given.runs or RUNS[part.assignment]), "--seed", given.seed,
-                      "--timeout", str(given.timeout), "--memory", str(given.memory), "--", *before, *part.command])
+                      "--timeout", str(given.timeout), "--memory", str(given.memory), "--", *before, *command])
     try:
         found = played(options, guard, time.monotonic() + given.seconds)
     except NoVerdict as why:
         return {"why": str(why)}
     was_ended = any("it ended with signal" in line for case in found[0] if case.finding for line in case.finding.text())
     return {"result": as_json(options, *found), "report": report(*found), "ended": was_ended}
+
+
+def compiled(command: list[str], copy: str, guard: Guard) -> list[str]:
+    """What runs the class of a source in Java, which each start would compile; or the command as it is."""
+    source = command[-1]
+    if command[:1] != ["java"] or not source.endswith(".java") or not shutil.which("javac"):
+        return command
+    user = {} if guard.user is None else {"user": guard.user, "group": guard.user, "extra_groups": []}
+    with contextlib.suppress(subprocess.TimeoutExpired):
+        subprocess.run(["javac", "-proc:none", "-d", ".", source], cwd=copy, env=guard.environment(), timeout=GRACE,
+                       stdin=subprocess.DEVNULL, stdout=subprocess.DEVNULL, stderr=subprocess.DEVNULL, **user)
+    name = source.removesuffix(".java")
+    return class_of(name) if os.path.isfile(os.path.join(copy, f"{name}.class")) else command
+
+
+def class_of(name: str) -> list[str]:
+    return ["java", "-Xmx64m", "-XX:+UseSerialGC", "-cp", ".", name]
 
 
 def programs_at_home(closed: list[str]) -> list[str]:

@@ -7,8 +7,8 @@ reach the workshop, its judge, or what others have written.
   Linux 6.12 on it can't signal one either, except what it has started itself.
 - In a folder of its own, as for grading, it also writes there alone, sees nothing below the paths that are hidden from
   it and nothing of other processes, and has no connections (TCP, Linux 6.7). There a filter of calls (x86-64) keeps it
-  from what Landlock has no rules for: rights and times of files, limits of other processes, and memory and queues that
-  outlive it."""
+  from what Landlock has no rules for: rights and times of files, sockets of any kind, limits of other processes, and
+  memory and queues that outlive it."""
 import contextlib
 import ctypes
 import os
@@ -41,11 +41,12 @@ CREATE_RULESET, ADD_RULE, RESTRICT_SELF = 444, 445, 446
 EXECUTE, WRITE, READ, LIST, MAKE_BLOCK, TRUNCATE = (1 << bit for bit in (0, 1, 2, 3, 11, 14))
 OF_FILES, LOOKS = EXECUTE | WRITE | READ | TRUNCATE, EXECUTE | READ | LIST
 TCP, SIGNALS_AND_SOCKETS = 3, 3
-# Numbers of Linux on x86-64. Refused are calls that change rights, owners, marks and times of files, memory,
-# semaphores, queues and keys by name, and priorities; and of limits and schedules those of other processes.
+# Numbers of Linux on x86-64. Refused are calls that change rights, owners, marks and times of files, or watch folders;
+# memory, semaphores, queues and keys by name; sockets, but for pairs of them, and calls by way of a ring; priorities;
+# and of limits and schedules those of other processes.
 SECCOMP, FILTER, X86_64, OTHER_NUMBERS = 22, 2, 0xC000003E, 0x40000000
-REFUSED = (90, 91, 92, 93, 94, 260, 268, 452, 188, 189, 190, 463, 132, 235, 261, 280, 29, 64, 68, 240, 248, 249, 250,
-           141, 251)
+REFUSED = (90, 91, 92, 93, 94, 260, 268, 452, 188, 189, 190, 463, 132, 235, 261, 280, 254, 301, 29, 64, 68, 240, 248,
+           249, 250, 41, 425, 141, 251)
 OF_ITSELF = (142, 144, 203, 302, 314)
 SYSTEM = ctypes.CDLL(None, use_errno=True)
 

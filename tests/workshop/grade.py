@@ -106,6 +106,9 @@ class Grades(unittest.TestCase):
         deep = "for _ in range(1500):\n    os.mkdir('d')\n    os.chdir('d')\n"
         attacks |= {"rights": "os.chmod('..', 0)", "times": "os.utime('../..')", "own": "os.chmod('rounds_node.py', 0)",
                     "limits": "resource.prlimit(WORKSHOP, resource.RLIMIT_CPU, (0, 0))",
+                    "sockets": "socket.socket(socket.AF_UNIX)",
+                    "udp": "socket.socket(socket.AF_INET, socket.SOCK_DGRAM)",
+                    "watches": "SYSTEM.inotify_add_watch(SYSTEM.inotify_init(), b'..', 0xFFF) >= 0",
                     "mine": "resource.setrlimit(resource.RLIMIT_CORE, (0, 0))"}
         self.submit("anna", rounds_node_py=program(attacks, "import resource\n"))
         self.submit("cleo", rounds_node_py=program({}, deep))
