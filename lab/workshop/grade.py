@@ -19,7 +19,7 @@ from lab.door import SIGNALS
 from lab.programs import TOP
 from lab.schedules.policies import POLICIES
 from lab.workshop.findings import NoVerdict
-from lab.workshop.guard import USERS, Guard, end_all, keep_apart, kept_in, shut
+from lab.workshop.guard import USERS, Guard, end_all, give, keep_apart, kept_in, shut
 from lab.workshop.judge import ask
 from lab.workshop.options import count, parsed, seconds
 from lab.workshop.playing import played
@@ -36,7 +36,7 @@ STEMS = {"rounds": ("rounds_node", "RoundsNode"), "alpha": ("alpha_node", "Alpha
          "open": ("open_node", "OpenNode", "own_node", "OwnNode")}
 RUNNERS = {".py": "python3", ".js": "node", ".java": "java", ".pl": "perl", ".rb": "ruby"}
 SECONDS, GRACE = 600, 60
-MOST_COPIED = 64 << 20
+MOST_COPIED = 16 << 20
 EDITION = 1
 
 HELP = f"""\
@@ -50,7 +50,8 @@ rounded down; alpha {EACH} for each of the {len(POLICIES)} policies of which all
 are right; open {POINTS['open']} if all its {RUNS['open']} plans are right. What wasn't answered in time,
 or has no result, is played once more, alone, and that counts.
 
-A submission is played in a copy of its folder, and its programs can write there alone.
+A submission is played in copies of its folder, one for each node, which can write there
+alone, so that nodes don't meet.
 Where the system has Landlock (Linux 5.13 on) they see no other submission, nothing of
 this program, of other processes, or of your home but what is on your PATH. As root they
 run as a user of its own.
@@ -195,9 +196,7 @@ def play(part: Part, given: argparse.Namespace, room: str) -> dict:
     hidden = [given.folder, TOP, room, os.path.expanduser("~")]
     guard = Guard(copy, hidden, programs_at_home([given.folder, TOP]), bool(given.before), given.users[part.student])
     if guard.user is not None:
-        for at, folders, files in os.walk(os.path.dirname(copy)):
-            for path in (at, *(os.path.join(at, name) for name in (*folders, *files))):
-                os.chown(path, guard.user, guard.user, follow_symlinks=False)
+        give(os.path.dirname(copy), guard.user)
     before = [word.replace("{}", copy) for word in given.before]
     command = part.command if before else compiled(part.command, copy, guard)
     options = parsed([part.assignment, "--runs", str(given.runs or RUNS[part.assignment]), "--seed", given.seed,

@@ -14,6 +14,7 @@ import ctypes
 import os
 import platform
 import resource
+import shutil
 import signal
 import struct
 import time
@@ -116,6 +117,7 @@ class Guard:
         self.folder, self.is_open, self.rules, self.looked = folder, is_open, None, 0.0
         self.user = user if folder and not is_open and os.geteuid() == 0 else None
         self.programs: set[int] = set()
+        self.hidden, self.needed, self.others = hidden, needed, {}
         self.edition = max(0, SYSTEM.syscall(CREATE_RULESET, None, ctypes.c_size_t(0), 1))
         if is_open or not self.edition:
             return
@@ -129,6 +131,19 @@ class Guard:
                 self.allow(path, LOOKS)
             for path in (folder, "/dev/null", "/dev/zero", "/dev/full"):
                 self.allow(path, files)
+
+    def at(self, number: int) -> "Guard":
+        """The guard of one of the programs of a run: each has a copy of the folder, so that nodes don't meet there."""
+        if not self.folder or self.is_open:
+            return self
+        if number not in self.others:
+            folder = f"{self.folder}-{number}"
+            shutil.copytree(self.folder, folder, symlinks=True)
+            if self.user is not None:
+                give(folder, self.user)
+            self.others[number] = Guard(folder, self.hidden, self.needed, user=self.user or USERS[-1])
+            self.others[number].programs = self.programs
+        return self.others[number]
 
     def allow(self, path: str, rights: int) -> None:
         """Rights to all below a path."""
@@ -185,6 +200,13 @@ class Guard:
         """How many processes and threads the programs' user has now."""
         user = os.geteuid() if self.user is None else self.user
         return sum(process.threads for process in processes() if process.user == user) if user else 0
+
+
+def give(folder: str, user: int) -> None:
+    """Gives a folder, with all that is in it, to a user."""
+    for at, folders, files in os.walk(folder):
+        for path in (at, *(os.path.join(at, name) for name in (*folders, *files))):
+            os.chown(path, user, user, follow_symlinks=False)
 
 
 def call_filter() -> bytes:

@@ -36,7 +36,8 @@ class Nodes:
             self.of[v] = self.of[same]
             return
         with SIGNALS.held():
-            self.processes.append(Process(self.commands[owner], self.limits, self.guard, self.tasks))
+            guard = self.guard.at(len(self.processes))
+            self.processes.append(Process(self.commands[owner], self.limits, guard, self.tasks))
         self.of[v] = self.processes[-1]
 
     def __exit__(self, *why):

@@ -10,9 +10,11 @@ import tempfile
 import time
 import unittest
 
+from lab.workshop.cases import Case
 from lab.workshop.findings import Fault
-from lab.workshop.guard import USERS, Guard, beside, kept_in
-from tests.workshop.base import LIMIT, command_line, call
+from lab.workshop.guard import USERS, Guard, beside, give, kept_in
+from lab.workshop.playing import Player
+from tests.workshop.base import LIMIT, call, command_line, network
 from tests.workshop.misbehaving import MARK, left, left_at_last
 
 BEGIN = """\
@@ -170,6 +172,25 @@ class Guards(unittest.TestCase):
                     found = beside([os.path.join(top, path) for path in hidden])
                     below = sorted(os.path.relpath(path, top) for path in found if path.startswith(top + "/"))
                     self.assertEqual(below, seen)
+
+    def test_nodes_dont_meet(self):
+        """Each of two nodes that write one file reads what it has written itself, and what was there before."""
+        code = program({"kept": "open('kept').read()"}, "open('common', 'a').write('x')\ntime.sleep(1)\n"
+                       "said.append('met=%d' % len(open('common').read()))\n")
+        room = os.path.realpath(self.enterContext(tempfile.TemporaryDirectory()))
+        folder = os.path.join(room, "submission")
+        os.mkdir(folder, 0o755)
+        os.chmod(room, 0o711)
+        with open(os.path.join(folder, "kept"), "w", encoding="ascii") as file:
+            file.write("ours")
+        guard = Guard(folder, [room])
+        if guard.user is not None:
+            give(folder, guard.user)
+        player = Player("rounds", [["python3", "-S", "-c", code]], 20.0, 2048, False, None, guard=guard)
+        case = Case(0, network("two"), "", "1")
+        player.play(case)
+        self.assertEqual(got(" ".join(case.finding.text())), {"met": "1", "kept": "'ours'"}, case.finding.text())
+        self.assertEqual(sorted(os.listdir(room)), ["submission", "submission-0", "submission-1"])
 
     def test_a_full_folder(self):
         with tempfile.TemporaryDirectory() as folder:
