@@ -1,11 +1,9 @@
 """The calls on runs without a clock: a run by a seed, by threads or of a transcript, its verdicts, and a run that is
 made step by step."""
-import contextlib
-
 from lab.definitions.nodes import Colouring
 from lab.pictures.program_rounds import ProgramRounds, is_own, rounds_of
 from lab.pictures.sizes import last_pulse, least_wires
-from lab.pictures.watch_page import Run, Steps, look_of, steps_of_text
+from lab.pictures.watch_page import MOST_ENTRIES, Run, Steps, look_of, steps_of_text
 from lab.schedules.policies import POLICIES, policy_of
 from lab.schedules.reading import network_of
 from lab.schedules.rules import OF_SCHEDULES
@@ -96,11 +94,13 @@ def run(asked, tell):
     else:
         text, found = played(asked, network, program, tell)
     if found is None:
-        for pulses in ((0, 2), (0, 8), None) if text.count("\n") > 2 * PART else (None,):
-            with contextlib.suppress(Wrong) if pulses else contextlib.nullcontext():
-                found = Run("the run", network, steps_of_text("the run", network, text, pulses, program), pulses)
-                if pulses:
-                    tell(part=shown(found))
+        # Of a text in the order of a run only its beginning is read: a part, and then as much as is shown.
+        counts = (PART, MOST_ENTRIES + 2) if text.startswith("transcript 2 ") else (text.count("\n"),)
+        for count in counts if text.count("\n") > 2 * PART else counts[-1:]:
+            lines = "".join(line + "\n" for line in text.split("\n", count + 1)[:count + 1])
+            found = Run("the run", network, steps_of_text("the run", network, lines, None, program))
+            if count != counts[-1]:
+                tell(part=shown(found))
     same, results = compared(found, network, program)
     return shown(found) | {"text": text, "judge": judged(network, asked["network"], text, program), "same": same,
                            "results": results, "of": singled_out(asked, network)}
