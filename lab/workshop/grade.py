@@ -129,6 +129,8 @@ def parts_of(folder: str) -> list[Part]:
         for assignment in RUNS:
             part = Part(student, path, assignment)
             try:
+                if os.path.islink(path):
+                    raise Wrong("its folder is a link")
                 part.command = command_of(path, assignment)
                 part.why = "" if part.command else "no program"
                 if part.command:

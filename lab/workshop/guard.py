@@ -227,11 +227,12 @@ def call_filter() -> bytes:
 
 
 def kept_in(folder: str) -> int:
-    """The bytes of all files below a folder; of too many files, or folders too deep, too many bytes."""
+    """The bytes of all files below a folder; of too many files, folders too deep, or what can't be looked at, as a path
+    that is too long, too many bytes."""
     size, files, waiting = 0, 0, [(folder, 0)]
     while waiting:
         at, depth = waiting.pop()
-        with contextlib.suppress(OSError):
+        try:
             for entry in os.scandir(at):
                 files += 1
                 if files > MOST_FILES or depth > DEEPEST:
@@ -240,6 +241,10 @@ def kept_in(folder: str) -> int:
                     waiting.append((entry.path, depth + 1))
                 else:
                     size += 512 * entry.stat(follow_symlinks=False).st_blocks
+        except FileNotFoundError:               # it has gone meanwhile
+            pass
+        except OSError:
+            return MOST_KEPT + 1
     return size
 
 

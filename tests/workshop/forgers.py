@@ -200,6 +200,17 @@ class Guards(unittest.TestCase):
                 file.truncate(1 << 40)
             guard.looked = 0
             guard.look(0, 1 << 40)                # a file of holes takes no room
+            self.assertLess(kept_in(folder), 1 << 20)
+            with tempfile.TemporaryDirectory() as deep:
+                place = os.getcwd()
+                try:
+                    os.chdir(deep)
+                    for _ in range(20):             # a path that is too long to be looked at
+                        os.mkdir("d" * 250)
+                        os.chdir("d" * 250)
+                finally:
+                    os.chdir(place)
+                self.assertGreater(kept_in(deep), 1 << 28)
             for number in range(10_001):
                 open(os.path.join(folder, str(number)), "wb").close()
             guard.looked = 0

@@ -152,10 +152,12 @@ class Grades(unittest.TestCase):
         os.makedirs(os.path.join(self.submit("ben"), "open_node.py"))
         self.submit("c" * 253, open_node_py=ZERO)
         self.submit("em\udcffil", open_node_py=ZERO)
+        os.symlink("ben", os.path.join(self.subs, "dora"))
         done = call("grade", self.subs, "--runs", "1", "--reports", os.path.join(self.folder, "reports"))
         self.assertIn("open: its folder has a named pipe or a device in it: pipe", done.stdout)
         self.assertIn("open: open_node.py is a folder", done.stdout)
         self.assertEqual(done.stdout.count("open: garbage"), 2, done)
+        self.assertIn("open: its folder is a link", done.stdout)
         self.assertIn("can't be written: File name too long", done.stderr)
         self.assertEqual(done.returncode, 0, done)
 
