@@ -1,5 +1,6 @@
 -- The run of a program that is followed: up to the cut it is that program's, and then each node keeps its state of it.
-use Rattle.std.proofs.Common.{◌≡◌, ℕ, zero, suc, ◌+◌, ◌-◌, ◌<◌, ◌≤◌, Bool, true, false, List, [], ◌∷◌, length, get_or, refl, ap, sym, ◌∙◌, arith}
+use Rattle.std.proofs.Common.{◌≡◌, ℕ, zero, suc, ◌+◌, ◌-◌, ◌<◌, ◌≤◌, Bool, true, false, List, [], ◌∷◌, length, get_or}
+use Rattle.std.proofs.Common.{refl, ap, sym, ◌∙◌, arith}
 use Rattle.std.proofs.lemmas.Bool.{le-leb, lt-leb}
 use Rattle.std.proofs.lemmas.Simd.{map-map}
 use Rattle.std.specs.Prelude.{if◌then◌else◌, map, nat_le, Option, Some, None, Result, Ok, Err, IsOk, IfOk}
@@ -13,11 +14,13 @@ use Rattle.node_api.specs.declared.program.Refused.{Refused}
 use Rattle.node_api.proofs.Runs.{node_at-none, node_at-more}
 use Rattle.followed.specs.declared.said.Said.{Said}
 use Rattle.followed.specs.Said.{and_misplaced, firsts, misplaced, said, told_by}
-use Rattle.followed.specs.Followed.{Both, Sequel, IsCut, beside_of, followed, followed_next, heard_next, keeping, through}
+use Rattle.followed.specs.Followed.{Both, Sequel, IsCut, beside_of, followed, followed_next, heard_next, keeping}
+use Rattle.followed.specs.Followed.{through}
 use Rattle.followed.specs.Followed.{told_next, unless_early, with_beside}
 
 -- two functions that agree on the members of a list
-map-members : {X : Type 0} (f g : ℕ → X) (ws : List ℕ) → ((k : ℕ) → k < length ws → f (get_or ws k 0) ≡ g (get_or ws k 0)) → map f ws ≡ map g ws
+map-members : {X : Type 0} (f g : ℕ → X) (ws : List ℕ)
+    → ((k : ℕ) → k < length ws → f (get_or ws k 0) ≡ g (get_or ws k 0)) → map f ws ≡ map g ws
 map-members f g [] same = refl
 map-members f g (w ∷ ws) same =
     let now : f w ≡ g w = same 0 (omega arith) in
@@ -69,14 +72,16 @@ module _ {S X A B : Type 0} (first : Program S A Refused) (sequel : Sequel S X A
       ap (λ found. unless_early found (told_next {B = B} (first.next s p (firsts (map (said {A = A} {B = B}) inbox))))) (misplaced-said B inbox)
       ∙ ap (λ slots. told_next {B = B} (first.next s p slots)) (firsts-said B inbox)
 
-  pub next-early : (s : Both S X) (p cut : ℕ) (inbox : List (Option (Said A B))) → sequel.until s.beside ≡ cut → p ≤ cut →
+  pub next-early : (s : Both S X) (p cut : ℕ) (inbox : List (Option (Said A B))) → sequel.until s.beside ≡ cut
+      → p ≤ cut →
       followed_next first sequel s p inbox ≡ through s.beside (heard_next first s.first p inbox)
   next-early s p cut inbox e h =
       let test : nat_le p (sequel.until s.beside) ≡ true = ap (nat_le p) e ∙ le-leb p cut h in
       ap (λ (b : Bool). if b then through s.beside (heard_next first s.first p inbox)
       else keeping s.first (sequel.next s.first s.beside (p - suc (sequel.until s.beside)) inbox)) test
 
-  pub next-late : (s : Both S X) (p cut : ℕ) (inbox : List (Option (Said A B))) → sequel.until s.beside ≡ cut → cut < p →
+  pub next-late : (s : Both S X) (p cut : ℕ) (inbox : List (Option (Said A B))) → sequel.until s.beside ≡ cut
+      → cut < p →
       followed_next first sequel s p inbox ≡ keeping s.first (sequel.next s.first s.beside (p - suc cut) inbox)
   next-late s p cut inbox e h =
       let test : nat_le p (sequel.until s.beside) ≡ false = ap (nat_le p) e ∙ lt-leb p cut h in
@@ -85,7 +90,8 @@ module _ {S X A B : Type 0} (first : Program S A Refused) (sequel : Sequel S X A
       ∙ ap (λ (n : ℕ). keeping s.first (sequel.next s.first s.beside (p - suc n) inbox)) e
 
   -- where the first program rests, so does the node up to the cut
-  pub rests-early : (s : Both S X) (p until : ℕ) → RestsUntil first s.first p until → (q : ℕ) → p < q → q < until → q < sequel.until s.beside →
+  pub rests-early : (s : Both S X) (p until : ℕ) → RestsUntil first s.first p until → (q : ℕ) → p < q → q < until
+      → q < sequel.until s.beside →
       followed_next first sequel s q (nothing (first.ports s.first)) ≡ Ok (s, nothing (first.ports s.first))
   rests-early s p until rests q after before early =
       let n : ℕ = first.ports s.first in
@@ -96,7 +102,8 @@ module _ {S X A B : Type 0} (first : Program S A Refused) (sequel : Sequel S X A
       ∙ ap (λ (out : List (Option (Said A B))). Ok (s, out)) (said-nothing {A = A} {B = B} n))))
 
   -- after a refusal too a node has its state of the first program
-  keeping-first : (s : Both S X) (degree : ℕ) (r : Result (X × List (Option (Said A B))) Refused) → (after s degree (keeping s.first r)).0.first ≡ s.first
+  keeping-first : (s : Both S X) (degree : ℕ) (r : Result (X × List (Option (Said A B))) Refused)
+      → (after s degree (keeping s.first r)).0.first ≡ s.first
   keeping-first s degree (Ok next) = refl
   keeping-first s degree (Err refused) = refl
 
@@ -111,7 +118,8 @@ module _ {S X A B : Type 0} (first : Program S A Refused) (sequel : Sequel S X A
     start v = sequel.begin (own_of net v)
 
     -- where the nodes are the first program's, so is what they do at a pulse up to the cut
-    next-same : (p v : ℕ) → IsVertex net v → ((w : ℕ) → IsVertex net w → at p w ≡ with_beside (start w) (told_by (node_at first net p w))) → suc p ≤ cut →
+    next-same : (p v : ℕ) → IsVertex net v
+        → ((w : ℕ) → IsVertex net w → at p w ≡ with_beside (start w) (told_by (node_at first net p w))) → suc p ≤ cut →
         followed_next first sequel (at p v).0 (suc p) (inbox_from net (at p) v)
         ≡ through (start v) (told_next (first.next (state_at first net p v) (suc p) (inbox_from net (node_at first net p) v)))
     next-same p v is_vertex before h =
@@ -129,7 +137,8 @@ module _ {S X A B : Type 0} (first : Program S A Refused) (sequel : Sequel S X A
         ∙ (next-early here (suc p) cut (map said heard) (laws.begins (own_of net v)) h
         ∙ ap (through (start v)) (heard-said (state_at first net p v) (suc p) heard)))
 
-    pub same_run : (p v : ℕ) → IsVertex net v → p ≤ cut → at p v ≡ with_beside (start v) (told_by (node_at first net p v))
+    pub same_run : (p v : ℕ) → IsVertex net v → p ≤ cut
+        → at p v ≡ with_beside (start v) (told_by (node_at first net p v))
     same_run zero v is_vertex h = node_at-none (followed first sequel) net v
         ∙ ap (λ (node : S × List (Option A)). with_beside (start v) (told_by {B = B} node)) (sym (node_at-none first net v))
     same_run (suc p) v is_vertex h =
@@ -143,18 +152,21 @@ module _ {S X A B : Type 0} (first : Program S A Refused) (sequel : Sequel S X A
         ∙ (after-through B (start v) s (degree_of net v) (first.next s (suc p) inbox)
         ∙ ap (λ (node : S × List (Option A)). with_beside (start v) (told_by {B = B} node)) (sym (node_at-more first net p v)))))
 
-    pub same_next : (p v : ℕ) → IsVertex net v → suc p ≤ cut → followed_next first sequel (at p v).0 (suc p) (inbox_from net (at p) v)
+    pub same_next : (p v : ℕ) → IsVertex net v → suc p ≤ cut
+        → followed_next first sequel (at p v).0 (suc p) (inbox_from net (at p) v)
         ≡ through (start v) (told_next (first.next (state_at first net p v) (suc p) (inbox_from net (node_at first net p) v)))
     same_next p v is_vertex h = next-same p v is_vertex (λ w inside. same_run p w inside (omega arith)) h
 
     -- what a node keeps beside the first program is what it had there at first
     module _ {C : Type 0} (kept : X → C) (keeps : (s : S) (x : X) (q : ℕ) (inbox : List (Option (Said A B))) →
         IfOk (sequel.next s x q inbox) (λ next. kept next.0 ≡ kept x)) where
-      kept-through : (s : Both S X) (r : Result (S × List (Option (Said A B))) Refused) (degree : ℕ) → kept (after s degree (through s.beside r)).0.beside ≡ kept s.beside
+      kept-through : (s : Both S X) (r : Result (S × List (Option (Said A B))) Refused) (degree : ℕ)
+          → kept (after s degree (through s.beside r)).0.beside ≡ kept s.beside
       kept-through s (Ok node) degree = refl
       kept-through s (Err refused) degree = refl
 
-      kept-keeping : (s : Both S X) (r : Result (X × List (Option (Said A B))) Refused) (degree : ℕ) → IfOk r (λ next. kept next.0 ≡ kept s.beside) →
+      kept-keeping : (s : Both S X) (r : Result (X × List (Option (Said A B))) Refused) (degree : ℕ)
+          → IfOk r (λ next. kept next.0 ≡ kept s.beside) →
           kept (after s degree (keeping s.first r)).0.beside ≡ kept s.beside
       kept-keeping s (Ok next) degree h = h
       kept-keeping s (Err refused) degree h = refl
@@ -212,7 +224,8 @@ module _ {S X A B : Type 0} (first : Program S A Refused) (sequel : Sequel S X A
         ∙ ap (λ (n : ℕ). keeping (state_at first net cut v) (sequel.next (state_at first net cut v) (at p v).0.beside n (inbox_from net (at p) v))) pulse)
 
     -- a pulse at which the sequel refuses nothing
-    pub at-more : (p v : ℕ) → IsVertex net v → cut ≤ p → (next : X × List (Option (Said A B))) → sequel_next p v ≡ Ok next →
+    pub at-more : (p v : ℕ) → IsVertex net v → cut ≤ p → (next : X × List (Option (Said A B)))
+        → sequel_next p v ≡ Ok next →
         at (suc p) v ≡ beside_of (state_at first net cut v) next
     at-more p v is_vertex h next is = node_at-more (followed first sequel) net p v
         ∙ ap (after (at p v).0 (degree_of net v)) (goes_on p v is_vertex h ∙ ap (keeping (state_at first net cut v)) is)

@@ -1,5 +1,6 @@
 -- The turns may follow the colouring: their outboxes have a slot for each port, and nothing is sent at the last pulse.
-use Rattle.std.proofs.Common.{◌≡◌, ℕ, suc, ◌+◌, ◌-◌, ◌*◌, ◌/◌, ◌%◌, ◌<◌, ◌≤◌, ◌==◌, Bool, true, false, List, length, refl, ap, sym, ◌∙◌, arith, subst}
+use Rattle.std.proofs.Common.{◌≡◌, ℕ, suc, ◌+◌, ◌-◌, ◌*◌, ◌/◌, ◌%◌, ◌<◌, ◌≤◌, ◌==◌, Bool, true, false, List, length}
+use Rattle.std.proofs.Common.{refl, ap, sym, ◌∙◌, arith, subst}
 use Rattle.std.proofs.lemmas.List.{length-replicate, length-map, length-set}
 use Rattle.std.proofs.lemmas.Bool.Decides.{nat_tests}
 use Rattle.std.proofs.lemmas.Nat.{div-mul-add, mod-mul-add}
@@ -27,7 +28,8 @@ use Rattle.colour_laws.proofs.Runs.{work_stands}
 use Rattle.colour_laws.proofs.Starts.{seeded}
 use Rattle.matching.specs.First.{first_came}
 use Rattle.matching.specs.declared.proposal.Proposal.{Proposal}
-use Rattle.matching.specs.Knowing.{Wire, matching, offered, takes, tells_free, told_free, told_taken, took, turned, turns}
+use Rattle.matching.specs.Knowing.{Wire, matching, offered, takes, tells_free, told_free, told_taken, took, turned}
+use Rattle.matching.specs.Knowing.{turns}
 
 either : {A : Type 0} (P : A → Type 0) (b : Bool) (x y : A) → P x → P y → P (if b then x else y)
 either P true x y h k = h
@@ -41,7 +43,8 @@ length-told_taken : (n f : ℕ) (child : Option ℕ) → length (told_taken n f 
 length-told_taken n f None = length-replicate n None
 length-told_taken n f (Some port) = length-set (nothing n) port _ ∙ length-replicate n None
 
-length-turned : (node : Node) (partner : Option ℕ) (q : ℕ) (inbox : List (Option Wire)) → length (turned node partner q inbox).1 ≡ ports node
+length-turned : (node : Node) (partner : Option ℕ) (q : ℕ) (inbox : List (Option Wire))
+    → length (turned node partner q inbox).1 ≡ ports node
 length-turned node partner q inbox =
     either (λ (next : Option ℕ × List (Option Wire)). length next.1 ≡ ports node) (q % 2 == 0) (offered node (option_or partner (first_came inbox)) (q / 6)) _
     (length-told_free (option_or partner (first_came inbox)) (q / 6) node.roles)
@@ -81,7 +84,8 @@ module _ (net : Net) (ok : IsNetwork net) where
   at p v = node_at matching net p v
 
   -- the colouring at pulse 12: the forests have their colours, and nothing is on its way
-  reduced : (v : ℕ) → IsVertex net v → node_at colouring net 12 v ≡ (state_while_reducing net 10 v, nothing (degree_of net v))
+  reduced : (v : ℕ) → IsVertex net v
+      → node_at colouring net 12 v ≡ (state_while_reducing net 10 v, nothing (degree_of net v))
   reduced v is_vertex =
       work_stands net ok (has_forest net ok) (seeded net ok (has_forest net ok) (has_start net ok)) 10 (omega arith) v is_vertex
       ∙ ap (λ (out : List (Option Payload)). (state_while_reducing net 10 v, out)) (sym (same-for_all None (neighbours net v)))

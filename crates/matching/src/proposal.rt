@@ -14,7 +14,8 @@ pub enum Proposal {
 }
 
 impl PayloadText for Proposal {
-    ghost use Rattle.matching.specs.Words.{IsProposal, number_in, proposal_from, word_in, words_are_letters, words_read_back};
+    ghost use Rattle.matching.specs.Words.{IsProposal, number_in, proposal_from, word_in, words_are_letters};
+    ghost use Rattle.matching.specs.Words.{words_read_back};
 
     ghost is_payload = { IsProposal };
 

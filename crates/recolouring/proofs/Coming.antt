@@ -54,7 +54,8 @@ anew-from (Some (Then anew) ∷ slots) set port c e = elim (anew-from slots (if 
   | inr there ↦ inr (suc there.0, omega (arith, there.1), there.2)
 ]
 
-pub anew-keeps : (slots : List (Option Wire)) (set : FinSet nat_cmp) (port c : ℕ) → contains set c ≡ true → contains (fold_slots and_anew set port slots) c ≡ true
+pub anew-keeps : (slots : List (Option Wire)) (set : FinSet nat_cmp) (port c : ℕ) → contains set c ≡ true
+    → contains (fold_slots and_anew set port slots) c ≡ true
 anew-keeps [] set port c e = e
 anew-keeps (None ∷ slots) set port c e = anew-keeps slots set (port + 1) c e
 anew-keeps (Some (First payload) ∷ slots) set port c e = anew-keeps slots set (port + 1) c e

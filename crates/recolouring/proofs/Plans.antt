@@ -1,6 +1,7 @@
 -- The colours that are chosen anew: a node's is the least that isn't barred at it and that no neighbour of a class before
 -- has. From this alone it follows what they are.
-use Rattle.std.proofs.Common.{◌≡◌, ◌≢◌, ℕ, zero, suc, ◌+◌, ◌-◌, ◌<◌, ◌≤◌, ◌++◌, ◌==◌, Bool, true, false, List, [], ◌∷◌, length, ap, sym, ◌∙◌, arith, subst, get_or, inl, inr}
+use Rattle.std.proofs.Common.{◌≡◌, ◌≢◌, ℕ, zero, suc, ◌+◌, ◌-◌, ◌<◌, ◌≤◌, ◌++◌, ◌==◌, Bool, true, false, List, [], ◌∷◌, length, ap, sym, ◌∙◌, arith, subst}
+use Rattle.std.proofs.Common.{get_or, inl, inr}
 use Rattle.std.specs.Prelude.{◌⊎◌, map, not, nat_le, Contains}
 use Rattle.std.specs.FinSet.{contains}
 use Rattle.std.proofs.lemmas.Bool.Decides.{nat_tests}

@@ -1,5 +1,6 @@
 -- The classes may choose anew after the colouring.
-use Rattle.std.proofs.Common.{◌≡◌, ℕ, suc, ◌+◌, ◌-◌, ◌≤◌, ◌&&◌, Bool, true, false, List, length, refl, ap, ◌∙◌, arith, subst}
+use Rattle.std.proofs.Common.{◌≡◌, ℕ, suc, ◌+◌, ◌-◌, ◌≤◌, ◌&&◌, Bool, true, false, List, length, refl, ap, ◌∙◌, arith}
+use Rattle.std.proofs.Common.{subst}
 use Rattle.std.proofs.lemmas.List.{length-replicate}
 use Rattle.std.proofs.lemmas.Bool.{le-ltb}
 use Rattle.std.specs.Prelude.{nat_lt, Option, Some, None}
@@ -13,7 +14,8 @@ use Rattle.followed.specs.Lemmas.{at-more, kept_beside}
 use Rattle.colour_rules.proofs.KeptPorts.{keeps}
 use Rattle.colour_rules.specs.Node.{Node, last, ports}
 use Rattle.colour_rules.specs.Program.{colouring}
-use Rattle.recolouring.specs.Knowing.{Recoloured, Wire, anew_next, colour_after, is_turn, recolouring, recolours, says, told, with_anew}
+use Rattle.recolouring.specs.Knowing.{Recoloured, Wire, anew_next, colour_after, is_turn, recolouring, recolours, says}
+use Rattle.recolouring.specs.Knowing.{told, with_anew}
 
 length-told : (node : Node) (b : Bool) (c : ℕ) → length (told node b c) ≡ ports node
 length-told node true c = length-replicate (ports node) (Some (says c))

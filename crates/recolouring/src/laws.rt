@@ -1,7 +1,8 @@
 //! What holds of the last states on every network. The law is the contract of a function that does nothing.
 
 ghost use Rattle.std.specs.Prelude.{◌≡◌, ◌≢◌, ◌+◌, ◌<◌, ◌≤◌, ℕ, [], Contains};
-ghost use Rattle.interference.specs.Net.{IsBarred, IsEdge, IsNetwork, IsVertex, Net, bars_of, bar_count_of, degree_of, neighbours};
+ghost use Rattle.interference.specs.Net.{IsBarred, IsEdge, IsNetwork, IsVertex, Net, bars_of, bar_count_of, degree_of};
+ghost use Rattle.interference.specs.Net.{neighbours};
 ghost use Rattle.node_api.specs.Run.{last_state};
 ghost use Rattle.colour_laws.specs.Colours.{colours};
 ghost use Rattle.recolouring.specs.Knowing.{recolouring};
