@@ -19,8 +19,8 @@ export class Stage {
     this.high = box.height || 1;
     this.isZoomed = false;
     const names = Math.max(0, ...this.net.nodes.map(n => Math.min(12, n.name.length) + Math.min(8, n.id.length)));
-    const margin = Math.min(Math.max(42, Math.min(64, 12 + this.wide / 14)) + Math.min(6 * names, this.wide / 8),
-      this.wide / 4, this.high / 5);
+    const margin = Math.max(42, Math.min(64, 12 + this.wide / 14)) + Math.min(6 * names, this.wide / 8);
+    const room = (size, part) => size - 2 * Math.min(margin, size / part);
     const least = list => Math.min(...list), most = list => Math.max(...list);
     if (xs.length < 2) {
       this.to = {scale: 1, x: this.wide / 2 - (xs[0] || 0), y: this.high / 2 - (ys[0] || 0)};
@@ -28,7 +28,7 @@ export class Stage {
       return;
     }
     const across = most(xs) - least(xs), up = most(ys) - least(ys);
-    const scale = Math.min(1.4, (this.wide - 2 * margin) / (across || 1), (this.high - 2 * margin) / (up || 1));
+    const scale = Math.min(1.4, room(this.wide, 4) / (across || 1), room(this.high, 5) / (up || 1));
     this.to = {scale, x: (this.wide - scale * across) / 2 - scale * least(xs),
       y: (this.high - scale * up) / 2 - scale * least(ys)};
   }

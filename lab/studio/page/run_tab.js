@@ -142,6 +142,7 @@ function apart(looks) {
 }
 // The rounds, small, at the pulse of the slowest node or of the one that is followed.
 function showRounds(at) {
+  by("besidesaid").textContent = "";
   if (isHidden("small") || !rounds.film || rounds.of !== seen.program + text()) return;
   const looks = run.film.looks(at);
   const p = seen.node ? looks[seen.node - 1].p : Math.min(...looks.map(is => is.p));
