@@ -1,8 +1,8 @@
 """Tests of `explore`, which plays every schedule of a tiny network.
 
-The table of states and steps is compared with a second search, which walks over the network of
-lab/definitions/nodes.py, puts apart; its numbers with a trial's, which was written before it; its lists of events with
-what `forestplay events` makes of them; and the rounds without a rule with nodes that hear and send."""
+The numbers of states and steps are compared with a trial's, which was written before it; random walks, state by state
+and step by step, with lab/definitions/nodes.py; lists of events with what `forestplay events` makes of them; and the
+rounds without a rule with nodes that hear and send."""
 import gc
 import itertools
 import os
@@ -49,32 +49,7 @@ def net_of(name):
     return network_of(text_of(name).encode())
 
 
-# The second search, over whole networks of the definitions.
-
-def twin(thing):
-    """Another object with the same attributes: copy.copy does as much, and takes some four times as long."""
-    other = object.__new__(type(thing))
-    other.__dict__.update(thing.__dict__)
-    return other
-
-
-def copied(state, v=None):
-    """A copy, of which node v may be changed, or every node."""
-    other = twin(state)
-    other.link = {end: wires[:] for end, wires in state.link.items()}
-    other.nodes = {w: copied_node(node) if v in (w, None) else node for w, node in state.nodes.items()}
-    return other
-
-
-def copied_node(node):
-    other = twin(node)
-    other.ports, other.program, other.key = [twin(port) for port in node.ports], twin(node.program), None
-    for port in other.ports:
-        port.out = port.out[:]
-    for name in ("roles", "colours", "before", "chosen"):
-        setattr(other.program, name, getattr(node.program, name).copy())
-    return other
-
+# States of the definitions, to be compared.
 
 def node_key(node):
     """Equal for equal nodes of a vertex."""
@@ -92,11 +67,8 @@ def node_key(node):
 
 
 def net_key(state):
-    """Equal for equal states. A node's key is kept at the node, until a step changes a copy of it."""
-    for node in state.nodes.values():
-        if getattr(node, "key", None) is None:
-            node.key = node_key(node)
-    return (tuple(state.nodes[v].key for v in sorted(state.nodes)),
+    """Equal for equal states."""
+    return (tuple(node_key(state.nodes[v]) for v in sorted(state.nodes)),
             tuple((end, tuple(wires)) for end, wires in sorted(state.link.items())))
 
 
@@ -106,24 +78,6 @@ def put_all(state):
             while other.out:
                 state.step("Put", v, port)
     return state
-
-
-def second_search(net, puts):
-    """{key: (a state, {event: key})} of all states, a put being an event of its own, or made as soon as it can be."""
-    start = NetState(net) if puts else put_all(NetState(net))
-    found, left = {net_key(start): (start, {})}, [net_key(start)]
-    while left:
-        state, steps = found[left.pop()]
-        for event in state.possible():
-            after = copied(state, event[1])
-            after.step(*event)
-            key = net_key(after if puts else put_all(after))
-            words = " ".join(str(part) for part in event if part is not None).lower()
-            steps[words] = key
-            if key not in found:
-                found[key] = after, {}
-                left.append(key)
-    return found
 
 
 def key_in_table(space, s):
@@ -305,55 +259,6 @@ class Schedules(Case):
         # the time.
         gc.disable()
 
-    def test_tables(self):
-        self.table_rows("star", False)
-        self.table_rows("triangle", False)
-
-    def table_rows(self, name, puts):
-        """The table beside the second search, state by state and step by step."""
-        net = net_of(name)
-        space, found = Space(net, puts=puts, limit=MOST), second_search(net, puts)
-        keys = [key_in_table(space, s) for s in range(space.count)]
-        what = f"{name}{', puts apart' if puts else ''}"
-        self.note(f"states of {what}", len(set(keys)) == space.count and set(keys) == set(found),
-                  (space.count, len(found)))
-        steps = [
-            s
-            for s, key in enumerate(keys)
-            if {str(event): keys[t] for event, t in space.steps(s)} != found.get(key, (None, {}))[1]
-        ]
-        self.note(f"steps of {what}", not steps, steps[:3])
-        other = [
-            s
-            for s, key in enumerate(keys)
-            if key in found
-            and not puts
-            and {v: node[:3] for v, node in space.nodes(s).items()}
-            != {v: shown(found[key][0], v) for v in space.vertices}
-        ]
-        self.note(f"what is shown of the states of {what}", not other, other[:3])
-        ends = [s for s, key in enumerate(keys) if not found.get(key, (None, {}))[1]]
-        self.note(f"ends of {what}", space.ends == ends and len(ends) == 1, (space.ends, ends))
-        apart = max((abs(state.nodes[v].pulse_number - state.nodes[w].pulse_number) for state, _ in found.values()
-                     for v, w in space.links), default=0)
-        most = max((len(wires) for state, _ in found.values() for wires in state.link.values()), default=0)
-        self.note(f"pulses apart and wires of {what}", (space.farthest, space.most_wires) == (apart, most),
-                  (apart, most))
-        self.note(f"no fault of {what}", not space.faults, space.faults)
-        return space, found
-
-    def puts_rows(self, name):
-        """With puts apart; and these states, with the puts made that they still lack, are the states of the search
-        without."""
-        _, apart = self.table_rows(name, True)
-        _, eager = self.table_rows(name, False)
-        made = {net_key(put_all(copied(state))) for state, _ in apart.values()}
-        self.note(f"puts as soon as they can be made, of {name}", made == set(eager), (len(made), len(eager)))
-
-    def test_small(self):
-        for name in ("alone", "apart", "barred", "two", "path"):
-            self.puts_rows(name)
-
     def test_trials(self):
         for name, puts, states, steps in TRIAL:
             space = Space(net_of(name), puts=puts, limit=MOST)
@@ -377,16 +282,15 @@ class Schedules(Case):
             self.end_rows(f"{name}, puts apart", Space(net_of(name), puts=True, limit=MOST))
 
     def test_schedules(self):
-        """The number of schedules of two, by recursion over the second search."""
-        found, ways = second_search(net_of("two"), False), {}
+        """The number of schedules of two, by recursion over the steps."""
+        space, ways = Space(net_of("two"), limit=MOST), {}
 
-        def count(key):
-            if key not in ways:
-                ways[key] = sum(map(count, found[key][1].values())) if found[key][1] else 1
-            return ways[key]
+        def count(s):
+            if s not in ways:
+                ways[s] = sum(count(t) for _, t in space.steps(s)) or 1
+            return ways[s]
 
-        start = net_key(put_all(NetState(net_of("two"))))
-        self.note("schedules of two", Space(net_of("two"), limit=MOST).schedules == count(start), count(start))
+        self.note("schedules of two", space.schedules == count(0), count(0))
 
     def test_walks(self):
         """A hundred random walks: each state beside the definitions, and some of them, and the last, beside the
@@ -399,13 +303,15 @@ class Schedules(Case):
             length = source.randrange(0, 400)
             while space.steps(s) and len(events) < length:
                 event, s = source.choice(space.steps(s))
-                state = copied(state, event.v)
                 state.step(event.kind.title(), event.v, event.port)
                 put_all(state)
                 events.append(event)
                 if event.kind == "take":
                     taken[event.w, event.v] += 1
-                if net_key(state) != key_in_table(space, s):
+                seen = {v: node[:3] for v, node in space.nodes(s).items()}
+                may = {" ".join(str(part) for part in one if part is not None).lower() for one in state.possible()}
+                if (net_key(state) != key_in_table(space, s) or seen != {v: shown(state, v) for v in space.vertices}
+                        or may != {str(event) for event, _ in space.steps(s)}):
                     wrong.append((name, [str(event) for event in events]))
             kinds = Counter(line.split()[0] for line in space.lines(events))
             if kinds["put"] != kinds["take"]:
