@@ -70,7 +70,7 @@ export function inspect() {
     label.append(input);
     box.append(label);
   };
-  field("name", node.name, value => { node.name = value; }, {maxlength: 40});
+  field("name", node.name, value => { node.name = value; }, {maxlength: 40, placeholder: "40 letters at most"});
   field("identifier", node.id, value => { node.id = value; }, {inputmode: "numeric", placeholder: `${v}, its number`},
     said => /^\d{0,39}$/.test(said) ? said : null, "An identifier is a whole number, from 0 on: no other node has it.");
   field("barred channels", node.bars.join(", "), value => { node.bars = value; }, {placeholder: "for example 1, 4-6"},

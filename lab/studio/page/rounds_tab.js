@@ -40,7 +40,7 @@ async function askWhy() {
   Object.assign(rounds, {why: got.answer, whyOf: v});
   took("why: " + ms(got, "why"), "rounds");
   const [head, summary, ...lines] = got.answer.lines, more = html("details"), list = html("ul");
-  more.append(html("summary", "step by step, from its choice back to identifiers"), list);
+  more.append(html("summary", "step by step, back to identifiers (colours count from 0)"), list);
   lines.forEach(line => list.append(html("li", line.trim())));
   place.replaceChildren(html("h2", head.replace(" of this network", "")), html("p", summary), more, bitsOf(v));
   show();

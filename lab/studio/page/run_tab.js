@@ -137,8 +137,8 @@ function apart(looks) {
   const most = pairs => Math.max(0, ...pairs.map(([v, w]) => Math.abs(looks[v - 1].p - looks[w - 1].p)));
   const pulses_ = looks.map(is => is.p), low = pulses_.indexOf(Math.min(...pulses_)) + 1;
   const high = pulses_.indexOf(Math.max(...pulses_)) + 1, far = most([[low, high]]);
-  return `Pulses: neighbours are at most ${most(net.edges)} apart, `
-    + (far ? `nodes ${low} and ${high} are ${far} apart.` : "and all are at one.");
+  return far ? `Pulses: neighbours are at most ${most(net.edges)} apart, nodes ${low} and ${high} are ${far} apart.`
+    : "All nodes are at the same pulse.";
 }
 // The rounds, small, at the pulse of the slowest node or of the one that is followed.
 function showRounds(at) {

@@ -205,8 +205,10 @@ function showLesson(lesson) {
   if (!lesson) return;
   const close = html("button", "close", {class: "quiet"});
   close.onclick = () => { seen.lesson = null; box.hidden = true; hooks.link(); };
-  box.replaceChildren(close, html("b", `${lesson.number}. ${lesson.title}`), html("i", lesson.ask),
-    html("p", lesson.see), html("p", "Exercise: " + lesson.do));
+  const card = html("details", null, {open: ""}), head = html("summary");
+  head.append(html("b", `${lesson.number}. ${lesson.title}`));
+  card.append(head, html("i", lesson.ask), html("p", lesson.see), html("p", "Exercise: " + lesson.do));
+  box.replaceChildren(close, card);
 }
 by("copy").onclick = async () => {
   hooks.link();
