@@ -82,21 +82,21 @@ def count_and_bytes(front, folder, words, data=b"", refused=0, status=0):
 
 def sweep(program, front, words, data, wanted, own_name="forestplan", or_else=None):
     """Refuses growth 1, 2, .. until a run is as one without refusal. `wanted` is None if clap's text is the answer;
-    `or_else` is an answer that may come in place of the one for memory."""
+    `or_else` is the answer in place of the one for memory if the one growth by which the C library starts a thread, for
+    its table of the thread's own variables, is refused."""
     name = f"each growth refused in turn: {' '.join(words)}"
     memory = (4, b"", f"{own_name}: memory\n".encode())
     if wanted is None:
         wanted = answer_of(program, front, words, data, 0)
-    refusals = 0
+    ends = []
     for k in range(1, MOST):
         got = answer_of(program, front, words, data, k)
-        if got == wanted:
-            if all(answer_of(program, front, words, data, k + more) == wanted for more in range(1, 40)):
-                return name, refusals > 0, "no growth was refused at all"
-        elif got in (memory, or_else):
-            refusals += 1
-        else:
+        if got == wanted and all(answer_of(program, front, words, data, k + more) == wanted for more in range(1, 40)):
+            good = memory in ends and ends.count(or_else) == (or_else is not None)
+            return name, good, f"{ends.count(memory)} growths end in memory, {ends.count(or_else)} in {or_else}"
+        if got not in (wanted, memory, or_else):
             return name, False, f"growth {k}: {got}"
+        ends.append(got)
     return name, False, f"still refused after {MOST} growths"
 
 
