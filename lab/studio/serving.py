@@ -163,8 +163,8 @@ class Handler(http.server.BaseHTTPRequestHandler):
         else:
             given = self.headers.get("X-Token", "")
         if not hmac.compare_digest(given.encode(), self.server.token.encode()):
-            return self.refuse(403, "The token is missing or another: open the address that `studio` has printed; if it "
-                                    "is open, reload this page.")
+            return self.refuse(403, "The token is missing or another: open the address that `studio` has printed; if "
+                                    "it is open, reload this page.")
         if way == "frame" and name in calls.FRAMES:
             return self.answer_frame(calls.FRAMES[name], asked)
         if way != "call" or name not in calls.CALLS:

@@ -227,6 +227,13 @@ class More(studio_page.Page):
         self.sees("another network", "studio.steps.found && studio.net.nodes.length === 3")
         high = self.page.value("[studio.stage.high, document.getElementById('stage').clientHeight]")
         self.note("the stage is as high as it was", high[1] - high[0] < 40, high)
+        for tab in ("run", "adversary"):
+            self.go_to(f"example=disk100&tab={tab}")
+            self.sees(f"too many nodes in {tab}", "document.getElementById('wrong').textContent.includes('at most 40')")
+            self.note("nothing plays", self.page.value("document.getElementById('play').disabled"))
+            self.note("and the nodes are blank", not self.page.value("document.querySelector('#net [data-step]')"))
+        self.go_to("example=path&tab=adversary")
+        self.sees("that network again", "studio.steps.found && studio.net.nodes.length === 3")
         self.page.click_on("[data-tab=rounds]")
         self.sees("its rounds", "studio.rounds.film && document.getElementById('when').textContent.startsWith('pulse')")
         self.page.click_on("#next")

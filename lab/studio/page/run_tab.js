@@ -195,7 +195,7 @@ function lazyBox() {
 }
 tabs.run = {
   transcript, ask, stopped: judgeSoon, rate: () => run.film2 ? 0.4 : 2.5,
-  show() { showAt(); lazyBox(); judgeSoon(); },
+  show() { lazyBox(); judgeSoon(); return showAt(); },
   hint: () => `Click an edge to make its link wait, a node to follow it. ${KEYS}`,
   click(v, edge) {
     if (v) { seen.node = v === seen.node ? null : v; return show(); }

@@ -42,7 +42,7 @@ function queue([v, w, wires]) {
 }
 function showAt() {
   const is = steps.found;
-  if (!is || is.looks.length !== net.nodes.length) return;
+  if (!is || is.looks.length !== net.nodes.length) return false;
   const slow = new Set(seen.slow.map(e => e.join("-")));
   const isWord = typeof is.looks[0].c === "string";
   stage.draw({node: (v, x, y, r) => alphaMarks(stage, is.looks[v - 1], v, x, y, r), bars: false, apart: 4.6,
