@@ -91,8 +91,11 @@ module _ {J S M E : Type 0} {j : wiring.Ghosts J} {program : Program S M E} {v d
   pub port_below : (i : ℕ) → i < degree → i < degree_of j.net v
   port_below i lt = below_same i degree (degree_of j.net v) old.ports lt
 
-  takes_within : (i : ℕ) → i < degree → i < length takes
+  pub takes_within : (i : ℕ) → i < degree → i < length takes
   takes_within i lt = below_as_many i (length takes) (degree_of j.net v) count_takes (port_below i lt)
+
+  pub puts_within : (i : ℕ) → i < degree → i < length puts
+  puts_within i lt = below_as_many i (length puts) (degree_of j.net v) count_puts (port_below i lt)
 
   from_neighbour : (i : ℕ) (x : WiredTake J M j) → i < degree → x ≡ get_or takes i x
       → ◌≡◌ {A = ℕ × ℕ} (x.vertex, x.port) (neighbour_of j.net v i, back_port_of j.net v i)
@@ -228,7 +231,7 @@ module _ {J S M E : Type 0} {j : wiring.Ghosts J} {program : Program S M E} {v d
   pub last_went : {i : ℕ} {x y : WiredPut J M j} {s : ℕ} {w : Wire M} → i < degree → Went puts i x y s w
       → last_stamp (by_port (map (λ e. put_stamped e.end) (set puts i y)) i) ≡ s
   last_went {i} {x} {y} {s} {w} port c =
-      last_at (λ e. put_stamped e.end) puts i x y (stamped s w) (below_as_many i (length puts) (degree_of j.net v) count_puts (port_below i port)) c.is c.more
+      last_at (λ e. put_stamped e.end) puts i x y (stamped s w) (puts_within i port) c.is c.more
 
   -- nothing was put by port i
   pub kept-none-put : {i : ℕ} {x y : WiredPut J M j} → aside ≡ None → NoneWent puts i x y

@@ -12,3 +12,4 @@ pub mod StampedEntries
 pub mod HasStamps
 mod Recorded
 pub mod Keeping
+pub mod Counting

@@ -7,6 +7,7 @@ use Rattle.alpha_core.specs.declared.wire.Wire.{Wire}
 use Rattle.node_api.specs.declared.program.NodeProgram as program
 use Rattle.node_api.specs.declared.payload.PayloadText as text
 use Rattle.actor.specs.Blocked.{IsUnmoved}
+use Rattle.actor.specs.Counted.{CountsOn}
 use Rattle.actor.specs.HasStamps.{aside_stamp}
 use Rattle.actor.specs.Stepped.{Stepped}
 use Rattle.actor.specs.Tables.{LinkWasFull}
@@ -18,23 +19,26 @@ use Rattle.actor.proofs.Refusals.{full-isnt_memory, memory-isnt_full}
 
 module _ {J P T : Type 0} {j : wiring.Ghosts J} {p : program.Ghosts P T} {t : text.Ghosts T} {q : equality.Ghosts T} where
   -- it did something
-  pub stepped-did : {old new : Node J P T j p t q} → new.vertex ≡ old.vertex → new.degree ≡ old.degree → new.refusal ≡ old.refusal → Stepped old new (Ok true)
-  stepped-did vertex degree refusal = record {
+  pub stepped-did : {old new : Node J P T j p t q} → new.vertex ≡ old.vertex → new.degree ≡ old.degree → new.refusal ≡ old.refusal → CountsOn old new
+      → Stepped old new (Ok true)
+  stepped-did vertex degree refusal counts = record {
     vertex = vertex;
     degree = degree;
     refusal = refusal;
+    counts = counts;
     unmoved = λ did. absurd (true≢false did);
     refused = tt;
     full = tt;
   }
 
   -- it did nothing
-  pub stepped-not : {old new : Node J P T j p t q} → new.vertex ≡ old.vertex → new.degree ≡ old.degree → new.refusal ≡ old.refusal → IsUnmoved old new
-      → Stepped old new (Ok false)
-  stepped-not vertex degree refusal unmoved = record {
+  pub stepped-not : {old new : Node J P T j p t q} → new.vertex ≡ old.vertex → new.degree ≡ old.degree → new.refusal ≡ old.refusal → CountsOn old new
+      → IsUnmoved old new → Stepped old new (Ok false)
+  stepped-not vertex degree refusal counts unmoved = record {
     vertex = vertex;
     degree = degree;
     refusal = refusal;
+    counts = counts;
     unmoved = λ did. unmoved;
     refused = tt;
     full = tt;
@@ -42,13 +46,14 @@ module _ {J P T : Type 0} {j : wiring.Ghosts J} {p : program.Ghosts P T} {t : te
 
   -- it ended early
   stepped-early : {old new : Node J P T j p t q} {r : Result Bool TurnRefused} (why : TurnRefused) → IsErrAnd r (λ error. error ≡ why)
-      → new.vertex ≡ old.vertex → new.degree ≡ old.degree → new.refusal ≡ old.refusal → (why ≡ Memory → IsTrue j.transcript)
+      → new.vertex ≡ old.vertex → new.degree ≡ old.degree → new.refusal ≡ old.refusal → CountsOn old new → (why ≡ Memory → IsTrue j.transcript)
       → (why ≡ StampFull → 2 ^ 64 ≤ max new.counter (aside_stamp new.aside) + 1) → Stepped old new r
-  stepped-early {r = Ok did} why is vertex degree refusal memory full = absurd is
-  stepped-early {r = Err error} why is vertex degree refusal memory full = record {
+  stepped-early {r = Ok did} why is vertex degree refusal counts memory full = absurd is
+  stepped-early {r = Err error} why is vertex degree refusal counts memory full = record {
     vertex = vertex;
     degree = degree;
     refusal = refusal;
+    counts = counts;
     unmoved = tt;
     refused = λ e. memory (sym is ∙ e);
     full = λ e. full (sym is ∙ e);
@@ -56,14 +61,16 @@ module _ {J P T : Type 0} {j : wiring.Ghosts J} {p : program.Ghosts P T} {t : te
 
   -- memory was refused
   pub stepped-memory : {old new : Node J P T j p t q} {r : Result Bool TurnRefused} → IsErrAnd r (λ error. error ≡ Memory) → new.vertex ≡ old.vertex
-      → new.degree ≡ old.degree → new.refusal ≡ old.refusal → IsTrue j.transcript → Stepped old new r
-  stepped-memory is vertex degree refusal transcript =
-      stepped-early Memory is vertex degree refusal (λ e. transcript) (λ e. absurd (memory-isnt_full e))
+      → new.degree ≡ old.degree → new.refusal ≡ old.refusal → CountsOn old new → IsTrue j.transcript → Stepped old new r
+  stepped-memory is vertex degree refusal counts transcript =
+      stepped-early Memory is vertex degree refusal counts (λ e. transcript) (λ e. absurd (memory-isnt_full e))
 
   -- a stamp would be too great
   pub stepped-full : {old new : Node J P T j p t q} {r : Result Bool TurnRefused} → IsErrAnd r (λ error. error ≡ StampFull) → new.vertex ≡ old.vertex
-      → new.degree ≡ old.degree → new.refusal ≡ old.refusal → 2 ^ 64 ≤ max new.counter (aside_stamp new.aside) + 1 → Stepped old new r
-  stepped-full is vertex degree refusal le = stepped-early StampFull is vertex degree refusal (λ e. absurd (full-isnt_memory e)) (λ e. le)
+      → new.degree ≡ old.degree → new.refusal ≡ old.refusal → CountsOn old new → 2 ^ 64 ≤ max new.counter (aside_stamp new.aside) + 1
+      → Stepped old new r
+  stepped-full is vertex degree refusal counts le =
+      stepped-early StampFull is vertex degree refusal counts (λ e. absurd (full-isnt_memory e)) (λ e. le)
 
 -- a link that an end found full, as the link out of a vertex by a port
 pub full-there : {P T : Type 0} (tables : List (List TableId)) (v i : ℕ) {at : ℕ × ℕ} {put here : List (Wire T)} → at ≡ (v, i) → put ≡ here

@@ -24,8 +24,8 @@ use std::alloc::Global;
 pub struct Node<J: Wiring, P: NodeProgram> {
     pub vertex: u32,
     pub degree: u32,
-    /// Why a turn of it ended early, if one did: the last of those.
-    pub refusal: Option<TurnRefused>,
+    // Why a turn of it ended early, if one did: that memory was refused, or else the last. Only `turn` writes it.
+    pub(crate) refusal: Option<TurnRefused>,
     /// From which its events and the wires that it puts have their stamps.
     pub counter: Counter,
     pub puts: Vec<WiredPut<J, P::Payload>>,
@@ -79,5 +79,12 @@ impl<J: Wiring, P: NodeProgram> Node<J, P> {
             aside: None,
             recorder: Recorder::new(alloc, transcript),
         })
+    }
+
+    /// Why a turn of the node ended early, if one did: that memory was refused, or else that a stamp was too great.
+    pub fn refusal(&self) -> Option<TurnRefused>
+        ensures refusal { result ≡ self.now.refusal }
+    {
+        self.refusal
     }
 }

@@ -5,9 +5,9 @@ ghost use Rattle.std.specs.Prelude.{false, true};
 ghost use Rattle.alpha_core.specs.View.{can_pulse, can_take};
 ghost use Rattle.link_queue.specs.Queued.{stamped_of};
 ghost use Rattle.actor.specs.Blocked.{IsUnmoved, PutBlocked};
-ghost use Rattle.actor.specs.Counted.{CountsPut, CountsTake};
+ghost use Rattle.actor.specs.Counted.{CountsOn, CountsPut, CountsTake};
 ghost use Rattle.actor.specs.HasStamps.{aside_stamp};
-ghost use Rattle.actor.specs.Stepped.{Stepped, Turned, remembered};
+ghost use Rattle.actor.specs.Stepped.{Stepped, Turned, refusal_of, remembered};
 
 use crate::aside::{Aside, WhyAside};
 use crate::gate::Gate;
@@ -26,6 +26,8 @@ const TAKES: u32 = 4;
 
 // How many wires it puts by one port in a turn, at most: as many as an out-list has.
 const PUTS: u32 = 4;
+
+const _: () = prove!(0 < TAKES && 0 < PUTS);
 
 // The wire that the queue of a link held, without its stamp.
 fn wire_of<T: PayloadText>(item: Queued<T>) -> Wire<T>
@@ -275,7 +277,7 @@ impl<J: Wiring, P: NodeProgram> Node<J, P> {
         Ok(put)
     }
 
-    // The parts of a turn, one after the other. Returns whether the node did anything; false if it set a wire aside.
+    // The parts of a turn, one after the other. Returns whether the node did anything, but false if it has a wire aside.
     // `ON` says in all parts whether the node writes a transcript, so that none of them asks.
     fn parts<const ON: bool, R: Wait, G: Gate>(
         &mut self,
@@ -315,13 +317,13 @@ impl<J: Wiring, P: NodeProgram> Node<J, P> {
     }
 
     /// One turn: takes by each port, then one pulse if the node can make it, then puts by each port. Returns whether
-    /// the node did anything, but false if it set a wire aside.
+    /// the node did anything, but false if it has a wire aside.
     ///
     /// # Errors
     ///
     /// `Memory` if memory for an entry is refused; the node is as after its last event. `StampFull` if a stamp would
     /// pass 18446744073709551615; the node is as after its last event, but a wire whose take would have that stamp is
-    /// set aside. The node remembers the refusal (`refusal`).
+    /// set aside. The node remembers the refusal (`refusal`): memory also if a later turn has no stamp left.
     pub fn turn<R: Wait, G: Gate>(
         &mut self,
         rt: &R,
@@ -330,7 +332,9 @@ impl<J: Wiring, P: NodeProgram> Node<J, P> {
         worker: u32,
     ) -> Result<bool, TurnRefused>
         ensures vertex { self.new.vertex ≡ self.old.vertex }
-        ensures refusal { self.new.refusal ≡ remembered self.old.refusal result }
+        ensures refusal { refusal_of self.new ≡ remembered (refusal_of self.old) result }
+        ensures counted { CountsOn self.old self.new }
+        ensures aside { IfOk result (λ did. IsSome self.new.aside → did ≡ false) }
         ensures unmoved { IfOk result
             (λ did. did ≡ false → self.new.aside ≡ self.old.aside → IsUnmoved self.old self.new) }
         ensures blocked { IfOk result (λ did. did ≡ false → self.new.aside ≡ None
@@ -344,7 +348,10 @@ impl<J: Wiring, P: NodeProgram> Node<J, P> {
         match self.parts_of_turn(rt, links, gate, worker) {
             Ok(did) => Ok(did),
             Err(refused) => {
-                self.refusal = Some(refused);
+                self.refusal = match self.refusal {
+                    Some(TurnRefused::Memory) => Some(TurnRefused::Memory),
+                    _ => Some(refused),
+                };
                 Err(refused)
             }
         }

@@ -5,8 +5,7 @@ ghost use Rattle.checks.specs.LinkRows.{lone_net};
 
 use actor::{Links, Node, OpenGate, TurnRefused, Wiring};
 use interference::{Memory, Network};
-use pool::run_nodes;
-use run_faults::PoolFault;
+use pool::{NodesFault, run_nodes};
 use std::alloc::Global;
 use std::sync::Wait;
 use std::thread::Threads;
@@ -43,10 +42,10 @@ fn lone_node(alloc: Global, network: &Network) -> Result<Box<Node<Alone, Greates
 }
 
 // The pulse and the counter of the one node.
-fn end_of(nodes: &[Node<Alone, Greatest<2>>]) -> Result<(u32, u64), PoolFault> {
+fn end_of(nodes: &[Node<Alone, Greatest<2>>]) -> Result<(u32, u64), NodesFault> {
     match nodes {
         [node] => Ok((node.alpha.pulse_number(), node.counter.value())),
-        _ => Err(PoolFault::Memory),
+        _ => Err(NodesFault::Memory),
     }
 }
 
@@ -56,7 +55,7 @@ fn run_row<R: Threads + Wait + Sync>(
     alloc: Global,
     links: &Links<Alone, Greatest<2>>,
     nodes: Vec<Box<Node<Alone, Greatest<2>>>>,
-) -> Result<(u32, u64), PoolFault>
+) -> Result<(u32, u64), NodesFault>
     requires one { map (λ b. b.value.vertex) nodes.items ≡ 1 ∷ [] }
 {
     match run_nodes(rt, alloc, links, &OpenGate, nodes, 1, 100) {
@@ -70,12 +69,12 @@ fn run_boxed<R: Threads + Wait + Sync>(
     alloc: Global,
     links: &Links<Alone, Greatest<2>>,
     node: Box<Node<Alone, Greatest<2>>>,
-) -> Result<(u32, u64), PoolFault>
+) -> Result<(u32, u64), NodesFault>
     requires vertex { node.value.vertex ≡ 1 }
 {
     match vec![in alloc; node] {
         Ok(nodes) => run_row(rt, alloc, links, nodes),
-        Err(_) => Err(PoolFault::Memory),
+        Err(_) => Err(NodesFault::Memory),
     }
 }
 
@@ -93,12 +92,16 @@ fn run_past<R: Threads + Wait + Sync>(
     links: &Links<Alone, Greatest<2>>,
     mut node: Box<Node<Alone, Greatest<2>>>,
     stamp: u64,
-) -> Result<(u32, u64), PoolFault>
+) -> Result<(u32, u64), NodesFault>
     requires vertex { node.value.vertex ≡ 1 }
 {
     let is_past = moves_past(&mut node, stamp);
     let end = run_boxed(rt, alloc, links, node);
-    if is_past { end } else { Err(PoolFault::Memory) }
+    if is_past {
+        end
+    } else {
+        Err(NodesFault::Memory)
+    }
 }
 
 fn run_over<R: Threads + Wait + Sync>(
@@ -107,12 +110,12 @@ fn run_over<R: Threads + Wait + Sync>(
     network: &Network,
     links: &Links<Alone, Greatest<2>>,
     stamp: u64,
-) -> Result<(u32, u64), PoolFault>
+) -> Result<(u32, u64), NodesFault>
     requires network { network.now ≡ lone_net }
 {
     match lone_node(alloc, network) {
         Ok(node) => run_past(rt, alloc, links, node, stamp),
-        Err(_) => Err(PoolFault::Memory),
+        Err(_) => Err(NodesFault::Memory),
     }
 }
 
@@ -122,7 +125,7 @@ pub fn run_from<R: Threads + Wait + Sync>(
     alloc: Global,
     network: &Network,
     stamp: u64,
-) -> Result<(u32, u64), PoolFault>
+) -> Result<(u32, u64), NodesFault>
     requires network { network.now ≡ lone_net }
 {
     let links = no_links(alloc);

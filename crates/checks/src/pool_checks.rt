@@ -8,7 +8,7 @@ use crate::link_queue_checks::pair;
 use crate::linked_counters::turn_past;
 use actor::TurnRefused;
 use interference::{NetFault, Network, bars_fit, edges_fit};
-use run_faults::PoolFault;
+use pool::NodesFault;
 use std::alloc::Global;
 use std::process::Abort;
 use std::sync::Wait;
@@ -28,8 +28,8 @@ fn stops_in_time<R: Threads + Wait + Sync>(rt: &R, alloc: Global, network: &Netw
 {
     run_from(rt, alloc, network, 0) == Ok((2, 3))
         && run_from(rt, alloc, network, u64::MAX - 3) == Ok((2, u64::MAX))
-        && run_from(rt, alloc, network, u64::MAX - 2) == Err(PoolFault::StampFull)
-        && run_from(rt, alloc, network, u64::MAX - 1) == Err(PoolFault::StampFull)
+        && run_from(rt, alloc, network, u64::MAX - 2) == Err(NodesFault::StampFull)
+        && run_from(rt, alloc, network, u64::MAX - 1) == Err(NodesFault::StampFull)
 }
 
 #[test]

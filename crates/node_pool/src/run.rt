@@ -1,6 +1,6 @@
 //! A run of workers, from a network to its outcome.
 
-ghost use Rattle.std.specs.Prelude.{◌≡◌, ◌≢◌, ◌↔◌, IfErr, IfOk, IsTrue, Result, Err, map};
+ghost use Rattle.std.specs.Prelude.{◌≡◌, ◌↔◌, IfErr, IfOk, IsTrue, Result, Err, map};
 ghost use Rattle.actor.specs.Tables.{table_of};
 ghost use Rattle.gather_laws.specs.Outcome.{IsOutcome};
 ghost use Rattle.run_faults.specs.declared.fault.PoolFault.TheVariants.{BadOptions};
@@ -14,7 +14,7 @@ use actor::{Gate, Links, Node, Wiring};
 use interference::Network;
 use node_api::NodeProgram;
 use outcomes::{Outcome, gathered, some_full};
-use pool::run_nodes;
+use pool::{NodesFault, run_nodes};
 use run_faults::PoolFault;
 use run_options::{MAX_CAPACITY, MAX_WORKERS, Options};
 use std::alloc::Global;
@@ -33,12 +33,11 @@ fn are_in_range(options: Options) -> bool
 }
 
 // Whether a node set a wire aside since the stamp of its take would be too great: that is the fault of the run.
-fn unless_full<J: Wiring, P: NodeProgram>(nodes: &[Node<J, P>]) -> Result<(), PoolFault>
+fn unless_full<J: Wiring, P: NodeProgram>(nodes: &[Node<J, P>]) -> Result<(), NodesFault>
     ensures full { result ≡ full_after tt (map (λ n. n.aside) nodes.now) }
-    ensures fault { IfErr result (λ fault. fault ≢ BadOptions) }
 {
     if some_full(nodes) {
-        return Err(PoolFault::StampFull);
+        return Err(NodesFault::StampFull);
     }
     Ok(())
 }
@@ -51,7 +50,7 @@ fn run_made<J: Wiring + Send + Sync, P: NodeProgram, G: Gate + Sync, R: Threads 
     options: Options,
     gate: &G,
     made: Made<P>,
-) -> Result<Outcome<P>, PoolFault>
+) -> Result<Outcome<P>, NodesFault>
     requires network { J.net ≡ net.now }
     requires tables { J.tables ≡ tables_of (map (λ row. row.items) made.ends.items) }
     requires links { J.links ≡ map table_of made.links.items }
@@ -60,7 +59,6 @@ fn run_made<J: Wiring + Send + Sync, P: NodeProgram, G: Gate + Sync, R: Threads 
     requires transcript { J.transcript ≡ options.transcript }
     ensures outcome { IfOk result
         (λ outcome. IsOutcome P.program net.now options.capacity options.transcript outcome) }
-    ensures fault { IfErr result (λ fault. fault ≢ BadOptions) }
 {
     net.is_network();
     let Made { links, ends } = made;
@@ -108,5 +106,5 @@ pub fn run_workers<P: NodeProgram, G: Gate + Sync, R: Threads + Wait + Sync>(
         return Err(PoolFault::BadOptions);
     }
     let made = make_links::<P>(alloc, net, options.capacity as usize)?;
-    run_made::<Brand, P, G, R>(rt, alloc, net, options, gate, made)
+    Ok(run_made::<Brand, P, G, R>(rt, alloc, net, options, gate, made)?)
 }

@@ -6,7 +6,7 @@
 //! needs a thread: `node_pool` runs the nodes.
 //!
 //! ```text
-//! if some_full(nodes.as_slice()) { return Err(PoolFault::StampFull); }
+//! if some_full(nodes.as_slice()) { return Err(NodesFault::StampFull); }
 //! let outcome = gathered(&rt, alloc, &network, &links, nodes)?;
 //! if outcome.is_whole() { .. outcome.actors() .. }
 //! ```

@@ -112,14 +112,11 @@ pub fn apart<J: Wiring, P: NodeProgram>(
     for node in nodes {
         let Node {
             vertex,
-            degree: _,
             alpha,
             puts,
             takes,
-            aside: _,
-            refusal: _,
             recorder,
-            counter: _,
+            ..
         } = node;
         let entries = recorder.into_entries(alloc);
         all.actors.push_reserved(Actor {

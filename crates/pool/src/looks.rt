@@ -3,6 +3,7 @@
 ghost use Rattle.std.specs.Prelude.{◌≡◌, ◌<◌, length, map};
 ghost use Rattle.crossbeam_deque.specs.Handles.{stealer_deque, worker_deque};
 ghost use Rattle.deque_rule.specs.Deques.{deque_of};
+ghost use Rattle.actor.specs.Stepped.{refusal_of, remembered};
 
 use crate::signals::Signals;
 use actor::{Gate, Links, Node, TurnRefused, Wiring};
@@ -38,7 +39,7 @@ fn put_back<J: Wiring, P: NodeProgram>(signals: &Signals, desk: &mut Desk<Node<J
     desk.task = give_back(&mut desk.own, node);
 }
 
-// A turn of a node. Returns whether the node did something.
+// A turn of a node. Returns whether the node did something, or the refusal that it remembers.
 fn turn<J: Wiring, P: NodeProgram, R: Wait, G: Gate>(
     rt: &R,
     crew: &Crew<J, P, G>,
@@ -46,6 +47,7 @@ fn turn<J: Wiring, P: NodeProgram, R: Wait, G: Gate>(
     node: &mut Box<Node<J, P>>,
 ) -> Result<bool, TurnRefused>
     ensures vertex { node.new.value.vertex ≡ node.old.value.vertex }
+    ensures refusal { refusal_of node.new.value ≡ remembered (refusal_of node.old.value) result }
 {
     crew.gate.enter(rt, worker, node.vertex);
     let turned = node.turn(rt, crew.links, crew.gate, worker);

@@ -1,11 +1,12 @@
 //! A run of workers over their deques.
 
-ghost use Rattle.std.specs.Prelude.{◌≡◌, ◌≢◌, ◌≤◌, All, IfErr, IfOk, None, length, map, reverse, vec_len};
+ghost use Rattle.std.specs.Prelude.{◌≡◌, ◌≤◌, All, IfOk, None, length, map, reverse, vec_len};
 ghost use Rattle.interference.specs.Net.{vertices};
 ghost use Rattle.crossbeam_deque.specs.Handles.{stealer_deque, worker_deque};
 ghost use Rattle.deque_rule.specs.Deques.{deque_of};
-ghost use Rattle.run_faults.specs.declared.fault.PoolFault.TheVariants.{BadOptions, StampFull};
+ghost use Rattle.actor.specs.Stepped.{refusal_of};
 
+use crate::faults::{NodesFault, ThreadsFault};
 use crate::looks::Crew;
 use crate::signals::Signals;
 use crate::threads::{join_all, start_all};
@@ -14,7 +15,6 @@ use actor::{Gate, Links, Node, Wiring};
 use crossbeam_deque::protocol::Split;
 use deque_rule::Ledger;
 use node_api::NodeProgram;
-use run_faults::PoolFault;
 use run_options::MAX_WORKERS;
 use std::alloc::Global;
 use std::sync::Wait;
@@ -44,12 +44,10 @@ fn run_all<J: Wiring + Send + Sync, P: NodeProgram, G: Gate + Sync, R: Threads +
     nodes: Vec<Box<Node<J, P>>>,
     workers: u32,
     turns: u64,
-) -> Result<Vec<Node<J, P>>, PoolFault>
+) -> Result<Vec<Node<J, P>>, ThreadsFault>
     requires nodes { map (λ b. b.value.vertex) nodes.items ≡ reverse (vertices J.net) }
     requires workers { (1 ≤ workers) × (workers ≤ MAX_WORKERS) }
     ensures order { IfOk result (λ all. map (λ n. n.vertex) all.items ≡ vertices J.net) }
-    ensures fault { IfErr result (λ fault. fault ≢ BadOptions) }
-    ensures no_stamp { IfErr result (λ fault. fault ≢ StampFull) }
 {
     let count = nodes.len();
     let places = make_places(alloc, count)?;
@@ -68,7 +66,7 @@ fn run_all<J: Wiring + Send + Sync, P: NodeProgram, G: Gate + Sync, R: Threads +
     let done = thread::scope(
         thread::scope_env(),
         rt,
-        move |scope| -> Result<Vec<Desk<Node<J, P>>>, PoolFault>
+        move |scope| -> Result<Vec<Desk<Node<J, P>>>, ThreadsFault>
             requires { (vec_len desks ≤ MAX_WORKERS) × (vec_len desks ≡ length thieves.now)
                 × All (λ d. map (λ g. deque_of g.pass) d.guests.items
                 ≡ map stealer_deque thieves.now) desks.items }
@@ -76,11 +74,9 @@ fn run_all<J: Wiring + Send + Sync, P: NodeProgram, G: Gate + Sync, R: Threads +
                 ≡ map (λ d. worker_deque d.own) desks.items) }
             ensures guests { IfOk result (λ done. map (λ d. map (λ g. deque_of g.pass) d.guests.items) done.items
                 ≡ map (λ d. map (λ g. deque_of g.pass) d.guests.items) desks.items) }
-            ensures fault { IfErr result (λ fault. fault ≢ BadOptions) }
-            ensures no_stamp { IfErr result (λ fault. fault ≢ StampFull) }
         {
             let children = start_all(scope, rt, alloc, crew, thieves, desks, turns)?;
-            join_all(rt, crew.signals, children)
+            Ok(join_all(rt, crew.signals, children)?)
         },
     )?;
     Ok(gather(rt, alloc, places, dealt, done)?)
@@ -102,12 +98,11 @@ pub fn run_nodes<J: Wiring + Send + Sync, P: NodeProgram, G: Gate + Sync, R: Thr
     nodes: Vec<Box<Node<J, P>>>,
     workers: u32,
     turns: u64,
-) -> Result<Vec<Node<J, P>>, PoolFault>
+) -> Result<Vec<Node<J, P>>, NodesFault>
     requires nodes { map (λ b. b.value.vertex) nodes.items ≡ reverse (vertices J.net) }
     requires workers { (1 ≤ workers) × (workers ≤ MAX_WORKERS) }
     ensures order { IfOk result (λ all. map (λ n. n.vertex) all.items ≡ vertices J.net) }
-    ensures none_refused { IfOk result (λ all. All (λ n. n.refusal ≡ None) all.items) }
-    ensures fault { IfErr result (λ fault. fault ≢ BadOptions) }
+    ensures none_refused { IfOk result (λ all. All (λ n. refusal_of n ≡ None) all.items) }
 {
     let nodes = run_all(rt, alloc, links, gate, nodes, workers, turns)?;
     told(nodes.as_slice())?;

@@ -1,16 +1,17 @@
 //! The threads of a run: each worker has one of its own.
 
-ghost use Rattle.std.specs.Prelude.{◌≡◌, ◌≢◌, ◌<◌, ◌≤◌, All, IfErr, IfOk, length, map, vec_len};
+ghost use Rattle.std.specs.Prelude.{◌≡◌, ◌<◌, ◌≤◌, All, IfErr, IfOk, length, map, vec_len};
 ghost use Rattle.crossbeam_deque.specs.Handles.{stealer_deque, worker_deque};
 ghost use Rattle.deque_rule.specs.Deques.{deque_of};
-ghost use Rattle.run_faults.specs.declared.fault.PoolFault.TheVariants.{BadOptions, Spawn, StampFull};
+ghost use Rattle.pool.specs.declared.faults.ThreadsFault.TheVariants.{Spawn};
 
+use crate::faults::ThreadsFault;
 use crate::looks::{Crew, work};
 use crate::signals::Signals;
 use actor::{Gate, Node, Wiring};
 use deque_rule::{Task, Thief};
+use interference::Memory;
 use node_api::NodeProgram;
-use run_faults::PoolFault;
 use run_options::MAX_WORKERS;
 use std::alloc::Global;
 use std::snapshot::Snapshot;
@@ -31,11 +32,10 @@ fn start<'s, E, J: Wiring + Send + Sync, P: NodeProgram, G: Gate + Sync, R: Thre
     worker: u32,
     desk: Desk<Node<J, P>>,
     turns: u64,
-) -> Result<Child<Node<J, P>>, PoolFault>
+) -> Result<Child<Node<J, P>>, ThreadsFault>
     requires worker { worker < length thieves.now }
     requires deques { map (λ g. deque_of g.pass) desk.guests.items ≡ map stealer_deque thieves.now }
     ensures desk { IfOk result (λ h. h.promise.0.value ≡ desk) }
-    ensures fault { IfErr result (λ fault. fault ≢ BadOptions) }
     ensures spawn { IfErr result (λ fault. fault ≡ Spawn) }
 {
     let started = scope.spawn_with(
@@ -52,7 +52,7 @@ fn start<'s, E, J: Wiring + Send + Sync, P: NodeProgram, G: Gate + Sync, R: Thre
         Ok(child) => Ok(child),
         Err(_) => {
             crew.signals.fail();
-            Err(PoolFault::Spawn)
+            Err(ThreadsFault::Spawn)
         }
     }
 }
@@ -78,14 +78,12 @@ pub fn start_all<
     thieves: &'s [Thief<Node<J, P>>],
     desks: Vec<Desk<Node<J, P>>>,
     turns: u64,
-) -> Result<Vec<Child<Node<J, P>>>, PoolFault>
+) -> Result<Vec<Child<Node<J, P>>>, ThreadsFault>
     requires few { vec_len desks ≤ MAX_WORKERS }
     requires workers { vec_len desks ≡ length thieves.now }
     requires deques { All (λ d. map (λ g. deque_of g.pass) d.guests.items
         ≡ map stealer_deque thieves.now) desks.items }
     ensures desks { IfOk result (λ hs. map (λ h. h.promise.0.value) hs.items ≡ desks.items) }
-    ensures fault { IfErr result (λ fault. fault ≢ BadOptions) }
-    ensures no_stamp { IfErr result (λ fault. fault ≢ StampFull) }
 {
     let mut children = Vec::with_capacity(alloc, desks.len())?;
     let mut worker = 0;
@@ -105,18 +103,17 @@ pub fn join_all<T: Task, R: Threads + Wait>(
     rt: &R,
     signals: &Signals,
     children: Vec<Child<T>>,
-) -> Result<Vec<Desk<T>>, PoolFault>
+) -> Result<Vec<Desk<T>>, Memory>
     ensures owns { IfOk result (λ done. map (λ d. worker_deque d.own) done.items
         ≡ map (λ d. worker_deque d.own) (map (λ h. h.promise.0.value) children.items)) }
     ensures guests { IfOk result (λ done. map (λ d. map (λ g. deque_of g.pass) d.guests.items) done.items
         ≡ map (λ d. map (λ g. deque_of g.pass) d.guests.items) (map (λ h. h.promise.0.value) children.items)) }
-    ensures memory { IfErr result (λ fault. fault ≡ PoolFault.Memory) }
 {
     match thread::join_promised(rt, children) {
         Ok(done) => Ok(done),
         Err(_) => {
             signals.fail();
-            Err(PoolFault::Memory)
+            Err(Memory)
         }
     }
 }

@@ -4,8 +4,8 @@ use Rattle.link_queue.specs.Ends.{link_capacity}
 use Rattle.outcomes.specs.Full.{some_full}
 use Rattle.interference.specs.Net.{IsNetwork}
 use Rattle.gather_laws.specs.Outcome.{IsOutcome}
-use Rattle.run_faults.specs.declared.fault.PoolFault.{PoolFault}
-use Rattle.run_faults.specs.declared.fault.PoolFault.TheVariants.{StampFull}
+use Rattle.pool.specs.declared.faults.NodesFault.{NodesFault}
+use Rattle.pool.specs.declared.faults.NodesFault.TheVariants.{StampFull}
 use Rattle.node_pool.specs.Ends.{full_after}
 use Rattle.node_pool.specs.Makes.{AreMade}
 use Rattle.node_pool.proofs.MadeRows.{made_are_new, made_within}
@@ -21,7 +21,7 @@ start_nodes-requires-clause-ends g c κs within =
     (sym c.requires.tables) (sym c.requires.links)
 
 -- nothing is reported only if no wire was set aside for its stamp
-not_full : {A : Type 0} (done x : A) (told : Result A PoolFault) (full : Bool) → told ≡ (if full then Err StampFull else Ok done) → told ≡ Ok x
+not_full : {A : Type 0} (done x : A) (told : Result A NodesFault) (full : Bool) → told ≡ (if full then Err StampFull else Ok done) → told ≡ Ok x
     → full ≡ false
 not_full done x told true e is = let no = sym e ∙ is in absurd cc
 not_full done x told false e is = refl
@@ -32,9 +32,11 @@ gathered-requires-clause-stamps g c κs within =
     (c.unless_full.ensures.full ∙ ap (λ nodes. full_after (tt {0}) (map (λ n. n.aside) nodes)) c.as_slice.ensures.value) c.in_ok-unless_full.was
 
 -- the links that are gathered are those that were made
-pub returns-clause-outcome : goal.returns-clause-outcome
-returns-clause-outcome g c =
+pub returns : goal.returns
+returns g c =
     let capacity = c.args.options.capacity in
-    subst (λ t. IsOutcome g.P.NodeProgram.program c.args.net.now capacity t c.in_ok-gathered.field-0) c.requires.transcript
-    (c.in_ok-gathered.ensures.outcome capacity (subst (λ list. All (λ link. link_capacity link ≤ capacity) list.items) (sym c.new-links.ensures.list)
-    (made_within c.args.net.now capacity _ _ c.requires.made)))
+    record {
+      outcome = subst (λ t. IsOutcome g.P.NodeProgram.program c.args.net.now capacity t c.in_ok-gathered.field-0) c.requires.transcript
+          (c.in_ok-gathered.ensures.outcome capacity (subst (λ list. All (λ link. link_capacity link ≤ capacity) list.items) (sym c.new-links.ensures.list)
+          (made_within c.args.net.now capacity _ _ c.requires.made)));
+    }

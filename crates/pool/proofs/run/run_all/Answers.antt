@@ -67,7 +67,7 @@ gather-requires-clause-deques g c =
 pub gather-requires-clause-guests : goal.gather-requires-clause-guests
 gather-requires-clause-guests g c =
     carried (λ d. map (λ g'. deque_of g'.pass) d.guests.items) (λ d. map (λ g'. deque_of g'.pass) d.guests.items)
-    (λ ids. ids ≡ map (λ g'. deque_of g'.pass) c.in_ok-owns-2.dealt.items) c.in_ok-desks.desks.items _ c.in_ok-done.ensures.1.1.0
+    (λ ids. ids ≡ map (λ g'. deque_of g'.pass) c.in_ok-owns-2.dealt.items) c.in_ok-desks.desks.items _ c.in_ok-done.ensures.1.1
     (λ k d lt. c.in_ok-desks.ensures.guests k d lt ∙ c.in_ok-owns-2.ensures.owns ∙ sym c.in_ok-owns-2.ensures.guests)
 
 pub gather-requires-clause-few : goal.gather-requires-clause-few
@@ -93,12 +93,12 @@ gather-requires-clause-dealt g c =
     (from_the_last (λ b. b.value.vertex) nodes.items n room (omega (arith, nodes.ok.0)) c.requires.nodes) c.deal-owns.ensures.dealt
 
 -- they come back from the first vertex up
-pub returns-clause-order : goal.returns-clause-order
-returns-clause-order g c =
+pub returns : goal.returns
+returns g c =
     let nodes = c.args.nodes in
     let n = count_of g.J.Wiring.net in
     let many = many_nodes (λ b. b.value.vertex) nodes.items n c.requires.nodes in
     let count = c.len-count.ensures in
     let room = vec_len c.in_ok-places.places.slots in
     let places = c.in_ok-places.ensures.count in
-    from_one (λ n. n.vertex) (λ n. n.kept.is_vertex.0) c.in_ok-gather.field-0.items n room (omega (arith, nodes.ok.0)) c.in_ok-gather.ensures.order
+    record { order = from_one (λ n. n.vertex) (λ n. n.kept.is_vertex.0) c.in_ok-gather.field-0.items n room (omega (arith, nodes.ok.0)) c.in_ok-gather.ensures.order }

@@ -47,8 +47,8 @@ loop-desk-preserved g c = record {
       c.push_reserved.ensures.items c.in_ok-start.ensures.desk c.loop-desk.invariant.desks;
 }
 
-pub returns-clause-desks : goal.returns-clause-desks
-returns-clause-desks g c =
+pub returns : goal.returns
+returns g c =
     let end = YieldsList-end (YieldsList-from_vec {s = c.into_iter-desk-iterator.result} c.args.desks.items (search rules) (search rules))
     c.loop-desk.yielded c.loop-desk.desk-iterator c.loop-desk.yielded_by c.next.result c.next.new.self c.in-None.is c.next.ensures.steps in
-    c.loop-desk.invariant.desks ∙ sym (map-id c.loop-desk.yielded) ∙ end.0
+    record { desks = c.loop-desk.invariant.desks ∙ sym (map-id c.loop-desk.yielded) ∙ end.0 }

@@ -4,7 +4,7 @@ use Rattle.pool.proofs.told.told.Goals.{in-None, in-Some-StampFull}
 use Rattle.pool.proofs.told.told.Goals as goal
 
 pub loop-node-preserved : goal.loop-node-preserved
-loop-node-preserved g c = elim c.match-node.branch [
+loop-node-preserved g c = elim c.match-refusal.branch [
   | in-None w ↦ grind (arith, common_steps)
   | in-Some-StampFull w ↦ grind (arith, common_steps)
 ]

@@ -1,7 +1,8 @@
 -- Nothing was put by the end that was asked, so the node is as it was.
 use Rattle.std.proofs.Common.{[], length, refl, sym, ap, inr, arith, ◌∙◌}
 use Rattle.alpha_core.specs.StampedWires.{wires_of}
-use Rattle.link_queue.specs.Ends.{put_list}
+use Rattle.link_queue.specs.Ends.{put_list, put_stamped}
+use Rattle.actor.proofs.Counting.{counts-still}
 use Rattle.actor.proofs.Keeping.{count_puts, kept-none-put, port_below}
 use Rattle.actor.proofs.Lists.{same_all, get_map, at_place, below_as_many}
 use Rattle.actor.proofs.Stepping.{full-there, stepped-not}
@@ -36,14 +37,15 @@ returns g c =
     lt is in
     let here = get_map (λ e. put_list e.end) old.puts.items c.args.port _ [] inside is in
     record {
-      stepped = stepped-not refl refl refl record {
-        alpha = refl;
-        aside = refl;
-        puts = same_all (λ e. put_list e.end) _ _ _ _ is (ap (λ l. wires_of l) c.was_full.ensures.unchanged);
-        takes = refl;
-        entries = refl;
-        counter = refl;
-      };
+      stepped = stepped-not refl refl refl
+          (counts-still refl refl (same_all (λ e. put_stamped e.end) _ _ _ _ is c.was_full.ensures.unchanged) refl) record {
+            alpha = refl;
+            aside = refl;
+            puts = same_all (λ e. put_list e.end) _ _ _ _ is (ap (λ l. wires_of l) c.was_full.ensures.unchanged);
+            takes = refl;
+            entries = refl;
+            counter = refl;
+          };
       blocked = λ full. inr (full-there g.J.Wiring.tables old.vertex c.args.port place here (c.was_full.ensures.full full));
       going = c.requires.going;
     }

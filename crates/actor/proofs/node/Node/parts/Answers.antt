@@ -1,9 +1,10 @@
 -- The plan: a part of the turn that ended early says why, and the turn ends so too.
-use Rattle.std.proofs.Common.{◌<◌, ap, subst, sym, true≢false, ◌∙◌}
+use Rattle.std.proofs.Common.{◌<◌, ap, refl, subst, sym, true≢false, ◌∙◌}
 use Rattle.std.specs.Prelude.{IsSome}
 use Rattle.std.proofs.lemmas.Result.{IfOk-from_err}
 use Rattle.alpha_core.specs.View.{can_pulse}
 use Rattle.actor.specs.declared.refused.TurnRefused.TheVariants.{Memory, StampFull}
+use Rattle.actor.proofs.Counting.{counts_both}
 use Rattle.actor.proofs.Refusals.{same_refusal}
 use Rattle.actor.proofs.Unmoved.{blocked-after, still_unmoved}
 use Rattle.actor.proofs.node.Node.parts.Goals as goal
@@ -15,6 +16,8 @@ returns-in_err-took g c =
       turned = record {
         vertex = took.vertex;
         refusal = took.refusal;
+        counts = took.counts;
+        aside = IfOk-from_err c.from_residual.result _ c.from_residual.ensures.0;
         unmoved = IfOk-from_err c.from_residual.result _ c.from_residual.ensures.0;
         blocked = IfOk-from_err c.from_residual.result _ c.from_residual.ensures.0;
         puts_blocked = IfOk-from_err c.from_residual.result _ c.from_residual.ensures.0;
@@ -31,6 +34,8 @@ returns-in_err-pulsed g c =
       turned = record {
         vertex = pulsed.vertex ∙ took.vertex;
         refusal = pulsed.refusal ∙ took.refusal;
+        counts = counts_both c.args.self.now c.take_all.new.self c.pulse.new.self took.counts pulsed.counts;
+        aside = IfOk-from_err c.from_residual-in_err-pulsed.result _ c.from_residual-in_err-pulsed.ensures.0;
         unmoved = IfOk-from_err c.from_residual-in_err-pulsed.result _ c.from_residual-in_err-pulsed.ensures.0;
         blocked = IfOk-from_err c.from_residual-in_err-pulsed.result _ c.from_residual-in_err-pulsed.ensures.0;
         puts_blocked = IfOk-from_err c.from_residual-in_err-pulsed.result _ c.from_residual-in_err-pulsed.ensures.0;
@@ -48,6 +53,9 @@ returns-in_err-put g c =
       turned = record {
         vertex = put.vertex ∙ pulsed.vertex ∙ took.vertex;
         refusal = put.refusal ∙ pulsed.refusal ∙ took.refusal;
+        counts = counts_both c.args.self.now c.pulse.new.self c.put_all.new.self
+            (counts_both c.args.self.now c.take_all.new.self c.pulse.new.self took.counts pulsed.counts) put.counts;
+        aside = IfOk-from_err c.from_residual-in_err-put.result _ c.from_residual-in_err-put.ensures.0;
         unmoved = IfOk-from_err c.from_residual-in_err-put.result _ c.from_residual-in_err-put.ensures.0;
         blocked = IfOk-from_err c.from_residual-in_err-put.result _ c.from_residual-in_err-put.ensures.0;
         puts_blocked = IfOk-from_err c.from_residual-in_err-put.result _ c.from_residual-in_err-put.ensures.0;
@@ -65,6 +73,8 @@ returns-then-is_some g c =
       turned = record {
         vertex = took.stepped.vertex;
         refusal = took.stepped.refusal;
+        counts = took.stepped.counts;
+        aside = λ some. refl;
         unmoved = λ did same. took.stepped.unmoved (took.stopped (subst (λ o. IsSome o) same some));
         blocked = λ did none. absurd (true≢false (sym (subst (λ o. IsSome o) none some)));
         puts_blocked = λ did none. absurd (true≢false (sym (subst (λ o. IsSome o) none some)));
@@ -84,6 +94,9 @@ returns-else-pulsed g c =
       turned = record {
         vertex = put.vertex ∙ pulsed.vertex ∙ took.vertex;
         refusal = put.refusal ∙ pulsed.refusal ∙ took.refusal;
+        counts = counts_both c.args.self.now c.pulse.new.self c.put_all.new.self
+            (counts_both c.args.self.now c.take_all.new.self c.pulse.new.self took.counts pulsed.counts) put.counts;
+        aside = λ some. absurd (true≢false (sym (subst (λ o. IsSome o) c.in_ok-put.ensures.going some)));
         unmoved = λ did same. still_unmoved c.args.self.now c.pulse.new.self c.put_all.new.self
             (still_unmoved c.args.self.now c.take_all.new.self c.pulse.new.self (took.unmoved none.0) (pulsed.unmoved none.1)) (put.unmoved did);
         blocked = λ did going. ap (λ a. can_pulse a.last a.node.view) (put.unmoved did).alpha ∙ c.in_ok-pulsed.ensures.blocked none.1;

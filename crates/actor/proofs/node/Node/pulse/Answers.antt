@@ -2,6 +2,8 @@
 use Rattle.std.proofs.Common.{◌^◌, ◌∙◌, refl, subst, sym, true≢false}
 use Rattle.std.specs.Prelude.{IsTrue}
 use Rattle.std.proofs.lemmas.Result.{IfOk-from_err}
+use Rattle.alpha_laws.proofs.PulseAfter.{pulsed_pulse}
+use Rattle.actor.proofs.Counting.{counts-pulse, counts-still}
 use Rattle.actor.proofs.Keeping.{kept-pulsed, kept-room}
 use Rattle.actor.proofs.Steps.{never_refused}
 use Rattle.actor.specs.HasStamps.{aside_stamp}
@@ -42,7 +44,8 @@ pub returns-in_err-stamp : goal.returns-in_err-stamp
 returns-in_err-stamp g c =
     let old = c.args.self.now in
     record {
-      stepped = stepped-full c.from_residual.ensures.1 refl refl refl (past_greater (2 ^ 64) old.counter (aside_stamp old.aside) c.in_err-stamp.ensures.full);
+      stepped = stepped-full c.from_residual.ensures.1 refl refl refl (counts-still refl refl refl refl)
+          (past_greater (2 ^ 64) old.counter (aside_stamp old.aside) c.in_err-stamp.ensures.full);
       counted = IfOk-from_err c.from_residual.result _ c.from_residual.ensures.0;
       blocked = IfOk-from_err c.from_residual.result _ c.from_residual.ensures.0;
       going = c.requires.going;
@@ -51,7 +54,7 @@ returns-in_err-stamp g c =
 -- memory was refused
 pub returns-in_err-reserve : goal.returns-in_err-reserve
 returns-in_err-reserve g c = record {
-  stepped = stepped-memory c.from_residual-in_err-reserve.ensures.1 refl refl refl
+  stepped = stepped-memory c.from_residual-in_err-reserve.ensures.1 refl refl refl (counts-still refl refl refl refl)
       (subst IsTrue c.args.self.now.kept.recorded c.in_err-reserve.ensures.refused);
   counted = IfOk-from_err c.from_residual-in_err-reserve.result _ c.from_residual-in_err-reserve.ensures.0;
   blocked = IfOk-from_err c.from_residual-in_err-reserve.result _ c.from_residual-in_err-reserve.ensures.0;
@@ -60,19 +63,23 @@ returns-in_err-reserve g c = record {
 
 pub returns-then-not-can_pulse : goal.returns-then-not-can_pulse
 returns-then-not-can_pulse g c = record {
-  stepped = stepped-not refl refl refl record { alpha = refl; aside = refl; puts = refl; takes = refl; entries = refl; counter = refl };
+  stepped = stepped-not refl refl refl (counts-still refl refl refl refl)
+      record { alpha = refl; aside = refl; puts = refl; takes = refl; entries = refl; counter = refl };
   counted = λ did. absurd (true≢false (sym did));
   blocked = λ did. sym c.can_pulse.ensures.can ∙ c.if-not-can_pulse.true;
   going = c.requires.going;
 }
 
 pub returns : goal.returns
-returns g c = record {
-  stepped = stepped-did refl refl refl;
-  counted = λ did. c.advance.ensures.value ∙ c.in_ok-stamp.ensures.stamp;
-  blocked = λ did. absurd (true≢false did);
-  going = c.requires.going;
-}
+returns g c =
+    let old = c.args.self.now in
+    record {
+      stepped = stepped-did refl refl refl
+          (counts-pulse (c.advance.ensures.value ∙ c.in_ok-stamp.ensures.stamp) (pulsed_pulse old.alpha.last old.alpha.node c.pulse.new.self.node _ c.in-Ok.ensures.pulse) refl refl);
+      counted = λ did. c.advance.ensures.value ∙ c.in_ok-stamp.ensures.stamp;
+      blocked = λ did. absurd (true≢false did);
+      going = c.requires.going;
+    }
 
 -- the recorder is on as the run says
 pub reserve-requires : goal.reserve-requires

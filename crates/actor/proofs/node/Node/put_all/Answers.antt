@@ -1,6 +1,7 @@
 -- The plan: if nothing was put so far, the node is as it was; so what blocks a port now did so before the first put.
 use Rattle.std.proofs.Common.{◌≡◌, false, refl, sym, true≢false, ◌∙◌}
 use Rattle.actor.specs.Blocked.{IsUnmoved}
+use Rattle.actor.proofs.Counting.{counts_both}
 use Rattle.actor.proofs.Unmoved.{blocked-before, blocked-more, still_unmoved}
 use Rattle.actor.proofs.node.Node.put_all.Goals.{then-branch-2, else-branch-2}
 use Rattle.actor.proofs.node.Node.put_all.Goals as goal
@@ -19,6 +20,8 @@ loop-port-preserved-then-is_blocked g c =
       going = asked.going;
       degree = asked.stepped.degree ∙ some.degree ∙ inv.degree;
       refusal = asked.stepped.refusal ∙ some.refusal ∙ inv.refusal;
+      counts = counts_both old c.put_some.new.self c.is_blocked.new.self (counts_both old c.loop-port.self c.put_some.new.self inv.counts some.counts)
+          asked.stepped.counts;
       unmoved = λ none. still_unmoved old c.put_some.new.self c.is_blocked.new.self (tried none) (asked.stepped.unmoved refl);
       blocked = λ none. blocked-more old c.loop-port.port (inv.blocked none)
           (blocked-before old c.put_some.new.self c.loop-port.port (some.vertex ∙ inv.vertex) (tried none) (asked.blocked c.if-is_blocked.true));
@@ -40,6 +43,8 @@ loop-port-preserved g c =
       going = again.going;
       degree = again.stepped.degree ∙ asked.degree ∙ some.degree ∙ inv.degree;
       refusal = again.stepped.refusal ∙ asked.refusal ∙ some.refusal ∙ inv.refusal;
+      counts = counts_both old c.is_blocked.new.self c.put_again.new.self (counts_both old c.put_some.new.self c.is_blocked.new.self
+          (counts_both old c.loop-port.self c.put_some.new.self inv.counts some.counts) asked.counts) again.stepped.counts;
       unmoved = λ none. elim c.if-branch-2.branch [
         | then-branch-2 w ↦ absurd (true≢false (sym w.put-is ∙ none))
         | else-branch-2 w ↦

@@ -4,7 +4,8 @@ use Rattle.std.specs.Prelude.{IsTrue}
 use Rattle.std.proofs.lemmas.Result.{IfOk-from_err}
 use Rattle.alpha_core.specs.StampedWires.{last_stamp, wires_of}
 use Rattle.link_queue.specs.Ends.{put_list, put_stamped}
-use Rattle.actor.proofs.Keeping.{count_puts, count_takes, kept-none-put, kept-put, kept-room, last_went, port_below}
+use Rattle.actor.proofs.Counting.{counts-put, counts-still}
+use Rattle.actor.proofs.Keeping.{count_puts, count_takes, kept-none-put, kept-put, kept-room, last_went, port_below, puts_within}
 use Rattle.actor.proofs.Lists.{same_all, get_map, at_place, below_as_many}
 use Rattle.actor.proofs.Kept.{may_put, legal_by_name}
 use Rattle.interference.specs.Net.{degree_of, neighbour_of}
@@ -95,7 +96,8 @@ write-requires g c = record {
 
 pub returns-in_default : goal.returns-in_default
 returns-in_default g c = record {
-  stepped = stepped-not refl refl refl record { alpha = refl; aside = refl; puts = refl; takes = refl; entries = refl; counter = refl };
+  stepped = stepped-not refl refl refl (counts-still refl refl refl refl)
+      record { alpha = refl; aside = refl; puts = refl; takes = refl; entries = refl; counter = refl };
   counted = λ did. absurd (true≢false (sym did));
   going = c.requires.going;
 }
@@ -105,7 +107,8 @@ pub returns-in_err-stamp : goal.returns-in_err-stamp
 returns-in_err-stamp g c =
     let old = c.args.self.now in
     record {
-      stepped = stepped-full c.from_residual.ensures.1 refl refl refl (past_greater (2 ^ 64) old.counter (aside_stamp old.aside) c.in_err-stamp.ensures.full);
+      stepped = stepped-full c.from_residual.ensures.1 refl refl refl (counts-still refl refl refl refl)
+          (past_greater (2 ^ 64) old.counter (aside_stamp old.aside) c.in_err-stamp.ensures.full);
       counted = IfOk-from_err c.from_residual.result _ c.from_residual.ensures.0;
       going = c.requires.going;
     }
@@ -113,7 +116,7 @@ returns-in_err-stamp g c =
 -- memory was refused
 pub returns-in_err-reserve : goal.returns-in_err-reserve
 returns-in_err-reserve g c = record {
-  stepped = stepped-memory c.from_residual-in_err-reserve.ensures.1 refl refl refl
+  stepped = stepped-memory c.from_residual-in_err-reserve.ensures.1 refl refl refl (counts-still refl refl refl refl)
       (subst IsTrue c.args.self.now.kept.recorded c.in_err-reserve.ensures.refused);
   counted = IfOk-from_err c.from_residual-in_err-reserve.result _ c.from_residual-in_err-reserve.ensures.0;
   going = c.requires.going;
@@ -122,14 +125,15 @@ returns-in_err-reserve g c = record {
 -- the attempt failed
 pub returns-in-Err : goal.returns-in-Err
 returns-in-Err g c = record {
-  stepped = stepped-not refl refl refl record {
-    alpha = refl;
-    aside = refl;
-    puts = same_all (λ e. put_list e.end) _ _ _ _ c.index_mut.ensures.value (ap (λ l. wires_of l) c.in-Err.ensures.unchanged);
-    takes = refl;
-    entries = c.reserve.ensures.same.entries;
-    counter = refl;
-  };
+  stepped = stepped-not refl refl refl
+      (counts-still refl refl (same_all (λ e. put_stamped e.end) _ _ _ _ c.index_mut.ensures.value c.in-Err.ensures.unchanged) refl) record {
+        alpha = refl;
+        aside = refl;
+        puts = same_all (λ e. put_list e.end) _ _ _ _ c.index_mut.ensures.value (ap (λ l. wires_of l) c.in-Err.ensures.unchanged);
+        takes = refl;
+        entries = c.reserve.ensures.same.entries;
+        counter = refl;
+      };
   counted = λ did. absurd (true≢false (sym did));
   going = c.requires.going;
 }
@@ -138,10 +142,14 @@ returns-in-Err g c = record {
 pub returns-in-Ok : goal.returns-in-Ok
 returns-in-Ok g c =
     let old = c.args.self.now in
+    let moved = c.advance.ensures.value ∙ c.in_ok-stamp.ensures.stamp in
     record {
-      stepped = stepped-did refl refl refl;
+      stepped = stepped-did refl refl refl
+          (counts-put (puts_within old.kept c.args.port c.requires.port)
+          record { is = c.index_mut.ensures.value; place = c.in-Ok.ensures.place; more = c.in-Ok.ensures.stamped } moved
+          (ap (λ u. u.pulse) c.put_done.ensures.view) refl refl);
       counted = λ did. record {
-        one_more = c.advance.ensures.value ∙ c.in_ok-stamp.ensures.stamp;
+        one_more = moved;
         stamp = last_went old.kept c.requires.port record { is = c.index_mut.ensures.value; place = c.in-Ok.ensures.place; more = c.in-Ok.ensures.stamped }
             ∙ sym c.advance.ensures.value;
       };

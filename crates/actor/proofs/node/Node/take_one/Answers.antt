@@ -3,8 +3,10 @@ use Rattle.std.proofs.Common.{◌+◌, length, refl, ap, ◌∙◌, sym, subst, 
 use Rattle.std.specs.Prelude.{IsTrue, max}
 use Rattle.std.proofs.lemmas.Result.{IfOk-from_err}
 use Rattle.alpha_core.specs.StampedWires.{wires_of}
-use Rattle.link_queue.specs.Ends.{taken_list}
-use Rattle.actor.proofs.Keeping.{came, count_takes, kept-full, kept-none-came, kept-refused, kept-room, kept-took, last_came}
+use Rattle.alpha_laws.proofs.PulseAfter.{reaction_pulse}
+use Rattle.link_queue.specs.Ends.{taken_list, taken_stamped}
+use Rattle.actor.proofs.Counting.{counts-still, counts-take}
+use Rattle.actor.proofs.Keeping.{came, count_takes, kept-full, kept-none-came, kept-refused, kept-room, kept-took, last_came, takes_within}
 use Rattle.actor.proofs.Lists.{below_as_many, same_all}
 use Rattle.actor.proofs.Refusals.{past_above}
 use Rattle.actor.proofs.Stepping.{stepped-did, stepped-full, stepped-memory, stepped-not}
@@ -71,45 +73,67 @@ write-requires g c = record {
 -- the link was empty
 pub returns-in-None : goal.returns-in-None
 returns-in-None g c = record {
-  stepped = stepped-not refl refl refl record {
-    alpha = refl;
-    aside = refl;
-    puts = refl;
-    takes = same_all (λ e. taken_list e.end) _ _ _ _ c.index_mut-end.ensures.value (ap (λ l. wires_of l) c.in-None.ensures.unchanged);
-    entries = c.reserve.ensures.same.entries;
-    counter = refl;
-  };
+  stepped = stepped-not refl refl refl
+      (counts-still refl refl refl (same_all (λ e. taken_stamped e.end) _ _ _ _ c.index_mut-end.ensures.value c.in-None.ensures.unchanged)) record {
+        alpha = refl;
+        aside = refl;
+        puts = refl;
+        takes = same_all (λ e. taken_list e.end) _ _ _ _ c.index_mut-end.ensures.value (ap (λ l. wires_of l) c.in-None.ensures.unchanged);
+        entries = c.reserve.ensures.same.entries;
+        counter = refl;
+      };
   counted = λ did. absurd (true≢false (sym did));
 }
 
 -- memory was refused
 pub returns-in_err-reserve : goal.returns-in_err-reserve
 returns-in_err-reserve g c = record {
-  stepped = stepped-memory c.from_residual.ensures.1 refl refl refl (subst IsTrue c.args.self.now.kept.recorded c.in_err-reserve.ensures.refused);
+  stepped = stepped-memory c.from_residual.ensures.1 refl refl refl (counts-still refl refl refl refl) (subst IsTrue c.args.self.now.kept.recorded c.in_err-reserve.ensures.refused);
   counted = IfOk-from_err c.from_residual.result _ c.from_residual.ensures.0;
 }
 
 -- the stamp would be too great
 pub returns-in_default : goal.returns-in_default
-returns-in_default g c = record { stepped = stepped-full refl refl refl refl c.in_default.ensures.full; counted = tt }
+returns-in_default g c =
+    let old = c.args.self.now in
+    record {
+      stepped = stepped-full refl refl refl refl
+          (counts-take (takes_within old.kept c.args.port c.requires.port)
+          (came c.in-Some.item c.index_mut-end.ensures.value c.in-Some.ensures.place c.in-Some.ensures.stamped c.stamp-stamp.ensures
+          c.wire_of-wire.ensures.wire) (omega arith) (omega arith) refl refl refl) c.in_default.ensures.full;
+      counted = tt;
+    }
 
 -- a wire was taken
 pub returns-in-Ok-on_wire : goal.returns-in-Ok-on_wire
 returns-in-Ok-on_wire g c =
     let old = c.args.self.now in
-    let last = last_came old.kept c.requires.port (came c.in-Some.item c.index_mut-end.ensures.value c.in-Some.ensures.place c.in-Some.ensures.stamped
-    c.stamp-stamp.ensures c.wire_of-wire.ensures.wire) in
+    let came' = came c.in-Some.item c.index_mut-end.ensures.value c.in-Some.ensures.place c.in-Some.ensures.stamped c.stamp-stamp.ensures
+    c.wire_of-wire.ensures.wire in
+    let last = last_came old.kept c.requires.port came' in
+    let moved = c.advance.ensures.value ∙ c.in-Ok.ensures.stamp in
     record {
-      stepped = stepped-did refl refl refl;
+      stepped = stepped-did refl refl refl
+          (counts-take (takes_within old.kept c.args.port c.requires.port) came' (omega (arith, moved)) (omega (arith, moved))
+          (reaction_pulse old.alpha.last old.alpha.node.view c.on_wire.new.self.node.view c.args.port c.wire_of-wire.result
+          c.in-Ok-on_wire.ensures.reaction) refl refl);
       counted = λ did. record {
-        past = λ going. c.advance.ensures.value ∙ c.in-Ok.ensures.stamp ∙ ap (λ s. max old.counter s + 1) (sym last);
+        past = λ going. moved ∙ ap (λ s. max old.counter s + 1) (sym last);
         stays = λ aside. absurd (aside c.requires.going);
       };
     }
 
 -- a wire was set aside
 pub returns-in-Err : goal.returns-in-Err
-returns-in-Err g c = record { stepped = stepped-did refl refl refl; counted = λ did. record { past = λ going. absurd cc; stays = λ aside. refl } }
+returns-in-Err g c =
+    let old = c.args.self.now in
+    record {
+      stepped = stepped-did refl refl refl
+          (counts-take (takes_within old.kept c.args.port c.requires.port)
+          (came c.in-Some.item c.index_mut-end.ensures.value c.in-Some.ensures.place c.in-Some.ensures.stamped c.stamp-stamp.ensures
+          c.wire_of-wire.ensures.wire) (omega arith) (omega arith) (ap (λ a. a.node.view.pulse) c.in-Err.ensures.refused) refl refl);
+      counted = λ did. record { past = λ going. absurd cc; stays = λ aside. refl };
+    }
 
 -- the recorder is on as the run says
 pub reserve-requires : goal.reserve-requires
