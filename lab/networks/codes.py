@@ -82,9 +82,11 @@ CODES = (
          "vertices count from 1, and the ports of a node from 0, by ascending neighbour", LINE, "E4"),
     Code("Memory", EITHER, "memory ran out; the programs write `memory`", MEMORY, "", "E5"),
     Code("X1", ENTRY, "{at} isn't a line of a transcript, or there is no transcript (line 1)",
-         f"begin with `transcript 2 NODES`; each line after it is an entry, as `3 1 put 2 ack 0`; a payload of another "
+         "begin with `transcript 2 NODES`; each line after it is an entry, as `3 1 put 2 ack 0`; a payload of another "
          f"program needs its `--program`. {CHECK}", LINE),
     Code("X2", ENTRY, "memory ran out; the programs write `memory`", MEMORY),
+    Code("WrongProgram", ENTRY, "{at}, the first one of the transcript, names another program",
+         "give the name that is said after the line: `--program NAME`", LINE),
     Code("WrongWire", ENTRY, "the event of {at} is possible, but with another wire or pulse",
          f"write the one that the words after the line name. {CHECK}", LINE),
     Code("WrongStamp", ENTRY, "in {at} the stamp isn't what its node's counter gives, or the entry comes too late",

@@ -506,7 +506,7 @@ def run_text(given, network, network_text, program):
         wires = least_wires(network, program)
         note(f"a run of {network.name} has more than {wires:,} wires, so its text takes a while")
     if is_own(program):
-        return text_of_rows(network.nodes, played(network_of(network), program=program))
+        return text_of_rows(network.nodes, played(network_of(network), program=program), program)
     options = [f"--{name}={value}" for name in ("workers", "capacity") if (value := getattr(given, name, None))]
     if program is Colouring:
         return programs.text_of("forestplan", ["transcript", *options], network_text)

@@ -112,7 +112,7 @@ def draw(run, pulses=None, kinds=None, wrong=None):
 
 def time_words(run, behind=""):
     """What the place of an event from left to right is; `behind` ends the sentence."""
-    if run.edition == 2:
+    if run.is_stamped:
         return (
             "Time is the transcript's stamps, by Lamport's clock: one more than the node's last, and of a take also "
             f"than the put's{behind}. It is not real time."

@@ -42,10 +42,10 @@ class Entry:
 
 class Run:
     """`entries[v]` in v's order; `last` is R; `whole`, whether every node is through with its last pulse; `read_to`,
-    the pulse up to which a long text was read, or None if it was read to its end; `edition`, the text's edition."""
+    the pulse up to which a long text was read, or None if it was read to its end; `is_stamped`, whether the text is."""
 
-    def __init__(self, network, name, entries, rounds, edition):
-        self.network, self.name, self.entries, self.rounds, self.edition = network, name, entries, rounds, edition
+    def __init__(self, network, name, entries, rounds, is_stamped):
+        self.network, self.name, self.entries, self.rounds, self.is_stamped = network, name, entries, rounds, is_stamped
         self.last, self.whole, self.read_to = rounds.last, False, None
 
     def all(self):
@@ -135,7 +135,7 @@ def run_of(text, name, network, stop, program):
     if len(set(identifiers.values())) < network.nodes:
         raise Wrong(f"{name}: two nodes have one identifier")
     rounds = rounds_of(network, identifiers, program)
-    run = Run(network, name, {v: [] for v in network.vertices}, rounds, head.edition)
+    run = Run(network, name, {v: [] for v in network.vertices}, rounds, head.is_stamped)
     run.read_to = stop if stop is not None and stop <= run.last else None
     bars = {v: [channel - 1 for channel in network.barred(v)] for v in network.vertices}
     order = find_order(Network(identifiers, network.edges, bars), read, program)

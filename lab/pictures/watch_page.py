@@ -125,14 +125,14 @@ def steps_of_text(name, network, text, pulses=None, program=Colouring):
 
 
 def ordered(name, network, net, text, program):
-    """The entries of a text in an order that is a run: as they stand in edition 2, and else as one is found."""
+    """The entries of a text in an order that is a run: as they stand with stamps, and else as one is found."""
     try:
         head, entries = read(text.encode(), program.name)
     except WrongEntry as why:
         raise Wrong(f"{name} {why}") from None
     if head.nodes != network.nodes:
         raise wrong_line(name, head.line, f"{head.nodes} nodes, and {network.name} has {network.nodes} (Nodes)")
-    if head.edition == 2:
+    if head.is_stamped:
         return entries
     order = find_order(net, entries, program)
     if order.left:

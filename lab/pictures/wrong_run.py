@@ -35,9 +35,12 @@ def cut(text: str, name: str, network, program: type, stopped: int | None) -> tu
         raise Wrong(f"{network.name} has no vertex {stopped}")
     if is_own(program):
         raise Wrong(f"--wrong asks the proved judge, which doesn't know {program.name}")
-    if [field for field in fields_of(text.lstrip().split("\n", 1)[0]) if field][:2] != ["transcript", "2"]:
-        raise Wrong(f"{name}: --wrong needs a transcript of edition 2, whose lines have an order")
+    head = [field for field in fields_of(text.lstrip().split("\n", 1)[0]) if field]
+    if head[:2] not in (["transcript", "2"], ["transcript", "3"]):
+        raise Wrong(f"{name}: --wrong needs a transcript of edition 2 or 3, whose lines have an order")
     verdict = verdict_of(plain_text(network), text, program.name)
+    if verdict.name == "WrongProgram":
+        raise Wrong(f"{name} is a transcript of {verdict.words}, not of {program.name}: --program {verdict.words}")
     if verdict.name is None:
         return text, None
     if verdict.name == "NotWhole":

@@ -12,6 +12,7 @@ from lab.definitions.programs import add_program, note_ignored_bars, program_at
 from lab.networks.fields import shown
 from lab.schedules.policies import POLICIES, Step, policy_of
 from lab.schedules.reading import network_at
+from lab.transcripts.fields import first_line
 from lab.transcripts.reading import Entry
 from lab.transcripts.stamps import Clock, unfinished
 from lab.words import add_output, add_seed, called, parser_of, text_at, write
@@ -47,8 +48,9 @@ MORE_HELP = f"""\
 The policies; those that choose an edge or a node choose it by the seed:
 {chr(10).join(f"  {name:<12}{habit}" for name, habit in HABITS.items())}
 
-The transcript is of edition 2, as `forestplan transcript` writes it, so that
-`forestlab transcript`, `forestlab picture` and `forestplay replay` read it. NETWORK is a file
+The transcript is of edition 2, as `forestplan transcript` writes it, or of another
+program of edition 3, which names it, so that `forestlab transcript`, `forestlab
+picture` and `forestplay replay` read it. NETWORK is a file
 in the DIMACS format, - for standard input, or a name, as petersen or path5. 4,500 entries
 (petersen) take half a second, and half a million one to several minutes.
 
@@ -202,10 +204,10 @@ def played_by_list(net, path, program=Colouring):
     return player
 
 
-def text_of_rows(nodes, rows):
-    """The transcript of edition 2: its lines by stamp, and lines of one stamp by node."""
+def text_of_rows(nodes, rows, program=Colouring):
+    """The transcript with stamps of a program: its lines by stamp, and lines of one stamp by node."""
     lines = [f"{stamp} {line}" for stamp, _, line in sorted(rows, key=lambda row: row[:2])]
-    return "".join(line + "\n" for line in [f"transcript 2 {nodes}", *lines])
+    return "".join(line + "\n" for line in [first_line(nodes, program.name), *lines])
 
 
 def edge(text):
@@ -243,9 +245,8 @@ def check_names(name, net, given):
             raise Wrong(f"{name} has no node {v}: its nodes are 1 to {len(net.neighbours)}")
 
 
-def rows_asked(net, given):
+def rows_asked(net, given, program):
     """The rows of the run that the command line asks for; a list that ends early is said."""
-    program = program_at(given.program, given.lots)
     note_ignored_bars("simulate", net.barred, program)
     if not given.events:
         return played(net, given.policy, given.seed, given.slow, given.lazy, program=program)
@@ -266,6 +267,7 @@ def main(words):
         line.error("standard input is one file, not two")
     name, net = network_at(given.network)
     check_names(name, net, given)
-    write(given, text_of_rows(len(net.neighbours), rows_asked(net, given)))
+    program = program_at(given.program, given.lots)
+    write(given, text_of_rows(len(net.neighbours), rows_asked(net, given, program), program))
     return 0
 

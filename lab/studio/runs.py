@@ -53,7 +53,7 @@ def played(asked, network, program, tell):
         if player.now == next_part:
             next_part *= 2
             tell(part=shown(Run("the run", network, made.by_stamp())))
-    return text_of_rows(network.nodes, player.rows), Run("the run", network, made.by_stamp())
+    return text_of_rows(network.nodes, player.rows, program), Run("the run", network, made.by_stamp())
 
 
 def first_steps(asked, net, program):

@@ -2,7 +2,7 @@
 
 A transcript of edition 1 has the entries of each node in that node's own order, and says nothing of the order
 between nodes. This program looks for an order of all entries that is a run, and demands that the run is whole. One
-of edition 2 has an order and stamps: stamps.py checks it. `--help` says how to call it."""
+of edition 2 or 3 has an order and stamps: stamps.py checks it. `--help` says how to call it."""
 import gc
 import json
 import sys
@@ -13,6 +13,7 @@ from lab.definitions.nodes import Colouring, named, wire_words
 from lab.definitions.programs import add_program, note_ignored_bars, program_at
 from lab.networks.named import network_bytes
 from lab.networks.network_text import read_network
+from lab.transcripts.fields import first_line
 from lab.transcripts.reading import Wrong, read_to_fault, words
 from lab.transcripts.rules import Standing, rule_of, stuck_words
 from lab.transcripts.search import Search
@@ -30,9 +31,9 @@ a link to a neighbour or took from one. One of edition 1 does not say which of t
 nodes came first. It is right if there is an order of all entries in which each of
 them was possible when it came, with just the wire that it names, and if the run is
 whole: all nodes have made their last pulse, nothing is left to be put, and no
-link holds a wire. One of edition 2 is right if the order of its lines is such an
-order, and each stamp is the one that Lamport's clock gives: one more than the last
-one of that node, and of a take also than the put's.
+link holds a wire. One of edition 2 or 3 is right if the order of its lines is such
+an order, and each stamp is the one that Lamport's clock gives: one more than the
+last one of that node, and of a take also than the put's. Edition 3 names its program.
 """
 
 MORE_HELP = """\
@@ -42,8 +43,9 @@ Of any other it prints on standard error one line with the line of the transcrip
 and what is wrong there, as
   line 6: LinkEmpty: node 1 takes payload 0 hello 3 from 3, which never puts it
 
-  X1            neither `transcript 1 N` or `transcript 2 N` (the first line) nor an entry,
-                as one with a payload of another program: give its name, --program
+  X1            neither the first line, as `transcript 2 N`, nor an entry, as one with a
+                payload of another program: give its name, --program
+  WrongProgram  edition 3: the first line names another program, which is said
   NoSuch        no such node, or it has no such neighbour
   NotReady      a pulse that the node cannot make there
   NothingToPut  the node has nothing for that neighbour
@@ -216,7 +218,7 @@ def run_as_it_stands(net, text, program):
     head, *lines = text.split(b"\n")
     if lines[-1:] != [b""]:
         return None
-    if head == b"transcript 2 %d" % len(net.neighbours):
+    if head == first_line(len(net.neighbours), program.name).encode():
         nodes = stamped_as_it_stands(net, lines[:-1], program)
         return None if nodes is None else (range(2, len(lines) + 1), verdict(nodes))
     if head != b"transcript 1 %d" % len(net.neighbours):
@@ -243,7 +245,7 @@ def run_as_it_stands(net, text, program):
 def run_read_with_care(net, text, program=Colouring):
     head, entries, fault = read_to_fault(text, program.name)
     check_nodes(net, head.line, head.nodes)
-    if head.edition == 2:
+    if head.is_stamped:
         check_stamped(net, head, entries, fault, program)
     found = find_order(net, entries, program)
     if fault:
@@ -252,7 +254,7 @@ def run_read_with_care(net, text, program=Colouring):
         raise refusal_of(found, first_refused(found))
     for v, what in unfinished(found.nodes):
         raise not_whole(head, entries, found.nodes, v, what)
-    made = entries if head.edition == 2 else found.made
+    made = entries if head.is_stamped else found.made
     return [entry.line for entry in made], verdict(found.nodes)
 
 
@@ -299,8 +301,8 @@ def words_of_command():
     words.add_argument(
         "--order",
         action="store_true",
-        help="instead of that line print the transcript in the order found, in which it is a run line by line; of "
-             "edition 2 as it is",
+        help="instead of that line print the transcript in the order found, in which it is a run line by line; with "
+             "stamps as it is",
     )
     words.add_argument("--json", action="store_true", help="write the verdict for a program")
     add_texts(words)

@@ -1,5 +1,5 @@
-"""The door: `forestlab transcript convert FORM [TRANSCRIPT]`. Writes a transcript of edition 2 in the form of another
-tool, or one line on standard error."""
+"""The door: `forestlab transcript convert FORM [TRANSCRIPT]`. Writes a transcript with stamps, edition 2 or 3, in the
+form of another tool, or one line on standard error."""
 import json
 import sys
 from collections import deque
@@ -10,10 +10,10 @@ from lab.words import add_output, bytes_at, parser_of, write
 from lab.wrong import Wrong as WrongText
 
 HELP = """\
-Writes a transcript of edition 2 for other tools.
+Writes a transcript with stamps, edition 2 or 3, for other tools.
 
-  json:   a JSON object a line: the first with the number of nodes, then one for each
-          entry, {"stamp", "node", "kind", "neighbour", "wire", "pulse", ..}; a take has
+  json:   a JSON object a line: the first with the number of nodes, and in edition 3
+          with the program; then one for each entry, {"stamp", "node", "kind", "neighbour", "wire", "pulse", ..}; a take has
           the number of the line of its put as "put"
   shiviz: a log for ShiViz (bestchai.bitbucket.io/shiviz), with vector clocks
 """
@@ -36,10 +36,11 @@ Example:
 
 
 def entries_of(text):
-    """The number of nodes; and (entry, the entry of its put if it is a take), in the order of the text."""
-    head, entries = read(text)
-    if head.edition != 2:
-        raise Wrong(head.line, "X1", "edition 1 has no order of all entries: only edition 2 is written in other forms")
+    """The first line; and (entry, the entry of its put if it is a take), in the order of the text."""
+    head, entries = read(text, None)
+    if not head.is_stamped:
+        raise Wrong(head.line, "X1", "edition 1 has no order of all entries: only editions 2 and 3 are written in "
+                                     "other forms")
     links, found = {}, []
     for entry in entries:
         put = None
@@ -51,11 +52,12 @@ def entries_of(text):
                 raise Wrong(entry.line, "LinkEmpty", f"node {entry.vertex} takes what {entry.neighbour} hasn't put")
             put = link.popleft()
         found.append((entry, put))
-    return head.nodes, found
+    return head, found
 
 
-def as_json(nodes, entries):
-    yield json.dumps({"edition": 2, "nodes": nodes})
+def as_json(head, entries):
+    named = {"program": head.program} if head.program else {}
+    yield json.dumps({"edition": head.edition, "nodes": head.nodes} | named)
     for entry, put in entries:
         row = {"line": entry.line, "stamp": entry.stamp, "node": entry.vertex, "kind": entry.kind.lower()}
         if entry.kind == "Pulse":

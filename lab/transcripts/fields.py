@@ -6,7 +6,18 @@ import functools
 PAYLOADS = {"colouring": {b"hello": 2**128, b"label": 2**16, b"colour": 2**128, b"chosen": 2**16},
             "leader": {b"leader": 2**128}, "layers": {b"hops": 2**32}}
 KINDS = (b"pulse", b"put", b"take")
+COLOURING = "colouring"
 WIRES = {b"payload": 4, b"ack": 2, b"safe": 2, b"close": 1}
+
+
+def name_in_texts(program):
+    """The name of a program as the first line of a transcript has it: one field, whatever its file is called."""
+    return "".join(letter if letter.isascii() and (letter.isalnum() or letter in "-_") else "_" for letter in program)
+
+
+def first_line(nodes, program=COLOURING):
+    """The first line of a transcript with stamps: of edition 2, or of edition 3 if it isn't the colouring's."""
+    return f"transcript 2 {nodes}" if program == COLOURING else f"transcript 3 {name_in_texts(program)} {nodes}"
 
 
 def bound_of(program, word):
@@ -42,7 +53,7 @@ def no_number(field, what, bound=2**32):
 
 def why_no_entry(fields, edition, program):
     """Of the fields of a line that is no entry."""
-    if edition == 2:
+    if edition > 1:
         wrong = no_number(fields[0], "stamp", 2**64)
         if wrong or len(fields) == 1:
             return wrong or "there is a stamp alone"

@@ -1,17 +1,27 @@
-"""The reading of transcripts of both editions. It is written from the pages in docs/ alone."""
+"""The reading of transcripts of all editions. It is written from the pages in docs/ alone."""
 import functools
 from collections import namedtuple
+from typing import NamedTuple
 
 from lab.definitions.colours import fields_of
 from lab.definitions.nodes import wire_words
-from lab.transcripts.fields import bound_of, number, why_no_entry
+from lab.transcripts.fields import COLOURING, bound_of, name_in_texts, number, why_no_entry
 
 # `kind` is Pulse, Put or Take; `what` is the number of the pulse, or the wire, as lab/definitions/nodes.py has it. A
-# pulse has no neighbour. `text` is the line as the search takes it, without the stamp; `stamp` is in edition 2 alone.
+# pulse has no neighbour. `text` is the line as the search takes it, without the stamp; edition 1 has no `stamp`.
 Entry = namedtuple("Entry", "line vertex kind neighbour what text stamp", defaults=[None])
 
-# The first line: where it is, and what it says.
-Head = namedtuple("Head", "line edition nodes")
+
+class Head(NamedTuple):
+    """The first line: where it is, and what it says; `program` is the name that edition 3 has."""
+    line: int
+    edition: int
+    nodes: int
+    program: str | None = None
+
+    @property
+    def is_stamped(self) -> bool:
+        return self.edition > 1
 
 
 class Wrong(Exception):
@@ -59,28 +69,28 @@ def stamped_entry_of(line, fields, program):
     return entry_of(line, fields[1:], program)._replace(stamp=number(fields[0], 2**64))
 
 
-READERS = {1: entry_of, 2: stamped_entry_of}
-
-
-def read(text, program="colouring"):
-    """The first line, and the entries in the order of the text, with the payloads of the program of this name."""
+def read(text, program=COLOURING):
+    """The first line, and the entries in the order of the text, with the payloads of the program of this name; without
+    one, of the program that the text names, or of the colouring."""
     head, entries, fault = read_to_fault(text, program)
     if fault:
         raise fault
     return head, entries
 
 
-def read_to_fault(text, program="colouring", stop=None):
+def read_to_fault(text, program=COLOURING, stop=None):
     """The first line, the entries before the first line that isn't one, and that line's fault, or None. With `stop`, of
     each node only what it did before it begins that pulse."""
     lines, entries, stopped = text.split(b"\n"), [], set()
     head = head_of(lines)
+    program = checked_program(head, program)
+    entry_in, vertex = (stamped_entry_of, 1) if head.is_stamped else (entry_of, 0)
     for line, raw in enumerate(lines[head.line:], head.line + 1):
-        if stopped and stopped.issuperset(raw.split(b" ", head.edition)[head.edition - 1:head.edition]):
+        if stopped and stopped.issuperset(raw.split(b" ", vertex + 1)[vertex:vertex + 1]):
             continue
         try:
             if fields := fields_of(raw):
-                entry = READERS[head.edition](line, fields, program)
+                entry = entry_in(line, fields, program)
                 if stop is not None and (entry.kind, entry.what) == ("Pulse", stop):
                     stopped.add(b"%d" % entry.vertex)
                 else:
@@ -91,17 +101,36 @@ def read_to_fault(text, program="colouring", stop=None):
     return head, entries, None
 
 
+def checked_program(head, program):
+    """The program whose payloads the entries have: the one that is asked for, unless the first line names another."""
+    if program is None:
+        return head.program or COLOURING
+    if head.program not in (None, name_in_texts(program)):
+        raise Wrong(head.line, "WrongProgram",
+                    f"a transcript of {head.program}, not of {program}: --program {head.program}")
+    return program
+
+
 def head_of(lines):
     """The first line that has a field."""
     for line, fields in enumerate(map(fields_of, lines), 1):
         if fields:
             try:
-                if len(fields) == 3 and fields[0] == b"transcript" and fields[1] in (b"1", b"2"):
-                    return Head(line, int(fields[1]), number(fields[2]))
+                match fields:
+                    case [b"transcript", b"1" | b"2" as edition, nodes]:
+                        return Head(line, int(edition), number(nodes))
+                    case [b"transcript", b"3", name, nodes] if is_name(name):
+                        return Head(line, 3, number(nodes), name.decode())
             except ValueError:
                 pass
-            raise Wrong(line, "X1", f"neither `transcript 1 N` nor `transcript 2 N`{what_it_is(fields)}")
-    raise Wrong(1, "X1", "there is no line `transcript 1 N` or `transcript 2 N`")
+            raise Wrong(line, "X1", f"neither `transcript 1 N`, `transcript 2 N` nor `transcript 3 NAME N`"
+                                    f"{what_it_is(fields)}")
+    raise Wrong(1, "X1", "there is no line `transcript 1 N`, `transcript 2 N` or `transcript 3 NAME N`")
+
+
+def is_name(field):
+    """Whether a field is the name of a program as a transcript has it."""
+    return field.isascii() and field.decode() == name_in_texts(field.decode())
 
 
 def what_it_is(fields):

@@ -16,8 +16,8 @@ proved machine of forestplay play them one by one.
 
 A transcript of edition 1 lists all entries of node 1, then all of node 2, and so on.
 They can't have happened in this order, so `forestplay replay` refuses it (LinkEmpty).
-One of edition 2, which `forestplan transcript` writes without `--edition 1`, has an
-order, and `forestplay replay` takes it. This command looks for an order, and gives the
+One of edition 2, which `forestplan transcript` writes without `--edition 1`, or 3, of
+another program, has an order, and `forestplay replay` takes it. This command looks for an order, and gives the
 network and the entries in that order to `forestplay replay`.
 
 It prints the state that the entries lead to, as `forestplay replay --help` says.

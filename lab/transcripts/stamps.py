@@ -1,4 +1,4 @@
-"""Transcripts of edition 2: their lines are a run in their order, with the stamps of Lamport's
+"""Transcripts of editions 2 and 3: their lines are a run in their order, with the stamps of Lamport's
 clock. It is written from the pages in docs/ alone."""
 from collections import deque
 

@@ -7,6 +7,7 @@ from lab.networks.network_text import Network
 from lab.networks.texts import plain_text
 from lab.programs import called
 from lab.transcripts import proved_judge
+from lab.transcripts.fields import first_line
 from lab.transcripts.proved_judge import Verdict
 from lab.workshop.findings import NoVerdict
 from lab.workshop.protocol import COLOURING
@@ -47,14 +48,14 @@ def ask(name: str, command: str, text: str, program: str = COLOURING) -> tuple[i
     return done.returncode, done.stdout.decode(), done.stderr.decode("utf-8", "replace").strip()
 
 
-def transcript_text(nodes: int, entries: list[Entry]) -> str:
-    lines = [f"transcript 2 {nodes}", *(f"{stamp} {v} {words}" for stamp, v, words in entries)]
+def transcript_text(nodes: int, entries: list[Entry], program: str) -> str:
+    lines = [first_line(nodes, program), *(f"{stamp} {v} {words}" for stamp, v, words in entries)]
     return "".join(line + "\n" for line in lines)
 
 
 def verdict_on(network: Network, entries: list[Entry], program: str) -> Verdict:
     """The judge's verdict on entries in this order."""
-    return verdict_of(plain_text(network), transcript_text(network.nodes, entries), program)
+    return verdict_of(plain_text(network), transcript_text(network.nodes, entries, program), program)
 
 
 def verdict_of(network: str, transcript: str, program: str = COLOURING) -> Verdict:

@@ -29,7 +29,8 @@ def keep(case: Case, folder: str) -> None:
 def run_texts(case: Case) -> dict[str, str]:
     match case.run:
         case AlphaRun():
-            return {"run.transcript": transcript_text(case.network.nodes, case.run.in_order())}
+            entries, program = case.run.in_order(), case.run.rounds.program
+            return {"run.transcript": transcript_text(case.network.nodes, entries, program)}
         case OpenRun():
             return {"plan": case.run.plan_text()}
         case RoundsRun():
@@ -74,7 +75,8 @@ def draw(case: Case, file: str) -> str | None:
     last = found.pulse if found else 3
     with tempfile.TemporaryDirectory() as folder:
         network, run = (os.path.join(folder, f"{case.network.name}.{end}") for end in ("col", "transcript"))
-        for path, text in ((network, plain_text(case.network)), (run, transcript_text(case.network.nodes, entries))):
+        stored = transcript_text(case.network.nodes, entries, case.run.rounds.program)
+        for path, text in ((network, plain_text(case.network)), (run, stored)):
             with open(path, "w", encoding="ascii") as out:
                 out.write(text)
         command = [os.path.join(TOP, "bin", "forestlab"), "picture", "run", network, "--transcript", run, "--wrong",

@@ -45,6 +45,8 @@ FAULTS = [
     ("events", EDGE + "take 1 0|", "LinkEmpty line 3: link from 2 to 1", "in line 3 the link has no wire"),
     ("events", EDGE + "put 1 2|", "NoSuch line 3", "in line 3 there is no such vertex or port"),
     ("replay", RUN + "1 1 puts 2 close|", "X1 line 4", "line 4 isn't a line of a transcript"),
+    ("replay", EDGE + "transcript 3 leader 2|", "WrongProgram line 3: leader",
+     "line 3, the first one of the transcript, names another program"),
     ("replay", RUN + "1 1 put 2 payload 0 hello 7|", "WrongWire line 4: expected payload 0 hello 1",
      "the event of line 4 is possible, but with another wire"),
     ("replay", RUN + "2 1 put 2 payload 0 hello 1|", "WrongStamp line 4", "in line 4 the stamp isn't what"),

@@ -66,7 +66,8 @@ ROUNDS = [
      "2 put 3 payload 1 hops 1|pulse 2|3 put 2 payload 2 hops 2|pulse 3|"
      "1 layer 0|2 layer 1 by 0|3 layer 2 by 0|4 layer none|"),
 ]
-FIRST = "transcript 1 2|1 put 2 payload 0 "
+FIRST, FIRST_STAMPED = "transcript 1 2|1 put 2 payload 0 ", "transcript 2 2|"
+NAMED = "transcript 3 leader 2||1 1 put 2 payload 0 "
 # Entries of a transcript of an edge, and what is said of them: words of another program, and numbers out of range.
 REFUSED = [
     ("colouring", FIRST + "leader 1|", "X1 line 4"), ("colouring", FIRST + "hops 0|", "X1 line 4"),
@@ -76,6 +77,15 @@ REFUSED = [
     ("layers", FIRST + "hop 0|", "X1 line 4"), ("leader", FIRST + "leader|", "X1 line 4"),
     ("leader", FIRST + "leader 2|", "WrongWire line 4: expected payload 0 leader 1"),
     ("layers", FIRST + "hops 1|", "WrongWire line 4: expected payload 0 hops 0"),
+    # A name comes before what is wrong in later lines, and after nothing else than faults of the network.
+    ("leader", NAMED + "leader 1|", "NotWhole line 5"), ("leader", NAMED + "hops 0|", "X1 line 5"),
+    ("layers", NAMED + "hops 0|", "WrongProgram line 3: leader"), ("colouring", NAMED + "x|", "WrongProgram line 3: leader"),
+    ("colouring", "transcript 3 colouring 2|", "NotWhole line 3"),
+    ("layers", "transcript 3 leader x|", "WrongProgram line 3: leader"), ("leader", "transcript 3 leader x|", "X1 line 3"),
+    ("leader", "transcript 3 leader|", "X1 line 3"), ("leader", "transcript 3 2|", "X1 line 3"),
+    ("leader", "transcript 3 leader 2 2|", "X1 line 3"), ("leader", "transcript 2 leader 2|", "X1 line 3"),
+    ("leader", "transcript 3 Leader 2|", "X1 line 3"), ("leader", "transcript 3 lead\x1ber 2|", "X1 line 3"),
+    ("leader", "transcript 4 leader 2|", "X1 line 3"),
 ]
 STOPPED = b"forestplay: stopped\n"
 UNKNOWN = "error: invalid value '{}' for '--program <NAME>'|  [possible values: colouring, leader, layers]||" \
@@ -104,14 +114,25 @@ class Programs(Case):
                       done)
 
     def test_transcripts(self):
-        """The transcript of a run is one run, which its own program replays and the others refuse."""
-        for program in ("colouring", "leader", "layers"):
+        """The transcript of a run is one run, which its own program replays and the others refuse: by the name in the first
+        line, and without it by the first payload."""
+        for program, first, payload in (("colouring", "transcript 2 2", "hello 1"),
+                                        ("leader", "transcript 3 leader 2", "leader 1"),
+                                        ("layers", "transcript 3 layers 2", "hops 0")):
             done = play(["run", "--program", program, "--transcript"], EDGE)
-            self.note(f"transcript of {program}", done.returncode == 0 and not done.stderr, done)
+            begins = text(f"{first}|1 1 put 2 payload 0 {payload}|")
+            self.note(f"transcript of {program}", done.returncode == 0 and done.stdout.startswith(begins), done)
+            unnamed = text(FIRST_STAMPED) + done.stdout.split(b"\n", 1)[1]
             for other in ("colouring", "leader", "layers"):
                 again = run_program(PLAY, ["replay", "--program", other], text(EDGE) + done.stdout)
-                good = again.returncode == 0 if other == program else again.stderr.startswith(b"forestplay: X1 line ")
-                self.note(f"{program} replayed as {other}", good, again)
+                by_name = "X1 line 4" if program == "colouring" else f"WrongProgram line 3: {program}"
+                self.judged(f"{program} replayed as {other}", again, other == program, by_name)
+                again = run_program(PLAY, ["replay", "--program", other], text(EDGE) + unnamed)
+                self.judged(f"{program} without its name as {other}", again, other == program, "X1 line 4")
+
+    def judged(self, what, done, good, fault):
+        wanted = (0, b"") if good else (1, text(f"forestplay: {fault}|"))
+        self.note(what, (done.returncode, done.stderr) == wanted, done)
 
     def test_illegal_inboxes(self):
         """Which inboxes no round has, by the definitions' pages: the first rule of the election, and of the layers that

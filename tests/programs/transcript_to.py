@@ -50,6 +50,15 @@ class Forms(Case):
                                          ("put", row["neighbour"], row["node"]))
                         self.assertLess(put["stamp"], row["stamp"])
 
+    def test_a_named_program(self):
+        """What is converted has the program that its first line names: nothing is asked of it."""
+        run = b"transcript 3 layers 2\n1 1 put 2 payload 0 hops 0\n"
+        status, said, fault = call("json", data=run)
+        self.assertEqual((status, fault), (0, ""))
+        first, row = map(json.loads, said.splitlines())
+        self.assertEqual(first, {"edition": 3, "nodes": 2, "program": "layers"})
+        self.assertEqual((row["word"], row["number"]), ("hops", 0))
+
     def line_of(self, row):
         words = [row["stamp"], row["node"], row["kind"]]
         if row["kind"] == "pulse":

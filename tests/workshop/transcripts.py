@@ -95,8 +95,8 @@ ROWS = (
 )
 
 
-def said(text: str) -> str:
-    done = subprocess.run([FORESTLAB, "transcript", "check", TWO], input=text.replace("|", "\n"),
+def said(text: str, *words: str) -> str:
+    done = subprocess.run([FORESTLAB, "transcript", "check", TWO, *words], input=text.replace("|", "\n"),
                           capture_output=True, text=True, timeout=LIMIT)
     return done.stderr.rstrip("\n") if done.returncode == 1 else f"status {done.returncode}"
 
@@ -123,6 +123,19 @@ class Transcripts(unittest.TestCase):
         ):
             with self.subTest(entries):
                 self.assertEqual(said("transcript 1 2|" + entries), line)
+
+    def test_of_edition_3(self):
+        """A text that names its program is refused by another one's, with its name."""
+        named = "transcript 3 {} 2|1 1 put 2 payload 0 hops 0|"
+        for name, program, line in (
+            ("layers", "layers", "line 2: NotWhole: after the last entry node 1 is at pulse 0 of 1 (is the text cut?)"),
+            ("layers", "colouring", "line 1: WrongProgram: a transcript of layers, not of colouring: --program layers"),
+            ("layers", "leader", "line 1: WrongProgram: a transcript of layers, not of leader: --program layers"),
+            ("my_own", "layers", "line 1: WrongProgram: a transcript of my_own, not of layers: --program my_own"),
+            ("lay\x1bers", "layers", "line 1: X1: neither `transcript 1 N`, `transcript 2 N` nor `transcript 3 NAME N`"),
+        ):
+            with self.subTest(name=name, program=program):
+                self.assertEqual(said(named.format(name), "--program", program), line)
 
     def test_a_text_that_ends_inside_a_line(self):
         self.assertEqual(said("transcript 2 2|1 1 put 2 pay"),

@@ -92,6 +92,7 @@ module _ {S M E : Type 0} (program : Program S M E) (word_of : M → List ℕ) (
   pub told-as : (net : Net) (rows : List (Row M)) (numbers : List ℕ) (refused : ReplayRefused) (told : ReplayFault) →
       IsTold program word_of number_of net rows numbers refused told → told ≢ fault.Memory → IsToldAs program word_of number_of net rows numbers refused told
   told-as net rows numbers refused (fault.Syntax n) so isnt = so
+  told-as net rows numbers refused (fault.WrongProgram n words) so isnt = so
   told-as net rows numbers refused (fault.NotReady n words) so isnt = so
   told-as net rows numbers refused (fault.NothingToPut n words) so isnt = so
   told-as net rows numbers refused (fault.LinkEmpty n words) so isnt = so
@@ -104,6 +105,7 @@ module _ {S M E : Type 0} (program : Program S M E) (word_of : M → List ℕ) (
   pub is-told : (net : Net) (rows : List (Row M)) (numbers : List ℕ) (refused : ReplayRefused) (told : ReplayFault) →
       IsToldAs program word_of number_of net rows numbers refused told → IsTold program word_of number_of net rows numbers refused told
   is-told net rows numbers refused (fault.Syntax n) so = so
+  is-told net rows numbers refused (fault.WrongProgram n words) so = so
   is-told net rows numbers refused (fault.NotReady n words) so = so
   is-told net rows numbers refused (fault.NothingToPut n words) so = so
   is-told net rows numbers refused (fault.LinkEmpty n words) so = so
@@ -140,6 +142,7 @@ module _ {S M E : Type 0} (program : Program S M E) (word_of : M → List ℕ) (
   by-fault : (net : Net) (lines : List Line) (told : ReplayFault) → (told ≢ fault.Memory → IsRefusal program word_of number_of payload_of net lines told) →
       IsFaultOfTranscript program word_of number_of payload_of net lines told
   by-fault net lines (fault.Syntax n) is = absurd ((is (λ e. cc)).has_line)
+  by-fault net lines (fault.WrongProgram n words) is = absurd ((is (λ e. cc)).has_line)
   by-fault net lines (fault.NotReady n words) is = inl (is (λ e. cc))
   by-fault net lines (fault.NothingToPut n words) is = inl (is (λ e. cc))
   by-fault net lines (fault.LinkEmpty n words) is = inl (is (λ e. cc))

@@ -14,7 +14,7 @@ use Rattle.transcripts.specs.Editions.{One, Two}
 use Rattle.program_texts.specs.Texts.{ProgramTexts}
 use Rattle.answers.specs.Answers.{IsFaultOfText, ReadsAs}
 use Rattle.answers.specs.EventAnswers.{AreInStep}
-use Rattle.answers.specs.ReplayAnswers.{IsFaultOfReplay, IsFaultOfTranscript, IsReplayAnswer, IsReplayed}
+use Rattle.answers.specs.ReplayAnswers.{IsFaultOfNamed, IsFaultOfReplay, IsOfProgram, IsReplayAnswer, IsReplayed}
 use Rattle.answers.specs.declared.fault.PlanFault.{PlanFault}
 use Rattle.answers.specs.declared.fault.PlanFault.TheVariants as plan
 use Rattle.answers.specs.declared.replaying.ReplayFault.{ReplayFault}
@@ -30,32 +30,33 @@ in-step program payload_of net state lines (One read, is, leads) made = made lea
 in-step program payload_of net state lines (Two read, is, leads) made = made leads.replay.replay.events leads.replay.replay.is_run
 
 module _ {S M E : Type 0} (program : Program S M E) (word_of : M → List ℕ) (number_of : M → ℕ) (payload_of : List ℕ → ℕ → Option M) where
-  pub fault-network : (input network : List ℕ) (fault : PlanFault) → AreNetworkLines (lines_of input) (lines_of network) → IsFaultOfText network fault →
-      IsFaultOfReplay program word_of number_of payload_of input fault
-  fault-network input network (plan.Col fault) are is = fault-of transcript_word (lines_of input) (lines_of network) fault are is
-  fault-network input network (plan.Net fault) are (graph, reads, is) =
+  pub fault-network : (texts : ProgramTexts S) (input network : List ℕ) (fault : PlanFault) → AreNetworkLines (lines_of input) (lines_of network) → IsFaultOfText network fault →
+      IsFaultOfReplay program word_of number_of payload_of texts input fault
+  fault-network texts input network (plan.Col fault) are is = fault-of transcript_word (lines_of input) (lines_of network) fault are is
+  fault-network texts input network (plan.Net fault) are (graph, reads, is) =
       (graph, graph-of transcript_word (lines_of input) (lines_of network) graph are reads, is)
-  fault-network input network (plan.Check fault) are is = absurd is
-  fault-network input network (plan.Pool fault) are is = absurd is
-  fault-network input network (plan.Event fault) are is = absurd is
-  fault-network input network (plan.Replay fault) are is = absurd is
-  fault-network input network plan.Stopped are is = absurd is
-  fault-network input network plan.Memory are is = tt
+  fault-network texts input network (plan.Check fault) are is = absurd is
+  fault-network texts input network (plan.Pool fault) are is = absurd is
+  fault-network texts input network (plan.Event fault) are is = absurd is
+  fault-network texts input network (plan.Replay fault) are is = absurd is
+  fault-network texts input network plan.Stopped are is = absurd is
+  fault-network texts input network plan.Memory are is = tt
 
-  pub fault-transcript : (input network : List ℕ) (net : Net) (fault : ReplayFault) → AreNetworkLines (lines_of input) (lines_of network) →
-      Reads network net → IsFaultOfTranscript program word_of number_of payload_of net (lines_of input) fault →
-      IsFaultOfReplay program word_of number_of payload_of input (plan.Replay fault)
-  fault-transcript input network net fault are (graph, reads, (ok, same)) is = (
+  pub fault-transcript : (texts : ProgramTexts S) (input network : List ℕ) (net : Net) (fault : ReplayFault) →
+      AreNetworkLines (lines_of input) (lines_of network) → Reads network net →
+      IsFaultOfNamed program word_of number_of payload_of texts.name net (lines_of input) fault →
+      IsFaultOfReplay program word_of number_of payload_of texts input (plan.Replay fault)
+  fault-transcript texts input network net fault are (graph, reads, (ok, same)) is = (
     graph,
     graph-of transcript_word (lines_of input) (lines_of network) graph are reads,
-    (ok, subst (λ known. IsFaultOfTranscript program word_of number_of payload_of known (lines_of input) fault) same is),
+    (ok, subst (λ known. IsFaultOfNamed program word_of number_of payload_of texts.name known (lines_of input) fault) same is),
   )
 
   pub reached : (texts : ProgramTexts S) (input network text : List ℕ) (net : Net) (state : State S M) → AreNetworkLines (lines_of input) (lines_of network) →
       Reads network net → IsReplayed program payload_of net (lines_of input) state → text ≡ state_text program texts word_of number_of net state →
       (IsNetwork net → AreInStep program net state) → ((net : Net) → IsNetwork net → texts.Solves net (last_state program net)) →
-      IsReplayAnswer program texts word_of number_of payload_of input text
-  reached texts input network text net state are (graph, reads, (ok, same)) played is in_step solves = (
+      IsOfProgram texts.name (lines_of input) → IsReplayAnswer program texts word_of number_of payload_of input text
+  reached texts input network text net state are (graph, reads, (ok, same)) played is in_step solves named = (
     graph,
     graph-of transcript_word (lines_of input) (lines_of network) graph are reads,
     (
@@ -67,5 +68,6 @@ module _ {S M E : Type 0} (program : Program S M E) (word_of : M → List ℕ) (
         subst (λ known. AreInStep program known state) same (in_step (subst (λ n. IsNetwork n) (sym same) ok)),
       ),
       solves _ ok,
+      named,
     ),
   )

@@ -101,20 +101,26 @@ module _ {S M E : Type 0} (program : Program S M E) (word_of : M → List ℕ) (
   refusal-of whole.NotWhole told isnt why is =
       record { read = read; refused = whole.NotWhole; is_read = e; why = why (λ same. cc); is_told = is }
 
--- no refusal of entries is that of a line
-no-syntax : (numbers : List ℕ) (words : Vec ℕ Global) (refused : ReplayRefused) (n : ℕ) → fault_at numbers words refused ≡ fault.Syntax n → ⊥
-no-syntax numbers words (replay.Run (run.NotReady k)) n e = absurd cc
-no-syntax numbers words (replay.Run (run.NothingToPut k)) n e = absurd cc
-no-syntax numbers words (replay.Run (run.LinkEmpty k)) n e = absurd cc
-no-syntax numbers words (replay.Run (run.NoSuch k)) n e = absurd cc
-no-syntax numbers words (replay.Run run.Memory) n e = absurd cc
-no-syntax numbers words (replay.WrongWire k) n e = absurd cc
+-- the refusal of a line, or of the program that the first one names: no refusal of entries is one
+abbrev IsOfText : ReplayFault → Type 0
+IsOfText (fault.Syntax n) = Unit {0}
+IsOfText (fault.WrongProgram n words) = Unit {0}
+IsOfText _ = ⊥
+
+no-text : (numbers : List ℕ) (words : Vec ℕ Global) (refused : ReplayRefused) → IsOfText (fault_at numbers words refused) → ⊥
+no-text numbers words (replay.Run (run.NotReady k)) is = is
+no-text numbers words (replay.Run (run.NothingToPut k)) is = is
+no-text numbers words (replay.Run (run.LinkEmpty k)) is = is
+no-text numbers words (replay.Run (run.NoSuch k)) is = is
+no-text numbers words (replay.Run run.Memory) is = is
+no-text numbers words (replay.WrongWire k) is = is
 
 module _ {S M E : Type 0} (program : Program S M E) (word_of : M → List ℕ) (number_of : M → ℕ) (payload_of : List ℕ → ℕ → Option M) where
   by-fault : (net : Net) (lines : List Line) (told : ReplayFault) →
       (told ≢ fault.Memory → IsStampedRefusal program word_of number_of payload_of net lines told) →
-      ((n : ℕ) → told ≡ fault.Syntax n → ⊥) → IsFaultOfTranscript program word_of number_of payload_of net lines told
-  by-fault net lines (fault.Syntax n) is never = absurd (never n refl)
+      (IsOfText told → ⊥) → IsFaultOfTranscript program word_of number_of payload_of net lines told
+  by-fault net lines (fault.Syntax n) is never = absurd (never tt)
+  by-fault net lines (fault.WrongProgram n words) is never = absurd (never tt)
   by-fault net lines (fault.NotReady n words) is never = inr (is (λ e. cc))
   by-fault net lines (fault.NothingToPut n words) is never = inr (is (λ e. cc))
   by-fault net lines (fault.LinkEmpty n words) is never = inr (is (λ e. cc))
@@ -124,16 +130,13 @@ module _ {S M E : Type 0} (program : Program S M E) (word_of : M → List ℕ) (
   by-fault net lines (fault.NotWhole n) is never = inr (is (λ e. cc))
   by-fault net lines fault.Memory is never = tt
 
-  never-syntax : (net : Net) (rows : List (StampedRow M)) (first : ℕ) (numbers : List ℕ) (refused : WholeRefused) (told : ReplayFault) (n : ℕ) →
-      IsStampedTold program word_of number_of net rows first numbers refused told → told ≡ fault.Syntax n → ⊥
-  never-syntax net rows first numbers (whole.Replay refused) told n is e =
-      let so = told-as program word_of number_of net (bare_rows rows) numbers refused told is
-      (λ m. let wrong : fault.Syntax n ≡ fault.Memory = sym e ∙ m in cc) in
-      no-syntax numbers so.words refused n (sym so.is_told ∙ e)
-  never-syntax net rows first numbers (whole.WrongStamp k) told n is e =
-      let wrong : fault.WrongStamp (line_at numbers k) ≡ fault.Syntax n = sym is ∙ e in absurd cc
-  never-syntax net rows first numbers whole.NotWhole told n is e =
-      let wrong : fault.NotWhole (last_of first numbers) ≡ fault.Syntax n = sym is ∙ e in absurd cc
+  never-text : (net : Net) (rows : List (StampedRow M)) (first : ℕ) (numbers : List ℕ) (refused : WholeRefused) (told : ReplayFault) →
+      IsStampedTold program word_of number_of net rows first numbers refused told → IsOfText told → ⊥
+  never-text net rows first numbers (whole.Replay refused) told is text =
+      let so = told-as program word_of number_of net (bare_rows rows) numbers refused told is (λ m. subst IsOfText m text) in
+      no-text numbers so.words refused (subst IsOfText so.is_told text)
+  never-text net rows first numbers (whole.WrongStamp k) told is text = subst IsOfText is text
+  never-text net rows first numbers whole.NotWhole told is text = subst IsOfText is text
 
   pub whole-refused : (net : Net) → IsNetwork net → (lines : List Line) (nodes : ℕ) (rows : List (StampedRow M)) (refused : WholeRefused)
       (told : ReplayFault) → transcript_in payload_of lines ≡ Ok (Two (nodes, rows)) →
@@ -142,4 +145,4 @@ module _ {S M E : Type 0} (program : Program S M E) (word_of : M → List ℕ) (
       IsFaultOfTranscript program word_of number_of payload_of net lines told
   whole-refused net ok lines nodes rows refused told e why is =
       by-fault net lines told (λ isnt. refusal-of program word_of number_of payload_of net ok lines (nodes, rows) e refused told isnt why is)
-      (λ n. never-syntax net rows (first_line_in lines) (entry_lines lines) refused told n is)
+      (never-text net rows (first_line_in lines) (entry_lines lines) refused told is)

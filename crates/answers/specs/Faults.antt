@@ -69,6 +69,7 @@ fault_text (Event (event.LinkEmpty n words)) = (at_line (codes "LinkEmpty") n ++
 fault_text (Event (event.NoSuch n)) = (at_line (codes "NoSuch") n, 1)
 fault_text (Event event.Memory) = (codes "memory", 4)
 fault_text (Replay (replay.Syntax n)) = (at_line (codes "X1") n, 1)
+fault_text (Replay (replay.WrongProgram n words)) = (at_line (codes "WrongProgram") n ++ words.items, 1)
 fault_text (Replay (replay.NotReady n words)) = (at_line (codes "NotReady") n ++ words.items, 1)
 fault_text (Replay (replay.NothingToPut n words)) = (at_line (codes "NothingToPut") n ++ words.items, 1)
 fault_text (Replay (replay.LinkEmpty n words)) = (at_line (codes "LinkEmpty") n ++ words.items, 1)

@@ -1,6 +1,6 @@
 -- The answer to a network and the transcript behind it.
 use Rattle.std.specs.Prelude.{◌≡◌, ◌≢◌, ◌⊎◌, ◌+◌, ◌-◌, ℕ, List, Option, Some, None, Result, Ok, Err}
-use Rattle.std.specs.Prelude.{length, map, slice_get, slice_index_or, take}
+use Rattle.std.specs.Prelude.{codes, ◌++◌, length, map, slice_get, slice_index_or, take}
 use Rattle.std.specs.declared.vec.Vec.{Vec}
 use Rattle.std.specs.declared.alloc.Global.{Global}
 use Rattle.dimacs_col.specs.Lines.{Line, lines_of}
@@ -21,7 +21,7 @@ use Rattle.net_core.specs.declared.refused.ReplayRefused.TheVariants as replay
 use Rattle.net_core.specs.declared.refused.WholeRefused.{WholeRefused}
 use Rattle.net_core.specs.declared.refused.WholeRefused.TheVariants as whole
 use Rattle.net_core.specs.Whole.{IsWholeReplay, StopsAtEntry, WhyNotWhole}
-use Rattle.transcripts.specs.Behind.{entry_lines, entry_on, network_lines, stamped_entry_on}
+use Rattle.transcripts.specs.Behind.{entry_lines, entry_on, network_lines, program_in, stamped_entry_on}
 use Rattle.transcripts.specs.Editions.{AnyTranscript, One, Two, any_reading_behind}
 use Rattle.transcripts.specs.Reading.{StampedTranscript, Transcript}
 use Rattle.entries.specs.declared.rows.Row.{Row}
@@ -52,15 +52,19 @@ abbrev pub IsReplayed : {S M E : Type 0} → Program S M E → (List ℕ → ℕ
 IsReplayed program payload_of net lines state =
     (read : AnyTranscript _) × (transcript_in payload_of lines ≡ Ok read) × LeadsTo program net read state
 
+-- if the transcript in the lines names its program, it is the one of this name
+abbrev pub IsOfProgram : List ℕ → List Line → Type 0
+IsOfProgram name lines = (named : List ℕ) → program_in lines ≡ Some named → named ≡ name
+
 -- the answer is the text of the state that the transcript leads to, on the network that stands before it, and the last
--- states of the synchronous run are what the program is for
+-- states of the synchronous run are what the program is for; the transcript names no other program
 abbrev pub IsReplayAnswer : {S M E : Type 0} → Program S M E → ProgramTexts S → (M → List ℕ) → (M → ℕ) →
     (List ℕ → ℕ → Option M) → List ℕ → List ℕ → Type 0
 IsReplayAnswer program texts word_of number_of payload_of input answer =
     LinesReadAs (network_lines (lines_of input)) (λ net. IsNetwork net
     × ((state : State _ _) × IsReplayed program payload_of net (lines_of input) state
     × (answer ≡ state_text program texts word_of number_of net state) × AreInStep program net state)
-    × texts.Solves net (last_state program net))
+    × texts.Solves net (last_state program net) × IsOfProgram texts.name (lines_of input))
 
 -- the fault of a transcript's text
 abbrev pub fault_of_text : TextFault → ReplayFault
@@ -83,6 +87,20 @@ last_line_in lines = last_of (first_line_in lines) (entry_lines lines)
 abbrev pub line_at : List ℕ → ℕ → ℕ
 line_at lines index = slice_index_or lines index 0
 
+-- The first line of the transcript names another program than the one of this name, and the refusal says which.
+pub record NamesAnother (name : List ℕ) (lines : List Line) (told : ReplayFault) : Type 0 where
+  pub named : List ℕ
+  pub is_named : program_in lines ≡ Some named
+  pub another : named ≢ name
+  pub words : Vec ℕ Global
+  pub says : words.items ≡ codes ": " ++ named
+  pub is_told : told ≡ fault.WrongProgram (first_line_in lines) words
+
+-- the same, or memory ran out
+abbrev pub IsFaultOfName : List ℕ → List Line → ReplayFault → Type 0
+IsFaultOfName name lines fault.Memory = Unit {0}
+IsFaultOfName name lines told = NamesAnother name lines told
+
 -- the refusal of a replay, with the line of its entry in place of the index, and words behind it
 abbrev pub fault_at : List ℕ → Vec ℕ Global → ReplayRefused → ReplayFault
 fault_at lines words (replay.Run (run.NotReady k)) = fault.NotReady (line_at lines k) words
@@ -104,6 +122,7 @@ index_of (replay.WrongWire k) = Some k
 -- a fact about the line whose number the refusal of an entry has; out of memory has no number
 abbrev pub HasLine : (ℕ → Type 0) → ReplayFault → Type 0
 HasLine at (fault.Syntax n) = ⊥
+HasLine at (fault.WrongProgram n words) = ⊥
 HasLine at (fault.NotReady n words) = at n
 HasLine at (fault.NothingToPut n words) = at n
 HasLine at (fault.LinkEmpty n words) = at n
@@ -214,16 +233,24 @@ module _ {S M E : Type 0} (program : Program S M E) (word_of : M → List ℕ) (
   abbrev pub IsFaultOfTranscript : Net → List Line → ReplayFault → Type 0
   IsFaultOfTranscript net lines fault.Memory = Unit {0}
   IsFaultOfTranscript net lines (fault.Syntax n) = transcript_in payload_of lines ≡ Err n
+  IsFaultOfTranscript net lines (fault.WrongProgram n words) = ⊥
   IsFaultOfTranscript net lines told = IsRefusal net lines told ⊎ IsStampedRefusal net lines told
 
-  -- the fault of an input of `replay`: of the network text before the transcript, or else of the transcript
-  abbrev pub IsFaultOfReplay : List ℕ → PlanFault → Type 0
-  IsFaultOfReplay input (plan.Col fault) = IsFault (network_lines (lines_of input)) fault
-  IsFaultOfReplay input (plan.Net fault) = LinesReadAs (network_lines (lines_of input)) (λ net. IsFaultOf net fault)
-  IsFaultOfReplay input (plan.Pool fault) = ⊥
-  IsFaultOfReplay input (plan.Check fault) = ⊥
-  IsFaultOfReplay input (plan.Event fault) = ⊥
-  IsFaultOfReplay input (plan.Replay fault) = LinesReadAs (network_lines (lines_of input))
-      (λ net. IsNetwork net × IsFaultOfTranscript net (lines_of input) fault)
-  IsFaultOfReplay input plan.Stopped = ⊥
-  IsFaultOfReplay input plan.Memory = Unit {0}
+  -- the fault of a transcript that is to be of the program of a name: its first line names another one, or else the
+  -- transcript has this fault
+  abbrev pub IsFaultOfNamed : List ℕ → Net → List Line → ReplayFault → Type 0
+  IsFaultOfNamed name net lines told =
+      IsFaultOfName name lines told ⊎ (IsOfProgram name lines × IsFaultOfTranscript net lines told)
+
+  -- the fault of an input of `replay`, for a program with texts: of the network text before the transcript, or else of the
+  -- transcript
+  abbrev pub IsFaultOfReplay : ProgramTexts S → List ℕ → PlanFault → Type 0
+  IsFaultOfReplay texts input (plan.Col fault) = IsFault (network_lines (lines_of input)) fault
+  IsFaultOfReplay texts input (plan.Net fault) = LinesReadAs (network_lines (lines_of input)) (λ net. IsFaultOf net fault)
+  IsFaultOfReplay texts input (plan.Pool fault) = ⊥
+  IsFaultOfReplay texts input (plan.Check fault) = ⊥
+  IsFaultOfReplay texts input (plan.Event fault) = ⊥
+  IsFaultOfReplay texts input (plan.Replay fault) = LinesReadAs (network_lines (lines_of input))
+      (λ net. IsNetwork net × IsFaultOfNamed texts.name net (lines_of input) fault)
+  IsFaultOfReplay texts input plan.Stopped = ⊥
+  IsFaultOfReplay texts input plan.Memory = Unit {0}

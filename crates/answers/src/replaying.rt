@@ -7,7 +7,7 @@ ghost use Rattle.net_core.specs.Whole.{IsWholeReplay};
 ghost use Rattle.transcripts.specs.Behind.{transcript_lines};
 ghost use Rattle.transcripts.specs.Editions.{One, Two};
 ghost use Rattle.answers.specs.ReplayAnswers.{IsFaultOfReplay, IsFaultOfTranscript, IsReplayAnswer, IsReplayed};
-ghost use Rattle.answers.specs.ReplayAnswers.{IsStampedTold, IsTold, SaysWhyNot, StopsThere};
+ghost use Rattle.answers.specs.ReplayAnswers.{IsFaultOfName, IsOfProgram, IsStampedTold, IsTold, SaysWhyNot, StopsThere};
 ghost use Rattle.answers.specs.ReplayAnswers.{bare_rows, fault_at, fault_of_text};
 ghost use Rattle.answers.specs.ReplayAnswers.{first_line_in, index_of, last_of, line_at, transcript_in, words_text};
 
@@ -23,15 +23,20 @@ use net_core::{ReplayRefused, StampedState, WholeRefused, event_of, replay, repl
 use node_api::{NodeProgram, PayloadText, Refused};
 use program_texts::ProgramText;
 use std::alloc::{AllocError, Global};
-use transcripts::{TextFault, Transcript, entry_lines, network_text, read_any_behind_network};
+use transcripts::{
+    TextFault, Transcript, entry_lines, network_text, program_in, read_any_behind_network,
+};
 
-/// Why a transcript isn't replayed: its first line that isn't a line of a transcript, or its first entry that isn't
-/// possible or has another pulse or wire, with the number of its line. After it come words for what the event lacks or
-/// leads to, as `missing_words` and `expected_words` of `event_texts` have them.
+/// Why a transcript isn't replayed: it names another program, which the words say; or its first line that isn't a line
+/// of a transcript, or its first entry that isn't possible or has another pulse or wire, with the number of its line.
+/// After it come words for what the event lacks or leads to, as `missing_words` and `expected_words` of `event_texts`
+/// have them.
 #[derive(Debug, PartialEq, Eq, Drop)]
 pub enum ReplayFault {
     /// The line isn't a line of a transcript.
     Syntax(usize),
+    /// The first line names another program.
+    WrongProgram(usize, Vec<u8>),
     /// The node can't make its next pulse yet.
     NotReady(usize, Vec<u8>),
     /// The out-list is empty.
@@ -287,26 +292,46 @@ fn replayed<P: NodeProgram>(
     }
 }
 
+// Whether the transcript that follows a network text names the program of a name, or none.
+fn check_program(alloc: Global, input: &[u8], name: &str) -> Result<(), ReplayFault>
+    ensures ok { IfOk result (λ _. IsOfProgram name.now (lines_of input.now)) }
+    ensures fault { IfErr result (IsFaultOfName name.now (lines_of input.now)) }
+{
+    let Some(named) = program_in(input) else {
+        return Ok(());
+    };
+    if named == name.as_bytes() {
+        return Ok(());
+    }
+    let mut words = Vec::new(alloc);
+    words.extend_from_slice(b": ")?;
+    words.extend_from_slice(named)?;
+    Err(ReplayFault::WrongProgram(first_line_in(input), words))
+}
+
 /// The state of the nodes of a program after the entries of a transcript, as `events_bytes` writes it: the
 /// input is a DIMACS text, and then a transcript, which begins at the first line whose first field is
-/// `transcript`. The entries are played in the order of their lines. Those of edition 2 have to have the stamps of
-/// their nodes' counters, in their order, and to lead to a whole state.
+/// `transcript`. If it is of edition 3, its first line has to name the program. The entries are played in the order of
+/// their lines. Those of editions 2 and 3 have to have the stamps of their nodes' counters, in their order, and to lead
+/// to a whole state.
 ///
 /// # Errors
-/// As of `forest_bytes` for the lines before the transcript; if there is none, `Replay` with the first line that
-/// is none of a transcript; if there is none, `Replay` with the first entry that isn't possible, or has another
-/// pulse or wire, or, of edition 2, another stamp than its node comes to, or comes too late; if there is none, of
-/// edition 2, `Replay` with the last line if the state isn't whole. Lines count from the first of the input. Any call
-/// may instead fail for lack of memory: `ReplayFault::Memory` or as `forest_bytes`.
+/// As of `forest_bytes` for the lines before the transcript; if there is none, `Replay` with the first line if that
+/// names another program; if there is none, `Replay` with the first line that is none of a transcript; if there is none,
+/// `Replay` with the first entry that isn't possible, or has another pulse or wire, or, with stamps, another stamp than
+/// its node comes to, or comes too late; if there is none, with stamps, `Replay` with the last line if the state isn't
+/// whole. Lines count from the first of the input. Any call may instead fail for lack of memory: `ReplayFault::Memory`
+/// or as `forest_bytes`.
 pub fn replay_bytes<P: ProgramText>(alloc: Global, input: &[u8]) -> Result<Vec<u8>, PlanFault>
     ensures ok { IfOk result (λ text. IsReplayAnswer P.program P.texts P.Payload.word_of P.Payload.number_of
         P.Payload.payload_of input.now text.items) }
     ensures fault { IfErr result (IsFaultOfReplay P.program P.Payload.word_of P.Payload.number_of
-        P.Payload.payload_of input.now) }
+        P.Payload.payload_of P.texts input.now) }
 {
     every_run_simulates::<P, P::Payload, Refused>();
     P::rounds_solve();
     let network = network_of_text(alloc, network_text(input))?;
+    check_program(alloc, input, P::name())?;
     let state = replayed::<P>(alloc, &network, input)?;
     Ok(text_of_state(alloc, &state)?)
 }

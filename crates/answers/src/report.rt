@@ -204,6 +204,9 @@ fn report_of_replay(
 {
     match fault {
         ReplayFault::Syntax(n) => refusal(alloc, name, "X1", Place::Line(n)),
+        ReplayFault::WrongProgram(n, words) => {
+            refusal_in_words(alloc, name, "WrongProgram", n, words.as_slice())
+        }
         ReplayFault::NotReady(n, words) => {
             refusal_in_words(alloc, name, "NotReady", n, words.as_slice())
         }

@@ -12,7 +12,7 @@ use Rattle.run_options.specs.declared.Edition.TheVariants as edition
 use Rattle.stamps.specs.Merged.{IsMerge}
 use Rattle.stamps.specs.Stamps.{Rises}
 use Rattle.answers.specs.Answers.{ReadsAs}
-use Rattle.byte_functions.specs.Transcripts.{IsMergedText, IsMergedTranscriptOf, IsTextIn, IsTranscriptAnswer, IsTranscriptOf, entries_text}
+use Rattle.byte_functions.specs.Transcripts.{IsMergedText, IsMergedTranscriptOf, IsTextIn, IsTranscriptIn, IsTranscriptOf, entries_text}
 
 -- there are as many nodes as vertices
 pub nodes-count : {S M E : Type 0} (program : Program S M E) (net : Net) (capacity : ℕ) (transcript : Bool) (outcome : Outcome S M)
@@ -32,21 +32,21 @@ module _ {S M E : Type 0} (program : Program S M E) (net : Net) (capacity : ℕ)
       subst (λ k. Rises (slice_index_or (map (λ node. node.entries) outcome.nodes) k [])) back
       (is.rises refl (suc i) (omega arith, omega (arith, lt, few, same))))
 
-module _ {S M E : Type 0} (program : Program S M E) (word_of : M → List ℕ) (number_of : M → ℕ) (input text : List ℕ) (net : Net) (capacity : ℕ)
+module _ {S M E : Type 0} (program : Program S M E) (word_of : M → List ℕ) (number_of : M → ℕ) (words input text : List ℕ) (net : Net) (capacity : ℕ)
     (outcome : Outcome S M) (reads : ReadsAs input (λ read. IsNetwork read × (net ≡ read))) (is : IsOutcome program net capacity true outcome)
     (whole : is_whole outcome ≡ true) where
-  recorded : text ≡ entries_text word_of number_of (count_of net) outcome.nodes → IsTranscriptAnswer program word_of number_of edition.One input text
+  recorded : text ≡ entries_text word_of number_of (count_of net) outcome.nodes → IsTranscriptIn program word_of number_of words edition.One input text
   recorded told =
       let of_net : IsTranscriptOf program word_of number_of net text =
       record { capacity = capacity; outcome = outcome; is_outcome = is; whole = whole; is_text = told } in
       (reads.0, reads.1, (reads.2.0, subst (λ n. IsTranscriptOf program word_of number_of n text) reads.2.1 of_net))
 
-  merged : IsMergedText word_of number_of (count_of net) outcome.nodes text → WholeOutcomesReplay program net
-      → IsTranscriptAnswer program word_of number_of edition.Two input text
+  merged : IsMergedText word_of number_of words (count_of net) outcome.nodes text → WholeOutcomesReplay program net
+      → IsTranscriptIn program word_of number_of words edition.Two input text
   merged (rows, merge, told) law =
       let all = subst (λ n. IsMerge n (entries_in outcome) rows) (nodes-count program net capacity true outcome is) merge in
       let played = law capacity outcome is whole rows all in
-      let of_net : IsMergedTranscriptOf program word_of number_of net text = record {
+      let of_net : IsMergedTranscriptOf program word_of number_of words net text = record {
         capacity = capacity;
         outcome = outcome;
         is_outcome = is;
@@ -57,10 +57,10 @@ module _ {S M E : Type 0} (program : Program S M E) (word_of : M → List ℕ) (
         is_replay = played.1;
         is_text = told;
       } in
-      (reads.0, reads.1, (reads.2.0, subst (λ n. IsMergedTranscriptOf program word_of number_of n text) reads.2.1 of_net))
+      (reads.0, reads.1, (reads.2.0, subst (λ n. IsMergedTranscriptOf program word_of number_of words n text) reads.2.1 of_net))
 
   -- the text in an edition is the answer
-  pub answered : (edition : Edition) → WholeOutcomesReplay program net → IsTextIn word_of number_of edition (count_of net) outcome.nodes text
-      → IsTranscriptAnswer program word_of number_of edition input text
+  pub answered : (edition : Edition) → WholeOutcomesReplay program net → IsTextIn word_of number_of words edition (count_of net) outcome.nodes text
+      → IsTranscriptIn program word_of number_of words edition input text
   answered edition.One law told = recorded told
   answered edition.Two law told = merged told law

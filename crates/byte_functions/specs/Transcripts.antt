@@ -1,11 +1,12 @@
 -- The text of what the nodes of a run of workers did.
-use Rattle.std.specs.Prelude.{◌≡◌, ℕ, true, List, flat_map, length, map}
+use Rattle.std.specs.Prelude.{◌≡◌, ℕ, true, List, codes, flat_map, if◌then◌else◌, length, map}
 use Rattle.interference.specs.Net.{Net, IsNetwork, count_of}
 use Rattle.gather_laws.specs.Outcome.{Gathered, Outcome, IsOutcome, entries_in, is_whole}
 use Rattle.event_machine.specs.State.{State}
 use Rattle.node_api.specs.Program.{Program}
 use Rattle.entries.specs.declared.rows.Row.{Row}
-use Rattle.transcripts.specs.TranscriptText.{stamped_transcript_of, transcript_of}
+use Rattle.program_texts.specs.Texts.{ProgramTexts}
+use Rattle.transcripts.specs.TranscriptText.{named_edition, stamped_row_text, text_of, transcript_of}
 use Rattle.answers.specs.Answers.{ReadsAs}
 use Rattle.net_core.specs.Whole.{IsWholeReplay}
 use Rattle.run_options.specs.declared.Edition.{Edition}
@@ -18,23 +19,27 @@ use Rattle.entries.specs.declared.rows.StampedRow.{StampedRow}
 abbrev pub rows_in : {S M : Type 0} → Gathered S M → List (Row M)
 rows_in g = map (λ entry. vertex_row g.vertex entry) (bare_of g.entries)
 
+-- the words of the edition with stamps in which a program has its transcripts: `2`, or `3 NAME`
+abbrev pub stamped_edition : {S : Type 0} → ProgramTexts S → List ℕ
+stamped_edition texts = if texts.is_named then named_edition texts.name else codes "2"
+
 -- The texts of programs whose payloads are written by a word and a number.
 module _ {S M : Type 0} (word_of : M → List ℕ) (number_of : M → ℕ) where
   -- the transcript of so many nodes: the entries of each, vertex by vertex
   abbrev pub entries_text : ℕ → List (Gathered S M) → List ℕ
   entries_text count nodes = transcript_of word_of number_of count (flat_map rows_in nodes)
 
-  -- The text is the transcript of edition 2 of so many nodes: their entries in the order of the stamps and then of the
-  -- vertices, each once.
-  abbrev pub IsMergedText : ℕ → List (Gathered S M) → List ℕ → Type 0
-  IsMergedText count nodes text = (rows : List (StampedRow M))
+  -- The text is the transcript of so many nodes in an edition with stamps: their entries in the order of the stamps and
+  -- then of the vertices, each once.
+  abbrev pub IsMergedText : List ℕ → ℕ → List (Gathered S M) → List ℕ → Type 0
+  IsMergedText words count nodes text = (rows : List (StampedRow M))
       × IsMerge (length nodes) (list_of (map (λ node. node.entries) nodes)) rows
-      × (text ≡ stamped_transcript_of word_of number_of count rows)
+      × (text ≡ text_of words (stamped_row_text word_of number_of) count rows)
 
-  -- the text is the transcript of nodes in an edition
-  abbrev pub IsTextIn : Edition → ℕ → List (Gathered S M) → List ℕ → Type 0
-  IsTextIn edition.One count nodes text = text ≡ entries_text count nodes
-  IsTextIn edition.Two count nodes text = IsMergedText count nodes text
+  -- the text is the transcript of nodes without stamps, or with them
+  abbrev pub IsTextIn : List ℕ → Edition → ℕ → List (Gathered S M) → List ℕ → Type 0
+  IsTextIn words edition.One count nodes text = text ≡ entries_text count nodes
+  IsTextIn words edition.Two count nodes text = IsMergedText words count nodes text
 
 module _ {S M E : Type 0} (program : Program S M E) (word_of : M → List ℕ) (number_of : M → ℕ) where
   -- The text is the transcript of a whole run of workers on the network, over links of some capacity.
@@ -45,10 +50,10 @@ module _ {S M E : Type 0} (program : Program S M E) (word_of : M → List ℕ) (
     pub whole : is_whole outcome ≡ true
     pub is_text : text ≡ entries_text word_of number_of (count_of net) outcome.nodes
 
-  -- The text is the transcript of edition 2 of a whole run of workers on the network, over links of some capacity. Its
-  -- entries are a whole replay: the event machine plays them in their order, each has the stamp that the counter of its
-  -- node gives it, and in the end every node is drained and every link empty.
-  pub record IsMergedTranscriptOf (net : Net) (text : List ℕ) : Type 0 where
+  -- The text is the transcript of a whole run of workers on the network, over links of some capacity, in an edition with
+  -- stamps. Its entries are a whole replay: the event machine plays them in their order, each has the stamp that the
+  -- counter of its node gives it, and in the end every node is drained and every link empty.
+  pub record IsMergedTranscriptOf (words : List ℕ) (net : Net) (text : List ℕ) : Type 0 where
     pub capacity : ℕ
     pub outcome : Outcome S M
     pub is_outcome : IsOutcome program net capacity true outcome
@@ -57,9 +62,18 @@ module _ {S M E : Type 0} (program : Program S M E) (word_of : M → List ℕ) (
     pub merge : IsMerge (count_of net) (entries_in outcome) rows
     pub last : State S M
     pub is_replay : IsWholeReplay program net rows last
-    pub is_text : text ≡ stamped_transcript_of word_of number_of (count_of net) rows
+    pub is_text : text ≡ text_of words (stamped_row_text word_of number_of) (count_of net) rows
 
-  -- the answer is the transcript, in an edition, of a whole run on the network that the input describes
+  -- the answer is the transcript of a whole run on the network that the input describes, without stamps or with them
+  abbrev pub IsTranscriptIn : List ℕ → Edition → List ℕ → List ℕ → Type 0
+  IsTranscriptIn words edition.One input answer = ReadsAs input (λ net. IsNetwork net × IsTranscriptOf net answer)
+  IsTranscriptIn words edition.Two input answer =
+      ReadsAs input (λ net. IsNetwork net × IsMergedTranscriptOf words net answer)
+
+  -- the same, in edition 1 or 2
   abbrev pub IsTranscriptAnswer : Edition → List ℕ → List ℕ → Type 0
-  IsTranscriptAnswer edition.One input answer = ReadsAs input (λ net. IsNetwork net × IsTranscriptOf net answer)
-  IsTranscriptAnswer edition.Two input answer = ReadsAs input (λ net. IsNetwork net × IsMergedTranscriptOf net answer)
+  IsTranscriptAnswer edition input answer = IsTranscriptIn (codes "2") edition input answer
+
+  -- the same of a program with texts: its transcript with stamps names it, unless it has edition 2
+  abbrev pub IsProgramTranscript : ProgramTexts S → Edition → List ℕ → List ℕ → Type 0
+  IsProgramTranscript texts edition input answer = IsTranscriptIn (stamped_edition texts) edition input answer

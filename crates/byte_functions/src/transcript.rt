@@ -6,7 +6,8 @@ ghost use Rattle.colour_rules.specs.Words.{number_in, word_in};
 ghost use Rattle.run_options.specs.Ranges.{AreInRange};
 ghost use Rattle.outcomes.specs.Gathers.{gathered_of};
 ghost use Rattle.stamps.specs.Stamps.{Rises};
-ghost use Rattle.byte_functions.specs.Transcripts.{IsTextIn, IsTranscriptAnswer, entries_text};
+ghost use Rattle.byte_functions.specs.Transcripts.{IsProgramTranscript, IsTextIn, IsTranscriptAnswer, entries_text};
+ghost use Rattle.byte_functions.specs.Transcripts.{stamped_edition};
 ghost use Rattle.byte_functions.specs.Workers.{IsFaultOfWorkers};
 
 use crate::merged::merged_text;
@@ -18,6 +19,7 @@ use gather_laws::laws::whole_outcomes_replay;
 use interference::Memory;
 use node_api::{NodeProgram, Refused};
 use outcomes::Actor;
+use program_texts::ProgramText;
 use run_options::{Edition, Options};
 use std::alloc::Global;
 use std::sync::Wait;
@@ -44,8 +46,8 @@ fn text_of_actors<P: NodeProgram>(
     Ok(text)
 }
 
-// The transcript of nodes in an edition.
-fn text_in<P: NodeProgram>(
+// The transcript of nodes, without stamps or with them.
+fn text_in<P: ProgramText>(
     alloc: Global,
     edition: Edition,
     count: u32,
@@ -53,8 +55,8 @@ fn text_in<P: NodeProgram>(
 ) -> Result<Vec<u8>, Memory>
     requires count { length actors.items ≡ count }
     requires rising { All Rises (map (λ node. node.entries) (map gathered_of actors.items)) }
-    ensures { IfOk result (λ text.
-        IsTextIn P.Payload.word_of P.Payload.number_of edition count (map gathered_of actors.items) text.items) }
+    ensures { IfOk result (λ text. IsTextIn P.Payload.word_of P.Payload.number_of (stamped_edition P.texts) edition count
+        (map gathered_of actors.items) text.items) }
 {
     match edition {
         Edition::One => text_of_actors(alloc, count, actors),
@@ -64,15 +66,15 @@ fn text_in<P: NodeProgram>(
 
 /// The transcript of a run of a program on the network that a DIMACS text describes: what each node put, took and did
 /// until its last pulse. In edition 1 it has the entries of each node in its own order, vertex by vertex; in edition 2
-/// all entries in the order of their stamps and then of their vertices, which is a run that `replay_bytes` accepts. The
-/// run is that of `plan_bytes`, but has a transcript, whatever the options say. With more than one worker two calls may
-/// give different transcripts.
+/// all entries in the order of their stamps and then of their vertices, which is a run that `replay_bytes` accepts. If
+/// the program is named, the latter has edition 3, with the name in its first line. The run is that of `plan_bytes`, but
+/// has a transcript, whatever the options say. With more than one worker two calls may give different transcripts.
 ///
 /// It is not promised that the call returns, nor that any number of turns is enough.
 ///
 /// # Errors
 /// As of `plan_bytes`.
-pub fn run_transcript_bytes<P: NodeProgram, G: Gate + Sync, R: Threads + Wait + Sync>(
+pub fn run_transcript_bytes<P: ProgramText, G: Gate + Sync, R: Threads + Wait + Sync>(
     rt: &R,
     alloc: Global,
     input: &[u8],
@@ -80,8 +82,8 @@ pub fn run_transcript_bytes<P: NodeProgram, G: Gate + Sync, R: Threads + Wait + 
     edition: Edition,
     gate: &G,
 ) -> Result<Vec<u8>, PlanFault>
-    ensures ok { IfOk result (λ text.
-        IsTranscriptAnswer P.program P.Payload.word_of P.Payload.number_of edition input.now text.items) }
+    ensures ok { IfOk result (λ text. IsProgramTranscript P.program P.Payload.word_of P.Payload.number_of P.texts edition
+        input.now text.items) }
     ensures in_range { IfOk result (λ _. AreInRange options) }
     ensures fault { IfErr result (IsFaultOfWorkers options input.now) }
 {

@@ -84,16 +84,20 @@ fn push_node(text: &mut Vec<u8>, phase: Phase, v: u32, node: &ColourNode) -> Res
 }
 
 impl ProgramText for Colouring {
-    ghost use Rattle.colour_program.specs.ColoursText.{colouring_named, colouring_texts};
+    ghost use Rattle.colour_program.specs.ColoursText.{colouring_lined, colouring_texts};
 
     ghost texts = { colouring_texts };
 
-    ghost named = { colouring_named };
+    ghost lined = { colouring_lined };
 
     fn rounds_solve() {}
 
     fn name() -> &'static str {
         "colouring"
+    }
+
+    fn is_named() -> bool {
+        false
     }
 
     // The edition is 2 where a vertex has a bar, for the merging then goes by Δ and the bars.

@@ -5,7 +5,7 @@ use Rattle.std.specs.Str.{bytes_eq}
 use Rattle.clap.specs.Words.{Row, Text, fault_of, subcommand_of}
 use Rattle.clap.specs.Kinds.{IsAmong, Kinds}
 use Rattle.clap.specs.declared.error.kind.ErrorKind.{ErrorKind}
-use Rattle.clap.specs.declared.error.kind.ErrorKind.TheVariants.{DisplayHelp, OutOfMemory}
+use Rattle.clap.specs.declared.error.kind.ErrorKind.TheVariants.{DisplayHelp, InvalidSubcommand, OutOfMemory, UnknownArgument}
 use Rattle.run_options.specs.Ranges.{AreInRange}
 use Rattle.run_options.specs.declared.Edition.{Edition}
 use Rattle.run_options.specs.declared.Options.{Options}
@@ -13,6 +13,7 @@ use Rattle.command_line.specs.Line.{line}
 use Rattle.command_line.specs.NodePrograms.{NamesNoProgram, program_of, shown_of}
 use Rattle.command_line.specs.RunOptions.{edition_of, options_of}
 use Rattle.command_line.specs.declared.program.Program.{Program}
+use Rattle.command_line.specs.declared.program.Program.TheVariants.{Forestplan, Forestplay}
 use Rattle.command_line.specs.declared.programs.Shown.{Shown}
 use Rattle.command_line.specs.declared.programs.Shown.TheVariants as shown
 use Rattle.command_line.specs.declared.request.Declined.{Declined}
@@ -101,6 +102,17 @@ abbrev pub MayDecline : Program → List Text → Declined → Type 0
 MayDecline program words (declined.Help text) = (request_of program words ≡ None) × AskForHelp program words
 MayDecline program words (declined.Refused text) = (request_of program words ≡ None) × AreRefused program words
 MayDecline program words declined.Memory = Unit {0}
+
+-- how a program reads its input
+abbrev pub reads_text : Program → Text
+reads_text Forestplan = codes "forestplan reads the network from standard input: forestplan plan < FILE\n"
+reads_text Forestplay = codes "forestplay reads the network from standard input: forestplay rounds < FILE\n"
+
+-- the last line of a refusal of a word that clap doesn't know
+abbrev pub hint_of : ErrorKind → Program → Text
+hint_of UnknownArgument program = reads_text program
+hint_of InvalidSubcommand program = reads_text program
+hint_of _ program = []
 
 -- what an error of this kind becomes
 abbrev pub IsDeclinedBy : ErrorKind → Declined → Type 0

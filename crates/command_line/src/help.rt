@@ -370,8 +370,8 @@ pub const REPLAY: Help = Help {
 in a run of worker threads. Such entries, whoever wrote them, are played here in
 the order of their lines, by the machine that plays events. Nothing is taken on
 trust: each entry has to be possible, and its pulse or wire has to be the one that
-the node comes to there. In edition 2 each stamp has to be right too, and all
-nodes have to be done at the end.",
+the node comes to there. In editions 2 and 3 each stamp has to be right too, and all
+nodes have to be done at the end. Edition 3 has to be of the program of --program.",
     format: "Input: a graph in the DIMACS format, as `p edge NODES EDGES` and then `e V W`, and
 then a transcript, a line each:
   transcript 2 NODES   the first line
@@ -379,10 +379,11 @@ then a transcript, a line each:
   S V put W WIRE       V put a wire on its link to its neighbour W
   S V take W WIRE      V took a wire from the link of its neighbour W
 where WIRE is `payload P WORD NUMBER`, `ack P`, `safe P` or `close`, and S is the
-stamp, as `forestplan transcript --help` says. The first line of edition 1 is
-`transcript 1 NODES`, and its lines have no stamp. The transcript begins at the
-first line whose first field is `transcript`. From there empty lines are skipped.
-NODES is not compared with the graph.
+stamp, as `forestplan transcript --help` says. The first line of edition 3 is
+`transcript 3 PROGRAM NODES`. That of edition 1 is `transcript 1 NODES`, and its
+lines have no stamp. The transcript begins at the first line whose first field is
+`transcript`. From there empty lines are skipped. NODES is not compared with the
+graph.
 
 A transcript of edition 1 lists all entries of node 1, then all entries of node 2,
 and so on. If two nodes are neighbours, the entries are not possible in this
@@ -395,6 +396,7 @@ Faults of the transcript, reported once the graph has none, each as
 `forestplay: LinkEmpty line 5: link from 2 to 1`, where lines count from the first
 of the graph. The words after the line say what is missing, as for `forestplay
 events`, or what was expected:
+  WrongProgram  edition 3 names another program, as `WrongProgram line 5: leader`
   X1            not a line of a transcript, as one with a payload of another program
                 (is --program forgotten?), or, as line 1, no transcript
   NoSuch        there is no such node, or the other is not a neighbour
@@ -405,8 +407,9 @@ events`, or what was expected:
   WrongStamp    the entry has another stamp than its node comes to, or comes after
                 an entry that it has to precede
   NotWhole      the last line: a node is not done, or a wire was not taken
-The last two are of edition 2. The first line that is X1 is reported; if there is
-no such line, the first entry that is refused; and if no entry is, NotWhole.
+The last two are of editions 2 and 3. WrongProgram is reported first, then the first
+line that is X1; if there is no such line, the first entry that is refused; and if
+no entry is, NotWhole.
 
 Example: node 1 puts its greeting for node 2
   printf 'p edge 2 1\\ne 1 2\\ntranscript 1 2\\n1 put 2 payload 0 hello 1\\n' |
@@ -466,7 +469,8 @@ Output, for each node V, ascending, a line:
   node V pulse P RESULT    its last pulse, and its result, as `forestplay events`
                            has it
 With --transcript, a line each, as `forestplan transcript` writes them:
-  transcript 2 NODES       the first line
+  transcript 2 NODES       the first line; of a program beside the colouring it is
+                           `transcript 3 PROGRAM NODES`
   S V pulse P              node V made pulse P
   S V put W WIRE           V put a wire on its link to its neighbour W
   S V take W WIRE          V took a wire from the link of its neighbour W

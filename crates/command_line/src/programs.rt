@@ -1,6 +1,6 @@
 //! The programs of nodes that a command can run, in `clap`'s builders and as what its words name.
 
-ghost use Rattle.std.specs.Prelude.{◌≡◌, IfOk, false, option_map};
+ghost use Rattle.std.specs.Prelude.{◌≡◌, [], IfOk, codes, false, option_map, unwrap_or};
 ghost use Rattle.clap.specs.Words.{app_of, first_of, found_of, rows_of, rule_of};
 ghost use Rattle.clap.specs.declared.builder.command.Command.TheViews.{out-Command};
 ghost use Rattle.command_line.specs.NodePrograms.{program_of, program_rule, shown_of, transcript_rule};
@@ -97,8 +97,13 @@ pub fn program_of(matches: &ArgMatches<'_>) -> Option<NodeProgramName>
 }
 
 /// The word of a command that names its program; the empty text if it has none.
-pub fn program_word<'a>(matches: &ArgMatches<'a>) -> &'a str {
-    matches.get_str("program").unwrap_or("")
+pub fn program_word<'a>(matches: &ArgMatches<'a>) -> &'a str
+    ensures { result.now ≡ unwrap_or (first_of (codes "program") (rows_of (found_of matches.now))) [] }
+{
+    match first_word(matches, "program") {
+        Some(word) => word,
+        None => "",
+    }
 }
 
 /// What a command that runs nodes shows.

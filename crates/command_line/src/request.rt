@@ -3,7 +3,7 @@
 ghost use Rattle.std.specs.Prelude.{◌≡◌, ◌≢◌, None, Some, IfOk, IfErr, map};
 ghost use Rattle.clap.specs.Words.{found_of, kind_of, rows_of, subcommand_rows_of};
 ghost use Rattle.command_line.specs.Asked.{IsDeclinedBy, IsInRange, IsRefusal, MayDecline};
-ghost use Rattle.command_line.specs.Asked.{choice_of, has_transcript, named, played, request_of, run_of};
+ghost use Rattle.command_line.specs.Asked.{choice_of, has_transcript, hint_of, named, played, request_of, run_of};
 
 use crate::line::whole_line;
 use crate::options::{edition_of, options_of};
@@ -115,7 +115,9 @@ fn choice(matches: &ArgMatches<'_>) -> Option<Request>
 }
 
 // The last line of a refusal of a word that clap doesn't know: it may be the name of a file.
-fn hint(program: Program, kind: ErrorKind) -> &'static str {
+fn hint(program: Program, kind: ErrorKind) -> &'static str
+    ensures { result.now ≡ hint_of kind program }
+{
     match kind {
         ErrorKind::UnknownArgument | ErrorKind::InvalidSubcommand => match program {
             Program::Forestplan => FORESTPLAN_READS,

@@ -1,5 +1,5 @@
 -- To be reached is an equivalence of vertices.
-use Rattle.std.proofs.Common.{◌≡◌, ℕ, zero, suc, refl, sym, subst, inl, inr}
+use Rattle.std.proofs.Common.{ℕ, zero, suc, refl, sym, subst, inl, inr}
 use Rattle.interference.specs.Net.{Net, IsNetwork, IsVertex, back_port_of, neighbour_of}
 use Rattle.interference.proofs.Neighbours.{at-back_port}
 use Rattle.sync_rounds.specs.Reach.{IsWithinLinks}

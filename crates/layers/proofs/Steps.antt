@@ -1,6 +1,6 @@
 -- Steps of the layers: what a node sends at a pulse, and what it is after a pulse at which nothing came.
 use Rattle.std.proofs.Common.{◌≡◌, ℕ, ◌<◌, refl, arith, true, false, replicate}
-use Rattle.std.specs.Prelude.{Some, None, ◌⊎◌}
+use Rattle.std.specs.Prelude.{Some, None}
 use Rattle.std.proofs.lemmas.Bool.Decides.{nat_tests}
 use Rattle.node_api.specs.Boxes.{nothing}
 use Rattle.layers.specs.declared.layer.Layer.{Layer}

@@ -1,10 +1,12 @@
 -- The words of the layers in texts.
-use Rattle.std.specs.Prelude.{ℕ, List, [], ◌∷◌, ◌++◌, codes, if◌then◌else◌, nat_eq, nat_lt}
-use Rattle.std.proofs.Common.{arith, rules}
-use Rattle.interference.specs.Net.{Net, IsVertex, count_of, degree_of, greatest_degree_of, neighbour_of}
-use Rattle.node_api.specs.Program.{last_pulse_on}
-use Rattle.number_rows.specs.Row.{row, numbered}
-use Rattle.program_texts.specs.Texts.{HasName, ProgramTexts}
+use Rattle.std.specs.Prelude.{ℕ, Bool, true, false, List, [], ◌++◌, codes, if◌then◌else◌, nat_lt}
+use Rattle.std.proofs.Common.{arith, refl, rules}
+use Rattle.interference.specs.Net.{Net, IsVertex, degree_of, neighbour_of}
+use Rattle.number_rows.specs.Feeds.{HasNoFeed}
+use Rattle.number_rows.specs.Row.{numbered}
+use Rattle.number_rows.proofs.Feeds.{no-feed-append, no-feed-numbered}
+use Rattle.program_texts.specs.Named.{AreNamed, NamedTexts, texts_of}
+use Rattle.program_texts.specs.Texts.{ProgramTexts}
 use Rattle.layers.specs.declared.layer.Layer.{Layer}
 use Rattle.layers.specs.declared.layer.Layer.TheVariants.{Unreached, Root, Away}
 use Rattle.layers.specs.Distances.{IsLayer}
@@ -21,29 +23,48 @@ layer_text (Away hops port) = numbered (codes " layer ") hops ++ numbered (codes
 abbrev pub to_text : Net → ℕ → ℕ → List ℕ
 to_text net v port = if nat_lt port (degree_of net v) then numbered (codes " to ") (neighbour_of net v port) else []
 
--- ` layer D by PORT to W`, or as before
-abbrev pub end_text : Net → ℕ → Layer → List ℕ
-end_text net v Unreached = layer_text Unreached
-end_text net v Root = layer_text Root
-end_text net v (Away hops port) = layer_text (Away hops port) ++ to_text net v port
+-- the same of the port of a layer, if it has one
+abbrev pub towards_text : Net → ℕ → Layer → List ℕ
+towards_text net v Unreached = []
+towards_text net v Root = []
+towards_text net v (Away hops port) = to_text net v port
 
 -- each node knows its distance from the root, and a port that leads closer
 abbrev pub KnowTheirLayers : Net → (ℕ → Layered) → Type 0
 KnowTheirLayers net states = (v : ℕ) → IsVertex net v → IsLayer net v (states v).layer
 
--- `rounds 3 layers N DELTA R`, no phases, and `V layer ..` of each vertex at the last pulse
-abbrev pub layers_texts : ProgramTexts Layered
-layers_texts = record {
+abbrev pub layers_words : NamedTexts Layered
+layers_words = record {
   name = codes "layers";
-  head = λ net. codes "rounds 3 layers "
-      ++ row (count_of net ∷ greatest_degree_of net ∷ last_pulse_on layering net ∷ []);
-  phase = λ net p. [];
-  lines = λ net p v s. if nat_eq p (last_pulse_on layering net)
-      then numbered (codes "") v ++ layer_text s.layer ++ codes "\n" else [];
-  result = λ net v s. end_text net v s.layer;
+  found = λ s. layer_text s.layer;
+  more = λ net v s. towards_text net v s.layer;
   Solves = KnowTheirLayers;
 }
 
--- the name is a word
-pub layers_named : HasName layers_texts
-layers_named = record { some = omega arith; letters = grind (arith, rules) }
+-- all texts of the layers
+abbrev pub layers_texts : ProgramTexts Layered
+layers_texts = texts_of layering layers_words
+
+-- no line feed is in them
+no-feed-layer : (layer : Layer) → HasNoFeed (layer_text layer)
+no-feed-layer Unreached = refl
+no-feed-layer Root = refl
+no-feed-layer (Away hops port) =
+    no-feed-append (numbered (codes " layer ") hops) (numbered (codes " by ") port)
+    (no-feed-numbered (codes " layer ") hops refl) (no-feed-numbered (codes " by ") port refl)
+
+no-feed-if : (b : Bool) (w : ℕ) → HasNoFeed (if b then numbered (codes " to ") w else [])
+no-feed-if true w = no-feed-numbered (codes " to ") w refl
+no-feed-if false w = refl
+
+no-feed-towards : (net : Net) (v : ℕ) (layer : Layer) → HasNoFeed (towards_text net v layer)
+no-feed-towards net v Unreached = refl
+no-feed-towards net v Root = refl
+no-feed-towards net v (Away hops port) = no-feed-if (nat_lt port (degree_of net v)) (neighbour_of net v port)
+
+pub layers_named : AreNamed layers_words
+layers_named = record {
+  name = record { some = omega arith; letters = grind (arith, rules) };
+  found = λ s. no-feed-layer s.layer;
+  more = λ net v s. no-feed-towards net v s.layer;
+}

@@ -8,9 +8,8 @@ use crate::laws::rounds_end_with_the_distances;
 use crate::layer::Layer;
 use crate::node::Layers;
 use interference::Network;
-use node_api::NodeProgram;
-use number_rows::{push_numbered, push_row};
-use program_texts::ProgramText;
+use number_rows::push_numbered;
+use program_texts::NamedText;
 use std::alloc::AllocError;
 
 // Appends a distance, and the port that leads closer.
@@ -38,51 +37,26 @@ fn push_to(text: &mut Vec<u8>, net: &Network, v: u32, port: u32) -> Result<(), A
     Ok(())
 }
 
-impl ProgramText for Layers {
-    ghost use Rattle.layers.specs.Texts.{layers_named, layers_texts};
+impl NamedText for Layers {
+    ghost use Rattle.layers.specs.Texts.{layers_named, layers_words};
 
-    ghost texts = { layers_texts };
+    ghost words = { layers_words };
 
-    ghost named = { layers_named };
+    ghost are_named = { layers_named };
 
-    fn rounds_solve() {
+    fn rounds_end() {
         rounds_end_with_the_distances();
     }
 
-    fn name() -> &'static str {
+    fn program_name() -> &'static str {
         "layers"
     }
 
-    fn push_head(text: &mut Vec<u8>, net: &Network) -> Result<(), AllocError> {
-        text.extend_from_slice(b"rounds 3 layers ")?;
-        let nodes = u64::from(net.nodes());
-        let degree = u64::from(net.greatest_degree());
-        let last = u64::from(Layers::last_pulse(net));
-        push_row(text, &[nodes, degree, last])
+    fn push_found(&self, text: &mut Vec<u8>) -> Result<(), AllocError> {
+        push_layer(text, self.layer())
     }
 
-    fn push_phase(_text: &mut Vec<u8>, _net: &Network, _pulse: u32) -> Result<(), AllocError> {
-        Ok(())
-    }
-
-    fn push_lines(
-        &self,
-        text: &mut Vec<u8>,
-        net: &Network,
-        pulse: u32,
-        v: u32,
-    ) -> Result<(), AllocError> {
-        if pulse != Layers::last_pulse(net) {
-            return Ok(());
-        }
-        push_numbered(text, b"", u128::from(v))?;
-        push_layer(text, self.layer())?;
-        text.push(b'\n')?;
-        Ok(())
-    }
-
-    fn push_result(&self, text: &mut Vec<u8>, net: &Network, v: u32) -> Result<(), AllocError> {
-        push_layer(text, self.layer())?;
+    fn push_more(&self, text: &mut Vec<u8>, net: &Network, v: u32) -> Result<(), AllocError> {
         match self.layer() {
             Layer::Away(_, port) => push_to(text, net, v, port),
             _ => Ok(()),

@@ -1,39 +1,48 @@
 -- The words of the election in texts.
-use Rattle.std.specs.Prelude.{ℕ, List, [], ◌∷◌, ◌++◌, codes, if◌then◌else◌, nat_eq}
-use Rattle.std.proofs.Common.{arith, rules}
-use Rattle.interference.specs.Net.{Net, IsVertex, count_of, greatest_degree_of, id_of}
-use Rattle.node_api.specs.Program.{last_pulse_on}
-use Rattle.number_rows.specs.Row.{row, numbered}
-use Rattle.program_texts.specs.Texts.{HasName, ProgramTexts}
+use Rattle.std.specs.Prelude.{ℕ, Bool, true, false, List, [], codes, if◌then◌else◌, nat_eq}
+use Rattle.std.proofs.Common.{arith, refl, rules}
+use Rattle.interference.specs.Net.{Net, IsVertex, id_of}
+use Rattle.number_rows.specs.Feeds.{HasNoFeed}
+use Rattle.number_rows.specs.Row.{numbered}
+use Rattle.number_rows.proofs.Feeds.{no-feed-numbered}
+use Rattle.program_texts.specs.Named.{AreNamed, NamedTexts, texts_of}
+use Rattle.program_texts.specs.Texts.{ProgramTexts}
 use Rattle.leader.specs.Component.{IsGreatestReached}
 use Rattle.leader.specs.Elector.{Elector}
 use Rattle.leader.specs.Election.{election}
 
 -- ` leader B`: the identifier that a node knows
-abbrev pub result_text : Elector → List ℕ
-result_text s = numbered (codes " leader ") s.best
+abbrev pub found_text : Elector → List ℕ
+found_text s = numbered (codes " leader ") s.best
 
--- the same of a vertex's node, and ` elected` if the identifier is its own
-abbrev pub end_text : Net → ℕ → Elector → List ℕ
-end_text net v s = result_text s ++ (if nat_eq (id_of net v) s.best then codes " elected" else [])
+-- ` elected` if that is the identifier of the vertex
+abbrev pub elected_text : Net → ℕ → Elector → List ℕ
+elected_text net v s = if nat_eq (id_of net v) s.best then codes " elected" else []
 
 -- each node knows the greatest identifier of its component
 abbrev pub KnowTheLeader : Net → (ℕ → Elector) → Type 0
 KnowTheLeader net states = (v : ℕ) → IsVertex net v → IsGreatestReached net v (states v).best
 
--- `rounds 3 leader N DELTA R`, no phases, and `V leader B` of each vertex at the last pulse
-abbrev pub leader_texts : ProgramTexts Elector
-leader_texts = record {
+abbrev pub leader_words : NamedTexts Elector
+leader_words = record {
   name = codes "leader";
-  head = λ net. codes "rounds 3 leader "
-      ++ row (count_of net ∷ greatest_degree_of net ∷ last_pulse_on election net ∷ []);
-  phase = λ net p. [];
-  lines = λ net p v s. if nat_eq p (last_pulse_on election net)
-      then numbered (codes "") v ++ result_text s ++ codes "\n" else [];
-  result = end_text;
+  found = found_text;
+  more = elected_text;
   Solves = KnowTheLeader;
 }
 
--- the name is a word
-pub leader_named : HasName leader_texts
-leader_named = record { some = omega arith; letters = grind (arith, rules) }
+-- all texts of the election
+abbrev pub leader_texts : ProgramTexts Elector
+leader_texts = texts_of election leader_words
+
+-- no line feed is in them
+no-feed-elected : (own : Bool) → HasNoFeed (if own then codes " elected" else [])
+no-feed-elected true = refl
+no-feed-elected false = refl
+
+pub leader_named : AreNamed leader_words
+leader_named = record {
+  name = record { some = omega arith; letters = grind (arith, rules) };
+  found = λ s. no-feed-numbered (codes " leader ") s.best refl;
+  more = λ net v s. no-feed-elected (nat_eq (id_of net v) s.best);
+}

@@ -1,10 +1,13 @@
 -- The texts of a program whose nodes have states S, and what they are to say.
-use Rattle.std.specs.Prelude.{ℕ, ◌<◌, ◌≤◌, List, All, length}
+use Rattle.std.specs.Prelude.{ℕ, ◌<◌, ◌≤◌, Bool, List, All, length}
 use Rattle.interference.specs.Net.{Net}
+use Rattle.number_rows.specs.Feeds.{AreLines, HasNoFeed, IsLine}
 
 pub record ProgramTexts (S : Type 0) : Type 1 where
   -- the program's name
   pub name : List ℕ
+  -- whether its rounds and its transcripts begin with its name, in edition 3; the colouring's have editions of their own
+  pub is_named : Bool
   -- the first line of its rounds on a network, its end included
   pub head : Net → List ℕ
   -- the words behind `pulse P` in its rounds, with a space before each
@@ -20,7 +23,15 @@ pub record ProgramTexts (S : Type 0) : Type 1 where
 abbrev pub IsSmallLetter : ℕ → Type 0
 IsSmallLetter c = (97 ≤ c) × (c ≤ 122)
 
--- The name is one or more small ASCII letters, so that it is one word of a command line and of a text.
-pub record HasName {S : Type 0} (texts : ProgramTexts S) : Type 0 where
-  pub some : 0 < length texts.name
-  pub letters : All IsSmallLetter texts.name
+-- A name is one or more small ASCII letters, so that it is one word of a command line and of a text.
+pub record IsName (name : List ℕ) : Type 0 where
+  pub some : 0 < length name
+  pub letters : All IsSmallLetter name
+
+-- What is said above of the texts: so each line that a program writes is whole, and a result stays within its line.
+pub record AreTexts {S : Type 0} (texts : ProgramTexts S) : Type 0 where
+  pub name : IsName texts.name
+  pub head : (net : Net) → IsLine (texts.head net)
+  pub phase : (net : Net) (p : ℕ) → HasNoFeed (texts.phase net p)
+  pub lines : (net : Net) (p v : ℕ) (s : S) → AreLines (texts.lines net p v s)
+  pub result : (net : Net) (v : ℕ) (s : S) → HasNoFeed (texts.result net v s)

@@ -4,7 +4,7 @@ use Rattle.program_texts.specs.Texts.{ProgramTexts}
 use Rattle.node_api.specs.Program.{Program}
 use Rattle.run_options.specs.declared.Edition.TheVariants as edition
 use Rattle.byte_functions.specs.Ends.{IsEndsAnswer}
-use Rattle.byte_functions.specs.Transcripts.{IsTranscriptAnswer}
+use Rattle.byte_functions.specs.Transcripts.{IsProgramTranscript}
 use Rattle.byte_functions.specs.Workers.{IsFaultOfWorkers}
 use Rattle.answers.specs.Answers.{IsFaultOfText}
 use Rattle.answers.specs.EventAnswers.{IsEventsAnswer, IsFaultOfEvents}
@@ -38,12 +38,12 @@ module _ {S M E : Type 0} (program : Program S M E) (texts : ProgramTexts S) (wo
   IsGoodPlay Rounds input answer = IsRoundsAnswer program texts word_of number_of input answer
   IsGoodPlay (Run options shown.States) input answer = IsEndsAnswer program texts input answer
   IsGoodPlay (Run options shown.Transcript) input answer =
-      IsTranscriptAnswer program word_of number_of edition.Two input answer
+      IsProgramTranscript program word_of number_of texts edition.Two input answer
 
   -- the fault of an input, a line for each; the options of a command line are never out of range
   abbrev pub IsFaultPlay : Play → List ℕ → PlanFault → Type 0
   IsFaultPlay Events input fault = IsFaultOfEvents program input fault
-  IsFaultPlay Replay input fault = IsFaultOfReplay program word_of number_of payload_of input fault
+  IsFaultPlay Replay input fault = IsFaultOfReplay program word_of number_of payload_of texts input fault
   IsFaultPlay Rounds input fault = IsFaultOfText input fault
   IsFaultPlay (Run options show) input fault = IsFaultOfWorkers options input fault × (fault ≢ Pool BadOptions)
 

@@ -1,33 +1,32 @@
 -- The words of the program in texts.
-use Rattle.std.specs.Prelude.{◌≡◌, ℕ, List, [], ◌∷◌, ◌++◌, codes, if◌then◌else◌, nat_eq}
-use Rattle.std.proofs.Common.{arith, rules}
-use Rattle.interference.specs.Net.{Net, IsVertex, count_of, greatest_degree_of}
-use Rattle.node_api.specs.Program.{last_pulse_on}
-use Rattle.number_rows.specs.Row.{row, numbered}
-use Rattle.program_texts.specs.Texts.{HasName, ProgramTexts}
-use Rattle.silent.specs.Knowing.{Known, silent}
+use Rattle.std.specs.Prelude.{◌≡◌, ℕ, List, [], codes}
+use Rattle.std.proofs.Common.{arith, refl, rules}
+use Rattle.interference.specs.Net.{Net, IsVertex}
+use Rattle.number_rows.specs.Row.{numbered}
+use Rattle.number_rows.proofs.Feeds.{no-feed-numbered}
+use Rattle.program_texts.specs.Named.{AreNamed, NamedTexts}
+use Rattle.silent.specs.Knowing.{Known}
 
 -- ` silent N`
-abbrev pub result_text : Known → List ℕ
-result_text s = numbered (codes " silent ") s.number
+abbrev pub found_text : Known → List ℕ
+found_text s = numbered (codes " silent ") s.number
 
 -- what the program is for: each node has found 0
 abbrev pub HaveFound : Net → (ℕ → Known) → Type 0
 HaveFound net states = (v : ℕ) → IsVertex net v → (states v).number ≡ 0
 
--- `rounds 3 silent N DELTA R`, no phases, and `V silent N` of each vertex at the last pulse
-abbrev pub silent_texts : ProgramTexts Known
-silent_texts = record {
+abbrev pub silent_words : NamedTexts Known
+silent_words = record {
   name = codes "silent";
-  head = λ net. codes "rounds 3 silent "
-      ++ row (count_of net ∷ greatest_degree_of net ∷ last_pulse_on silent net ∷ []);
-  phase = λ net p. [];
-  lines = λ net p v s. if nat_eq p (last_pulse_on silent net)
-      then numbered (codes "") v ++ result_text s ++ codes "\n" else [];
-  result = λ net v s. result_text s;
+  found = found_text;
+  more = λ net v s. [];
   Solves = HaveFound;
 }
 
--- the name is a word
-pub silent_named : HasName silent_texts
-silent_named = record { some = omega arith; letters = grind (arith, rules) }
+-- the name is a word, and no line feed is in the others
+pub silent_named : AreNamed silent_words
+silent_named = record {
+  name = record { some = omega arith; letters = grind (arith, rules) };
+  found = λ s. no-feed-numbered (codes " silent ") s.number refl;
+  more = λ net v s. refl;
+}

@@ -58,9 +58,9 @@ module _ {M : Type 0} (word_of : M → List ℕ) (number_of : M → ℕ) (payloa
   pub written-one : (nodes : ℕ) (rows : List (Row M)) → nodes < 2 ^ 32 → All (IsReadable word_of number_of payload_of) rows →
       reading_of payload_of (lines_of (transcript_of word_of number_of nodes rows)) ≡ Ok (nodes, rows)
   written-one = written-read (codes "1") (row_of payload_of) (row_text word_of number_of) (IsReadable word_of number_of payload_of)
-      (λ row. decimal row.vertex) words row-line (reads-row word_of number_of payload_of letters vertex_row) literal-one refl
+      (λ row. decimal row.vertex) words row-line (reads-row word_of number_of payload_of letters vertex_row) literal-one refl refl
 
   pub written-two : (nodes : ℕ) (rows : List (StampedRow M)) → nodes < 2 ^ 32 → All (IsReadableStamped word_of number_of payload_of) rows →
       stamped_reading_of payload_of (lines_of (stamped_transcript_of word_of number_of nodes rows)) ≡ Ok (nodes, rows)
   written-two = written-read (codes "2") (stamped_row_of payload_of) (stamped_row_text word_of number_of) (IsReadableStamped word_of number_of payload_of)
-      (λ row. decimal row.stamp) (λ row. decimal row.vertex ∷ words (without_stamp row)) stamped-line reads-stamped literal-two refl
+      (λ row. decimal row.stamp) (λ row. decimal row.vertex ∷ words (without_stamp row)) stamped-line reads-stamped literal-two refl refl

@@ -1,6 +1,6 @@
--- A text that was written of rows is read as these rows, in either edition: if each row's line is read as the row, then line
+-- A text that was written of rows is read as these rows, in edition 1 and 2: if each row's line is read as the row, then line
 -- by line (reads-rows), and behind the first line (written-read).
-use Rattle.std.proofs.Common.{◌≡◌, ◌<◌, ◌+◌, ◌^◌, ◌++◌, ◌∷◌, [], ◌∙◌, ℕ, true, Option, Some, None, Ok, List, All}
+use Rattle.std.proofs.Common.{◌≡◌, ◌<◌, ◌+◌, ◌^◌, ◌++◌, ◌∷◌, [], ◌∙◌, ℕ, false, true, Option, Some, None, Ok, List, All}
 use Rattle.std.proofs.Common.{arith, ap, append-nil, append_assoc, codes, flat_map, refl, rules, sym, option_and_then}
 use Rattle.std.proofs.lemmas.List.Elements.{All-cons, All-head, All-nil, All-tail}
 use Rattle.std.specs.Fmt.{decimal}
@@ -18,7 +18,8 @@ use Rattle.transcripts.proofs.Words.{small-word}
 literal-first : IsWord (codes "transcript")
 literal-first = (omega arith, grind (arith, rules))
 
-module _ (edition : List ℕ) (word : IsWord edition) (same : bytes_eq edition edition ≡ true) (nodes : ℕ) (fits : nodes < 2 ^ 32) where
+module _ (edition : List ℕ) (word : IsWord edition) (same : bytes_eq edition edition ≡ true) (bare : bytes_eq edition (codes "3") ≡ false) (nodes : ℕ)
+    (fits : nodes < 2 ^ 32) where
   -- the first line, and a text behind it
   first-text : (rest : List ℕ) → first_line_of edition nodes ++ rest ≡ spaced (codes "transcript") (edition ∷ decimal nodes ∷ []) ++ 10 ∷ rest
   first-text rest =
@@ -32,7 +33,7 @@ module _ (edition : List ℕ) (word : IsWord edition) (same : bytes_eq edition e
       (All-cons IsWord edition (decimal nodes ∷ []) word (All-cons IsWord (decimal nodes) [] (small-word nodes fits) (All-nil IsWord)))
 
   reads-first : header_of edition (codes "transcript" ∷ edition ∷ decimal nodes ∷ []) ≡ Some nodes
-  reads-first = rw same (ap (option_and_then (λ n. only [] n)) (small-decimal nodes fits))
+  reads-first = rw (same, bare) (ap (option_and_then (λ n. only [] n)) (small-decimal nodes fits))
 
 module _ {R : Type 0} (edition : List ℕ) (row_of : Line → Option R) (line_text : R → List ℕ) (IsReadable : R → Type 0) (first : R → List ℕ) (others : R → Line)
     (line-is : (row : R) (rest : List ℕ) → IsReadable row → lines_of (line_text row ++ rest) ≡ (first row ∷ others row) ∷ lines_of rest)
@@ -62,13 +63,14 @@ module _ {R : Type 0} (edition : List ℕ) (row_of : Line → Option R) (line_te
       ∙ reads-rows (n + 1) nodes (before ++ row ∷ []) rows (All-tail IsReadable row rows h)
       ∙ ap (λ l. Ok (nodes, l)) (append_assoc before (row ∷ []) rows)
 
-  pub written-read : IsWord edition → bytes_eq edition edition ≡ true → (nodes : ℕ) (rows : List R) → nodes < 2 ^ 32 → All IsReadable rows →
+  pub written-read : IsWord edition → bytes_eq edition edition ≡ true → bytes_eq edition (codes "3") ≡ false → (nodes : ℕ) (rows : List R) →
+      nodes < 2 ^ 32 → All IsReadable rows →
       read_from edition row_of 1 None (lines_of (text_of edition line_text nodes rows)) ≡ Ok (nodes, rows)
-  written-read word same nodes rows h hs =
+  written-read word same bare nodes rows h hs =
       let others = edition ∷ decimal nodes ∷ [] in
       let head = codes "transcript" ∷ others in
-      ap (read_from edition row_of 1 None) (first-is edition word same nodes h (flat_map line_text rows) ∙ ap (λ ls. head ∷ ls) (lines-of rows hs))
+      ap (read_from edition row_of 1 None) (first-is edition word same bare nodes h (flat_map line_text rows) ∙ ap (λ ls. head ∷ ls) (lines-of rows hs))
       ∙ read-one edition row_of 1 None head (row_lines rows)
       ∙ ap (then_read edition row_of 1 (row_lines rows)) (header-right edition row_of None (nodes, []) head others (codes "transcript") nodes
-      refl refl (reads-first edition word same nodes h) refl)
+      refl refl (reads-first edition word same bare nodes h) refl)
       ∙ reads-rows 2 nodes [] rows hs

@@ -5,7 +5,7 @@ use Rattle.std.specs.List.{All}
 use Rattle.std.specs.List.Sorted.{IsStrictlyIncreasing}
 use Rattle.dimacs_col.specs.Lines.{Line, has_fields}
 use Rattle.dimacs_col.specs.Split.{AreLinesBefore, lines_before, lines_from}
-use Rattle.transcripts.specs.EntryLines.{row_of, stamped_row_of}
+use Rattle.transcripts.specs.EntryLines.{name_in, row_of, stamped_row_of}
 use Rattle.transcripts.specs.Reading.{Contents, Transcript, read_from}
 use Rattle.entries.specs.declared.rows.Row.{Row}
 use Rattle.entries.specs.declared.rows.StampedRow.{StampedRow}
@@ -25,6 +25,15 @@ AreNetworkLines lines network = AreLinesBefore transcript_word lines network
 -- the lines of the transcript: from that one on
 abbrev pub transcript_lines : List Line → List Line
 transcript_lines lines = lines_from transcript_word lines
+
+-- the name of the program in the first of some lines, if that is of edition 3
+abbrev pub first_name : List Line → Option (List ℕ)
+first_name [] = None
+first_name (line ∷ lines) = name_in line
+
+-- the name of the program that a transcript behind a network text has in its first line, if that is of edition 3
+abbrev pub program_in : List Line → Option (List ℕ)
+program_in lines = first_name (transcript_lines lines)
 
 -- the reading of the lines behind a network text
 abbrev pub read_behind : {R : Type 0} → List ℕ → (Line → Option R) → List Line → Result (Contents R) ℕ

@@ -1,6 +1,6 @@
 -- Which entry a line is, for payloads that a word and a number say.
-use Rattle.std.specs.Prelude.{ℕ, ◌^◌, Option, Some, None, option_and_then, option_map, nat_lt, if◌then◌else◌}
-use Rattle.std.specs.Prelude.{List, [], ◌∷◌, ◌&&◌, codes}
+use Rattle.std.specs.Prelude.{ℕ, ◌^◌, Bool, true, Option, Some, None, option_and_then, option_map, nat_le, nat_lt}
+use Rattle.std.specs.Prelude.{List, [], ◌∷◌, ◌&&◌, codes, if◌then◌else◌, length}
 use Rattle.std.specs.Str.{bytes_eq, is_utf8}
 use Rattle.dimacs_col.specs.Lines.{Line, number_of, small_number}
 use Rattle.alpha_core.specs.declared.wire.Wire.{Wire}
@@ -85,8 +85,33 @@ module _ {M : Type 0} (payload_of : List ℕ → ℕ → Option M) where
   stamped_row_of line = with_next (λ field others.
       option_and_then (λ stamp. row_with (λ v entry. stamped_row stamp v entry) others) (stamp_number field)) line
 
--- how many nodes the first line says that there are: it is `transcript EDITION NODES`
+-- small ASCII letters alone
+abbrev pub are_small : List ℕ → Bool
+are_small [] = true
+are_small (c ∷ cs) = (nat_le 97 c && nat_le c 122) && are_small cs
+
+-- the name of a program: one or more of them
+abbrev pub is_name : List ℕ → Bool
+is_name field = nat_lt 0 (length field) && are_small field
+
+-- the fields behind those of an edition: in edition 3 there is the name of a program first
+abbrev pub behind_name : List ℕ → Line → Option Line
+behind_name edition fields = if bytes_eq edition (codes "3")
+    then with_next (λ name others. if is_name name then Some others else None) fields else Some fields
+
+-- how many nodes these fields say that there are
+abbrev pub nodes_in : List ℕ → Line → Option ℕ
+nodes_in edition fields =
+    option_and_then (λ others. with_number (λ nodes left. only left nodes) others) (behind_name edition fields)
+
+-- how many nodes the first line says that there are: it is `transcript EDITION NODES`, or in edition 3
+-- `transcript 3 NAME NODES`
 abbrev pub header_of : List ℕ → Line → Option ℕ
 header_of edition line = with_next (λ first others. with_next (λ second rest.
-    if bytes_eq first (codes "transcript") && bytes_eq second edition
-    then with_number (λ nodes left. only left nodes) rest else None) others) line
+    if bytes_eq first (codes "transcript") && bytes_eq second edition then nodes_in edition rest else None) others) line
+
+-- the name in a first line of edition 3
+abbrev pub name_in : Line → Option (List ℕ)
+name_in line = with_next (λ first others. with_next (λ second rest.
+    if bytes_eq first (codes "transcript") && bytes_eq second (codes "3")
+    then with_next (λ name left. if is_name name then Some name else None) rest else None) others) line

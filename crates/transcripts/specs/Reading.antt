@@ -1,5 +1,5 @@
--- The reading of a transcript: the line `transcript EDITION NODES`, and then a row a line. An edition is a word, and
--- what row a line of it is.
+-- The reading of a transcript: its first line, `transcript EDITION NODES`, and then a row a line. An edition is a word,
+-- and what row a line of it is; in edition 3 the name of a program stands before NODES.
 use Rattle.std.specs.Prelude.{◌≡◌, ℕ, ◌+◌, Option, Some, None, option_map, Result, Ok, Err, List, [], ◌∷◌, ◌++◌}
 use Rattle.std.specs.Prelude.{codes, filter, map}
 use Rattle.dimacs_col.specs.Lines.{Line, has_fields}
@@ -33,7 +33,7 @@ module _ {R : Type 0} (edition : List ℕ) (row_of : Line → Option R) where
   read_from n known (line ∷ lines) =
       elim (known_after known line) [ None ↦ Err n | Some next ↦ read_from (n + 1) next lines ]
 
-  -- the lines that have fields are the line `transcript EDITION NODES` and then these rows
+  -- the lines that have fields are a first line of the edition and then these rows
   pub record IsText (lines : List Line) (read : Contents R) : Type 0 where
     pub first : Line
     pub body : List Line
@@ -57,6 +57,10 @@ module _ {M : Type 0} (payload_of : List ℕ → ℕ → Option M) where
   abbrev pub stamped_from : ℕ → List Line → Result (StampedTranscript M) ℕ
   stamped_from n lines = read_from (codes "2") (stamped_row_of payload_of) n None lines
 
+  -- the same as edition 3, whose first line has the name of a program too
+  abbrev pub named_from : ℕ → List Line → Result (StampedTranscript M) ℕ
+  named_from n lines = read_from (codes "3") (stamped_row_of payload_of) n None lines
+
   -- the transcript of edition 1 that a text is, or the number of its first wrong line
   abbrev pub reading_of : List Line → Result (Transcript M) ℕ
   reading_of lines = entries_from 1 lines
@@ -72,6 +76,10 @@ module _ {M : Type 0} (payload_of : List ℕ → ℕ → Option M) where
   -- the lines that have fields are the line `transcript 2 NODES` and then these entries with their stamps
   abbrev pub IsStampedText : List Line → StampedTranscript M → Type 0
   IsStampedText lines read = IsText (codes "2") (stamped_row_of payload_of) lines read
+
+  -- the same, but the first line is `transcript 3 NAME NODES`
+  abbrev pub IsNamedText : List Line → StampedTranscript M → Type 0
+  IsNamedText lines read = IsText (codes "3") (stamped_row_of payload_of) lines read
 
 -- the fault of a reading: X1 with the number of the first wrong line; that memory ran out says nothing of the lines
 abbrev pub IsFaultOf : {A : Type 0} → Result A ℕ → TextFault → Type 0

@@ -19,6 +19,10 @@ first_line_of edition nodes = numbered (codes "transcript " ++ edition ++ codes 
 abbrev pub text_of : {R : Type 0} → List ℕ → (R → List ℕ) → ℕ → List R → List ℕ
 text_of edition line_of nodes rows = first_line_of edition nodes ++ flat_map line_of rows
 
+-- the words of edition 3 in its first line: `3 NAME`
+abbrev pub named_edition : List ℕ → List ℕ
+named_edition name = codes "3 " ++ name
+
 -- the line `transcript 1 NODES`
 abbrev pub first_line : ℕ → List ℕ
 first_line nodes = first_line_of (codes "1") nodes

@@ -1,11 +1,13 @@
 //! A transcript behind a network text.
 
-ghost use Rattle.std.specs.Prelude.{◌≡◌, ◌<◌, ◌+◌, ◌^◌, ◌++◌, IfOk, IfErr, Ok, drop, length};
+ghost use Rattle.std.specs.Prelude.{◌≡◌, ◌<◌, ◌+◌, ◌^◌, ◌++◌, IfOk, IfErr, Ok, drop, length, option_map};
 ghost use Rattle.dimacs_col.specs.Lines.{lines_of, has_fields};
-ghost use Rattle.transcripts.specs.Behind.{AreNetworkLines, entry_lines, numbers_from, reading_behind};
+ghost use Rattle.transcripts.specs.Behind.{AreNetworkLines, entry_lines, first_name, numbers_from, program_in};
+ghost use Rattle.transcripts.specs.Behind.{reading_behind};
 ghost use Rattle.transcripts.specs.Reading.{IsFaultOf};
 
 use crate::fault::TextFault;
+use crate::names::name_in;
 use crate::reading::read_lines;
 use dimacs_col::{Fields, Lines, text_before, text_start};
 use entries::Row;
@@ -17,6 +19,27 @@ pub fn network_text(input: &[u8]) -> &[u8]
     ensures network { AreNetworkLines (lines_of input.now) (lines_of result.now) }
 {
     text_before(input, &[b"transcript"])
+}
+
+// The name of the program in the first of some lines.
+fn first_name<'a>(before: usize, text: &'a [u8]) -> Option<&'a [u8]>
+    requires room { before + length text.now + 1 < 2 ^ 64 }
+    ensures { option_map (λ name. name.now) result ≡ first_name (lines_of text.now) }
+{
+    let mut lines = Lines::behind(before, text);
+    let (_, fields) = lines.next()?;
+    name_in(fields)
+}
+
+/// The name of the program that the transcript behind a network text has in its first line, if that begins with
+/// `transcript 3 NAME`.
+pub fn program_in<'a>(input: &'a [u8]) -> Option<&'a [u8]>
+    ensures { option_map (λ name. name.now) result ≡ program_in (lines_of input.now) }
+{
+    match text_start(input, &[b"transcript"]) {
+        Some(start) => first_name(start.lines, &input[start.bytes..]),
+        None => None,
+    }
 }
 
 /// The transcript that follows a network text, as `read_transcript` reads it. It begins at the first line whose first
@@ -34,7 +57,7 @@ pub fn read_behind_network<T: PayloadText>(
     ensures fault { IfErr result (IsFaultOf (reading_behind T.payload_of (lines_of input.now))) }
 {
     match text_start(input, &[b"transcript"]) {
-        Some(start) => read_lines::<T, Row<T>>(alloc, start.lines, &input[start.bytes..]),
+        Some(start) => read_lines::<T, Row<T>>(alloc, b"1", start.lines, &input[start.bytes..]),
         None => Err(TextFault::Syntax(1)),
     }
 }

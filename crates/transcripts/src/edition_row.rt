@@ -1,4 +1,4 @@
-//! Rows of a transcript: without a stamp in edition 1, with one in edition 2. What else a line has is the same in both.
+//! Rows of a transcript: without a stamp in edition 1, with one in editions 2 and 3. What else a line has is the same.
 
 ghost use Rattle.std.specs.Prelude.{◌≡◌, ◌∷◌, ℕ, Bool};
 ghost use Rattle.entries.specs.Rows.{stamped_row, vertex_row};
@@ -10,7 +10,7 @@ use dimacs_col::{Fields, small_number};
 use entries::{Entry, Row, StampedRow};
 use node_api::PayloadText;
 
-/// A row of one edition.
+/// A row of an edition.
 pub(crate) trait EditionRow<T>: Copy {
     ghost use Rattle.entries.specs.declared.entry.Entry.{Entry};
 

@@ -1,10 +1,10 @@
 //! One line of a transcript.
 
 ghost use Rattle.std.specs.Prelude.{◌≡◌, ◌∷◌};
-ghost use Rattle.transcripts.specs.EditionRows.{edition_word};
-ghost use Rattle.transcripts.specs.EntryLines.{entry_of, header_of, only, payload_in, payload_with};
+ghost use Rattle.transcripts.specs.EntryLines.{entry_of, header_of, nodes_in, only, payload_in, payload_with};
 ghost use Rattle.transcripts.specs.EntryLines.{pulsed_wire, wire_of, wire_with};
 
+use crate::names::is_name;
 use crate::numbers::wide_number;
 use alpha_core::Wire;
 use dimacs_col::{Fields, small_number};
@@ -92,20 +92,26 @@ pub(crate) fn entry_of<T: PayloadText>(mut fields: Fields) -> Option<Entry<T>>
     }
 }
 
-// The word of an edition in the first line.
-fn edition_word(stamped: bool) -> &'static [u8]
-    ensures { result.now ≡ edition_word stamped }
+// How many nodes the fields behind those of an edition say that there are; in edition 3 they begin with a name.
+fn nodes_in(edition: &[u8], mut fields: Fields) -> Option<u32>
+    ensures { result ≡ nodes_in edition.now fields.entry }
 {
-    if stamped { b"2" } else { b"1" }
+    if edition == b"3".as_slice() {
+        let name = fields.next()?;
+        if !is_name(name) {
+            return None;
+        }
+    }
+    let nodes = small_number(fields.next()?)?;
+    only(fields, nodes)
 }
 
-/// How many nodes a first line of an edition, with stamps or without, says that there are. Its first field was taken.
-pub(crate) fn header_of(stamped: bool, first: &[u8], mut others: Fields) -> Option<u32>
-    ensures { result ≡ header_of (edition_word stamped) (first.now ∷ others.entry) }
+/// How many nodes a first line of an edition says that there are. Its first field was taken.
+pub(crate) fn header_of(edition: &[u8], first: &[u8], mut others: Fields) -> Option<u32>
+    ensures { result ≡ header_of edition.now (first.now ∷ others.entry) }
 {
-    if first != b"transcript".as_slice() || others.next()? != edition_word(stamped) {
+    if first != b"transcript".as_slice() || others.next()? != edition {
         return None;
     }
-    let nodes = small_number(others.next()?)?;
-    only(others, nodes)
+    nodes_in(edition, others)
 }

@@ -6,7 +6,8 @@
 //! text by `push_first_line`, and by `push_entries` for each node.
 //!
 //! In edition 2 the first line is `transcript 2 NODES`, and each entry has its stamp before the vertex. `stamped_text`
-//! writes it, `push_stamped_row` one entry of it, and `read_any` reads both editions.
+//! writes it, `push_stamped_row` one entry of it, and `read_any` reads both editions. Edition 3 is the same of a program
+//! that is named: its first line, which `push_named_line` writes, is `transcript 3 NAME NODES`.
 //!
 //! ```text
 //! let rows = [
@@ -18,7 +19,8 @@
 //! ```
 //!
 //! `read_behind_network` reads a transcript behind a network text, with lines that count from the first one of the
-//! whole input, and `read_any_behind_network` one of either edition; `network_text` is what stands before it.
+//! whole input, and `read_any_behind_network` one of any edition; `network_text` is what stands before it, and
+//! `program_in` the name in its first line. Whether that is the program that the caller means is for the caller to ask.
 //!
 //! Nodes, vertices and pulses that are read are below 2^32, stamps below 2^64, numbers of payloads below 2^128. Whether
 //! a vertex is there, and whether a stamp is right, is for `replay` to say.
@@ -32,15 +34,18 @@ mod fault;
 pub mod laws;
 mod line_end;
 mod lines;
+mod names;
 mod node_lines;
 mod numbers;
 mod reading;
 mod writing;
 
-pub use behind::{entry_lines, network_text, read_behind_network};
+pub use behind::{entry_lines, network_text, program_in, read_behind_network};
 pub use editions::{Transcript, read_any, read_any_behind_network};
 pub use fault::TextFault;
 pub use lines::{push_row, push_stamped_row};
 pub use node_lines::push_entries;
 pub use reading::read_transcript;
-pub use writing::{push_first_line, stamped_text, transcript_text};
+pub use writing::{
+    push_first_line, push_named_line, push_stamped_line, stamped_text, transcript_text,
+};

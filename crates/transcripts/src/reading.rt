@@ -52,13 +52,14 @@ impl<R: Drop> Reader<R> {
 fn step<T: PayloadText, R: EditionRow<T>>(
     reader: &mut Reader<R>,
     alloc: Global,
+    edition: &[u8],
     number: usize,
     mut fields: Fields,
 ) -> Result<(), TextFault>
-    ensures ok { IfOk result (λ _.
-        edition_after R.STAMPED R.made T.payload_of reader.old.known fields.entry ≡ Some reader.new.known) }
+    ensures ok { IfOk result (λ _. edition_after R.STAMPED R.made T.payload_of edition.now reader.old.known
+        fields.entry ≡ Some reader.new.known) }
     ensures fault { IfErr result (IsSyntaxFault
-        (edition_after R.STAMPED R.made T.payload_of reader.old.known fields.entry ≡ None) number) }
+        (edition_after R.STAMPED R.made T.payload_of edition.now reader.old.known fields.entry ≡ None) number) }
 {
     let Some(first) = fields.next() else {
         return Ok(());
@@ -71,7 +72,7 @@ fn step<T: PayloadText, R: EditionRow<T>>(
             known.rows.push(row)?;
         }
         None => {
-            let Some(nodes) = header_of(R::STAMPED, first, fields) else {
+            let Some(nodes) = header_of(edition, first, fields) else {
                 return Err(TextFault::Syntax(number));
             };
             reader.known = Some(Beginning {
@@ -83,23 +84,24 @@ fn step<T: PayloadText, R: EditionRow<T>>(
     Ok(())
 }
 
-/// Parses a transcript of the edition of its rows. `before` lines of the input precede it, and line numbers count from
-/// the first of them.
+/// Parses a transcript of an edition with such rows. `before` lines of the input precede it, and line numbers count
+/// from the first of them.
 pub(crate) fn read_lines<T: PayloadText, R: EditionRow<T>>(
     alloc: Global,
+    edition: &[u8],
     before: usize,
     text: &[u8],
 ) -> Result<(u32, Vec<R>), TextFault>
     requires room { before + length text.now + 1 < 2 ^ 64 }
-    ensures ok { IfOk result (λ read.
-        edition_from R.STAMPED R.made T.payload_of (before + 1) (lines_of text.now) ≡ Ok (read.0, read.1.items)) }
+    ensures ok { IfOk result (λ read. edition_from R.STAMPED R.made T.payload_of edition.now (before + 1)
+        (lines_of text.now) ≡ Ok (read.0, read.1.items)) }
     ensures fault { IfErr result (IsFaultOf
-        (edition_from R.STAMPED R.made T.payload_of (before + 1) (lines_of text.now))) }
+        (edition_from R.STAMPED R.made T.payload_of edition.now (before + 1) (lines_of text.now))) }
 {
     let mut reader = Reader { known: None };
     let mut lines = Lines::behind(before, text);
     'each: while let Some((number, fields)) = lines.next() {
-        step::<T, R>(&mut reader, alloc, number, fields)?;
+        step::<T, R>(&mut reader, alloc, edition, number, fields)?;
     }
     reader.finish()
 }
@@ -118,5 +120,5 @@ pub fn read_transcript<T: PayloadText>(
     ensures ok { IfOk result (λ read. reading_of T.payload_of (lines_of text.now) ≡ Ok (read.0, read.1.items)) }
     ensures fault { IfErr result (IsFaultOf (reading_of T.payload_of (lines_of text.now))) }
 {
-    read_lines::<T, Row<T>>(alloc, 0, text)
+    read_lines::<T, Row<T>>(alloc, b"1", 0, text)
 }

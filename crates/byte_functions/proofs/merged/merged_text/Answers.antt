@@ -1,8 +1,9 @@
-use Rattle.std.proofs.Common.{◌≡◌, ◌∙◌, ◌++◌, ◌∷◌, [], ap, codes, map, rules, subst, sym}
+use Rattle.std.proofs.Common.{◌∙◌, ◌++◌, ◌∷◌, [], ap, append-nil, map, subst, sym}
 use Rattle.std.proofs.lemmas.List.{flat_map_more, length-map}
-use Rattle.transcripts.specs.TranscriptText.{first_line_of, stamped_row_text, stamped_transcript_of}
+use Rattle.transcripts.specs.TranscriptText.{first_line_of, stamped_row_text}
 use Rattle.outcomes.specs.Gathers.{gathered_of}
 use Rattle.stamps.specs.Merged.{IsMerge, list_of}
+use Rattle.byte_functions.specs.Transcripts.{stamped_edition}
 use Rattle.byte_functions.proofs.Merge.{IsMerging, fewer, merging-done, merging-init, merging-step}
 use Rattle.byte_functions.proofs.merged.merged_text.Goals as goal
 
@@ -10,15 +11,14 @@ use Rattle.byte_functions.proofs.merged.merged_text.Goals as goal
 pub loop-row-init : goal.loop-row-init
 loop-row-init g c =
     let wrote = map (λ node. node.entries) (map gathered_of c.args.actors.items) in
-    let lefts = c.in_ok-merging.ensures.lefts ∙ ap (λ actors. map (λ node. node.entries) (map gathered_of actors)) c.as_slice-2.ensures.value in
-    let none : c.as_slice.result.now ≡ [] = search rules in
+    let lefts = c.in_ok-merging.ensures.lefts ∙ ap (λ actors. map (λ node. node.entries) (map gathered_of actors)) c.as_slice.ensures.value in
+    let line = first_line_of (stamped_edition g.P.ProgramText.texts) c.args.count in
     record {
       keys = c.in_ok-merging.ensures.keys;
       rows = (
         [],
         subst (λ l. IsMerging wrote l []) (sym lefts) (merging-init wrote c.requires.rising),
-        c.in_ok-text.ensures.text
-            ∙ ap (stamped_transcript_of g.P.Payload.PayloadText.word_of g.P.Payload.PayloadText.number_of c.args.count) none,
+        c.in_ok-push_edition_line.ensures ∙ ap (λ t. t ++ line) c.new-text.ensures.items ∙ sym (append-nil line),
       );
     }
 
@@ -37,7 +37,8 @@ loop-row-preserved g c =
         rows ++ (row ∷ []),
         merging-step wrote c.loop-row.merging.lefts.items c.take.new.self.lefts.items rows row so_far.1 taken,
         c.in_ok-push_stamped_row.ensures.text ∙ ap (λ t. t ++ stamped_row_text words.word_of words.number_of row) so_far.2
-            ∙ flat_map_more (stamped_row_text words.word_of words.number_of) (first_line_of (codes "2") c.args.count) rows row,
+            ∙ flat_map_more (stamped_row_text words.word_of words.number_of)
+            (first_line_of (stamped_edition g.P.ProgramText.texts) c.args.count) rows row,
       );
     }
 

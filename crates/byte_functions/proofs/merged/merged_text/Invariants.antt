@@ -3,6 +3,7 @@ use Rattle.std.specs.BinaryHeap.{heap_items}
 use Rattle.std.specs.List.{sum_by}
 use Rattle.outcomes.specs.Gathers.{gathered_of}
 use Rattle.byte_functions.specs.Merge.{AreKeys}
+use Rattle.byte_functions.specs.Transcripts.{stamped_edition}
 use Rattle.byte_functions.proofs.Merge.{HasMerged}
 use Rattle.byte_functions.proofs.merged.merged_text.Given as goal
 
@@ -12,8 +13,8 @@ invariant-loop-row g l =
     let words = g.P.Payload.PayloadText in
     record {
       keys : AreKeys l.merging.lefts.items (heap_items l.merging.keys);
-      rows : HasMerged words.word_of words.number_of (map (λ node. node.entries) (map gathered_of l.fn.actors.items))
-          l.merging.lefts.items l.count l.text.items;
+      rows : HasMerged words.word_of words.number_of (stamped_edition g.P.ProgramText.texts)
+          (map (λ node. node.entries) (map gathered_of l.fn.actors.items)) l.merging.lefts.items l.count l.text.items;
     }
 
 -- how many entries are left

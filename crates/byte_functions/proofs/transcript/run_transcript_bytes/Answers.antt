@@ -3,7 +3,7 @@ use Rattle.std.proofs.lemmas.List.{length-map}
 use Rattle.outcomes.specs.Gathers.{gathered_of}
 use Rattle.stamps.specs.Stamps.{Rises}
 use Rattle.gather_laws.specs.Merged.{WholeOutcomesReplay}
-use Rattle.byte_functions.specs.Transcripts.{IsTextIn}
+use Rattle.byte_functions.specs.Transcripts.{IsTextIn, stamped_edition}
 use Rattle.byte_functions.proofs.Recording.{all-rise, answered, nodes-count}
 use Rattle.byte_functions.proofs.transcript.run_transcript_bytes.Goals as goal
 
@@ -32,7 +32,8 @@ returns-clause-ok g c =
     let law : WholeOutcomesReplay g.P.NodeProgram.program net = c.whole_outcomes_replay.ensures.law g.P.NodeProgram.program net here in
     let word_of = g.P.Payload.PayloadText.word_of in
     let number_of = g.P.Payload.PayloadText.number_of in
-    answered g.P.NodeProgram.program word_of number_of c.args.input.now text net c.args.options.capacity outcome c.in_ok-network.ensures.ok
+    let words = stamped_edition g.P.ProgramText.texts in
+    answered g.P.NodeProgram.program word_of number_of words c.args.input.now text net c.args.options.capacity outcome c.in_ok-network.ensures.ok
     c.in_ok-outcome.ensures.outcome c.in_ok-outcome.ensures.whole c.args.edition law
-    (subst (λ n. IsTextIn word_of number_of c.args.edition n outcome.nodes text) c.nodes-count.ensures.count
-    (subst (λ nodes. IsTextIn word_of number_of c.args.edition c.nodes-count.result nodes text) c.into_actors.ensures.nodes c.in_ok-text_in.ensures))
+    (subst (λ n. IsTextIn word_of number_of words c.args.edition n outcome.nodes text) c.nodes-count.ensures.count
+    (subst (λ nodes. IsTextIn word_of number_of words c.args.edition c.nodes-count.result nodes text) c.into_actors.ensures.nodes c.in_ok-text_in.ensures))

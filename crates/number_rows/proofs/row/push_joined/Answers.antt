@@ -1,4 +1,4 @@
-use Rattle.std.proofs.Common.{◌≡◌, ◌∙◌, ◌++◌, ap, sym, append_assoc, map}
+use Rattle.std.proofs.Common.{◌∙◌, ◌++◌, ap, sym, append_assoc, map}
 use Rattle.std.specs.List.{join_with_byte}
 use Rattle.std.specs.Fmt.{decimal}
 use Rattle.number_rows.specs.Row.{spaced}

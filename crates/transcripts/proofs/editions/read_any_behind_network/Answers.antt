@@ -8,17 +8,17 @@ use Rattle.transcripts.proofs.editions.read_any_behind_network.Goals as goal
 
 pub returns-in-Some-clause-ok : goal.returns-in-Some-clause-ok
 returns-in-Some-clause-ok g c =
-    subst (λ r. IfOk c.read_any_lines.result (λ read. r ≡ Ok (said_by read)))
+    subst (λ r. IfOk c.read_any_named_lines.result (λ read. r ≡ Ok (said_by read)))
     (any-behind-is g.T.PayloadText.payload_of (lines_of c.args.input.now) _ c.in-Some.start.lines c.in-Some.ensures.lines
     (ap lines_of (take_rest c.args.input.now c.in-Some.start.bytes) ∙ c.in-Some.ensures.from))
-    c.read_any_lines.ensures.ok
+    c.read_any_named_lines.ensures.ok
 
 pub returns-in-Some-clause-fault : goal.returns-in-Some-clause-fault
 returns-in-Some-clause-fault g c =
-    subst (λ r. IfErr c.read_any_lines.result (IsFaultOf r))
+    subst (λ r. IfErr c.read_any_named_lines.result (IsFaultOf r))
     (any-behind-is g.T.PayloadText.payload_of (lines_of c.args.input.now) _ c.in-Some.start.lines c.in-Some.ensures.lines
     (ap lines_of (take_rest c.args.input.now c.in-Some.start.bytes) ∙ c.in-Some.ensures.from))
-    c.read_any_lines.ensures.fault
+    c.read_any_named_lines.ensures.fault
 
 pub returns-in-None-clause-fault : goal.returns-in-None-clause-fault
 returns-in-None-clause-fault g c = no-any-behind g.T.PayloadText.payload_of (lines_of c.args.input.now) c.in-None.ensures.no_text

@@ -4,13 +4,13 @@ use Rattle.std.proofs.Common.{◌≡◌, ◌+◌, ◌∙◌, Err, IfOk, None, Ok
 use Rattle.std.proofs.lemmas.Result.{err_from_is_err_and}
 use Rattle.dimacs_col.specs.Lines.{lines_of}
 use Rattle.transcripts.specs.Reading.{known_after, read_at_end, read_from}
-use Rattle.transcripts.specs.EditionRows.{edition_word, row_in}
+use Rattle.transcripts.specs.EditionRows.{row_in}
 use Rattle.transcripts.proofs.Readings.{fault-end, fault-line, line-read, line-refused, read-end}
 use Rattle.transcripts.proofs.reading.read_lines.Goals as goal
 
 pub each-preserved : goal.each-preserved
 each-preserved g c =
-    let word = edition_word g.R.EditionRow.STAMPED in
+    let word = c.args.edition.now in
     let row = row_in g.R.EditionRow.STAMPED g.R.EditionRow.made g.T.PayloadText.payload_of in
     let whole = read_from word row (c.args.before + 1) None (lines_of c.args.text.now) in
     record {
@@ -21,7 +21,7 @@ each-preserved g c =
 
 pub returns-in_err-step-clause-fault : goal.returns-in_err-step-clause-fault
 returns-in_err-step-clause-fault g c =
-    let word = edition_word g.R.EditionRow.STAMPED in
+    let word = c.args.edition.now in
     let row = row_in g.R.EditionRow.STAMPED g.R.EditionRow.made g.T.PayloadText.payload_of in
     let whole = read_from word row (c.args.before + 1) None (lines_of c.args.text.now) in
     let p = err_from_is_err_and c.from_residual.result c.from_residual.ensures.1 in
@@ -34,7 +34,7 @@ returns-in_err-step-clause-fault g c =
 -- at the end no line is left, so reading them ends as the reader stands
 pub returns-clause-ok : goal.returns-clause-ok
 returns-clause-ok g c =
-    let word = edition_word g.R.EditionRow.STAMPED in
+    let word = c.args.edition.now in
     let row = row_in g.R.EditionRow.STAMPED g.R.EditionRow.made g.T.PayloadText.payload_of in
     let ended = read-end word row (c.args.before + 1) (lines_of c.args.text.now) (c.each.lines.0 + 1) c.each.reader.known c.each.lines.1
     c.in_default.ensures.none c.each.invariant.knows in
@@ -42,7 +42,7 @@ returns-clause-ok g c =
 
 pub returns-clause-fault : goal.returns-clause-fault
 returns-clause-fault g c =
-    let word = edition_word g.R.EditionRow.STAMPED in
+    let word = c.args.edition.now in
     let row = row_in g.R.EditionRow.STAMPED g.R.EditionRow.made g.T.PayloadText.payload_of in
     let start = c.args.before + 1 in
     let ended = read-end word row start (lines_of c.args.text.now) (c.each.lines.0 + 1) c.each.reader.known c.each.lines.1

@@ -1,13 +1,13 @@
 use Rattle.std.proofs.Common.{◌≡◌, ◌+◌, None, length}
 use Rattle.dimacs_col.specs.Lines.{lines_of}
-use Rattle.transcripts.specs.EditionRows.{edition_word, row_in}
+use Rattle.transcripts.specs.EditionRows.{row_in}
 use Rattle.transcripts.specs.Reading.{read_from}
 use Rattle.transcripts.proofs.reading.read_lines.Given as goal
 
 -- the reading of all lines is that of the lines that are left, from what the reader knows
 abbrev pub invariant-each : goal.invariant-each
 invariant-each g l =
-    let word = edition_word g.R.EditionRow.STAMPED in
+    let word = l.edition in
     let row = row_in g.R.EditionRow.STAMPED g.R.EditionRow.made g.T.PayloadText.payload_of in
     record {
       knows : read_from word row (l.before + 1) None (lines_of l.text)

@@ -1,19 +1,18 @@
 use Rattle.std.proofs.Common.{◌∙◌, ◌++◌, ◌∷◌, [], ap, refl, sym}
 use Rattle.dimacs_col.proofs.Splitting.{line-cons, line-none}
-use Rattle.transcripts.specs.EntryLines.{header_of}
-use Rattle.transcripts.specs.EditionRows.{edition_word, row_in}
+use Rattle.transcripts.specs.EditionRows.{row_in}
 use Rattle.transcripts.proofs.Readings.{header-right, header-wrong, known-blank, row-right, row-wrong}
 use Rattle.transcripts.proofs.reading.step.Goals as goal
 
 pub returns-in_default-clause-ok : goal.returns-in_default-clause-ok
 returns-in_default-clause-ok g c =
-    let word = edition_word g.R.EditionRow.STAMPED in
+    let word = c.args.edition.now in
     let row = row_in g.R.EditionRow.STAMPED g.R.EditionRow.made g.T.PayloadText.payload_of in
     known-blank word row c.args.reader.now.known c.args.fields (line-none c.args.fields c.in_default.ensures.first)
 
 pub returns-in_default-row_in-clause-fault : goal.returns-in_default-row_in-clause-fault
 returns-in_default-row_in-clause-fault g c =
-    let word = edition_word g.R.EditionRow.STAMPED in
+    let word = c.args.edition.now in
     let row = row_in g.R.EditionRow.STAMPED g.R.EditionRow.made g.T.PayloadText.payload_of in
     let line = line-cons c.args.fields c.next.new.self c.in-Some.first.now c.in-Some.ensures.first c.next.ensures.rest in (
       row-wrong word row c.args.reader.now.known c.in-Some-known.known c.args.fields c.next.new.self c.in-Some.first.now c.in-Some-known.is line
@@ -23,19 +22,17 @@ returns-in_default-row_in-clause-fault g c =
 
 pub returns-in_default-header_of-clause-fault : goal.returns-in_default-header_of-clause-fault
 returns-in_default-header_of-clause-fault g c =
-    let word = edition_word g.R.EditionRow.STAMPED in
+    let word = c.args.edition.now in
     let row = row_in g.R.EditionRow.STAMPED g.R.EditionRow.made g.T.PayloadText.payload_of in
-    -- whether rows have stamps is what the edition says
-    let read = c.header_of.ensures ∙ ap (λ stamped. header_of (edition_word stamped) (c.in-Some.first.now ∷ c.next.new.self)) c.STAMPED.ensures in
     let line = line-cons c.args.fields c.next.new.self c.in-Some.first.now c.in-Some.ensures.first c.next.ensures.rest in (
       header-wrong word row c.args.reader.now.known c.args.fields c.next.new.self c.in-Some.first.now c.in-None.is line
-          (sym read ∙ c.in_default-header_of.is),
+          (sym c.header_of.ensures ∙ c.in_default-header_of.is),
       refl,
     )
 
 pub returns-in_ok-push-in-Some-known-clause-ok : goal.returns-in_ok-push-in-Some-known-clause-ok
 returns-in_ok-push-in-Some-known-clause-ok g c =
-    let word = edition_word g.R.EditionRow.STAMPED in
+    let word = c.args.edition.now in
     let row = row_in g.R.EditionRow.STAMPED g.R.EditionRow.made g.T.PayloadText.payload_of in
     let line = line-cons c.args.fields c.next.new.self c.in-Some.first.now c.in-Some.ensures.first c.next.ensures.rest in
     row-right word row c.args.reader.now.known c.in-Some-known.known (c.known.inside.nodes, c.push.new.self.items) c.args.fields
@@ -45,11 +42,9 @@ returns-in_ok-push-in-Some-known-clause-ok g c =
 
 pub returns-in-Some-header_of-clause-ok : goal.returns-in-Some-header_of-clause-ok
 returns-in-Some-header_of-clause-ok g c =
-    let word = edition_word g.R.EditionRow.STAMPED in
+    let word = c.args.edition.now in
     let row = row_in g.R.EditionRow.STAMPED g.R.EditionRow.made g.T.PayloadText.payload_of in
-    -- whether rows have stamps is what the edition says
-    let read = c.header_of.ensures ∙ ap (λ stamped. header_of (edition_word stamped) (c.in-Some.first.now ∷ c.next.new.self)) c.STAMPED.ensures in
     let line = line-cons c.args.fields c.next.new.self c.in-Some.first.now c.in-Some.ensures.first c.next.ensures.rest in
     header-right word row c.args.reader.now.known (c.in-Some-header_of.nodes, c.new.result.items) c.args.fields c.next.new.self
-    c.in-Some.first.now c.in-Some-header_of.nodes c.in-None.is line (sym read ∙ c.in-Some-header_of.is)
+    c.in-Some.first.now c.in-Some-header_of.nodes c.in-None.is line (sym c.header_of.ensures ∙ c.in-Some-header_of.is)
     (ap (λ l. (c.in-Some-header_of.nodes, l)) c.new.ensures.items)

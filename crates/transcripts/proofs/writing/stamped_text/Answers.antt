@@ -8,8 +8,8 @@ use Rattle.transcripts.proofs.writing.stamped_text.Goals as goal
 
 pub loop-row-init : goal.loop-row-init
 loop-row-init g c = record {
-  so_far = none-written c.push_header.new.text.items
-      (c.in_ok-push_header.ensures.text ∙ ap (λ t. t ++ first_line_of (codes "2") c.args.nodes) c.new-text.ensures.items);
+  so_far = none-written c.push_stamped_line.new.text.items
+      (c.in_ok-push_stamped_line.ensures.text ∙ ap (λ t. t ++ first_line_of (codes "2") c.args.nodes) c.new-text.ensures.items);
 }
 
 pub loop-row-preserved : goal.loop-row-preserved
