@@ -119,7 +119,7 @@ class Programs(Case):
         for program, first, payload in (("colouring", "transcript 2 2", "hello 1"),
                                         ("leader", "transcript 3 leader 2", "leader 1"),
                                         ("layers", "transcript 3 layers 2", "hops 0")):
-            done = play(["run", "--program", program, "--transcript"], EDGE)
+            done = play(["run", "--program", program, "--transcript", "--workers", "1"], EDGE)
             begins = text(f"{first}|1 1 put 2 payload 0 {payload}|")
             self.note(f"transcript of {program}", done.returncode == 0 and done.stdout.startswith(begins), done)
             unnamed = text(FIRST_STAMPED) + done.stdout.split(b"\n", 1)[1]
