@@ -15,6 +15,10 @@ HEADINGS = ("channel", "channels", "channelnumber", "kanal", "kanäle", "kanalnu
 # How many digits a real number of a channel has at most, as a frequency in kHz.
 MOST_DIGITS = 12
 
+USAGE = """\
+forestlab channels [--back] TABLE.. < PLAN
+       forestlab channels --run [TABLE..] < RUN"""
+
 HELP = """\
 Puts real channel numbers in place of a plan's channels, or the other way round.
 
@@ -26,6 +30,10 @@ numbers. So `forestplan check` can judge a plan of real numbers, whoever made it
 With --back without TABLE, channel 1 is the lowest number that the plan has, channel 2
 the next, and so on; which is which is said on standard error. Take that only for a
 network without barred channels, which are given by number.
+
+With --run the text is what `forestplay run` writes of a program whose nodes find
+channels, `colouring` or `recolouring`: it is read as the plan that it has. Without TABLE
+that plan is written as it is.
 """
 
 MORE_HELP = """\
@@ -35,6 +43,7 @@ command line is refused.
 Examples:
   forestplan plain < net.col | forestlab channels 1 6 11
   (cat net.col; forestlab channels --back 1 6 11 < real.plan) | forestplan check
+  forestplay run < net.col | forestlab channels --run 1 6 11
 """
 
 
@@ -94,6 +103,18 @@ def rows_of(text: str, name: str) -> list[tuple[int, str, int]]:
     return found
 
 
+def rows_of_run(text: str, name: str) -> list[tuple[int, str, int]]:
+    """The same of the lines of a run whose nodes have found channels."""
+    found = []
+    for at, line in enumerate(text.split("\n"), 1):
+        parts = re.fullmatch(r"node ([0-9]+) pulse [0-9]+ channel ([0-9]{1,%d})" % MOST_DIGITS, line)
+        if parts:
+            found.append((at, parts[1], int(parts[2])))
+        elif line:
+            raise wrong_line(name, at, f"no node with a channel: `{shown(clean(line))}`")
+    return found
+
+
 def to_real(rows: list, table: list[int], name: str) -> dict[int, int]:
     """The real number of each channel of a plan."""
     for line, _, channel in rows:
@@ -112,24 +133,33 @@ def from_real(rows: list, table: list[int], name: str) -> dict[int, int]:
     return known
 
 
+def numbers_for(rows: list, table: list[int] | None, given) -> dict[int, int]:
+    """What is written for each number of a plan, as the command line asks."""
+    if table is None and given.run:
+        return {channel: channel for _, _, channel in rows}
+    if table is None:
+        table = sorted({number for _, _, number in rows})
+        print(f"channels: 1 to {len(table)} are {' '.join(map(str, table))}", file=sys.stderr)
+    return (from_real if given.back else to_real)(rows, table, "the plan")
+
+
 def main(words: list[str]) -> int:
-    asked = argparse.ArgumentParser(prog="forestlab channels", usage="forestlab channels [--back] TABLE.. < PLAN",
-                                    description=HELP, epilog=MORE_HELP,
+    asked = argparse.ArgumentParser(prog="forestlab channels", usage=USAGE, description=HELP, epilog=MORE_HELP,
                                     formatter_class=argparse.RawDescriptionHelpFormatter)
     asked.add_argument("--back", action="store_true", help="from real numbers to those that count from 1")
+    asked.add_argument("--run", action="store_true", help="from the channels of a run, as `forestplay run` writes them")
     asked.add_argument("table", nargs="*", metavar="TABLE", help="the real numbers, in order, or a file that has them")
     add_output(asked)
     given = asked.parse_args(words)
-    if not given.table and not given.back:
+    if not given.table and not given.back and not given.run:
         asked.error("a table is wanted, as 1 6 11")
+    if given.back and given.run:
+        asked.error("a run has no real channels, so --back and --run can't be together")
     try:
         table = table_of(given.table) if given.table else None
     except Wrong as why:
         asked.error(str(why))
-    rows = rows_of(text_at("-"), "the plan")
-    if table is None:
-        table = sorted({number for _, _, number in rows})
-        print(f"channels: 1 to {len(table)} are {' '.join(map(str, table))}", file=sys.stderr)
-    of = (from_real if given.back else to_real)(rows, table, "the plan")
+    rows = rows_of_run(text_at("-"), "the run") if given.run else rows_of(text_at("-"), "the plan")
+    of = numbers_for(rows, table, given)
     write(given, "plan\n" + "".join(f"{vertex} {of[channel]}\n" for _, vertex, channel in rows))
     return 0

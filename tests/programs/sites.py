@@ -205,6 +205,15 @@ class Channels(Case):
             done = run_program(PLAN, ["check"], (file.read() + got[1]).encode())
         self.note("a real plan is judged", done.stdout == b"proper 3\n", done)
 
+    def test_runs(self):
+        """The channels of a run, as a plan."""
+        run = "node 1 pulse 30 channel 2\nnode 2 pulse 30 channel 3\nnode 3 pulse 30 channel 1\n"
+        for words, wanted in ((["--run"], "plan\n1 2\n2 3\n3 1\n"), (["--run", "1-11/5"], "plan\n1 6\n2 11\n3 1\n")):
+            got = self.call(*words, data=run)
+            self.note(f"{words}", got == (0, wanted, ""), got)
+        got = self.call("--run", data="")
+        self.note("a run of no nodes", got == (0, "plan\n", ""), got)
+
     def test_files(self):
         """The licence as a table, as spreadsheets write it."""
         folder = self.enterContext(tempfile.TemporaryDirectory())
@@ -239,10 +248,14 @@ class Channels(Case):
             (["1"], "1 1\n", "line 1: no line `plan`"),
             (["1"], "", "no line `plan`"),
             (["1"], "plan\n1 x\n", "line 2: no vertex and its channel: `1 x`"),
+            (["--run"], "node 1 pulse 3 leader 2\n", "line 1: no node with a channel: `node 1 pulse 3 leader 2`"),
+            (["--run"], "node 1 pulse 12 channel 1\nplan\n", "line 2: no node with a channel: `plan`"),
+            (["--run", "1"], "node 1 pulse 30 channel 2\n", "line 1: channel 2, and the table has 1"),
         ):
             got = self.call(*words, data=data)
             self.note(f"{words} {data!r}", got[:2] == (1, "") and said in got[2] and got[2].count("\n") == 1, got)
-        for words in ([], ["x"], ["nowhere.csv"], ["1", "1"], ["1-"], ["5-1"], ["1-5/0"], ["1-3000"], ["--forth", "1"]):
+        for words in ([], ["x"], ["nowhere.csv"], ["1", "1"], ["1-"], ["5-1"], ["1-5/0"], ["1-3000"], ["--forth", "1"],
+                      ["--run", "--back"]):
             got = self.call(*words, data="plan\n")
             self.note(f"refused words: {words}", got[:2] == (2, "") and "channels: error: " in got[2], got)
 
