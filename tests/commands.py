@@ -104,8 +104,8 @@ ENDED = "transcript 1 2|" + "".join(f"{v} pulse {p}|" for v in (1, 2) for p in P
 SCRIPTS = (
     Script(
         "picture", ("plan", "FILE", "--plan", "-"), "plan|1 1|2 1|", r"<svg [^\0]*</svg>\n",
-        commands=("map", "plan", "matrix", "forests", "rounds", "bits", "why", "run", "overview", "node", "tally",
-                  "player", "watch", "schedules", "adversary", "broken"),
+        commands=("map", "plan", "results", "matrix", "forests", "rounds", "bits", "why", "run", "overview", "node",
+                  "tally", "player", "watch", "schedules", "adversary", "broken"),
     ),
     Script(
         "network", ("path", "3"), "", r"(c [^\n]*\n)*p edge 3 2\n(c [^\n]*\n)*e 1 2\ne 2 3\n(c [^\n]*\n)*",

@@ -51,3 +51,6 @@ class Matching(Sequel):
 
     def result(self) -> str:
         return "partner none" if self.partner is None else f"partner {self.partner}"
+
+    def drawn(self) -> tuple[int | None, int | None]:
+        return None, self.partner

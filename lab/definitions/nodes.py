@@ -89,6 +89,10 @@ class Colouring:
         """What it has found after the last pulse, in the words of a state."""
         return f"channel {self.merged + 1}"
 
+    def drawn(self) -> tuple[int | None, int | None]:
+        """For pictures: the colour that the node has, and the port of the edge that it has chosen."""
+        return self.merged, None
+
     def orient(self, inbox: list[Slot]) -> list[Slot]:
         """Pulse 1: the higher neighbours, by ascending identifier, are the parents in forests 0, 1, 2 and so on."""
         higher = sorted(number for _, number in inbox if number > self.id)

@@ -6,19 +6,19 @@ from lab.definitions.sequel import Sequel
 
 
 class Recolouring(Sequel):
-    """A node that chooses its colour twice: `colour` is its second colour, 0 before, and `held` has the second colours
-    of the neighbours that have chosen."""
+    """A node that chooses its colour twice: `colour` is its second colour, None before, and `held` has the second
+    colours of the neighbours that have chosen."""
 
     name = "recolouring"
     cut_of = staticmethod(last_pulse)
 
     span: int
-    colour: int
+    colour: int | None
     held: set[int]
 
     def __init__(self, net: Network, v: int):
         super().__init__(net, v)
-        self.span, self.colour, self.held = net.span, 0, set()
+        self.span, self.colour, self.held = net.span, None, set()
 
     @staticmethod
     def last_pulse(net: Network) -> int:
@@ -33,5 +33,12 @@ class Recolouring(Sequel):
         self.colour = self.first.least_free(self.held)
         return [("Anew", self.colour) if pulse < self.span else None] * self.degree
 
+    def present(self) -> int:
+        """The colour that it has: that of the colouring until it chooses anew."""
+        return self.first.merged if self.colour is None else self.colour
+
     def result(self) -> str:
-        return f"channel {self.colour + 1}"
+        return f"channel {self.present() + 1}"
+
+    def drawn(self) -> tuple[int | None, int | None]:
+        return self.present(), None

@@ -18,11 +18,11 @@ from lab.networks.network_text import read_network, stem
 from lab.networks.plan_text import read_plan
 from lab.pictures import (
     adversary_page, automaton_picture, bits_picture, broken_picture, forests_picture, map_picture, matrix_picture,
-    overview_picture, plan_picture, player_page, program_picture, rounds_picture, run_picture, schedules_picture,
-    schedules_space, tally_picture, timing_picture, watch_page, why_picture, wrong_run,
+    overview_picture, plan_picture, player_page, program_picture, results_picture, rounds_picture, run_picture,
+    schedules_picture, schedules_space, tally_picture, timing_picture, watch_page, why_picture, wrong_run,
 )
 from lab.pictures.places import unused_places
-from lab.pictures.program_rounds import is_own, read_rounds, rounds_of
+from lab.pictures.program_rounds import ProgramRounds, is_own, read_rounds, rounds_of
 from lab.pictures.sizes import MANY_WIRES, check_run, check_size, last_pulse, least_wires
 from lab.pictures.transcripts import read_transcript
 from lab.pictures.watch_page import steps_of_text
@@ -38,6 +38,7 @@ what `forestlab explore` searches.
 
   map        the network alone, without a plan: for a question sheet
   plan       the plan on the map: who has which channel
+  results    what the nodes of any program have found at the end, on the map
   matrix     the plan as a matrix: proper if the diagonal blocks are blank
   forests    the forests with their colours, and the plan after each merge
   rounds     the colours and choices of each node, pulse by pulse
@@ -83,6 +84,13 @@ KINDS = {
         "Who has which channel.",
         "At most 400 nodes. A plan that is not proper is refused; matrix draws it.",
         "forestlab picture plan examples/petersen.col > petersen-plan.svg",
+    ),
+    "results": (
+        "What the nodes of a program have found at their last pulse, on the map.",
+        "At most 400 nodes. A thick line is an edge that a node has chosen, with an arrow if the other end hasn't;\n"
+        "a filled circle is a node with a colour; of channels the number is in the circle, and beside it what it\n"
+        "was before. All other results are written beside the nodes.",
+        "forestlab picture results examples/petersen.col --program matching > petersen-pairs.svg",
     ),
     "matrix": (
         "Who interferes with whom, sorted by channel.",
@@ -186,9 +194,9 @@ KINDS = {
 }
 OF_SPACE = ("schedules", "adversary")
 # Those that draw the nodes where the network places them.
-PLACED = ("map", "plan", "forests", "player", "watch", "broken")
+PLACED = ("map", "plan", "results", "forests", "player", "watch", "broken")
 # Those that draw any program.
-OF_PROGRAMS = ("rounds", "player", "run", "overview", "node", "tally", "schedules", "adversary")
+OF_PROGRAMS = ("results", "rounds", "player", "run", "overview", "node", "tally", "schedules", "adversary")
 OF_PLAN, OF_ROUNDS, OF_RUN = (
     ("plan", "matrix"),
     ("forests", "rounds", "bits", "why", "player"),
@@ -259,7 +267,7 @@ def add_options(kind, name):
         add_program(kind)
     if name in OF_SPACE:
         return add_space_options(kind, name)
-    if name == "map":
+    if name in ("map", "results"):
         return None
     if name == "watch":
         add_program(kind)
@@ -346,6 +354,10 @@ def drawing(kind, network, options=Options(), texts=()):
 
 def draw_map(_kind, network, _options, _texts):
     return map_picture.draw(network)
+
+
+def draw_results(_kind, network, options, _texts):
+    return results_picture.draw(ProgramRounds(network, network.identifiers, options.program))
 
 
 def draw_plan(kind, network, _options, texts):
@@ -451,7 +463,8 @@ def draw_broken(_kind, network, options, _texts):
 
 
 DRAWERS = {
-    "map": draw_map, "schedules": draw_space, "adversary": draw_space, "watch": draw_watch, "broken": draw_broken,
+    "map": draw_map, "results": draw_results, "schedules": draw_space, "adversary": draw_space, "watch": draw_watch,
+    "broken": draw_broken,
 } | dict.fromkeys(OF_PLAN, draw_plan) | dict.fromkeys(OF_ROUNDS, draw_rounds) | dict.fromkeys(OF_RUN, draw_run)
 
 

@@ -2,7 +2,7 @@
 of a text (docs/claim/FORMATS.md) that is, line by line, the rounds of its network."""
 from lab.definitions.colours import Network
 from lab.definitions.nodes import Colouring, ports_of, synchronous_pulses
-from lab.definitions.own_program import OwnNode, check_repeats, what_is_wrong
+from lab.definitions.own_program import check_repeats, what_is_wrong
 from lab.definitions.programs import PLAYED
 from lab.definitions.pulses import Rounds
 from lab.networks.network_text import fields_of, whole
@@ -14,7 +14,7 @@ MOST_STEPS = 2_000_000
 
 class ProgramPulse:
     """What all nodes did in one pulse: `results[v]` is what v has found after it, in words, `puts` as (v, w, word,
-    number); `drawn[v]`, if a program of one's own says it, a colour and the vertex at the other end of an edge."""
+    number); `drawn[v]`, if the program says it, a colour and the vertex at the other end of an edge."""
 
     def __init__(self, number, results, puts, drawn):
         self.number, self.results, self.puts, self.drawn = number, results, puts, drawn
@@ -22,8 +22,8 @@ class ProgramPulse:
 
 
 class ProgramRounds:
-    """A synchronous run of a program: `pulses` are those from 0 to `last`. It has no forests. `wrong` is what the file
-    of a program says isn't right at its end, or nothing."""
+    """A synchronous run of a program: `pulses` are those from 0 to `last`, and `nodes` the nodes after the last one. It
+    has no forests. `wrong` is what the file of a program says isn't right at its end, or nothing."""
 
     forests, first = 0, {}
 
@@ -38,11 +38,12 @@ class ProgramRounds:
         self.pulses, ports = [], {v: ports_of(self.net, v) for v in network.vertices}
         for p, nodes, _, sent in synchronous_pulses(self.net, program):
             self.add(p, nodes, ports, sent)
+        self.nodes = nodes
         self.wrong = what_is_wrong(self.net, program, self.pulses[-1].results)
 
     def add(self, number, nodes, ports, sent):
         puts = [(v, w, slot[0].lower(), slot[1]) for v in nodes for w, slot in zip(ports[v], sent[v]) if slot]
-        drawn = {v: drawn_of(node, ports[v]) for v, node in nodes.items() if isinstance(node, OwnNode)}
+        drawn = {v: drawn_of(node, ports[v]) for v, node in nodes.items() if hasattr(node, "drawn")}
         self.pulses.append(ProgramPulse(number, {v: node.result() for v, node in nodes.items()}, puts, drawn))
 
     def lines(self):
@@ -61,7 +62,7 @@ class ProgramRounds:
 
 
 def drawn_of(node, neighbours):
-    """The colour and the neighbour that a node of an own program is drawn with."""
+    """The colour and the neighbour that a node is drawn with."""
     colour, port = node.drawn()
     return colour, None if port is None else neighbours[port]
 

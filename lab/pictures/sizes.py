@@ -6,6 +6,7 @@ from lab.wrong import Wrong, at_most
 NODES = {
     "map": (400, "matrix"),
     "plan": (400, "matrix"),
+    "results": (400, "simulate, whose transcript ends in the same"),
     "matrix": (2000, "`forestplan check`, which says whether the plan is proper"),
     "forests": (400, "matrix"),
     "rounds": (100, "forests"),

@@ -212,7 +212,7 @@ class Pictures(PictureCase):
         status, told, fault = call(["--help"])
         kinds = re.findall(r"^  ([a-z]+) {2,}", told.decode().split("positional")[0], re.M)
         self.note("help names standard input", b"forestlab picture plan - <" in told)
-        self.note("help", (status, fault, len(kinds)) == (0, b"", 16), kinds)
+        self.note("help", (status, fault, len(kinds)) == (0, b"", 17), kinds)
         for kind in kinds:
             status, told, fault = self.draw.painter([kind, "--help"])
             self.note(f"help of {kind}",
