@@ -1,22 +1,28 @@
-"""Compares how many channels a plan takes with what sequential greedy colourings take of the same network.
+"""Compares how many channels a plan takes, and how many after choosing anew, with what greedy colourings take.
 
   python3 -m bench.quality.quality [NAME ..]        default: every network of the table
 
 DSATUR (D. Brelaz, New methods to color the vertices of a graph, 1979) and smallest last (D. W. Matula and L. L. Beck,
 Smallest-last ordering and clustering and graph coloring algorithms, 1983) look at the whole network, one node after the
-other; our nodes know their neighbours alone. Both are written here; if networkx is there, its own numbers are in two
-further columns. The networks are made anew each time, by seeds. The plan comes from `forestplan plain`.
+other; our nodes know their neighbours alone. Largest first (D. J. A. Welsh and M. B. Powell, An upper bound for the
+chromatic number of a graph, 1967) and greedy by number take the nodes in a fixed order. All are written here; if
+networkx is there, its own numbers of the first two are in the last column. The networks are made anew each time, by
+seeds.
+
+The plan comes from `forestplan plain`; where that isn't built, from the slow definitions, which is said. Once and twice
+are the plan whose classes have chosen anew, the greatest channel first, once and twice. (`forestplay --program
+recolouring` does it once; where it is built and knows the program, its channels are compared with those found here.)
 """
 import argparse
 import heapq
-import os
 import random
-import subprocess
 import sys
 
+from bench import graphs
+from lab.definitions.colours import plan_text
 from lab.networks import kinds
 from lab.networks.texts import Made, text_of
-from lab.programs import TOP
+from lab.programs import built, called
 
 Neighbours = dict[int, set[int]]
 
@@ -50,7 +56,19 @@ def classes(nodes: int, groups: int, share: float, seed: int) -> Made:
     return Made(nodes, {pair for pair in pairs if source.random() < share})
 
 
+def of_graphs(graph: tuple[int, list[tuple[int, int]]]) -> Made:
+    """A graph of `bench.graphs`, whose nodes count from 0."""
+    nodes, edges = graph
+    return Made(nodes, {(min(a, b) + 1, max(a, b) + 1) for a, b in edges if a != b})
+
+
 NETWORKS = {
+    "disk of 500, some 9 each": lambda: of_graphs(graphs.disk(500, 9, 7)),
+    "disk of 2,000, some 6 each": lambda: of_graphs(graphs.disk(2000, 6, 7)),
+    "disk of 5,000, some 12 each": lambda: of_graphs(graphs.disk(5000, 12, 5)),
+    "200 nodes, a twentieth of pairs": lambda: of_graphs(graphs.gnp(200, 0.05, 7)),
+    "1,000 nodes, a fiftieth of pairs": lambda: of_graphs(graphs.gnp(1000, 0.02, 7)),
+    "120 nodes, half of all pairs": lambda: of_graphs(graphs.gnp(120, 0.5, 3)),
     "2,000 sites, 55 of 1,000 apart": lambda: kinds.disk(2000, 0.055, 1),
     "400 sites, 100 of 1,000 apart": lambda: kinds.disk(400, 0.1, 1),
     "queen 5x5": lambda: kinds.queen(5, 5),
@@ -120,14 +138,61 @@ def smallest_last(neighbours: Neighbours) -> int:
     return max(colours.values(), default=0)
 
 
-def ours(network: Made) -> int:
-    """The channels of `plain`, which is checked here to be proper."""
-    done = subprocess.run([os.path.join(TOP, "bin", "forestplan"), "plain"], input=text_of(network).encode(),
-                          stdout=subprocess.PIPE, check=True)
-    plan = dict(map(int, line.split()) for line in done.stdout.decode().split("\n")[1:] if line)
+def in_order(neighbours: Neighbours, order: list[int]) -> int:
+    """The colours if nodes choose in this order."""
+    colours = {}
+    for v in order:
+        colours[v] = least(neighbours, colours, v)
+    return max(colours.values(), default=0)
+
+
+def largest_first(neighbours: Neighbours) -> int:
+    return in_order(neighbours, sorted(neighbours, key=lambda v: -len(neighbours[v])))
+
+
+def by_number(neighbours: Neighbours) -> int:
+    return in_order(neighbours, sorted(neighbours))
+
+
+def plan_of(network: Made) -> dict[int, int]:
+    """The channels of `plain`."""
+    text = text_of(network).encode()
+    if built("forestplan"):
+        done = called("forestplan", ["plain"], text)
+        if done.returncode:
+            raise SystemExit(f"quality: {done.stderr.decode().strip()}")
+        plan = done.stdout
+    else:
+        print("quality: forestplan isn't built, so the plan is that of the definitions", file=sys.stderr)
+        plan = plan_text(text)
+    return proper(network, dict(map(int, line.split()) for line in plan.decode().split("\n")[1:] if line))
+
+
+def proper(network: Made, plan: dict[int, int]) -> dict[int, int]:
+    """The same plan, which is checked here."""
     if len(plan) != network.nodes or any(plan[v] == plan[w] for v, w in network.edges):
         raise SystemExit("quality: the plan isn't proper")
-    return max(plan.values(), default=0)
+    return plan
+
+
+def anew(network: Made, neighbours: Neighbours, plan: dict[int, int]) -> dict[int, int]:
+    """The plan after its classes have chosen anew, the greatest channel first."""
+    chosen = {}
+    for v in sorted(plan, key=lambda v: -plan[v]):
+        chosen[v] = least(neighbours, chosen, v)
+    return proper(network, chosen)
+
+
+def is_played(network: Made, plan: dict[int, int]) -> bool:
+    """Whether `forestplay` finds this plan by choosing anew; so it is, too, if it isn't built or doesn't know how."""
+    if not built("forestplay"):
+        return True
+    done = called("forestplay", ["rounds", "--program", "recolouring"], text_of(network).encode())
+    if done.returncode == 2:
+        print("quality: forestplay doesn't know recolouring, so it isn't compared", file=sys.stderr)
+        return True
+    lines = done.stdout.decode().split("\n")[-network.nodes - 1:-1]
+    return done.returncode == 0 and lines == [f"{v} channel {channel}" for v, channel in sorted(plan.items())]
 
 
 def by_networkx(network: Made) -> list[int]:
@@ -152,15 +217,22 @@ def main() -> int:
     unknown = [name for name in asked.names if name not in NETWORKS]
     if unknown:
         words.error(f"there is no network {unknown[0]}; there are {', '.join(NETWORKS)}")
-    row = "| {:32} | {:>6} | {:>6} | {:>5} | {:>5} | {:>6} | {:>13} |{}"
-    print(row.format("network", "nodes", "edges", "most", "ours", "DSATUR", "smallest last", " networkx: both |"))
-    print("|---|---|---|---|---|---|---|---|")
+    row = "| {:32} | {:>6} | {:>6} | {:>5} | {:>5} | {:>5} | {:>5} | {:>6} | {:>13} | {:>13} | {:>9} |{}"
+    print(row.format("network", "nodes", "edges", "most", "plan", "once", "twice", "DSATUR", "smallest last",
+                     "largest first", "by number", " networkx |"))
+    print("|---|---|---|---|---|---|---|---|---|---|---|---|")
     for name in asked.names or NETWORKS:
         network = NETWORKS[name]()
         neighbours = neighbours_of(network)
         most = max(map(len, neighbours.values()))
-        print(row.format(name, network.nodes, len(network.edges), most, ours(network), dsatur(neighbours),
-                         smallest_last(neighbours), f" {' '.join(map(str, by_networkx(network)))} |"), flush=True)
+        plan = plan_of(network)
+        once = anew(network, neighbours, plan)
+        if not is_played(network, once):
+            raise SystemExit(f"quality: {name}: forestplay chooses other channels")
+        counts = [max(found.values(), default=0) for found in (plan, once, anew(network, neighbours, once))]
+        greedy = [way(neighbours) for way in (dsatur, smallest_last, largest_first, by_number)]
+        print(row.format(name, network.nodes, len(network.edges), most, *counts, *greedy,
+                         f" {' '.join(map(str, by_networkx(network)))} |"), flush=True)
     return 0
 
 
