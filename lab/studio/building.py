@@ -69,11 +69,14 @@ class Building:
 
 
 def begin(_asked, _tell):
-    """Asks for the build."""
+    """Asks for the build, and waits until it has begun."""
     if shutil.which("rt") is None:
         raise Wrong("the toolchain's command rt is not on the PATH, and without it nothing can be proved")
+    if so_far({}, None)["ended"]:
+        os.unlink(WORDS["log"])
     os.kill(os.getppid(), WANTED)
-    time.sleep(0.7)
+    while not os.path.exists(WORDS["log"]):
+        time.sleep(0.1)
     return so_far({}, None)
 
 
@@ -85,4 +88,5 @@ def so_far(_asked, _tell):
     except (OSError, TypeError):
         return {"proved": OPENED["is_proved"], "lines": [], "ended": False}
     ended = lines[-1:] in (["the programs are proved and built"], ["ended: it isn't built"])
-    return {"proved": OPENED["is_proved"], "lines": lines[-12:], "ended": ended, "quiet": time.time() - begun.st_mtime}
+    return {"proved": OPENED["is_proved"], "lines": lines[-12:] or ["it begins"], "ended": ended,
+            "quiet": time.time() - begun.st_mtime}

@@ -29,6 +29,8 @@ async function ask(name) {
   } catch (fault) {
     if (!(fault instanceof Wrong)) throw fault;
     wrong(fault.message);
+    // A call that failed says nothing of the build.
+    if (name === "built" && by("begin").hidden) timer = setTimeout(look, 5000);
   }
 }
 function look() { return ask("built"); }
