@@ -132,8 +132,9 @@ class Drawn(Page):
         self.click((3, 4))
         self.page.key("Delete", code="Delete", windowsVirtualKeyCode=46)
         self.note("an edge is removed", self.page.value("studio.net.edges.length") == 3)
+        self.sees("the address has the network", "/net=.*~1-2_1-3_2-3&/.test(location.hash)")
         address = self.page.value("location.href")
-        self.note("the address has the network and no token", "net=" in address and "token" not in address, address)
+        self.note("and no token", "token" not in address, address)
         self.page.go("about:blank")
         self.page.go(address)
         self.sees("a link shows the network", "window.studio && studio.net.edges.length === 3")
@@ -188,6 +189,20 @@ class Drawn(Page):
         while self.page.value("studio.check.plan[0]") != wanted:
             self.click(1)
         self.sees("a clash", "studio.check.verdict && studio.check.verdict.code === 'C4'")
+
+    def test_addresses(self):
+        """What can't be read in an address is said, or left out, and the page goes on."""
+        two = "net=0.0_90.0~1-2"
+        for words, said in (
+                ("net=0.0_90.0~1-1", "a wrong edge"), ("net=x", "no network"), (two + "~n1-%E0", "malformed"),
+                ("example=../x", "no example"), (two + "&tab=rounds&forest=99&node=9&at=-1", ""),
+                (two + "&tab=constructor", ""), (two + "&tab=run&policy=constructor&slow=1-9_x&lazy=9_x", ""),
+                (two + "&tab=adversary&without=toString", ""), (two + "&tab=pictures&kind=toString", "")):
+            self.go_to(words)
+            time.sleep(1)
+            self.page.until(f"document.getElementById('wrong').textContent.includes({json.dumps(said)})")
+            got = self.page.text("wrong")
+            self.note(f"the address {words}", said in got and bool(said) == bool(got), got)
 
     def test_names(self):
         """Names are texts, in each tab."""

@@ -91,8 +91,10 @@ export function colourSquare(x, y, half, colour, isColour) {
     ink = level > 120 ? BLACK : WHITE;
     size = half * (said.length < 3 ? 1 : 0.8);
   }
+  // What is as wide as its square is set closer.
+  const close = said.length > 3 ? {textLength: 1.7 * half, lengthAdjust: "spacingAndGlyphs"} : {};
   return [mark("rect", {x: x - half, y: y - half, width: 2 * half, height: 2 * half, rx: half * 0.25, fill,
-    stroke: "var(--rim)"}), words(x, y, size, ink, said, BOLD)];
+    stroke: "var(--rim)"}), words(x, y, size, ink, said, {...BOLD, ...close})];
 }
 export function blank(x, y, r, said) {
   return [mark("circle", {cx: x, cy: y, r, fill: "var(--paper)", stroke: "var(--ink)", "stroke-width": 1.6}),

@@ -100,7 +100,7 @@ export class RoundsFilm {
       label: pulse.results ? v => nameOf(this.net, v).slice(String(v).length).trim()
         : quiet ? v => stage.radius < 9 ? "" : String(v) : null,
       ring: v => v === node ? "var(--glow)" : names.has(v) ? "var(--edge)" : null,
-      edge: () => ({"stroke-width": p === 0 ? 1.6 : 0.8})});
+      edge: () => ({"stroke-width": p === 0 ? 1.6 : 0.8}), still: [this, p, forest, node, why, quiet]});
     return p;
   }
   // [caption, sentence] of a pulse, with what the chosen node has found.

@@ -7,7 +7,7 @@ export class Stage {
   // `net` has nodes {x, y, id, name, bars} from 0, and edges [v, w] from 1.
   constructor(svg, net) {
     Object.assign(this, {svg, net, to: {scale: 1, x: 0, y: 0}, radius: LARGEST, wide: 1, high: 1, apart: 2.9,
-      least: 0, isZoomed: false, key: "", bends: new Map(), turns: new Map(), close: []});
+      least: 0, isZoomed: false, key: "", still: [], bends: new Map(), turns: new Map(), close: []});
     patch(svg, Array.from({length: 4}, () => mark("g", {}, [])));
     [this.edges, this.arrows, this.nodes, this.over] = svg.children;
   }
@@ -89,6 +89,7 @@ export class Stage {
     const now = JSON.stringify([nodes.map(n => [n.x, n.y]), edges, this.to, this.wide, this.apart]);
     if (now === this.key) return;
     this.key = now;
+    this.still = [];
     this.turns = new Map();
     this.close = nodes.map(() => []);
     edges.forEach(([v, w]) => { this.close[v - 1].push(w); this.close[w - 1].push(v); });
@@ -167,15 +168,20 @@ export class Stage {
 
   // Draws all. `edge(v, w)` gives an edge's attributes, `node(v, x, y, r)` the marks of a node, `label(v)` its words;
   // `links()` and `above()` are marks; `ring(v)` is the colour of a ring around it, or nothing. `below` says that
-  // something is written below each node.
-  draw({edge, node, label, ring, links = () => [], above = () => [], bars = true, apart = 2.9, below = false}) {
+  // something is written below each node. `still` is all that they depend on but for what is above: as long as it is
+  // the same, only that is drawn anew.
+  draw({edge, node, label, ring, links = () => [], above = () => [], bars = true, apart = 2.9, below = false, still}) {
     this.apart = apart;
     this.measure();
-    this.svg.setAttribute("viewBox", `0 0 ${this.wide} ${this.high}`);
-    patch(this.edges, this.net.edges.map(([v, w]) => this.line(v, w, {stroke: "var(--edge)", "stroke-width": 1.6,
-      ...(edge ? edge(v, w) : {}), "data-edge": v + "-" + w})));
-    patch(this.arrows, links());
-    patch(this.nodes, this.net.nodes.map((_, k) => this.group(k + 1, {node, label, ring, bars, below})));
+    const isStill = still && still.length === this.still.length && still.every((one, k) => one === this.still[k]);
+    this.still = still || [];
+    if (!isStill) {
+      this.svg.setAttribute("viewBox", `0 0 ${this.wide} ${this.high}`);
+      patch(this.edges, this.net.edges.map(([v, w]) => this.line(v, w, {stroke: "var(--edge)", "stroke-width": 1.6,
+        ...(edge ? edge(v, w) : {}), "data-edge": v + "-" + w})));
+      patch(this.arrows, links());
+      patch(this.nodes, this.net.nodes.map((_, k) => this.group(k + 1, {node, label, ring, bars, below})));
+    }
     patch(this.over, above());
   }
   group(v, {node, label, ring, bars, below}) {

@@ -1,5 +1,5 @@
 // What the tabs of the studio share: the stage, what is said of calls, and the tab that is seen.
-import {Wrong, cancel} from "./api.js";
+import {Wrong, call, cancel} from "./api.js";
 import {net} from "./model.js";
 import {html} from "./marks.js";
 import {Stage} from "./stage.js";
@@ -12,13 +12,21 @@ export const seen = {tab: "draw", node: null, edge: null, lesson: null, hello: n
   lazy: []};
 export const stage = new Stage(by("net"), net);
 // Each tab is {hints, enter, show, click, link, follow, key}; studio.js sets the hooks.
-export const tabs = {}, hooks = {};
+export const tabs = Object.create(null), hooks = {};
 // Elements of a picture have no property `hidden`.
 export function hide(id, isHidden) { by(id).toggleAttribute("hidden", isHidden); }
 export function isHidden(id) { return by(id).hasAttribute("hidden"); }
 export function show() { hooks.show(); }
 export function go(tab, more) { hooks.go(tab, more); }
 export const KEYS = matchMedia("(pointer: coarse)").matches ? "" : "Space plays, arrows step.";
+// Makes anew what a place says only if it is something else: what is left as it is needs no layout.
+export function say(id, words) { if (by(id).textContent !== words) by(id).textContent = words; }
+export function fill(id, key, parts) {
+  const place = by(id);
+  if (place.key === key) return;
+  place.key = key;
+  place.replaceChildren(...parts());
+}
 // The slider below the stage, which the tabs Rounds and No clock share.
 export const time = new Time(Object.fromEntries(["slider", "play", "back", "next", "speed"].map(id => [id, by(id)])), {
   show,
@@ -68,6 +76,13 @@ export async function tried(key, said, does) {
   } finally { clearTimeout(later); busy(null, key); }
   return true;
 }
+// Asks for something, and does what its answer is for, unless a later call of the key has ended it.
+export function asks(name, asked, said, does, key = name) {
+  return tried(key, said, async () => {
+    const got = await call(name, asked, {key});
+    if (got) await does(got.answer, got);
+  });
+}
 // How long the last answer to each call took, for tests.
 export const measured = {};
 export function ms(got, name) {
@@ -98,7 +113,9 @@ export function zoomPicture(by_) {
 }
 export function capital(said) { return said[0].toUpperCase() + said.slice(1); }
 export function count(n, what) { return `${n.toLocaleString("en")} ${what}${n === 1 ? "" : "s"}`; }
-// Edges of an address, as 2-3_4-5.
+// What an address says: a name among others, or nothing; a number from 0; a list; and edges, as 2-3_4-5.
+export function among(of, name) { return Object.hasOwn(of, name) ? name : ""; }
+export function whole(said) { return /^\d{1,6}$/.test(said) ? +said : 0; }
 export function listOf(said) { return (said || "").split("_").filter(Boolean); }
 export function edgesOf(said) { return listOf(said).map(pair => pair.split("-").map(Number)); }
 // A click on an edge has its link wait, or no more.

@@ -1,6 +1,5 @@
 // The tab Check: a plan that is typed or clicked, with the verdict on it, and transcripts.
-import {call} from "./api.js";
-import {by, capital, hooks, listOf, ms, seen, show, stage, tabs, took, tried} from "./base.js";
+import {asks, by, capital, hooks, listOf, ms, seen, show, stage, tabs, took, whole} from "./base.js";
 import {blank, channelCircle, html, note} from "./marks.js";
 import {net, neighbours, text} from "./model.js";
 
@@ -11,10 +10,8 @@ const SAID = {C4: "one channel", C8: "barred here", C1: "no channel yet", C5: "t
 function set(v, channel) { check.plan[v - 1] = Math.max(0, Math.min(9999, channel)); }
 function ask() {
   show();
-  return tried("check", "checking", async () => {
-    const got = await call("check", {network: text(), plan: check.plan});
-    if (!got) return;
-    check.verdict = got.answer;
+  return asks("check", {network: text(), plan: check.plan}, "checking", (verdict, got) => {
+    check.verdict = verdict;
     took("check: " + ms(got, "check"), "check");
     show();
   });
@@ -71,20 +68,17 @@ tabs.check = {
     ask();
   },
   link: add => add("plan", check.plan.join("_")),
-  follow: given => { check.plan = listOf(given.get("plan")).map(Number); },
+  follow: given => { check.plan = listOf(given.get("plan")).map(whole); },
 };
 by("blank").onclick = () => { check.plan = net.nodes.map(() => 0); ask(); };
 by("ones").onclick = () => { check.plan = net.nodes.map(() => 1); ask(); };
-by("take").onclick = () => tried("take", "looking for the plan", async () => {
-  const got = await call("plan", {network: text()}, {key: "take"});
-  if (!got) return;
-  check.plan = got.answer.plan;
+by("take").onclick = () => asks("plan", {network: text()}, "looking for the plan", ({plan}) => {
+  check.plan = plan;
   ask();
-});
-by("judged").onclick = () => tried("judge", "judging", async () => {
-  const got = await call("judge", {network: text(), transcript: by("transcript").value, program: seen.program});
-  if (!got) return;
-  const is = got.answer, place = by("judgement"), {proved} = is;
+}, "take");
+by("judged").onclick = () => asks("judge", {network: text(), transcript: by("transcript").value,
+  program: seen.program}, "judging", is => {
+  const place = by("judgement"), {proved} = is;
   // The machine counts lines from the network's first one.
   const said = proved && proved.said.replace(/line (\d+)/, (_, line) => `line ${line - is.before}`);
   place.className = "verdict " + (is.ok ? "good" : "bad");

@@ -1,6 +1,7 @@
 // The tab Draw: the network is drawn with the mouse, a finger or keys, and its plan is shown after each change.
 import {call, cancel} from "./api.js";
-import {all, by, count, go, hang, hooks, ms, seen, show, stage, tabs, took, tried, wrong} from "./base.js";
+import {all, among, asks, by, count, go, hang, hooks, ms, seen, show, stage, tabs, took, tried, whole, wrong}
+  from "./base.js";
 import {blank, channelCircle, html} from "./marks.js";
 import * as model from "./model.js";
 import {change, net, neighbours, text} from "./model.js";
@@ -37,11 +38,8 @@ export function askPlan() {
   drawn.fresh = false;
   by("plan").classList.add("old");
   if (!net.nodes.length) { drawn.plan = null; facts(); return show(); }
-  timer = setTimeout(() => tried("plan", "looking for the plan", async () => {
-    const got = await call("plan", {network: text()});
-    if (!got) return;
-    drawn.plan = got.answer;
-    drawn.fresh = true;
+  timer = setTimeout(() => asks("plan", {network: text()}, "looking for the plan", (plan, got) => {
+    Object.assign(drawn, {plan, fresh: true});
     by("plan").classList.remove("old");
     took("plan: " + ms(got, "plan"), "draw");
     if (seen.tab === "draw") { facts(); if (!by("chosen").contains(document.activeElement)) inspect(); show(); }
@@ -57,16 +55,18 @@ export function inspect() {
       html("p", "Delete removes it.", {class: "soft"}));
   }
   if (!v) return place.replaceChildren();
-  const node = net.nodes[v - 1], box = html("div", null, {class: "grid"});
+  const node = net.nodes[v - 1], box = html("div", null, {class: "grid"}), fields = box.getElementsByTagName("input");
+  const on = Array.from(place.querySelectorAll("input")).indexOf(document.activeElement);
   const field = (said, value, use, more = {}, parse = text_ => text_, refusal = "") => {
     const label = html("label", said), input = html("input", null, {type: "text", ...more});
     input.value = value;
-    input.onchange = () => {
+    // After the focus has gone on: what has it then gets it again.
+    input.onchange = () => setTimeout(() => {
       const given = parse(input.value.trim());
       if (given === null) { wrong(refusal); input.value = value; return; }
       wrong("");
       change(() => use(given));
-    };
+    });
     label.append(input);
     box.append(label);
   };
@@ -78,6 +78,7 @@ export function inspect() {
   const channel = drawn.plan && drawn.plan.plan[v - 1];
   place.replaceChildren(html("h2", `Node ${v}` + (channel ? `, channel ${channel}` : "")), box,
     html("p", `neighbours: ${neighbours(v).join(", ") || "none"}`));
+  if (fields[on]) fields[on].focus();
   const why = html("button", "why this channel?");
   why.onclick = () => { seen.node = v; go("rounds", {at: 1e9}); };
   if (channel) place.append(why);
@@ -143,12 +144,10 @@ export async function openFile(file, heading = null, name = null) {
   const bytes = new Uint8Array(await file.arrayBuffer());
   let words = "";
   for (let k = 0; k < bytes.length; k += 32768) words += String.fromCharCode(...bytes.subarray(k, k + 32768));
-  await tried("read", "reading the file", async () => {
-    const got = await call("read", {name: file.name, data: btoa(words), heading});
-    if (!got) return;
-    model.load({...got.answer, name: name === null ? got.answer.name : name});
+  await asks("read", {name: file.name, data: btoa(words), heading}, "reading the file", found => {
+    model.load({...found, name: name === null ? found.name : name});
     if (seen.tab !== "draw") go("draw");
-    const {said} = got.answer, all_ = [count(net.nodes.length, "node"), count(net.edges.length, "edge")];
+    const {said} = found, all_ = [count(net.nodes.length, "node"), count(net.edges.length, "edge")];
     by("notes").textContent = `Read: ${(said.length ? said : all_).join("; ")}.`;
   });
   // Whether a table's first row is a heading can't always be seen.
@@ -181,9 +180,9 @@ export function makeForm() {
   form.onsubmit = event => {
     event.preventDefault();
     const asked = Object.fromEntries(Array.from(sizes.querySelectorAll("input"), one => [one.name, one.value]));
-    tried("make", "making it", async () => {
-      const got = await call("make", {kind: kind.value, sizes: asked, seed: asked.seed});
-      if (got) { model.load(got.answer); took("made: " + ms(got, "made")); }
+    asks("make", {kind: kind.value, sizes: asked, seed: asked.seed}, "making it", (found, got) => {
+      model.load(found);
+      took("made: " + ms(got, "made"));
     });
   };
 }
@@ -191,10 +190,8 @@ by("undo").onclick = model.undo;
 by("redo").onclick = model.redo;
 by("delete").onclick = remove;
 by("clear").onclick = () => change(n => { n.nodes = []; n.edges = []; n.name = ""; });
-by("tidy").onclick = () => tried("tidy", "laying it out", async () => {
-  const got = await call("tidy", {network: text()});
-  if (!got) return;
-  change(n => { n.nodes = got.answer.nodes; });
+by("tidy").onclick = () => asks("tidy", {network: text()}, "laying it out", ({nodes}, got) => {
+  change(n => { n.nodes = nodes; });
   stage.fit();
   show();
   took("tidied: " + ms(got, "tidied"));
@@ -240,14 +237,14 @@ Object.keys(KINDS).forEach(one => {
 });
 tabs.pictures = {
   hint: () => "", click: () => 0, show: () => 0,
-  follow(given) { if (KINDS[given.get("kind")]) kind = given.get("kind"); },
+  follow(given) { kind = among(KINDS, given.get("kind")) || kind; },
   enter(more = {}) { kind = more.kind || kind; askPicture(); },
   link(add) { add("kind", kind); add("node", seen.node); add("forest", tabs.rounds.forest()); },
 };
 by("pulses").onchange = askPicture;
 by("vertex").onchange = () => {
-  const v = +by("vertex").value;
-  seen.node = v >= 1 && v <= net.nodes.length ? v : null;
+  const v = whole(by("vertex").value);
+  seen.node = v <= net.nodes.length && v || null;
   askPicture();
   hooks.link();
 };

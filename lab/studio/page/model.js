@@ -1,7 +1,11 @@
+import {Wrong} from "./api.js";
+
 // The network that is drawn: nodes {x, y, id, name, bars} from 0, edges [v, w] from 1, the lower node first. An id is
 // the digits of an identifier, or "" for the node's own number.
 export const net = {name: "", nodes: [], edges: [], example: ""};
 const past = [], future = [], heard = [];
+// Whether what is there has taken the place of a drawing.
+export let replaced = false;
 
 export function onChange(listener) { heard.push(listener); }
 function tell(what) { heard.forEach(listener => listener(what)); }
@@ -23,6 +27,7 @@ export function undo() { if (past.length) { future.push(kept()); put(past.pop())
 export function redo() { if (future.length) { past.push(kept()); put(future.pop()); lastKey = null; tell("undo"); } }
 export function depth() { return [past.length, future.length]; }
 export function load(found, example = "") {
+  replaced = net.nodes.length > 0 && !net.example;
   if (net.nodes.length) { past.push(kept()); future.length = 0; }
   lastKey = null;
   Object.assign(net, {name: found.name || "", nodes: found.nodes, edges: found.edges, example});
@@ -75,16 +80,16 @@ export function fromCode(words) {
   const [places, edges, ...more] = words.split("~");
   const nodes = (places ? places.split("_") : []).map(place => {
     const found = /^(-?\d{1,6})\.(-?\d{1,6})$/.exec(place);
-    if (!found) throw new Error("the address has no network that can be read");
+    if (!found) throw new Wrong("the address has no network that can be read");
     return {x: +found[1], y: +found[2], id: "", name: "", bars: []};
   });
   const pairs = list => (list ? list.split("_") : []).map(pair => {
     const found = /^(\d{1,5})-(.*)$/.exec(pair);
-    if (!found || !nodes[found[1] - 1]) throw new Error("the address has no network that can be read");
+    if (!found || !nodes[found[1] - 1]) throw new Wrong("the address has no network that can be read");
     return [+found[1], found[2]];
   });
   const found = {name: "", nodes, edges: pairs(edges).map(([v, w]) => [Math.min(v, +w), Math.max(v, +w)])};
-  if (found.edges.some(e => !nodes[e[1] - 1] || e[0] === e[1])) throw new Error("the address has a wrong edge");
+  if (found.edges.some(e => !nodes[e[1] - 1] || e[0] === e[1])) throw new Wrong("the address has a wrong edge");
   more.forEach(part => pairs(part.slice(1)).forEach(([v, said]) => {
     if (part[0] === "i") nodes[v - 1].id = said.replace(/\D/g, "");
     if (part[0] === "b") nodes[v - 1].bars.push(+said || 1);

@@ -1,6 +1,7 @@
 // The tab Rounds: the network at each pulse, why a node has its channel, and what goes wrong without a rule.
-import {Wrong, call} from "./api.js";
-import {KEYS, by, capital, go, hang, hide, ms, picture, seen, show, stage, tabs, time, took, tried} from "./base.js";
+import {call} from "./api.js";
+import {KEYS, among, asks, by, capital, fill, go, hang, hide, ms, picture, say, seen, show, stage, tabs, time, took,
+  tried, whole} from "./base.js";
 import {html, patch} from "./marks.js";
 import {load as load_, net, text} from "./model.js";
 import {RoundsFilm, roundsLegend} from "./rounds.js";
@@ -13,18 +14,23 @@ export async function load(program = seen.program) {
   const got = await call("rounds", {network: asked, program});
   if (!got) return false;
   const film = new RoundsFilm(got.answer, net);
-  Object.assign(rounds, {film, of: key, why: null, whyOf: null, took: got, forest: Math.min(rounds.forest,
-    Math.max(0, film.forests - 1))});
+  Object.assign(rounds, {film, of: key, why: null, whyOf: null, took: got});
   return true;
 }
 function isReady() { return rounds.film && rounds.of === seen.program + text(); }
 function showAt() {
   if (!isReady()) return false;
   const {film} = rounds, {node} = seen, why = rounds.whyOf === node ? rounds.why : null;
+  rounds.forest = Math.min(rounds.forest, Math.max(0, film.forests - 1));
   const p = film.draw(stage, time.at, {forest: rounds.forest, node, why}), [caption, said] = film.said(p, node);
-  by("when").textContent = `pulse ${p} of ${film.last}`;
-  by("said").replaceChildren(html("b", caption), html("br"), said);
-  by("forests").replaceChildren(...film.chips(p, rounds.forest, f => { rounds.forest = f; show(); }));
+  say("when", `pulse ${p} of ${film.last}`);
+  fill("said", caption + said, () => [html("b", caption), html("br"), said]);
+  const chips = by("forests"), hasFocus = chips.contains(document.activeElement);
+  fill("forests", [p, rounds.forest, film.forests].join(), () => film.chips(p, rounds.forest, f => {
+    rounds.forest = f;
+    show();
+  }));
+  if (hasFocus && chips.children.length) chips.children[rounds.forest].focus();
   const [box, parts] = node && film.forests ? film.strips(p, node) : ["0 0 350 0", []];
   hide("strips", !parts.length);
   by("strips").setAttribute("viewBox", box);
@@ -41,7 +47,8 @@ async function askWhy() {
   took("why: " + ms(got, "why"), "rounds");
   const [head, summary, ...lines] = got.answer.lines, more = html("details"), list = html("ul");
   more.append(html("summary", "step by step, back to identifiers (colours count from 0)"), list);
-  lines.forEach(line => list.append(html("li", line.trim())));
+  lines.forEach(line => list.append(html("li", line.trim().replace(/\bchosen (\d+)/, (said, colour) =>
+    `${said} (channel ${+colour + 1})`))));
   place.replaceChildren(html("h2", head.replace(" of this network", "")), html("p", summary), more, bitsOf(v));
   show();
 }
@@ -49,16 +56,14 @@ function bitsOf(v) {
   const bits = html("details"), kept = html("figure");
   bits.append(html("summary", "bit by bit"), html("p", "A click on the picture makes it large.", {class: "soft"}),
     kept);
-  bits.ontoggle = async () => {
+  bits.ontoggle = () => {
     if (!bits.open || kept.childNodes.length) return;
-    try {
-      const asked = {network: text(), kind: "bits", vertex: v, forest: rounds.forest};
-      const got = await call("picture", asked, {key: "bits"});
-      if (!got) return;
-      kept.append(picture(got.answer, `bit steps of node ${v}`));
+    const asked = {network: text(), kind: "bits", vertex: v, forest: rounds.forest};
+    asks("picture", asked, "drawing", svg => {
+      kept.append(picture(svg, `bit steps of node ${v}`));
       setTimeout(() => bits.scrollIntoView({block: "nearest"}), 100);
       kept.onclick = () => go("pictures", {kind: "bits"});
-    } catch (fault) { if (!(fault instanceof Wrong)) throw fault; kept.append(html("p", fault.message)); }
+    }, "bits");
   };
   return bits;
 }
@@ -72,10 +77,10 @@ function askBroken() {
   by("picture").replaceChildren();
   place.replaceChildren();
   if (!isLeft) return stage.fit();
-  tried("broken", "looking for what goes wrong", async () => {
-    const got = await call("broken", {network: text(), name: net.name, without: rounds.without});
-    if (!got || seen.tab !== "rounds") return;
-    const {here, words, found, picture: svg} = got.answer, rule = seen.hello.rules.rounds[rounds.without];
+  const asked = {network: text(), name: net.name, without: rounds.without};
+  asks("broken", asked, "looking for what goes wrong", ({here, words, found, picture: svg}) => {
+    if (seen.tab !== "rounds") return;
+    const rule = seen.hello.rules.rounds[rounds.without];
     const draw = html("button", "draw this smallest network"), back = html("button", "back to all rules");
     draw.onclick = () => load_(found);
     back.onclick = () => { by("without2").value = ""; by("without2").onchange(); };
@@ -108,7 +113,8 @@ tabs.rounds = {
       await askWhy();
     });
     if (!isReady()) {
-      ["said", "forests", "why"].forEach(id => by(id).replaceChildren());
+      ["said", "forests"].forEach(id => fill(id, "", () => []));
+      by("why").replaceChildren();
       hide("strips", true);
     }
     askBroken();
@@ -122,8 +128,8 @@ tabs.rounds = {
     add("broken", rounds.without);
   },
   follow(given) {
-    rounds.forest = +given.get("forest") || 0;
-    rounds.without = seen.hello.rules.rounds[given.get("broken")] ? given.get("broken") : "";
+    rounds.forest = whole(given.get("forest"));
+    rounds.without = among(seen.hello.rules.rounds, given.get("broken"));
   },
 };
 by("program2").onchange = () => { seen.program = by("program2").value; time.at = 0; tabs.rounds.enter(); };

@@ -1,7 +1,7 @@
 // The tab No clock: a run by a seed or by real threads, its verdicts, another order or the rounds beside it.
 import {call} from "./api.js";
-import {KEYS, all, by, capital, hide, isHidden, listOf, ms, progress, seen, show, stage, tabs, time, took, toggleLazy,
-  toggleSlow, tried, wrong} from "./base.js";
+import {KEYS, all, among, by, capital, fill, hide, isHidden, listOf, ms, progress, say, seen, show, stage, tabs, time,
+  took, toggleLazy, toggleSlow, tried, wrong} from "./base.js";
 import {net, text} from "./model.js";
 import {rounds} from "./rounds_tab.js";
 import {RunFilm, runLegend, waitsTable} from "./run.js";
@@ -25,6 +25,7 @@ function asked() {
 }
 function take(found, network, isPart) {
   Object.assign(run, {found, film: new RunFilm(found, net), of: network, isPart, judgedAt: null});
+  by("table").key = null;
   by("judgehere").textContent = "";
   if (!isPart) return verdicts(found);
   by("same").textContent = "";
@@ -83,7 +84,9 @@ function lay() {
 // Whether the network is so long that pictures of it go one below the other.
 function isLong() {
   const span = list => Math.max(...list) - Math.min(...list);
-  return span(net.nodes.map(n => n.x)) > 2 * span(net.nodes.map(n => n.y)) || by("stage").offsetWidth < 500;
+  const {offsetWidth, offsetHeight} = by("stage");
+  return span(net.nodes.map(n => n.x)) > 2 * span(net.nodes.map(n => n.y))
+    || offsetWidth < Math.min(500, 1.3 * offsetHeight);
 }
 // Puts the slider to a place of the run that is there: a stamp, or of two runs a pulse.
 function place(at) {
@@ -115,21 +118,21 @@ function showAt() {
     second.refit();
     run.film.draw(stage, here.stamp, {...options, at});
     run.film2.draw(second, there.stamp, {...options, slow: [], lazy: [], at: there.at});
-    by("now").textContent = `first run, stamp ${Math.floor(here.stamp)}: ${here.said}; second, stamp `
-      + `${Math.floor(there.stamp)}: ${there.said}`;
-    by("when").textContent = `pulse ${Math.floor(time.at)}`;
+    say("now", `first run, stamp ${Math.floor(here.stamp)}: ${here.said}; second, stamp `
+      + `${Math.floor(there.stamp)}: ${there.said}`);
+    say("when", `pulse ${Math.floor(time.at)}`);
   } else {
     at = run.film.draw(stage, time.at, options);
-    by("now").textContent = `${run.film.said(at)}. ${apart(run.film.looks(at))}`;
-    by("when").textContent = "stamp " + Math.floor(time.at);
+    say("now", `${run.film.said(at)}. ${apart(run.film.looks(at))}`);
+    say("when", "stamp " + Math.floor(time.at));
   }
   run.at = at;
   // What the judge has said of another place isn't left beside this one.
-  if (run.judgedAt !== at) by("judgehere").textContent = "";
+  if (run.judgedAt !== at) say("judgehere", "");
   const results = run.found.results || [], last = run.film.last(at);
   const isFound = (v, is) => is.c === results[v - 1] && (is.e || is.p === run.found.last);
-  by("table").replaceChildren(waitsTable(run.film.looks(at), {only: seen.node, lit: last && last[1],
-    head: "in the rounds", more: (v, is) => (results[v - 1] || "") + (isFound(v, is) ? " ✓" : "")}));
+  fill("table", `${at} ${seen.node}`, () => [waitsTable(run.film.looks(at), {only: seen.node, lit: last && last[1],
+    head: "in the rounds", more: (v, is) => (results[v - 1] || "") + (isFound(v, is) ? " ✓" : "")})]);
   showRounds(at);
 }
 // How far apart the pulses of neighbours are, and of all nodes.
@@ -142,14 +145,13 @@ function apart(looks) {
 }
 // The rounds, small, at the pulse of the slowest node or of the one that is followed.
 function showRounds(at) {
-  by("besidesaid").textContent = "";
-  if (isHidden("small") || !rounds.film || rounds.of !== seen.program + text()) return;
+  if (isHidden("small") || !rounds.film || rounds.of !== seen.program + text()) return say("besidesaid", "");
   const looks = run.film.looks(at);
   const p = seen.node ? looks[seen.node - 1].p : Math.min(...looks.map(is => is.p));
   small.refit();
   rounds.film.draw(small, Math.min(p, rounds.film.last), {forest: rounds.forest, node: seen.node, quiet: true});
   by("small").setAttribute("aria-label", `the rounds, pulse ${p}`);
-  by("besidesaid").textContent = ` (pulse ${p})`;
+  say("besidesaid", ` (pulse ${p})`);
 }
 // What is said of the whole run.
 function verdicts(found) {
@@ -191,7 +193,7 @@ async function transcript() {
 function lazyBox() {
   by("lazybox").hidden = !seen.node;
   by("lazy").checked = seen.lazy.includes(seen.node);
-  by("lazysaid").textContent = ` node ${seen.node} waits`;
+  say("lazysaid", ` node ${seen.node} waits`);
 }
 tabs.run = {
   transcript, ask, stopped: judgeSoon, rate: () => run.film2 ? 0.4 : 2.5,
@@ -237,13 +239,13 @@ tabs.run = {
   },
   follow(given) {
     by("seed").value = given.has("seed") ? decodeURIComponent(given.get("seed")) : "1";
-    by("policy").value = seen.hello.policies[given.get("policy")] ? given.get("policy") : "random";
+    by("policy").value = among(seen.hello.policies, given.get("policy")) || "random";
     by("made").value = given.get("how") === "threads" ? "threads" : "seed";
     by("beside").checked = given.get("beside") === "1";
     run.transcript = null;
     run.steps = given.get("tab") === "run" ? listOf(given.get("steps")) : [];
     const [policy, seed] = (given.get("other") || "").split(".");
-    run.other = seen.hello.policies[policy] ? {policy, seed: decodeURIComponent(seed || "1")} : null;
+    run.other = among(seen.hello.policies, policy) ? {policy, seed: decodeURIComponent(seed || "1")} : null;
     by("two").checked = Boolean(run.other);
     by("policy2").value = policy && run.other ? policy : "newest";
     by("seed2").value = run.other ? run.other.seed : "2";

@@ -1,6 +1,6 @@
 // The tab Adversary: whoever looks is the network, and chooses which message is taken next and which node pulses.
-import {call, token} from "./api.js";
-import {all, busy, by, go, hooks, listOf, seen, show, stage, tabs, toggleLazy, toggleSlow, took, tried}
+import {token} from "./api.js";
+import {all, among, asks, busy, by, go, hooks, listOf, seen, show, stage, tabs, toggleLazy, toggleSlow, took}
   from "./base.js";
 import {html} from "./marks.js";
 import {net, text} from "./model.js";
@@ -11,29 +11,28 @@ import {nameOf} from "./stage.js";
 export const steps = {made: [], found: null, without: ""};
 const KEYED = 9;
 
-function ask(more = {}) {
-  return tried("steps", "playing these steps", async () => {
-    const {slow, lazy, program} = seen;
-    const got = await call("steps", {network: text(), program, slow, lazy, without: steps.without,
-      steps: steps.made.join("_"), ...more});
-    if (!got) return;
-    steps.found = got.answer;
-    steps.made = got.answer.made;
-    took(`${steps.made.length} steps, ${Math.round(got.ms)} ms`, "adversary");
-    show();
-  });
+let asking = 0;
+async function ask(more = {}) {
+  const {slow, lazy, program} = seen, {without, made} = steps;
+  asking += 1;
+  await asks("steps", {network: text(), program, slow, lazy, without, steps: made.join("_"), ...more},
+    "playing these steps", (found, {ms}) => {
+      Object.assign(steps, {found, made: found.made});
+      took(`${found.made.length} steps, ${Math.round(ms)} ms`, "adversary");
+      show();
+    });
+  asking -= 1;
 }
+// A step is made after the one before: a click that comes too early is none.
+function goOn(more) { if (!asking) ask(more); }
+function from(made) { goOn({steps: made.join("_")}); }
 // Whether a step is held: its link, or its node, waits.
 function isHeld(step) {
   const [v, w] = step.split("-").map(Number);
   return seen.lazy.includes(v) || w && seen.slow.some(e => e.join("-") === [v, w].sort((a, b) => a - b).join("-"));
 }
 function isFree(step) { return steps.found.steps.includes(step) && !isHeld(step); }
-function make(step) {
-  if (!isFree(step)) return;
-  steps.made = steps.made.concat(step);
-  ask();
-}
+function make(step) { if (isFree(step)) from(steps.made.concat(step)); }
 function queue([v, w, wires]) {
   return queueMarks(stage, v, w, wires, place => {
     const step = `${w}-${v}` + (place ? "-" + place : ""), free = isFree(step);
@@ -175,16 +174,16 @@ tabs.adversary = {
     add("node", seen.node);
   },
   follow(given) {
-    steps.without = seen.hello.rules.orders[given.get("without")] ? given.get("without") : "";
+    steps.without = among(seen.hello.rules.orders, given.get("without"));
     steps.made = given.get("tab") === "adversary" ? listOf(given.get("steps")) : [];
   },
 };
 function seed() { return String(Math.floor(Math.random() * 1e9)); }
-by("undostep").onclick = () => { steps.made = steps.made.slice(0, -1); ask(); };
-by("chance").onclick = () => ask({by: 1, seed: seed()});
-by("chance20").onclick = () => ask({by: 20, seed: seed()});
-by("instep").onclick = () => ask({in_step: true});
-by("anew").onclick = () => { steps.made = []; ask(); };
+by("undostep").onclick = () => from(steps.made.slice(0, -1));
+by("chance").onclick = () => goOn({by: 1, seed: seed()});
+by("chance20").onclick = () => goOn({by: 20, seed: seed()});
+by("instep").onclick = () => goOn({in_step: true});
+by("anew").onclick = () => from([]);
 by("handover").onclick = () => { by("made").value = "seed"; go("run", {steps: steps.made, at: 0}); };
 by("playlist").onclick = () => ask({list: by("list").value});
 by("without").onchange = () => {

@@ -1,7 +1,7 @@
 // The studio: its tabs, the mouse on the stage, keys, and the address, which says all that is seen.
 import {call, cancel, token} from "./api.js";
-import {all, by, edgesOf, hooks, listOf, measured, option, seen, show, stage, tabs, time, took, tried, wrong,
-  zoomPicture} from "./base.js";
+import {all, asks, by, edgesOf, hooks, listOf, measured, option, say, seen, show, stage, tabs, time, took, tried, whole,
+  wrong, zoomPicture} from "./base.js";
 import {askPlan, drawn, inspect, makeForm, openFile} from "./draw.js";
 import {check} from "./check.js";
 import {rounds} from "./rounds_tab.js";
@@ -15,6 +15,8 @@ import {watchBuild} from "./proved.js";
 const TIMED = ["rounds", "run"];
 // Where each of them was left.
 const left = {};
+// Whether the text is older than the places of the nodes; and whether the network has just taken a drawing's place.
+let isMoved = false, isReplaced = false;
 const CALLS = ["rounds", "why", "broken", "run", "run2", "replay", "check", "picture", "steps"];
 
 hooks.show = () => {
@@ -23,15 +25,18 @@ hooks.show = () => {
   if (!isThere) stage.draw({node: (v, x, y, r) => blank(x, y, r)});
   ["back", "play", "next", "slider"].forEach(id => { by(id).disabled = !isThere; });
   by("empty").hidden = net.nodes.length > 0;
-  by("hint").textContent = tab.hint();
-  by("name").textContent = net.name ? `· ${net.name}` : "";
+  say("hint", (isReplaced ? "Undo (Ctrl-Z, or in Draw) brings your drawing back. " : "") + tab.hint());
+  say("name", [net.name, seen.program === "colouring" ? "" : seen.program].filter(Boolean).map(name => "· " + name)
+    .join(" "));
   hooks.link();
 };
 hooks.go = (name, more = {}) => {
   time.stop();
+  isReplaced = false;
   left[seen.tab] = time.at;
   time.at = more.at === undefined ? left[name] || 0 : more.at;
   // The browser's way back leads to the tab before.
+  link();
   if (name !== seen.tab) history.pushState(null, "", location.href);
   seen.tab = name;
   enter(more);
@@ -55,9 +60,11 @@ function enter(more = {}) {
   hooks.show();
 }
 model.onChange(what => {
+  // Moving changes no plan, and the text only when the node is there.
+  isMoved = what === "move";
+  if (isMoved) return show();
   by("text").value = text();
-  // Moving changes no plan.
-  if (what === "move") return show();
+  isReplaced = what === "load" && model.replaced;
   if (drawn.plan && (what !== "edit" || drawn.plan.plan.length > net.nodes.length)) drawn.plan = null;
   if (seen.node > net.nodes.length) seen.node = null;
   seen.edge = null;
@@ -146,11 +153,13 @@ by("zoomout").onclick = () => zoom(0.8);
 by("zoomfit").onclick = () => zoom(0);
 new ResizeObserver(() => { if (!drag && seen.hello && !stage.isZoomed) refit(); }).observe(by("stage"));
 
-// The address.
-let linked = "", isFollowing = false, follows = 0;
-hooks.link = () => {
+// The address. It is written a moment after the last change: browsers refuse many changes in a row.
+let linked = "", isFollowing = false, follows = 0, linking = null;
+hooks.link = () => { clearTimeout(linking); linking = setTimeout(link, 150); };
+function link() {
+  clearTimeout(linking);
   // Another address is about to be followed: it isn't written over.
-  if (!seen.hello || isFollowing || time.timer || drag && drag.moved || linked && location.hash !== linked) return;
+  if (!seen.hello || isFollowing || time.timer || drag && drag.moved || location.hash !== linked) return;
   const shown = net.example ? "example=" + net.example : net.nodes.length ? "net=" + model.code() : "";
   const words = [shown, "tab=" + seen.tab];
   const add = (name, value) => { if (value) words.push(`${name}=${value}`); };
@@ -163,7 +172,9 @@ hooks.link = () => {
   add("lesson", seen.lesson);
   history.replaceState(null, "", "#" + words.filter(Boolean).join("&"));
   linked = location.hash;
-};
+  if (isMoved) by("text").value = text();
+  isMoved = false;
+}
 function pairsOf(hash) {
   return new Map(hash.split("&").map(part => [part.split("=")[0], part.split("=").slice(1).join("=")]));
 }
@@ -171,7 +182,7 @@ async function follow() {
   if (location.hash === linked && linked) return;
   const mine = ++follows;
   time.stop();
-  linked = "";
+  linked = location.hash;
   isFollowing = true;
   const {hello} = seen;
   let given = pairsOf(location.hash.slice(1));
@@ -179,7 +190,7 @@ async function follow() {
   seen.lesson = lesson ? lesson.number : null;
   if (lesson && !given.has("tab")) given = pairsOf(lesson.open);
   showLesson(lesson);
-  await tried("example", "opening", async () => {
+  const isRead = await tried("example", "opening", async () => {
     const example = given.get("example"), got = example && await call("example", {name: example});
     // Another address has been followed since.
     if (mine !== follows || example && !got) return;
@@ -188,16 +199,18 @@ async function follow() {
     seen.tab = "draw";
     if (found) model.load(found, example || "");
     seen.program = hello.programs.includes(given.get("program")) ? given.get("program") : "colouring";
-    Object.assign(seen, {slow: edgesOf(given.get("slow")), lazy: listOf(given.get("lazy")).map(Number),
-      node: +given.get("node") || null});
-    if (seen.node > net.nodes.length) seen.node = null;
+    const isNode = v => v >= 1 && v <= net.nodes.length, node = whole(given.get("node"));
+    Object.assign(seen, {slow: edgesOf(given.get("slow")).filter(e => model.hasEdge(...e)),
+      lazy: listOf(given.get("lazy")).map(whole).filter(isNode), node: isNode(node) ? node : null});
     Object.values(tabs).forEach(tab => tab.follow(given));
     time.at = +given.get("at") || 0;
     seen.tab = tabs[given.get("tab")] ? given.get("tab") : "draw";
   });
   if (mine !== follows) return;
   isFollowing = false;
+  const why = by("wrong").textContent;
   enter();
+  if (!isRead) wrong(why);
 }
 function showLesson(lesson) {
   const box = by("lesson");
@@ -211,18 +224,15 @@ function showLesson(lesson) {
   box.replaceChildren(close, card);
 }
 by("copy").onclick = async () => {
-  hooks.link();
+  link();
   const said = words => { by("copy").textContent = words; };
   try { await navigator.clipboard.writeText(location.href); said("copied"); } catch { said("see the address"); }
   setTimeout(() => said("link"), 2000);
 };
-by("examples").onchange = async () => {
+by("examples").onchange = () => {
   const name = by("examples").value;
   by("examples").value = "";
-  if (name) await tried("example", "opening", async () => {
-    const got = await call("example", {name});
-    if (got) model.load(got.answer, name);
-  });
+  if (name) asks("example", {name}, "opening", found => model.load(found, name));
 };
 by("lessons").onchange = () => {
   const number = by("lessons").value;
