@@ -8,7 +8,7 @@ import sys
 import warnings
 from xml.etree import ElementTree
 
-from lab.networks.fields import shown, whole
+from lab.networks.fields import is_number, refuse_zero, shown, whole
 from lab.networks.listed import Listed
 from lab.networks.network_text import MAX_NODES
 from lab.wrong import Wrong
@@ -126,13 +126,25 @@ def counts_of_pajek(text: str) -> tuple[int, int]:
     # networkx would drop other quotes, and backslashes.
     if not all(re.fullmatch(r'\S+\s+("[^"\\]*"|[^\s"\'\\]+)(\s.*)?', line) for line in names):
         raise ValueError("a vertex whose name isn't one word, or words in double quotes")
-    return nodes, sum(sizes[at] - at - 1 for at, word in zip(heads, words) if word in ("*edges", "*arcs"))
+    rows = [line.split() for at, word in zip(heads, words) if word in ("*edges", "*arcs")
+            for line in lines[at + 1:sizes[at]]]
+    are_mixed = len({len(fields) > 2 for fields in rows}) > 1
+    for fields in rows:
+        if are_mixed and len(fields) > 2 and 1 <= (whole(fields[2]) or 0) <= nodes:
+            raise ValueError(f"a weight, or a third vertex: {' '.join(fields)}")
+        if not all(1 <= (whole(end) or 0) <= nodes for end in fields[:2]) or len(fields) > 3 and is_number(fields[3]):
+            raise ValueError(f"no edge of two vertices of 1 to {nodes}: {' '.join(fields)}")
+        refuse_zero(fields[2] if len(fields) > 2 else None, "*edges")
+    return nodes, len(rows)
 
 
 def counts_of_gexf(text: str) -> tuple[int, int]:
     if "<!ENTITY" in text or "<!DOCTYPE" in text:
         raise ValueError("entities of its own")
     root = ElementTree.fromstring(text.lstrip().encode(), ElementTree.XMLParser(encoding="utf-8"))
+    for element in root.iter():
+        if element.tag.endswith("edge"):
+            refuse_zero(element.get("weight"), "an edge")
     tags = [element.tag.rpartition("}")[2] for element in root.iter()]
     return tags.count("node"), tags.count("edge")
 

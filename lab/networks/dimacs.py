@@ -5,14 +5,15 @@ import re
 from lab.networks.listed import Listed, clean
 from lab.networks.network_text import (
     IDENTIFIERS, MAX_BARS, MAX_CHANNEL, SKIPPED, fields_of, name_of, place_of, shown, whole)
-from lab.networks.fields import is_number
+from lab.networks.fields import is_number, refuse_zero
 from lab.wrong import wrong_line
 
 BEGINS = re.compile(
     r"^[ \t]*(p[ \t]+[a-z]+[ \t]+[0-9]+|p[ \t]+[0-9]+[ \t]+[0-9]+|e[ \t]+[0-9]+[ \t]+[0-9]+)\b", re.M
 )
 
-# The words after `p` that the programs read, and those of texts that are no networks.
+# The words after `p` that the programs read, those of texts that are networks, too, and those of others.
+ALIKE = (None, "sp", "tw", "max", "min", "ds", "vc", "cep", "mat", "graph")
 WORDS, OTHERS = ("edge", "edges", "col"), ("cnf", "wcnf", "sat", "td", "htd", "fhtd")
 
 
@@ -44,8 +45,13 @@ def read(text: str, name: str) -> Listed:
             is_bare = ends == fields[:2]
             if len(ends) < 2 or None in map(whole, ends) or is_bare and head[0] in (None, *WORDS):
                 raise wrong_line(name, line, f"no edge: `{shown(raw.strip())}`")
-            if len(fields) > 4 - is_bare or not all(map(is_number, fields[3 - is_bare:])):
+            if len(fields) > 4 - 2 * is_bare or not all(map(is_number, fields[3 - is_bare:])):
                 raise wrong_line(name, line, f"more than an edge and a weight: `{shown(raw.strip())}`")
+            if fields[0] == "e" and whole((fields + [""] * 4)[3]) is not None:
+                raise wrong_line(name, line, f"a third number after `e`: is it a weight or a node? "
+                                             f"`{shown(raw.strip())}`; `a V W WEIGHT` has a weight")
+            if fields[0] == "a":
+                refuse_zero((fields + [None] * 4)[3], f"{name} line {line}")
             found.edges.append((line, str(whole(ends[0])), str(whole(ends[1]))))
     if found.nodes is None:
         found.left_out.append("there is no `p` line, so nodes without an edge aren't known")
@@ -69,7 +75,8 @@ def read_head(found, name, line, fields):
     if (word or "").lower() in OTHERS:
         raise wrong_line(name, line, f"`p {word}` begins a text of another kind than a network")
     if word not in WORDS:
-        found.notes.append(f"`{shown(' '.join(fields[:2]))}` is read like `p edge`")
+        said = found.notes if word in ALIKE else found.left_out
+        said.append(f"`{shown(' '.join(fields[:2]))}` is read like `p edge`")
     return word, whole(numbers[1])
 
 

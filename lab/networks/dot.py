@@ -2,6 +2,7 @@
 subgraph in braces at an end of an edge means all its nodes."""
 import re
 
+from lab.networks.fields import refuse_zero
 from lab.networks.listed import Listed
 from lab.networks.network_text import MAX_EDGES, shown
 from lab.wrong import Wrong, wrong_line
@@ -18,6 +19,7 @@ TOKEN = re.compile(
       | (?P<strange>[^\s{}\[\];,:="<]+|.)""", re.X | re.S
 )
 QUOTED = re.compile(r'[^"\\]+|\\.', re.S)
+COMPASS = {"n", "ne", "e", "se", "s", "sw", "w", "nw", "c", "_"}
 WORDS = {"node", "edge", "graph", "digraph", "subgraph", "strict"}
 # No file that a person or a program writes has as many braces in each other, or as many edges between two subgraphs.
 DEEPEST, MOST_EDGES = 100, 4 * MAX_EDGES
@@ -32,6 +34,8 @@ def tokens_of(text, name):
             continue
         found = TOKEN.match(text, at)
         kind, value, start, at = found.lastgroup, found.group(), line, found.end()
+        if kind == "number" and value[0] == "-" and re.match(r"\w", text[found.start() - 1:found.start()]):
+            raise wrong_line(name, line, f"`{shown(value)}` after a name without a blank: a name with - needs quotes")
         if kind == "block":
             at = end_of(text, "*/", at)
         elif kind == "quoted":
@@ -92,11 +96,13 @@ def begins(text):
 
 class Reader:
     """A place in the list of tokens, and what was read before it: `edges` as (line, name, name), `nodes` as
-    (line, name), once and again, and the attribute `name` of nodes that have one."""
+    (line, name), once and again, the attribute `name` of nodes that have one, whether some statement `has_lists`, and
+    how many `ports` there are that are no points of the compass."""
 
     def __init__(self, text, name):
         self.name, self.at, self.tokens, self.depth = name, 0, list(tokens_of(text, name)), 0
         self.edges, self.nodes, self.labels, self.is_directed = [], [], {}, False
+        self.has_lists, self.ports = False, 0
 
     def next(self):
         """The next token; beyond the last one it is refused."""
@@ -176,7 +182,11 @@ class Reader:
                 raise wrong_line(self.name, line, f"more than {MOST_EDGES:,} edges")
             self.edges += [(line, one, other) for one in left for other in right]
             names, left = names + right, right
-        said = self.attributes()
+        line, said = self.tokens[self.at - 1][0], self.attributes()
+        if not is_node and "invis" in said.get("style", ""):
+            raise wrong_line(self.name, line, "an edge that isn't drawn (style=invis): is it one? Leave it out if not")
+        if not is_node:
+            refuse_zero(said.get("weight"), f"{self.name} line {line}")
         if is_node and len(names) == 1 and "name" in said:
             self.labels[names[0]] = said["name"]
         return names
@@ -204,6 +214,7 @@ class Reader:
             return self.statements()
         names = [self.node()]
         while self.skip(","):
+            self.has_lists = True
             names.append(self.node())
         return names
 
@@ -211,7 +222,7 @@ class Reader:
         line, name = self.id()
         for _ in range(2):
             if self.skip(":"):
-                self.id()
+                self.ports += (self.id()[1] not in COMPASS)
         self.nodes.append((line, name))
         return name
 
@@ -222,7 +233,11 @@ def read(text: str, name: str) -> Listed:
     reader.graph()
     if not reader.nodes:
         raise Wrong(f"{name}: a graph in DOT without a node; if it is a list of pairs: --as pairs")
+    if reader.has_lists and not reader.edges:
+        raise Wrong(f"{name}: DOT without an edge, in which commas list nodes: an edge is `a -- b`")
     notes = ["directions aren't read"] if reader.is_directed else []
     found = Listed("DOT", reader.edges, reader.nodes, notes, is_exact=True)
+    if reader.ports:
+        found.left_out.append(f"ports of nodes aren't read: {reader.ports} (a name with a colon needs quotes)")
     found.names_by(reader.labels, "name")
     return found

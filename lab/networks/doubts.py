@@ -1,77 +1,30 @@
 """Rows that look like pairs of nodes and may be something else: each is refused, unless the caller is sure that they
-are pairs. A row here is (line, one end, other end), the other end empty if the line has one node."""
+are pairs."""
 import re
 from collections import Counter
 from functools import lru_cache
 
-from lab.networks.fields import is_number, shown, whole
-from lab.networks.headings import NOUN, ENDS, MISSING, ends_named
+from lab.networks.fields import is_number, shown, value_of, whole
+from lab.networks.headings import MISSING
 from lab.networks.lines import Rows, Table
+from lab.networks.name_doubts import Pairs
 from lab.wrong import Wrong, wrong_line
 
-Pairs = list[tuple[int, str, str]]
 PAIRS, NEIGHBOURS = "--as pairs (the first two fields are a pair)", "--as adjacency (a node and its neighbours)"
-# What separates the names of a list in one field, for sure and perhaps; and what begins a comment, alone or after a
-# name.
-MARK, LIST = re.compile("[,;|]"), re.compile(r"[\s,;|/&+]+")
-COMMENT, AFTER = re.compile(r"(^|.*\s)([#%!]+|//|--|/\*)\s"), re.compile(r"(.*?\S)\s+([#%!(]|//|--|/\*)")
-# What stands between a node and its neighbours where each has a line of its own.
-BETWEEN = (":", "->", "=>", "--", "=", "|", " - ")
 DATE = re.compile(r"\d{4}-\d\d-\d\d|\d\d?[./]\d\d?[./]\d{4}")
-LETTERED = re.compile(NOUN + "[ _.-]?[ab12]")
-# How spreadsheets and databases write that there is no value, and what the last line of an export may say.
-NO_VALUE = re.compile(r"#[A-Z/0]+[!?]|#n/a|#nv|<na>|\\n|nil", re.I)
+# What the last line of an export may say.
 SUMS = ("total", "sum", "summe", "gesamt", "count", "end", "eof", "row", "rows", "records", "zeilen")
+# Words of a column that says which pairs count, and titles of one whose zeros say that a pair doesn't.
+NOT = {"no", "n", "nein", "false", "f", "falsch", "off", "0"}
+FLAGS = NOT | {"yes", "y", "ja", "j", "true", "t", "wahr", "w", "on", "x", "1", "", "-"}
+WEIGHTS = re.compile(r"(weight|value|val|w|freq|frequency|gewicht|wert|adj|adjacent|edge|kante|link|there|present)s?")
+# Kinds of columns, as some programs write them below the heading.
+KINDS = {"string", "text", "str", "char", "varchar", "character", "integer", "int", "long", "float", "double", "number",
+         "numeric", "real", "id", "object", "object_", "bool", "boolean", "date", "time", "zahl"}
 
 
 def unsure(name: str, why: str, *choices: str) -> Wrong:
     return Wrong(f"{name}: {why}; say what it is: {', '.join(choices)}")
-
-
-def refuse_names(pairs: Pairs, separator: str | None, name: str) -> None:
-    """Refuses names that may be more than a name, or none; and rows that name two columns."""
-    lines: dict[str, int] = {}
-    for line, *ends in pairs:
-        for end in filter(None, ends):
-            lines.setdefault(end, line)
-    times = Counter(end for _, *ends in pairs for end in ends)
-    for end, line in lines.items():
-        refuse_name(end, line, lines, name)
-        if separator is None and times[end] == 1 and re.match(r"[#%][^\W\d]", end):
-            raise wrong_line(name, line, f"`{shown(end)}` may be a comment (if it is a name: --as pairs)")
-    for mark in BETWEEN:
-        have = [mark in other for _, _, other in pairs]
-        if all(mark in one for _, one, _ in pairs) and (not any(have) or all(have) and len(mark) == 2):
-            raise wrong_line(name, pairs[0][0], f"`{shown(pairs[0][1])}` may be a node and its neighbour, with "
-                             f"`{mark}` between them: write a line for each pair (if it is a name: --as pairs)")
-    refuse_headings(pairs, lines, name)
-
-
-def refuse_headings(pairs: Pairs, lines: dict[str, int], name: str) -> None:
-    """Refuses a row that names two columns, unless there are other nodes with such names."""
-    words = {*ENDS, *ENDS.values()}
-    titles = {end for end in lines if end.lower() in words or LETTERED.fullmatch(end.lower())}
-    line, *ends = next((pair for pair in pairs if titles.issuperset(pair[1:]) and ends_named(pair[1:])), (0,))
-    others = (end for end in lines if end not in ends)
-    if line and (words.intersection(map(str.lower, ends)) or not any(
-            re.fullmatch(NOUN + r"[ _.-]?\w{1,4}", end.lower()) for end in others)):
-        raise wrong_line(name, line, "the heading of a second table: write both into one with the same columns (if it "
-                         "is a pair: --as pairs)")
-
-
-def refuse_name(end: str, line: int, lines: dict[str, int], name: str) -> None:
-    """Refuses a name that may be several, or have a comment after it, beside the `lines` of all names; or none."""
-    parts = list(filter(None, LIST.split(end)))
-    has_known = "|" in end or bool(MARK.search(end)) and any(part.strip() in lines for part in MARK.split(end))
-    if len(parts) > 1 and (has_known or all(map(is_number, parts)) or all(part in lines for part in parts)):
-        raise wrong_line(name, line, f"`{shown(end)}` may name more than one node: write a line for each pair (if it "
-                         "is a name: --as pairs)")
-    after = AFTER.match(end)
-    if COMMENT.match(end) or after and after[1] in lines:
-        raise wrong_line(name, line, f"`{shown(end)}` may have a comment in it (if it is a name: --as pairs)")
-    if end.casefold() in MISSING or NO_VALUE.fullmatch(end):
-        raise wrong_line(name, line, f"`{shown(end)}` may mean that there is no name: leave the field empty then (if "
-                         "it is a name: --as pairs)")
 
 
 def refuse_columns(titles: list[str], body: Rows, columns: tuple[int, int], known: set[str], name: str) -> None:
@@ -85,6 +38,58 @@ def refuse_columns(titles: list[str], body: Rows, columns: tuple[int, int], know
         if at not in columns and below and (is_end or not title and at > max(columns)):
             raise Wrong(f"{name}: the column `{shown(title)}` has nodes, too, and isn't read: write a line for each "
                         "pair (if it has none: --as pairs)")
+
+
+def columns_of_words(titles: list[str], body: Rows, columns: tuple[int, int], name: str) -> list[str]:
+    """The titles of further columns whose words differ, so that they may say which lines count. One that says yes and
+    no, and weights of which some are zero, are refused: a line may mean that there is no edge."""
+    found, (one, other) = [], columns
+    rows = [row for row in body if len(row[1]) > other and row[1][one] != row[1][other]]
+    for at in sorted(set(range(max((len(fields) for _, fields in rows), default=0))) - set(columns)):
+        title = titles[at] if at < len(titles) else ""
+        said = [(line, fields[at] if at < len(fields) else "") for line, fields in rows]
+        words = {word.casefold() for _, word in said}
+        numbers = {value_of(word) for word in words - MISSING}
+        if None not in numbers:
+            line = next((line for line, word in said if value_of(word) == 0), None)
+            is_counted = len(numbers) == len(said) and title
+            if line and (WEIGHTS.fullmatch(title.casefold()) or not is_counted and (not title or numbers <= {0, 1})):
+                raise wrong_line(name, line, f"a zero in the {column_of(title, at)}: is it an edge? Leave out the "
+                                             "lines of pairs that are none (if each is one: --as pairs)")
+        elif words <= FLAGS and words & (NOT | {"", "-"}):
+            raise Wrong(f"{name}: the {column_of(title, at)} may say which lines are edges: leave out those that are "
+                        "none (if each is one: --as pairs)")
+        elif len(words) > 1:
+            found.append(title or f"the {at + 1}th")
+    return found
+
+
+def column_of(title: str, at: int) -> str:
+    return f"column `{shown(title)}`" if title else f"{at + 1}th column"
+
+
+def refuse_alone(pairs: Pairs, is_unknown: bool, is_closed: bool, name: str) -> None:
+    """Refuses a line of one node that may be a title, a count, or a cell that is merged with the one above: pairs come
+    after it, or its node has pairs, too; or it is 0, and the numbers count from 1. If they are `is_closed`, each line
+    is a node with neighbours that have lines."""
+    times = Counter(end for _, *ends in pairs for end in ends)
+    last = max((line for line, _, other in pairs if other), default=0)
+    for line, one, other in pairs:
+        if other or line == pairs[0][0] and not is_unknown:
+            continue
+        is_end = one == "0" and line == pairs[-1][0] and all(whole(end or "1") for row in pairs[:-1] for end in row[1:])
+        if is_end or line < last and times[one] == 1 or not is_closed and times[one] > 1:
+            raise wrong_line(name, line, f"`{shown(one)}` alone may be a title, a count, or merged with the line "
+                                         "above: write nodes without a neighbour after all pairs (if it is a node: "
+                                         "--as pairs, or --as adjacency)")
+
+
+def refuse_kinds(titles: list[str], body: Rows, name: str) -> None:
+    """Refuses a first row below a heading that has kinds of columns."""
+    line, fields = body[0]
+    if titles and all(re.sub(r"\W|\d", "", field.casefold()) in KINDS for field in fields[:2]):
+        raise wrong_line(name, line, f"`{shown(','.join(fields))}` may say the kinds of the columns (if it is a pair: "
+                                     "--as pairs)")
 
 
 def refuse_others(body: Rows, name: str, table: Table, is_unknown: bool, is_closed: bool) -> None:
@@ -167,7 +172,10 @@ def refuse_wide(fields: list[list[str]], name: str, table: Table, is_apart: bool
     if not (table.is_even if table.separator else all(len(row) == 3 for row in fields)):
         raise unsure(name, "not each line is a pair and a weight, and not each neighbour has a line", PAIRS, NEIGHBOURS)
     are_numbers = all(whole(field) is not None for row in fields for field in row)
-    ones = {row[0] for row in fields}
+    ones, others, thirds = ({row[at] for row in fields} for at in range(3))
+    if not ones & others and others & thirds and len(thirds) > 1:
+        raise unsure(name, "the second and the third fields have nodes in common, and the first two have none, so the "
+                     "first may be a time or a weight", PAIRS, NEIGHBOURS)
     if len(ones) == len(fields) and (are_numbers or is_apart and len(fields) > 2):
         raise unsure(name, "each line has another first field, so it may be a line's number, or a node before its "
                      "neighbours", PAIRS, NEIGHBOURS)

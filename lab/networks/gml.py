@@ -2,8 +2,8 @@
 import html
 import re
 
-from lab.networks.listed import Listed
-from lab.networks.network_text import shown
+from lab.networks.fields import refuse_zero, shown
+from lab.networks.listed import HIDDEN, Listed
 from lab.wrong import Wrong, wrong_line
 
 BEGINS = re.compile(
@@ -13,6 +13,10 @@ TOKEN = re.compile(r'(?P<space>\s+|#[^\n]*)|(?P<mark>[\[\]])|"(?P<string>[^"]*)"
 
 # What nodes are called: networkx and yEd write the first, igraph and Graphviz the second.
 LABELS = ("label", "name")
+
+
+class Quoted(str):
+    """A text that was in quotes."""
 
 
 def begins(text: str) -> bool:
@@ -30,7 +34,7 @@ def tokens_of(text: str):
         if found.lastgroup == "mark":
             yield line, found["mark"], None
         elif found.lastgroup == "string":
-            yield line, None, html.unescape(found["string"])
+            yield line, None, Quoted(html.unescape(found["string"]))
         elif found.lastgroup == "word":
             yield line, None, found["word"]
         line += found.group().count("\n")
@@ -90,10 +94,17 @@ def read(text: str, name: str) -> Listed:
             if None in ends:
                 raise wrong_line(name, line, "an edge without source or target")
             found.edges.append((line, *ends))
+            for weight in ("weight", "value"):
+                refuse_zero(value_of(entries, weight), f"{name} line {line}")
+            hidden = next((word for word in HIDDEN if value_of(entries, word) == "1"), None)
+            if hidden:
+                raise wrong_line(name, line, f"an edge that is {hidden}: leave it out if it is none")
     for line, *ends in found.edges:
         for end in ends:
             if end not in lines:
                 raise wrong_line(name, line, f"an edge names {shown(end)}, which is no node")
+            if isinstance(end, Quoted) and any(end in said.values() for said in labels.values()):
+                raise wrong_line(name, line, f"an edge names \"{shown(end)}\", which is a label, too: write ids")
     groups = {value_of(entries, "id") for _, key, entries in graphs[0]
               if key == "node" and value_of(entries, "isgroup") == "1"}
     groups -= {end for _, *ends in found.edges for end in ends}

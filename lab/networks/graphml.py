@@ -1,13 +1,13 @@
 """A network in GraphML, as networkx, yEd, Gephi and igraph write it."""
 from xml.etree import ElementTree
 
+from lab.networks.fields import refuse_zero, shown
 from lab.networks.listed import Listed
-from lab.networks.network_text import shown
 from lab.wrong import Wrong
 
 # The names of data that say where a node is: networkx and Gephi write them. y grows downwards there.
 ACROSS, DOWN = ("x",), ("y",)
-LABELS = ("label", "name")
+LABELS, WEIGHTS = ("label", "name"), ("weight", "value")
 
 
 def begins(text: str) -> bool:
@@ -80,6 +80,9 @@ def read_element(found: Listed, name: str, at: int, element: ElementTree.Element
         if not all(ends):
             raise Wrong(f"{name}: an edge has no source or no target")
         found.edges.append((at, *ends))
+        for data in element:
+            if words.get(data.get("key")) in WEIGHTS:
+                refuse_zero(data.text, name)
 
 
 def read_drawing(node: str, data: ElementTree.Element, said: dict) -> None:

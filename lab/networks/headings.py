@@ -142,9 +142,10 @@ def shows_numbers(first: list[str], body: list, name: str, line: int) -> bool:
 
 
 def may_be_heading(first: list[str], body: list) -> bool:
-    """Whether the words of the first row come in no other, though names of the others come again; or one of them is a
-    word that headings have."""
+    """Whether the words of the first row come in no other; or one of them is a word that headings have."""
     ends = [end for _, fields in body for end in fields[:2] if end]
-    if len(first) < 2 or any(map(is_number, first)) or set(first[:2]) & set(ends):
+    if len(first) < 2 or set(first[:2]) & set(ends):
         return False
-    return any(word in TITLES for word in folded(first[:2])) or len(body) > 1 and len(set(ends)) < len(ends)
+    if any(map(is_number, first)):
+        return first == [str(at) for at in range(len(first))] and bool(ends)
+    return any(word in TITLES for word in folded(first[:2])) or bool(ends)

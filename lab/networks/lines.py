@@ -23,6 +23,12 @@ DATA = re.compile(rf"[ \t,;]\{{\s*(?:{KEY}\s*:\s*{VALUE}\s*(?:,\s*{KEY}\s*:\s*{V
 QUOTED = {mark: re.compile(rf'{blanks}*(?:"((?:[^"]|"")*)" *|([^{mark}"\s][^{mark}]*)?)({mark}|$)')
           for mark, blanks in (("\t", " "), (";", r"[ \t]"), (",", r"[ \t]"), (" ", " "))}
 
+# Marks of a quotation that open a field and that close it, beside the double one of a keyboard.
+QUOTES = {"\u00ab": "\u00bb", "\u00bb": "\u00ab", "\u2039": "\u203a", "\u203a": "\u2039", "\u201c": "\u201d",
+          "\u201d": "\u201d\u201c", "\u201e": "\u201c\u201d", "\u2018": "\u2019", "\u2019": "\u2019\u2018",
+          "\u201a": "\u2018\u2019", "\u300c": "\u300d", "'": "'", "`": "`'", "\u00b4": "\u00b4"}
+OPENED = re.compile("(?:^|[\t,; ])[ \t]*[" + "".join(QUOTES) + "]")
+
 
 @dataclass
 class Line:
@@ -90,6 +96,8 @@ def table_of(text: str, name: str, is_headed: bool = False) -> Table:
     if any(line.data.strip("{ }") for line in kept):
         found.notes.append("data in braces, as weights are, aren't read")
     found.has_data = any(line.data for line in kept)
+    if OPENED.search(text):
+        found.notes.append("quotes around whole fields, as \u00ab \u00bb, aren't part of them")
     rows = [(line.number, fields_of(line, found.separator, name)) for line in kept]
     found.is_even = len({len(row) for _, row in rows}) < 2
     found.has_groups = any(line.data and len(parts_of(line, found.separator)) == 1 + line.is_apart for line in lines)
@@ -193,7 +201,8 @@ def heading_taken(kept: list[Line], doubtful: list[Line], separator: str | None)
 def fields_of(line: Line, separator: str | None, name: str) -> list[str]:
     """The fields of a line, without their quotes."""
     if '"' not in line.text:
-        return parts_of(line, separator) if separator else [part for part in re.split("[ \t]+", line.text) if part]
+        parts = parts_of(line, separator) if separator else [part for part in re.split("[ \t]+", line.text) if part]
+        return [unquoted(part, line, name) for part in parts] if OPENED.search(line.text) else parts
     text = line.text if separator else re.sub("[ \t]+", " ", line.text.strip())
     fields, at, mark = [], 0, None
     while mark != "":
@@ -201,9 +210,21 @@ def fields_of(line: Line, separator: str | None, name: str) -> list[str]:
         if not found:
             raise wrong_line(name, line.number, f"its quotes aren't in pairs around a field: `{shown(text.strip())}`")
         quoted, bare, mark = found.groups()
-        fields.append(quoted.replace('""', '"').strip() if quoted is not None else (bare or "").strip())
+        field = unquoted((bare or "").strip(), line, name) if quoted is None else quoted.replace('""', '"').strip()
+        fields.append(field)
         at = found.end()
     return fields
+
+
+def unquoted(field: str, line: Line, name: str) -> str:
+    """A field without the marks of a quotation around it, as people and text processors write them."""
+    closing = QUOTES.get(field[:1], "")
+    if not closing or re.match(r"['\u2019]\w{1,2}[ -]\w", field):
+        return field
+    inner = field[1:-1]
+    if len(field) < 3 or field[-1] not in closing or set(inner) & {field[0], field[-1]}:
+        raise wrong_line(name, line.number, f"its quotes aren't in pairs around a field: `{shown(line.text.strip())}`")
+    return inner.strip()
 
 
 def uneven(text: str, name: str) -> tuple[int, str] | None:

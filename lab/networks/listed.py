@@ -22,6 +22,17 @@ DECLARED = re.compile(rb"\s*<\?xml[^>]{0,200}?encoding\s*=\s*[\"']([A-Za-z][\w.-
 # Marks and letters that nobody sees, beside those that control a text: variants of a letter, and fillers.
 INVISIBLE = re.compile("[\u034f\u115f\u1160\u17b4\u17b5\u180b-\u180f\u3164\ufe00-\ufe0f\uffa0\U000e0100-\U000e01ef]")
 
+# How the note of an encoding ends that is a guess: --strict refuses it.
+GUESSED = ", since it is no UTF-8"
+# Letters of UTF-8 that were read as Windows-1252. And bytes that are no letters of western Windows but of DOS or of old
+# Macintoshes, beside a letter; and three letters of another alphabet, one after the other.
+SPOILT = re.compile("[\u00c2\u00c3\u00d0\u00d1][\u0080-\u00bf\u0152\u0153\u0160\u0161\u0178\u017d\u017e\u0192\u02c6"
+                    "\u02dc\u2013-\u2122]|\u00e2\u20ac")
+OTHER_LETTERS = re.compile(rb"(?i)[a-z][\x80-\x91\x93-\x95\x98-\x9f][a-z]|[a-z][\x80\x81\x83\x86-\x90\x95\x98-\x9f]|"
+                           rb"[\x80\x81\x83\x86-\x90\x95\x98-\x9f][a-z]|[\xc0-\xff]{3}")
+# What is said of an edge that is there and doesn't count.
+HIDDEN = ("hidden", "deleted", "removed", "disabled", "ignored")
+
 
 @dataclass
 class Listed:
@@ -101,6 +112,10 @@ def with_clean_names(found: Listed, name: str) -> None:
         count = "1 name has" if len(lost) == 1 else f"{len(lost):,} names have"
         found.left_out.append(f"{count} a letter that another program lost, first at line {lines[lost[0]]}: "
                               f"{shown(lost[0])}, so two names may have become one")
+    spoilt = next((raw for raw in lines if not raw.isascii() and SPOILT.search(raw)), None)
+    if spoilt:
+        raise wrong_line(name, lines[spoilt], f"`{shown(spoilt)}` was UTF-8, and another program took it for "
+                                              "Windows-1252: save the first text again")
     note_alike(found, sorted(set(cleaned.values()), key=lambda one: (one.casefold(), one)))
 
 
@@ -111,13 +126,14 @@ def twin_of(cleaned: dict[str, str]) -> str:
 
 
 def note_alike(found: Listed, names: list[str]) -> None:
-    """Notes names that a reader may take for one: they differ in capitals, in dashes or quotes, in kinds of letters
-    or in the zeros of a number alone."""
+    """Notes names that a reader may take for one: they differ in capitals, in dashes, blanks or quotes, in kinds of
+    letters or in the zeros of a number alone."""
     alike: dict[str, str] = {}
     for one in names:
         first = alike.setdefault(likeness(one), one)
         if first != one:
-            found.notes.append(f"{shown(first)} and {shown(one)} are two nodes: are they meant to be one?")
+            said = found.notes if found.is_exact else found.left_out
+            said.append(f"{shown(first)} and {shown(one)} are two nodes: are they meant to be one?")
             return
 
 
@@ -125,7 +141,9 @@ def likeness(name: str) -> str:
     """What names have in common that look alike."""
     if name.isascii() and re.fullmatch(r"[0-9]+(\.0*)?", name):
         return name.partition(".")[0].lstrip("0") or "0"
-    letters = name if name.isascii() else unicodedata.normalize("NFKC", name)
+    letters = name if name.isascii() else "".join(
+        letter for letter in unicodedata.normalize("NFKD", name) if not unicodedata.combining(letter))
+    letters = re.sub(r"(?<=[^\W\d_])[\s._\u2010-\u2015-]+(?=[^\W\d_])", "", letters)
     bare = re.sub("[\"'`\u00b4\u2018-\u201e\u00ab\u00bb]", "", letters)
     return re.sub(r"[\u2010-\u2015\u2212]", "-", bare or letters).casefold()
 
@@ -159,6 +177,7 @@ def decoded(data: bytes, name: str) -> tuple[str, list[str]]:
         text, encoding = as_declared(data, name)
         if text is None:
             refuse_both(data, name)
+            refuse_other_letters(data, name)
             text, encoding = of_windows(data)
         if encoding:
             notes.append(f"read as {encoding}")
@@ -201,9 +220,17 @@ def refuse_both(data: bytes, name: str) -> None:
             raise wrong_line(name, number, f"it is UTF-8, and other lines aren't: `{shown(line.decode().strip())}`")
 
 
+def refuse_other_letters(data: bytes, name: str) -> None:
+    """Refuses a text that isn't UTF-8 and has other letters than western Windows: its names would be others."""
+    found = OTHER_LETTERS.search(data)
+    if found:
+        raise wrong_line(name, 1 + data.count(b"\n", 0, found.start()), "it is neither UTF-8 nor western Windows, but "
+                         "perhaps of DOS, of a Macintosh or of another alphabet: save it as UTF-8")
+
+
 def of_windows(data: bytes) -> tuple[str, str]:
     """The text as western Windows has it, which is Latin-1 with more letters, or as Latin-1 if a byte is no letter."""
     try:
-        return data.decode("cp1252"), "Windows-1252, since it is no UTF-8"
+        return data.decode("cp1252"), f"Windows-1252{GUESSED}"
     except UnicodeDecodeError:
-        return data.decode("latin-1"), "Latin-1, since it is no UTF-8"
+        return data.decode("latin-1"), f"Latin-1{GUESSED}"

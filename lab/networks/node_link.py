@@ -1,8 +1,8 @@
 """A network in JSON as nodes and links: networkx writes it (`node_link_data`), and D3 reads it."""
 import json
 
-from lab.networks.listed import Listed
-from lab.networks.network_text import shown
+from lab.networks.fields import refuse_zero, shown
+from lab.networks.listed import HIDDEN, Listed
 from lab.networks.unread import unread
 from lab.wrong import Wrong
 
@@ -57,6 +57,9 @@ def read(text: str, name: str) -> Listed:
         if known is None and graph and all(isinstance(beside, list) for beside in graph.values()):
             known = OF_LISTS
         raise unread(name, "JSON, and no object with lists `nodes` and `links`", known)
+    other = next((key for key, value in graph.items() if value is not links and are_links(value)), None)
+    if other:
+        raise Wrong(f"{name}: a second list of links, `{shown(other)}`: write all into one")
     if any(isinstance(inner, dict) and isinstance(inner.get("nodes"), list) for inner in graph.values()):
         raise Wrong(f"{name}: JSON with a graph inside another one: write the inner one alone")
     found, labels = Listed("JSON of nodes and links", is_exact=True), {}
@@ -71,13 +74,21 @@ def read(text: str, name: str) -> Listed:
     names = set(known)
     for at, link in enumerate(links, 1 + len(nodes)):
         found.edges.append((at, *ends_of(name, link, names)))
+    refuse_other_ends(found, ids, links, labels, "multigraph" in graph, name)
     found.names_by(labels, "label or name")
-    lists = [key for node in nodes for key, value in node.items() if isinstance(value, list) and value]
-    if lists and not links:
-        found.left_out.append(f"there is no link, and lists of nodes aren't read: {shown(lists[0])}")
+    lists = [key for node in nodes for key, value in node.items() if isinstance(value, list) and value and (
+        not links or names.issuperset(word_of(one) for one in value))]
+    if lists:
+        found.left_out.append(f"lists of nodes aren't read: {shown(lists[0])}")
     if graph.get("directed") is True:
         found.notes.append("directions aren't read")
     return found
+
+
+def are_links(value) -> bool:
+    """Whether a value is a list of objects with two ends each."""
+    return isinstance(value, list) and value != [] and all(
+        isinstance(one, dict) and any(set(words) <= set(one) for words in ENDS) for one in value)
 
 
 def id_of(name: str, at: int, node):
@@ -94,6 +105,35 @@ def read_node(found: Listed, node: dict, one: str, labels: dict) -> None:
     place = node.get("x"), node.get("y")
     if all(isinstance(number, (int, float)) for number in place):
         found.places[one] = place
+
+
+def refuse_other_ends(found: Listed, ids: list, links: list, labels: dict, by_networkx: bool, name: str) -> None:
+    """Refuses links that may name nodes in another way: by place where there are ids, by place from 1, or by label; and
+    a link whose weight is zero, which may mean that there is none. networkx names them by `id`."""
+    used = {end for _, *ends in found.edges for end in ends}
+    if used and ids == [None] * len(ids) and "0" not in used:
+        raise Wrong(f"{name}: no link names 0, the first node of the list: do they count from 1? Give each node an "
+                    "`id`")
+    if used and not by_networkx and ids == list(range(1, len(ids) + 1)) and str(len(ids)) not in used:
+        raise Wrong(f"{name}: the links may name nodes by their `id` or by their places from 0, since none names "
+                    f"{len(ids)}: give the nodes other ids, as names")
+    texts = {one for one in ids if isinstance(one, str)}
+    whole_ends = {end for link in links for words in ENDS for word in words if type(end := link.get(word)) is int}
+    if whole_ends and len(texts) == len(ids) and all(0 <= end < len(ids) for end in whole_ends) and any(
+            ids[end] != str(end) for end in whole_ends):
+        raise Wrong(f"{name}: the links have numbers, and the ids are texts, so they may name places from 0: write ids")
+    for key in {key for link in links for key in link}:
+        flags = {link.get(key) for link in links if type(link.get(key)) in (bool, type(None))}
+        if True in flags and (False in flags or key in HIDDEN):
+            raise Wrong(f"{name}: the key `{shown(key)}` may say which links are edges: leave out those that are none")
+    for link in links:
+        ends = [end for words in ENDS for word in words if isinstance(end := link.get(word), str)]
+        by_label = next((end for end in ends if end not in texts and end in labels.values()), None)
+        if by_label:
+            raise Wrong(f"{name}: a link names {shown(by_label)}, which is a label and no `id`: write ids")
+        if link.get("source") != link.get("target"):
+            for key in ("weight", "value"):
+                refuse_zero(link.get(key), f"{name}: `{shown(json.dumps(link))}`")
 
 
 def ends_of(name: str, link, known: set) -> list[str]:

@@ -1,7 +1,7 @@
 """`forestlab network read`: a network in one of the forms, as a text that the programs read, and what was guessed and
 left out."""
 from lab.networks.forms import listed
-from lab.networks.listed import decoded, twin_of, with_clean_names
+from lab.networks.listed import GUESSED, decoded, twin_of, with_clean_names
 from lab.networks.network_text import MAX_DEGREE, MAX_EDGES, MAX_NODES, read_network, shown, stem, two_alike, whole
 from lab.networks.texts import Made, text_of
 from lab.wrong import Wrong
@@ -60,7 +60,9 @@ def listed_of(data, name, form=None, heading=None):
     """What a text lists."""
     text, mended = decoded(data, name)
     found = listed(text, name, form, heading)
-    found.notes[:0] = mended
+    guessed = [what for what in mended if what.endswith(GUESSED)]
+    found.notes[:0] = [what for what in mended if what not in guessed]
+    found.left_out[:0] = guessed
     with_clean_names(found, name)
     return found
 

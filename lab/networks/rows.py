@@ -1,10 +1,12 @@
 """A network as rows of fields: pairs, and adjacency in one line or in several. What a text is, is guessed only if it
 can be one of them alone."""
-from lab.networks.doubts import NEIGHBOURS, PAIRS, refuse_columns, refuse_names, refuse_others, unsure
+from lab.networks.doubts import (
+    NEIGHBOURS, PAIRS, columns_of_words, refuse_alone, refuse_columns, refuse_kinds, refuse_others, unsure)
 from lab.networks.fields import is_number
 from lab.networks.headings import heading_of
 from lab.networks.lines import Rows, Table, table_of, uneven
 from lab.networks.listed import Listed, clean
+from lab.networks.name_doubts import refuse_names
 from lab.networks.network_text import shown, whole
 from lab.networks.unread import refuse_rows
 from lab.wrong import Wrong, wrong_line
@@ -109,16 +111,28 @@ def read_pairs(table: Table, name: str, heading: bool | None, is_sure: bool) -> 
         raise Wrong(f"{name}: there is no line after the heading")
     if not is_sure and head.columns is None:
         refuse_others(head.body, name, table, heading is None, is_closed(head.body) and are_mutual(head.body))
+    if not is_sure:
+        refuse_kinds(titles, head.body, name)
     if head.doubt:
         raise head.doubt
     columns = head.columns or (0, 1)
     pairs = [(line, *ends_of(line, fields, columns, len(titles) if head.columns else None, name))
              for line, fields in head.body]
     if not is_sure:
+        refuse_alone(pairs, heading is None, is_closed(head.body), name)
         refuse_names(pairs, table.separator, name)
         refuse_columns(titles, head.body, columns, {end for _, *ends in pairs for end in ends}, name)
+        words = columns_of_words(titles, head.body, columns, name)
+        if words:
+            found.left_out.append("a further column of words isn't read, which may say what lines count: "
+                                  f"{shown(', '.join(words))}")
     found.edges = [pair for pair in pairs if pair[2]]
     found.alone = [pair[:2] for pair in pairs if not pair[2]]
+    beyond = next((row for row in head.body if not is_sure and len(row[1]) > max(columns) and not row[1][columns[1]]
+                   and any(word for at, word in enumerate(row[1]) if at not in columns)), None)
+    if beyond and head.columns is None:
+        raise wrong_line(name, beyond[0], f"one node and more fields, as sums have: `{shown(' '.join(beyond[1]))}` (if "
+                                          "it is a node: --as pairs)")
     if any(any(fields[2:]) for _, fields in head.body):
         others = [word for at, word in enumerate(titles) if at not in columns and word]
         found.notes.append("further columns, as weights are, aren't read" + (f": {shown(', '.join(others))}"

@@ -3,6 +3,7 @@ read it as another network."""
 import re
 
 from lab.networks import metis
+from lab.networks.counts import counts_neighbours, has_counts, have_counts, is_by_line
 from lab.networks.fields import is_number, shown, value_of, whole
 from lab.networks.lines import DATA, without_inner_commas
 from lab.wrong import Wrong, wrong_line
@@ -77,6 +78,9 @@ def refuse_rows(rows: list[tuple[int, list[str]]], separator: str | None, text: 
     if is_grouped(text, {field for row in fields for field in row}):
         raise unread(name, "LGL, nodes after `#` with their neighbours below", None, "; if these are pairs of nodes: "
                      "--as pairs")
+    if metis.is_like(text):
+        raise Wrong(f"{name}: it looks like METIS, which is read if that is said: --as metis; if each line is a node "
+                    "and its neighbours: --as adjacency")
     if has_counts(fields):
         first = shown(" ".join(fields[0]))
         raise Wrong(f"{name}: the first line (`{first}`) may be how many nodes and edges there are: remove it then; if "
@@ -84,9 +88,12 @@ def refuse_rows(rows: list[tuple[int, list[str]]], separator: str | None, text: 
     if is_matrix(fields) or is_labelled(fields) or is_headed(fields) or is_triangle(fields):
         reader = "G = nx.from_numpy_array(numpy.loadtxt(FILE))"
         raise unread(name, "a matrix", reader, "; if these are pairs of nodes: --as pairs")
-    if metis.is_like(text):
-        raise Wrong(f"{name}: it looks like METIS, which is read if that is said: --as metis; if each line is a node "
-                    "and its neighbours: --as adjacency")
+    if counts_neighbours(fields):
+        raise Wrong(f"{name}: the second field of each line may count the fields after it: leave it out, and say --as "
+                    "adjacency (a node and its neighbours)")
+    if is_by_line(rows):
+        raise Wrong(f"{name}: each line may have the neighbours of the node that its number is: write a node in front "
+                    "of its neighbours, and say --as adjacency; if these are pairs: --as pairs")
     if all(row[1:] == ["0"] for row in fields):
         raise Wrong(f"{name}: these may be pairs with 0, or nodes with no neighbours: say --as pairs or --as multiline")
     if all(len(row) < 2 or not any(row[1:]) for row in fields):
@@ -115,6 +122,8 @@ def is_matrix(fields: list[list[str]]) -> bool:
     a diagonal of zeros; three of three, if weights alone have a point, are pairs with weights, and three with the same
     three nodes are a triangle."""
     side = len(fields)
+    if side > 1 and all(len(row) > 1 and all(field in ("0", "1") for field in row) for row in fields):
+        return True
     if side < 2 or any(len(row) != side or not all(map(is_number, row)) for row in fields):
         return False
     numbers = [[value_of(field) for field in row] for row in fields]
@@ -165,22 +174,6 @@ def is_triangle(fields: list[list[str]]) -> bool:
     return are_halves and all(is_number(field) for row in fields for field in row if field)
 
 
-def have_counts(fields: list[list[str]]) -> bool:
-    """Whether each row of two has a number, and is followed by as many rows of one; some by one or more."""
-    left, most = 0, 0
-    for row in fields:
-        if left:
-            left -= 1
-            if len(row) != 1:
-                return False
-        else:
-            left = whole(row[1]) if len(row) == 2 else None
-            if left is None:
-                return False
-            most = max(most, left)
-    return left == 0 and most > 0
-
-
 def is_broken_data(field: str) -> bool:
     """Whether a field has braces as no name has them."""
     return (field.startswith("{") or field.endswith("{}") or field.count("{") != field.count("}")
@@ -191,33 +184,6 @@ def are_cut(row: list[str]) -> bool:
     """Whether an apostrophe opens in one field and closes in a later one."""
     opened = [at for at, field in enumerate(row) if field.startswith("'") and field.count("'") == 1]
     return bool(opened) and any(field.endswith("'") and len(field) > 1 for field in row[opened[0] + 1:])
-
-
-def has_counts(fields: list[list[str]]) -> bool:
-    """Whether the first row, or the first two, may count the nodes and the edges of the pairs below, which have numbers
-    alone; and would change the network if they were a pair or nodes."""
-    single = next((at for at, row in enumerate(fields) if len(row) != 1), len(fields))
-    first, body = [whole(field) for field in fields[0]], fields[max(single, 1):]
-    ends = [whole(field) for row in body for field in row[:2]]
-    if not body or None in ends or None in first:
-        return False
-    # METIS that counts each edge twice.
-    if len(body) > 2 and len(body) <= first[0] and max(ends) <= first[0] and first[1:] == [sum(map(len, body))]:
-        return True
-    if any(len(row) < 2 for row in body):
-        return False
-    if single:
-        counts = [whole(row[0]) for row in fields[:single]]
-        return single <= 2 and None not in counts and any(
-            count not in ends and (count == len(body) or count > max(ends)) for count in counts
-        )
-    if len(first) == 3:
-        return first[0] == first[1] and (first[2] == len(body) or max(ends) <= first[0])
-    is_count = first[1:] == [len(body)] and max(ends) <= first[0]
-    if len(body) > 2 and len(first) == 2:
-        least = min(max(ends), len(set(ends)))
-        is_count = first[1] == len(body) and least <= first[0] or first == [len(body), least]
-    return is_count and (len(body[0]) == 3 or frozenset(fields[0]) not in {frozenset(row[:2]) for row in body})
 
 
 def is_graph6(fields: list[list[str]]) -> bool:

@@ -66,7 +66,7 @@ class Sites(Case):
         said = (f"6 lines left out, with a site that isn't in {sites}: Kölln (line 1, is it Köln?), "
                 "hof am wald (line 3, is it Hof am Wald?), Prag (line 4), Koln (line 5, is it Köln?), and 2 more\n")
         self.note("misspelt sites", (status, edges_of(wrote)) == (0, {(2, 3)}) and said.encode() in told, told)
-        self.refused("misspelt sites, if that is asked for", "asked for: 6 lines left out", pairs, "--sites", sites,
+        self.refused("misspelt sites, if that is asked for", "6 lines left out", pairs, "--sites", sites,
                      "--strict")
         self.refused("sites of another table", "none of its names is in the pairs",
                      self.file("other.csv", "A,B\nB,C\n"), "--sites", sites)

@@ -1,0 +1,181 @@
+"""Names in rows that may be more than a name, or none: each is refused, unless the caller is sure that the rows are
+pairs. What names of places and machines have is plain; a mark that stands for something elsewhere, as an arrow, a
+bullet or a sign of a footnote, isn't. A pair here is (line, one end, other end), the other end empty if the line has
+one node."""
+import re
+import unicodedata
+from collections import Counter
+
+from lab.networks.fields import is_number, shown, whole
+from lab.networks.headings import ENDS, MISSING, NOUN, ends_named
+from lab.wrong import Wrong, wrong_line
+
+Pairs = list[tuple[int, str, str]]
+IF_NAME = " (if it is a name: --as pairs)"
+# Names of which nobody can doubt, and those that have more marks, with `a` in place of each letter and digit.
+BARE = re.compile(r"[^\W_](?:[\w .-]*[^\W_])?")
+PLAIN = re.compile(r"([#%]?a|['\u2019]a{1,2}[ -])([a _.\-\u2010-\u2014/&'\u2019+:@#,;()\[\]{}\"]*[a.)\]}\"])?")
+TWICE = re.compile(r"--|\.\.|['&+,;]{2}|(?<!:)//|^\d+\. |^\w{1,3}\) |&#?\w+;|\+\w{3,}-")
+# What separates the names of a list in one field; what begins a comment, alone or after a name.
+LIST, WORDS = re.compile(r"[\s,;|/&+]+"), re.compile(r"\s*([,;|/&+]|\b(?:and|und|or|oder|et)\b)\s*")
+COMMENT, AFTER = re.compile(r"(^|.*\s)([#%!]+|//|--|/\*)\s"), re.compile(r"(.*?\S)\s*([#%!(\[]|//|--|/\*)")
+# What stands between a node and its neighbours where each has a line of its own, and between the ends of one pair.
+BETWEEN, BRACKETS = (":", " - ", "@", "/", "&", "+", "#", "%", ";", ","), ("(", "[", "{")
+JOINED = re.compile(r"([^\s:/\u2010-\u2015-][^:/\u2010-\u2015-]*?)\s?[:/\u2010-\u2015-]\s?([^\s:/\u2010-\u2015-]+)|"
+                    r"(\S+) (\S+)")
+# A number of the line in front, and a measure after a name, as weights with their unit are.
+IN_ORDER = re.compile(r"\d+[.:)\s-]+\S.*")
+MEASURE = re.compile(r".*\S(\s+\d[\d.,]*\s?[^\W\d]{1,3}|\s*[:@(\[]\s*\d[\d.,]*\s?[^\W\d]{0,3}[)\]]?)")
+LETTERED = re.compile(NOUN + "[ _.-]?[ab12]")
+# How spreadsheets and databases write that there is no value, and people that it is the one above.
+NO_VALUE = re.compile(r"#[A-Z/0]+[!?]|#n/a|#nv|<na>|\\n", re.I)
+NOTHING = MISSING | {"nil", "dto", "dto.", "do.", "ditto", "s.o.", "s. o.", "\u3003", "id."}
+
+
+def refuse_names(pairs: Pairs, separator: str | None, name: str) -> None:
+    """Refuses names that may be more than a name, or none; and rows that name two columns."""
+    lines: dict[str, int] = {}
+    for line, *ends in pairs:
+        for end in filter(None, ends):
+            lines.setdefault(end, line)
+    times = Counter(end for _, *ends in pairs for end in ends)
+    ones, others = {one for _, one, _ in pairs}, {other for _, _, other in pairs} - {""}
+    usual = marks_of(ones) & marks_of(others)
+    for end, line in lines.items():
+        is_bare = BARE.fullmatch(end) and end.isascii() and " " not in end and not TWICE.search(end)
+        if not is_bare or is_number(end) or end.casefold() in NOTHING:
+            refuse_name(end, line, lines, usual, name)
+        if separator is None and times[end] == 1 and re.match(r"[#%][^\W\d]", end):
+            raise wrong_line(name, line, f"`{shown(end)}` may be a comment{IF_NAME}")
+    refuse_twins(lines, name)
+    if others:
+        refuse_marks(ones, others, pairs[0], name)
+    if separator is None:
+        refuse_strays(pairs, times, name)
+    refuse_headings(pairs, lines, name)
+
+
+def marks_of(names: set[str]) -> set[str]:
+    """What separates the names of a list, and points and brackets at the end, if a name has it."""
+    return {mark for name in names if not BARE.fullmatch(name) or " " in name
+            for mark in (*WORDS.split(name)[1::2], name[-1])}
+
+
+def refuse_name(end: str, line: int, lines: dict[str, int], usual: set[str], name: str) -> None:
+    """Refuses a name that may be several, or have a comment after it, beside the `lines` of all names; or none. Marks
+    that first ends and second ones have are `usual` in names."""
+    parts = list(filter(None, LIST.split(end)))
+    marks, of_list = WORDS.split(end)[1::2], [part for part in WORDS.split(end)[::2] if part]
+    is_list = len(of_list) > 1 and (not usual.issuperset(marks) or any(part in lines for part in of_list))
+    if "|" in end or is_list or len(parts) > 1 and (all(map(is_number, parts)) or all(part in lines for part in parts)):
+        raise wrong_line(name, line, f"`{shown(end)}` may name more than one node: write a line for each pair{IF_NAME}")
+    after = AFTER.match(end)
+    if COMMENT.match(end) or after and after[1] in lines:
+        raise wrong_line(name, line, f"`{shown(end)}` may have a comment in it{IF_NAME}")
+    if end.casefold() in NOTHING or NO_VALUE.fullmatch(end):
+        raise wrong_line(name, line, f"`{shown(end)}` may mean that there is no name: leave the field empty then"
+                                     f"{IF_NAME}")
+    is_code = re.fullmatch(r"\d+[eE]\d+", end) and not all(map(is_number, lines))
+    if is_number(end) and whole(end) is None and not is_code:
+        raise wrong_line(name, line, f"`{shown(end)}` is a number with a sign or a fraction, and may be no node"
+                                     f"{IF_NAME}")
+    if not is_plain(end) or end[-1] not in usual and re.search(r"\.$|[(\[]\d+[)\]]$", end):
+        raise wrong_line(name, line, f"`{shown(end)}` may be more than a name, by a mark in it{IF_NAME}")
+
+
+def is_letter(letter: str) -> bool:
+    """Whether it is a letter, a part of one, or a digit in a line with others."""
+    kind = unicodedata.category(letter)
+    return kind[0] in "LMN" and kind != "No"
+
+
+def is_plain(end: str) -> bool:
+    """Whether a name begins with a letter, a digit or one of # and %, ends with a letter, a digit, a point or the
+    bracket that it opened, and has only marks inside that names have."""
+    bones = "".join("a" if is_letter(letter) else letter for letter in end)
+    are_closed = all(end.count(one) == end.count(other) for one, other in ("()", "[]", "{}"))
+    are_closed = are_closed and end.count('"') % 2 == 0
+    return PLAIN.fullmatch(bones) is not None and are_closed and not TWICE.search(end)
+
+
+def refuse_twins(lines: dict[str, int], name: str) -> None:
+    """Refuses two names that differ in marks at their ends, or in zeros before a number, alone."""
+    seen: dict[str, str] = {}
+    for end, line in lines.items():
+        core = end.lstrip("0") or "0" if end.isdecimal() else re.sub(r"^\W+|[\W_]+$", "", end)
+        if seen.setdefault(core, end) != end and core:
+            raise wrong_line(name, line, f"`{shown(end)}` may be `{shown(seen[core])}` with a mark{IF_NAME}")
+
+
+def refuse_marks(ones: set[str], others: set[str], first: tuple[int, str, str], name: str) -> None:
+    """Refuses a column whose names all have a mark, if no name of the other column has it."""
+    for at, (names, against) in enumerate(((ones, others), (others, ones))):
+        if has_more(names, against):
+            raise wrong_line(name, first[0], f"`{shown(first[at + 1])}` may be more than a name, since all names of "
+                                             "its column have such a mark or number, and none of the other: write a "
+                                             f"line for each pair{IF_NAME}")
+    if are_pairs([JOINED.fullmatch(one) for one in ones | others]):
+        raise wrong_line(name, first[0], f"`{shown(first[1])}` may be a pair: write a line for each pair, with a comma "
+                                         f"between its names{IF_NAME}")
+
+
+def has_more(names: set[str], against: set[str]) -> bool:
+    """Whether all names have the same mark inside or at the end, a number in front, or a measure or a number after
+    them, and none of the others has."""
+    marks = BETWEEN + (BRACKETS if len(names) > 2 else ())
+    if any(all(mark in one[1:] for one in names) and not any(mark in one for one in against) for mark in marks):
+        return True
+    for kind in (IN_ORDER, MEASURE):
+        if all(map(kind.fullmatch, names)) and not any(map(kind.fullmatch, against)):
+            return True
+    last = next(iter(names))[-1]
+    if not is_letter(last) and last not in ")]}" and all(one[-1] == last for one in names):
+        return not any(one[-1] == last for one in against)
+    parts = [re.fullmatch(r"(.*\S)\s\d+", one) for one in names]
+    return all(parts) and any(found[1] in against for found in parts)
+
+
+def are_pairs(halves: list) -> bool:
+    """Whether names, each of which is two with a mark between them, may be pairs: one of the two comes before the mark
+    and after another, or both are always numbers."""
+    if not all(halves):
+        return False
+    pairs = {(found[1] or found[3], found[2] or found[4]) for found in halves}
+    firsts, seconds = ({pair[at] for pair in pairs if pair[0] != pair[1]} for at in (0, 1))
+    if not all(part.isdecimal() for part in firsts | seconds):
+        return bool(firsts & seconds)
+    return bool(firsts & seconds) or 1 in (len(firsts), len(seconds)) and len(pairs) > 1 or not any(
+        "-" in found[0] for found in halves)
+
+
+def refuse_strays(pairs: Pairs, times: Counter, name: str) -> None:
+    """Refuses a pair between blanks by itself with a name that looks like no other, as words do among names with
+    digits: it may be a title or a greeting."""
+    apart = [pair for pair in pairs if all(times[end] == 1 for end in pair[1:] if end)]
+    alone = {end for _, *ends in apart for end in ends}
+    kinds = {look_of(end) for end in times if end and end not in alone}
+    for line, *ends in apart if len(apart) < len(pairs) else ():
+        if not kinds.issuperset(map(look_of, filter(None, ends))):
+            raise wrong_line(name, line, f"`{shown(' '.join(ends))}` may be no pair of nodes, beside the other lines "
+                                         "(if it is one: --as pairs)")
+
+
+def look_of(end: str) -> tuple[bool, bool, bool]:
+    """How a name looks: whether it begins with a capital, has digits, and has anything else."""
+    digits = sum(map(str.isdecimal, end))
+    return end[0].isupper(), digits > 0, digits < len(end)
+
+
+def refuse_headings(pairs: Pairs, lines: dict[str, int], name: str) -> None:
+    """Refuses a row that names two columns, unless there are other nodes with such names."""
+    words = {*ENDS, *ENDS.values()}
+    if len(pairs) > 1 and all(one.lower() in words for _, one, _ in pairs):
+        raise wrong_line(name, pairs[0][0], f"`{shown(pairs[0][1])}` names a column: write a line for each pair"
+                                            f"{IF_NAME}")
+    titles = {end for end in lines if end.lower() in words or LETTERED.fullmatch(end.lower())}
+    line, *ends = next((pair for pair in pairs if titles.issuperset(pair[1:]) and ends_named(pair[1:])), (0,))
+    others = (end for end in lines if end not in ends)
+    if line and (words.intersection(map(str.lower, ends)) or not any(
+            re.fullmatch(NOUN + r"[ _.-]?\w{1,4}", end.lower()) for end in others)):
+        raise wrong_line(name, line, "the heading of a second table: write both into one with the same columns (if it "
+                         "is a pair: --as pairs)")

@@ -1,0 +1,145 @@
+"""More texts that look nearly like a form that `network read` takes: names with marks, counts, lists in fields, columns
+that say which lines count, and nodes that are named in two ways. Each is read as the network that it means, or refused,
+or what is left out is counted."""
+import json
+
+from tests.cases import Case
+from tests.programs.foreign_texts import as_csv, as_dot, as_gml, as_graphml, as_json
+from tests.programs.near_texts import (
+    BLANKS, CELLS, GAPS, NUMBERS, ONES, TOWNS, WORDS, ZEROS, found_in, judge, lines, rows_of)
+
+TEXTS, SEED = 20, 20261201
+ALL, PLAIN = WORDS + NUMBERS, (TOWNS, CELLS, *NUMBERS)
+
+
+def each(form):
+    """A writer of a line for each pair: a and b are its ends, i is its number, and w a weight."""
+    return lambda nodes, pairs, source: "".join(
+        form.format(a=a, b=b, i=i, w=source.randint(1, 9)) + "\n" for i, (a, b) in enumerate(pairs, 1))
+
+
+def two(between, inside):
+    """A writer of two pairs a line."""
+    return lambda nodes, pairs, source: "\n".join(
+        between.join(inside.join(pair) for pair in pairs[at:at + 2]) for at in range(0, len(pairs), 2)) + "\n"
+
+
+def after_counts(form, mark):
+    """A writer of pairs after counts: n and m are the numbers of nodes and pairs, and x is the greatest number."""
+    return lambda nodes, pairs, source: form.format(
+        n=len(nodes), m=len(pairs), m2=2 * len(pairs), x=max(map(int, nodes))
+    ).replace(" ", mark) + lines(pairs, mark)
+
+
+def beside_others(word, other, form="{},{},{}", heading=""):
+    """A writer of all pairs, those of the network with a word and the others with another."""
+    def text(nodes, pairs, source):
+        there = set(map(frozenset, pairs))
+        return heading + "".join(form.format(a, b, word if {a, b} in there else other) + "\n"
+                                 for at, a in enumerate(nodes) for b in nodes[at + 1:])
+    return text
+
+
+def of_all(writer, old, new):
+    """A writer of all pairs, each of which says whether it is one of the network's."""
+    def text(nodes, pairs, source):
+        all_pairs = [(a, b) for at, a in enumerate(nodes) for b in nodes[at + 1:]]
+        there, parts = set(map(frozenset, pairs)), writer(nodes, all_pairs).split(old)
+        signs = [old if set(pair) in there else new for pair in all_pairs]
+        return parts[0] + "".join(sign + part for sign, part in zip(signs, parts[1:]))
+    return text
+
+
+def queries(nodes, pairs, source):
+    return lines(pairs, " ") + f"2\n{nodes[0]} {nodes[1]}\n{nodes[1]} {nodes[2]}\n"
+
+
+def merged(nodes, pairs, source):
+    """Pairs in the order of their second ends, each of which is written once, but for the last two."""
+    rows = sorted(pairs, key=lambda pair: pair[1])
+    ends = [b if not at or rows[at - 1][1] != b or at == len(rows) - 1 else "" for at, (_, b) in enumerate(rows)]
+    return lines([(a, end) for (a, _), end in zip(rows, ends)], ",")
+
+
+NEAR = (
+    ("lists with a word", ALL, lambda nodes, pairs, source: "".join(
+        f"{node},{' und '.join(ones)}\n" for node, ones in rows_of(nodes, pairs, source).items())),
+    *((f"two pairs a line {between!r} {inside!r}", PLAIN, two(between, inside)) for between, inside in (
+        (" ", "-"), (", ", ":"), (" ", "="), ("\t", "/"), (";", "\u2013"), (" ", "->"))),
+    *((f"counts {form!r} {mark!r}", NUMBERS, after_counts(form, mark)) for mark in " ," for form in (
+        "{m} {n}\n", "{n} {m2}\n", "{m} {x}\n")),
+    *((f"counts {form!r}", NUMBERS, after_counts(form, " ")) for form in ("1\n{n} {m}\n", "{n}\n0\n")),
+    ("queries after the pairs", NUMBERS, queries),
+    *((f"an end {end!r}", (ONES, GAPS), lambda nodes, pairs, source, end=end: lines(pairs, " ") + end)
+      for end in ("-1\n", "0\n")),
+    *((f"a mark {form!r}", ALL, each(form)) for form in (
+        "- {a},{b}", "* {a},{b}", "\u2022 {a},{b}", "1. {a},{b}", "+{a},{b}", ">{a},{b}", "@{a},{b}", "{a},{b}*",
+        "{a},{b}.", "{a},{b}\u00b0", "{a},{b}^1", "{a},{b}\\", "**{a}**,**{b}**", '="{a}",="{b}"', "{a},{b} {w} km",
+        "{a},{b}@{w}", "{a},{b}={w}")),
+    *((f"numbers {form!r}", NUMBERS, each(form)) for form in ("{a}.0,{b}.0", "+{a} +{b}", "'{a},'{b}")),
+    ("a footnote", (TOWNS, CELLS), lambda nodes, pairs, source: as_csv(
+        [[end + source.choice(("", "", "*", "'", "?")) for end in pair] for pair in pairs + pairs[::-1]])),
+    *((f"titles {titles!r}", (TOWNS, CELLS), lambda nodes, pairs, source, titles=titles: titles[0] + lines(
+        pairs[:1], " ") + titles[1] + lines(pairs[1:], " ")) for titles in (
+            ("", "South\n"), ("Part 1:\n", "Part 2:\n"))),
+    ("an average", (TOWNS, CELLS), lambda nodes, pairs, source: lines(pairs, ",", "3") + "Average,,3\n"),
+    ("kinds below the heading", ALL, lambda nodes, pairs, source: "source,target\nString,Text\n" + lines(pairs, ",")),
+    ("columns of numbers as heading", (GAPS,), lambda nodes, pairs, source: "0,1\n" + lines(pairs, ",")),
+    ("cells that are merged", (TOWNS, CELLS), merged),
+    *((f"all pairs {word!r} {other!r} {heading!r}", ALL, beside_others(word, other, "{},{},{}", heading))
+      for word, other, heading in (
+          ("1", "0", ""), ("2.5", "0.0", ""), ("1", "0", "source,target,weight\n"), ("x", "", "von,nach,gilt\n"),
+          ("yes", "no", "site_a,site_b,interferes\n"),
+          ("active", "removed", "from,to,status\n"))),
+    *((f"letters of {code}", (TOWNS,), lambda nodes, pairs, source, code=code: lines(pairs, ",").encode(code))
+      for code in ("cp850", "mac_roman")),
+    ("UTF-8 taken for Windows", (TOWNS,),
+     lambda nodes, pairs, source: lines(pairs, ",").encode().decode("cp1252").encode()),
+    *((f"names alike {names[0]!r}", (names,), lambda nodes, pairs, source, alike=alike: lines(pairs, ",") + alike(
+        lines(pairs, ","))) for names, alike in ((TOWNS, str.lower), (BLANKS, lambda text: text.replace(" ", "-")))),
+    ("places beside texts of JSON", (ONES, ZEROS), lambda nodes, pairs, source: json.dumps({
+        "nodes": [{"id": node} for node in nodes],
+        "links": [{"source": nodes.index(a), "target": nodes.index(b)} for a, b in pairs]})),
+    ("JSON of all pairs", WORDS, of_all(as_json, '"weight": 2', '"weight": 0')),
+    ("JSON that hides some", WORDS, of_all(as_json, '"weight": 2', '"hidden": true')),
+    ("JSON of two lists", WORDS, lambda nodes, pairs, source: json.dumps(json.loads(as_json(nodes, pairs[:1])) | {
+        "relations": [{"source": a, "target": b} for a, b in pairs[1:]]})),
+    ("GraphML of all pairs", WORDS, of_all(as_graphml, ">2<", ">0<")),
+    ("GML of all pairs", WORDS, of_all(lambda *graph: as_gml(*graph).replace("edge [", "edge [ weight 1"), "weight 1",
+                                       "weight 0")),
+    ("DOT of all pairs", WORDS, of_all(as_dot, "[len=2]", "[style=invis]")),
+    ("DOT of nodes with commas", WORDS, lambda nodes, pairs, source: "graph {\n" + "".join(
+        f'"{a}", "{b}";\n' for a, b in pairs) + "}\n"),
+    ("DOT of names with hyphens", (("a-1", "a-2", "b-1", "c-3", "d-4"),), lambda nodes, pairs, source: (
+        "graph {\n" + "".join(f"{a} -- {b};\n" for a, b in pairs) + "}\n")),
+    ("DIMACS of sets", (ONES,), lambda nodes, pairs, source: f"p hs 8 {len(pairs)}\n" + "".join(
+        f"{a} {b} {source.choice(nodes)}\n" for a, b in pairs)),
+)
+# Quotes around whole fields, which aren't part of names: most such texts are read.
+QUOTES = tuple((f"quotes {opened} {closed}", names, each(f"{opened}{{a}}{closed}{mark}{opened}{{b}}{closed}"))
+               for mark, names in ((",", ALL), (" ", PLAIN)) for opened, closed in (
+                   "\u00ab\u00bb", "\u201c\u201d", "\u201e\u201c", "\u2018\u2019", "\u201a\u2018", "''"))
+# Texts that were read as another network once, and are refused.
+REFUSED = (
+    "Ulm,Aue\nGera,Hof;Bonn\n", "Gera;Hof, Bonn\nUlm;K\u00f6ln\n", "Gera,Hof/Bonn\nUlm,Aue\n", "9-1 1-10\n2-3 3-4\n",
+    "7:10, 6:1\n1:2, 3:4\n", "4\n5\n6 7\n4 7\n4 6\n3 2\n", "T&ouml;lz,Hof\nHof,Ulm\nHof,K&ouml;ln\n",
+    '{"nodes": [{"id": 1}, {"id": 2}, {"id": 3}], "links": [{"source": 1, "target": 2}]}',
+    '{"nodes": [{"name": "a"}, {"name": "b"}, {"name": "c"}], "links": [{"source": 1, "target": 2}]}',
+    '*Vertices 4\n1 "2"\n2 "6"\n3 "3"\n4 "4"\n*Edges\n2 3\n4 2\n6 4\n',
+    "source,target\nUlm,Aue\nHof,\nBonn,Aue\n", "1 2\n2 3\n3 4\n2\n1 4\n", "origen,destino\nUlm,Aue\n")
+
+
+class NearRows(Case):
+    needs_programs = False
+
+    def test_near(self):
+        judge(self, NEAR, TEXTS, SEED)
+
+    def test_refused(self):
+        for text in REFUSED:
+            found, left_out = found_in(text.encode())
+            self.note(f"refused: {text!r}", found is None, (found, left_out))
+
+    def test_quotes(self):
+        read = judge(self, QUOTES, TEXTS, SEED)
+        self.note("most with quotes are read", min(read.values()) > TEXTS // 2, read)
