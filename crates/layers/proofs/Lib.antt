@@ -3,3 +3,4 @@ pub mod Steps
 pub mod Rounds
 pub mod Reached
 pub mod Following
+mod Rooted

@@ -24,6 +24,14 @@ pub record IsLayer (net : Net) (v : ℕ) (layer : Layer) : Type 0 where
       × (port < degree_of net v) × IsDistance net (neighbour_of net v port) root d
   pub unreached : (layer ≡ Unreached) ↔ ((root : ℕ) → IsRoot net root → IsReached net v root → ⊥)
 
+-- The same with the root given: a node's number is its distance from this vertex, its port leads one link closer to it,
+-- and it is unreached exactly if no way leads there.
+pub record IsLayerFrom (net : Net) (root v : ℕ) (layer : Layer) : Type 0 where
+  pub distance : (hops : ℕ) → hops_of layer ≡ Some hops → IsDistance net v root hops
+  pub closer : (hops port : ℕ) → layer ≡ Away hops port → (d : ℕ) × (hops ≡ suc d) × (port < degree_of net v)
+      × IsDistance net (neighbour_of net v port) root d
+  pub unreached : (layer ≡ Unreached) ↔ (IsReached net v root → ⊥)
+
 -- the vertex to which the port of a layer leads from v; a node without one stays
 abbrev pub towards : Net → Layer → ℕ → ℕ
 towards net Unreached v = v

@@ -9,7 +9,7 @@ use Rattle.program_texts.specs.Named.{AreNamed, NamedTexts, texts_of}
 use Rattle.program_texts.specs.Texts.{ProgramTexts}
 use Rattle.layers.specs.declared.layer.Layer.{Layer}
 use Rattle.layers.specs.declared.layer.Layer.TheVariants.{Unreached, Root, Away}
-use Rattle.layers.specs.Distances.{IsLayer}
+use Rattle.layers.specs.Distances.{IsLayer, IsLayerFrom}
 use Rattle.layers.specs.Layered.{Layered}
 use Rattle.layers.specs.Layering.{layering}
 
@@ -44,6 +44,14 @@ layers_words = record {
 -- all texts of the layers
 abbrev pub layers_texts : ProgramTexts Layered
 layers_texts = texts_of layering layers_words
+
+-- each node knows its distance from a vertex, and a port that leads closer to it
+abbrev pub KnowTheirLayersFrom : ℕ → Net → (ℕ → Layered) → Type 0
+KnowTheirLayersFrom root net states = (v : ℕ) → IsVertex net v → IsLayerFrom net root v (states v).layer
+
+-- the same texts, with this vertex in what they are to say
+abbrev pub layers_texts_from : ℕ → ProgramTexts Layered
+layers_texts_from root = record layers_texts { Solves = KnowTheirLayersFrom root }
 
 -- no line feed is in them
 no-feed-layer : (layer : Layer) → HasNoFeed (layer_text layer)
