@@ -1,4 +1,4 @@
-"""Layers around the node of identifier 1 (breadth-first search in rounds: Lynch, Distributed Algorithms, 1996, section
+"""Layers around a root, the node of identifier 1 unless another one is named (breadth-first search in rounds: Lynch, Distributed Algorithms, 1996, section
 4.2), at one node, by its definition (docs/claim/DEFINITIONS.md), slow and plain. Payloads, ports and pulses are as in
 lab/definitions/nodes.py."""
 from lab.definitions.colours import Network
@@ -13,6 +13,8 @@ class Layers:
     nothing has come, and `by` is None then and at the root."""
 
     name = "layers"
+    # The vertex that is the root, whatever its identifier is; None if it is the node of identifier 1.
+    root: int | None = None
 
     degree: int
     last: int
@@ -22,7 +24,7 @@ class Layers:
 
     def __init__(self, net: Network, v: int):
         self.degree, self.last = len(net.neighbours[v]), self.last_pulse(net)
-        self.is_root, self.by = net.identifiers[v] == ROOT, None
+        self.is_root, self.by = net.identifiers[v] == ROOT if self.root is None else v == self.root, None
         self.layer = 0 if self.is_root else None
 
     @staticmethod
@@ -51,3 +53,8 @@ class Layers:
         if self.layer is None:
             return "layer none"
         return f"layer {self.layer}" if self.by is None else f"layer {self.layer} by {self.by}"
+
+
+def with_root(root: int) -> type:
+    """The program whose root is this vertex."""
+    return type("Layers", (Layers,), {"root": root})

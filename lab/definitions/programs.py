@@ -3,7 +3,7 @@ import os
 import sys
 
 from lab.definitions.independent_set import IndependentSet
-from lab.definitions.layers import Layers
+from lab.definitions.layers import Layers, with_root
 from lab.definitions.leader import Leader
 from lab.definitions.matching import Matching
 from lab.definitions.nodes import Colouring
@@ -19,8 +19,13 @@ WITHOUT_BARS = (Leader, Layers, Matching)
 HELP = f"what the nodes run: {', '.join(PROGRAMS)}, or a file of your own, as NAME.py; default: colouring"
 
 
-def program_at(name: str, lots: str = "1") -> type:
-    """The program of a name, or of a file whose name ends in `.py`; `lots` is the seed of its nodes' chance."""
+def program_at(name: str, lots: str = "1", root: int | None = None) -> type:
+    """The program of a name, or of a file whose name ends in `.py`; `lots` is the seed of its nodes' chance, `root` the
+    vertex that is the root of the layers."""
+    if root is not None:
+        if name != Layers.name:
+            raise Wrong(f"--root is for --program {Layers.name}, not for {name}")
+        return with_root(root)
     if name in PROGRAMS:
         return PROGRAMS[name]
     if name.endswith(".py"):
@@ -29,13 +34,32 @@ def program_at(name: str, lots: str = "1") -> type:
                 if os.sep not in name else f"{name} is no name of a program, and doesn't end in .py")
 
 
+def base_of(program: type) -> type:
+    """The program, whatever its root is."""
+    return Layers if issubclass(program, Layers) else program
+
+
+def program_words(program: type) -> list[str]:
+    """The words with which a command runs the program of a name."""
+    root = [] if base_of(program) is not Layers or program.root is None else ["--root", str(program.root)]
+    return [] if program is Colouring else ["--program", program.name, *root]
+
+
+def check_root(program: type, nodes: int) -> None:
+    """Refuses a root that is no node of the network."""
+    if base_of(program) is Layers and program.root is not None and not 1 <= program.root <= nodes:
+        raise Wrong(f"there is no node {program.root} that could be the root: the network has {nodes}")
+
+
 def note_ignored_bars(command: str, bars: dict, program: type) -> None:
     """Says on standard error that a program ignores the bars of a network, if it has any."""
-    if program in WITHOUT_BARS and any(bars.values()):
+    if base_of(program) in WITHOUT_BARS and any(bars.values()):
         print(f"{command}: {program.name} ignores the bars of the network, its lines `b`", file=sys.stderr)
 
 
 def add_program(words):
     """Adds the options to a command line."""
     words.add_argument("--program", default=Colouring.name, metavar="P", help=HELP)
+    words.add_argument("--root", type=int, metavar="V",
+                       help="the node that is the root of layers; default: the one of identifier 1")
     words.add_argument("--lots", default="1", metavar="WORD", help="the seed of a file's `me.random`; default: 1")

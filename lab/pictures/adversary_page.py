@@ -2,6 +2,7 @@
 it: it holds the table of adversary_table.py, and follows it. page/adversary.js follows it."""
 from lab.definitions.nodes import Colouring, wire_words
 from lab.definitions.own_program import OwnNode
+from lab.definitions.programs import program_words
 from lab.pictures.adversary_dares import dares_of, plan_in
 from lab.pictures.adversary_table import table_of
 from lab.pictures.pages import compact, net_of, page
@@ -40,9 +41,8 @@ def about(space):
 
 def option(program):
     """What names a program on a command line."""
-    if program is Colouring:
-        return ""
-    return f" --program {program.file if issubclass(program, OwnNode) else program.name}"
+    words = ["--program", program.file] if issubclass(program, OwnNode) else program_words(program)
+    return "".join(f" {word}" for word in words)
 
 
 def play_words(network, space):

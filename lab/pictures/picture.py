@@ -12,7 +12,7 @@ from typing import NamedTuple
 from lab import programs
 from lab.definitions.colours import plan_text as plan_by_definition
 from lab.definitions.nodes import Colouring
-from lab.definitions.programs import add_program, note_ignored_bars, program_at
+from lab.definitions.programs import add_program, check_root, note_ignored_bars, program_at, program_words
 from lab.networks.named import network_text
 from lab.networks.network_text import read_network, stem
 from lab.networks.plan_text import read_plan
@@ -523,7 +523,8 @@ def run_text(given, network, network_text, program):
     options = [f"--{name}={value}" for name in ("workers", "capacity") if (value := getattr(given, name, None))]
     if program is Colouring:
         return programs.text_of("forestplan", ["transcript", *options], network_text)
-    return programs.text_of("forestplay", ["run", "--transcript", "--program", program.name, *options], network_text)
+    return programs.text_of("forestplay", ["run", "--transcript", *program_words(program), *options],
+                            network_text)
 
 
 def tallies_rounds(given, network, program):
@@ -534,8 +535,9 @@ def tallies_rounds(given, network, program):
 def options_of(given):
     """The options of a kind as the command line has them."""
     found = {field.name: getattr(given, field.name) for field in fields(Options) if hasattr(given, field.name)}
-    name, lots = (getattr(given, option, default) for option, default in (("program", Colouring.name), ("lots", "1")))
-    return Options(**found | {"program": program_at(name, lots),
+    name, lots, root = (getattr(given, option, default)
+                        for option, default in (("program", Colouring.name), ("lots", "1"), ("root", None)))
+    return Options(**found | {"program": program_at(name, lots, root),
                               "progress": progress if sys.stderr.isatty() else None})
 
 
@@ -556,6 +558,7 @@ def drawn(given):
     network.name = given.title or ("this network" if given.network == "-" else network.name)
     check_size(given.kind, network)
     options = options_of(given)
+    check_root(options.program, network.nodes)
     texts = texts_of(given, network, data.encode(), options)
     if given.kind in PLACED and (said := unused_places(network)):
         note(said)

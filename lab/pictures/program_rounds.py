@@ -3,7 +3,7 @@ of a text (docs/claim/FORMATS.md) that is, line by line, the rounds of its netwo
 from lab.definitions.colours import Network
 from lab.definitions.nodes import Colouring, ports_of, synchronous_pulses
 from lab.definitions.own_program import check_repeats, what_is_wrong
-from lab.definitions.programs import PLAYED
+from lab.definitions.programs import PLAYED, base_of
 from lab.definitions.pulses import Rounds
 from lab.networks.network_text import fields_of, whole
 from lab.wrong import Wrong, wrong_line
@@ -76,7 +76,7 @@ def rounds_of(network, identifiers, program):
 
 def is_own(program):
     """Whether no proved program runs a program: it is from a file, or known by its definition alone."""
-    return program not in PLAYED
+    return base_of(program) not in PLAYED
 
 
 def identifiers_of(lines, network, name):

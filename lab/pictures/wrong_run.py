@@ -2,6 +2,7 @@
 it."""
 from dataclasses import dataclass
 
+from lab.definitions.programs import program_words
 from lab.networks.network_text import fields_of
 from lab.networks.texts import plain_text
 from lab.pictures.palette import WIRES, WRONG
@@ -38,7 +39,7 @@ def cut(text: str, name: str, network, program: type, stopped: int | None) -> tu
     head = [field for field in fields_of(text.lstrip().split("\n", 1)[0]) if field]
     if head[:2] not in (["transcript", "2"], ["transcript", "3"]):
         raise Wrong(f"{name}: --wrong needs a transcript of edition 2 or 3, whose lines have an order")
-    verdict = verdict_of(plain_text(network), text, program.name)
+    verdict = verdict_of(plain_text(network), text, program_words(program))
     if verdict.name == "WrongProgram":
         raise Wrong(f"{name} is a transcript of {verdict.words}, not of {program.name}: --program {verdict.words}")
     if verdict.name is None:

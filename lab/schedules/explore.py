@@ -8,7 +8,7 @@ from typing import NamedTuple
 
 from lab.definitions.nodes import Colouring
 from lab.definitions.own_program import AGAIN, check_repeats
-from lab.definitions.programs import add_program, note_ignored_bars, program_at
+from lab.definitions.programs import add_program, check_root, note_ignored_bars, program_at
 from lab.schedules import ruled_rounds
 from lab.schedules.reading import network_at
 from lab.schedules.rules import ALL, OF_FORESTS, OF_ROUNDS, OF_SCHEDULES, table
@@ -185,7 +185,8 @@ def searched(given, net):
         sys.stderr.write(f"\r\033[Kexplore: {states:,} states of at most {given.limit:,}, {depth} events far")
         sys.stderr.flush()
 
-    program = program_at(given.program, given.lots)
+    program = program_at(given.program, given.lots, given.root)
+    check_root(program, len(net.neighbours))
     note_ignored_bars("explore", net.barred, program)
     check_repeats(net, program)
     try:

@@ -8,7 +8,7 @@ from collections import deque
 
 from lab.definitions.nodes import Colouring, NetState, Refused, missing_words, wire_words
 from lab.definitions.own_program import check_repeats
-from lab.definitions.programs import add_program, note_ignored_bars, program_at
+from lab.definitions.programs import add_program, check_root, note_ignored_bars, program_at
 from lab.networks.fields import shown
 from lab.schedules.policies import POLICIES, Step, policy_of
 from lab.schedules.reading import network_at
@@ -267,7 +267,8 @@ def main(words):
         line.error("standard input is one file, not two")
     name, net = network_at(given.network)
     check_names(name, net, given)
-    program = program_at(given.program, given.lots)
+    program = program_at(given.program, given.lots, given.root)
+    check_root(program, len(net.neighbours))
     write(given, text_of_rows(len(net.neighbours), rows_asked(net, given, program), program))
     return 0
 

@@ -4,6 +4,7 @@ import re
 
 from lab.definitions.colours import plan_text
 from lab.definitions.nodes import Colouring, NetState, Refused, entry_words, make
+from lab.definitions.programs import program_words
 from lab.networks.plan_text import clashes
 from lab.definitions.pulses import Rounds
 from lab.pictures.program_rounds import is_own, read_rounds
@@ -31,10 +32,6 @@ def text_from(name, words, network_text):
     if status:
         raise Wrong(said or f"{name} ended with status {status}")
     return output
-
-
-def option(program):
-    return [] if program is Colouring else ["--program", program.name]
 
 
 def plan_of(text):
@@ -73,7 +70,7 @@ def judged(network, network_text, text, program):
     """What is said of a whole transcript: {ok, said, by}."""
     entries = {"entries": max(0, text.count("\n") - 1)}
     if OPENED["is_proved"] and not is_own(program):
-        status, output, said = said_by("forestplay", ["replay", *option(program)], network_text, "\n", text)
+        status, output, said = said_by("forestplay", ["replay", *program_words(program)], network_text, "\n", text)
         return entries | {"ok": status == 0, "said": said or output, "by": MACHINE}
     try:
         _, words = whole_run(network_of(network), text.encode(), program)
@@ -86,7 +83,7 @@ def beginning_judged(network, network_text, entries, program):
     """What is said of the first entries of a run, each without its stamp: {ok, said, pulses, wires, by}."""
     text = "\n".join([f"transcript 1 {network.nodes}", *entries]) + "\n"
     if OPENED["is_proved"] and not is_own(program):
-        status, output, said = said_by("forestplay", ["replay", *option(program)], network_text, "\n", text)
+        status, output, said = said_by("forestplay", ["replay", *program_words(program)], network_text, "\n", text)
         at = [int(found.group(1)) for found in re.finditer(r"^node \d+ pulse (\d+)", output, re.M)]
         flying = len(re.findall(r"\b(?:payload|ack|safe|close)\b", output))
         return {"ok": status == 0, "said": said, "pulses": at, "wires": flying, "by": MACHINE}

@@ -10,7 +10,7 @@ from collections import namedtuple
 
 from lab.definitions.colours import fields_of, network_of
 from lab.definitions.nodes import Colouring, named, wire_words
-from lab.definitions.programs import add_program, note_ignored_bars, program_at
+from lab.definitions.programs import add_program, check_root, note_ignored_bars, program_at
 from lab.networks.named import network_bytes
 from lab.networks.network_text import read_network
 from lab.transcripts.fields import first_line
@@ -325,7 +325,9 @@ def texts_of(given):
         raise WrongNetwork("standard input has one text: name a file for the network or for the transcript")
     network = network_bytes(given.network)
     net = network_in(network, called(given.network))
-    return net, network, bytes_at(given.transcript), program_at(given.program, given.lots)
+    program = program_at(given.program, given.lots, given.root)
+    check_root(program, len(net.neighbours))
+    return net, network, bytes_at(given.transcript), program
 
 
 def main(words):

@@ -20,9 +20,9 @@ class Verdict:
         return self.name not in (None, "NotWhole")
 
 
-def verdict_of(network: str, transcript: str, program: str = "colouring") -> Verdict:
-    """The verdict on a transcript, given as texts, of nodes that run a proved program; refused if there is none."""
-    words = [] if program == "colouring" else ["--program", program]
+def verdict_of(network: str, transcript: str, words: list[str]) -> Verdict:
+    """The verdict on a transcript, given as texts, of nodes that run the proved program of these options; refused if
+    there is none."""
     done = called("forestplay", ["replay", *words], (network + transcript).encode())
     if done.returncode == 0:
         return Verdict()

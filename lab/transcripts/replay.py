@@ -3,8 +3,8 @@ play them."""
 import sys
 
 from lab import programs
-from lab.definitions.nodes import Colouring
 from lab.definitions.own_program import OwnNode
+from lab.definitions.programs import program_words
 from lab.transcripts.check import add_texts, in_order, texts_of, whole_run
 from lab.transcripts.reading import Wrong as WrongEntry
 from lab.words import add_output, parser_of, write
@@ -44,9 +44,8 @@ def replayed(net, network, text, program):
     if issubclass(program, OwnNode):
         raise Wrong(f"no proved program runs {program.name}")
     made, _ = whole_run(net, text, program)
-    words = [] if program is Colouring else ["--program", program.name]
     # The network may not end in a line feed.
-    return programs.text_of("forestplay", ["replay", *words], network + b"\n" + in_order(made, text))
+    return programs.text_of("forestplay", ["replay", *program_words(program)], network + b"\n" + in_order(made, text))
 
 
 def main(words):

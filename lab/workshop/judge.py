@@ -60,7 +60,7 @@ def verdict_on(network: Network, entries: list[Entry], program: str) -> Verdict:
 
 def verdict_of(network: str, transcript: str, program: str = COLOURING) -> Verdict:
     try:
-        return proved_judge.verdict_of(network, transcript, program)
+        return proved_judge.verdict_of(network, transcript, words_of(program))
     except Wrong as why:
         raise NoVerdict(str(why)) from None
 
