@@ -22,16 +22,20 @@ DECLARED = re.compile(rb"\s*<\?xml[^>]{0,200}?encoding\s*=\s*[\"']([A-Za-z][\w.-
 # Marks and letters that nobody sees, beside those that control a text: variants of a letter, and fillers.
 INVISIBLE = re.compile("[\u034f\u115f\u1160\u17b4\u17b5\u180b-\u180f\u3164\ufe00-\ufe0f\uffa0\U000e0100-\U000e01ef]")
 
-# How the note of an encoding ends that is a guess: --strict refuses it.
-GUESSED = ", since it is no UTF-8"
 # Letters of UTF-8 that were read as Windows-1252. And bytes that are no letters of western Windows but of DOS or of old
 # Macintoshes, beside a letter; and three letters of another alphabet, one after the other.
 SPOILT = re.compile("[\u00c2\u00c3\u00d0\u00d1][\u0080-\u00bf\u0152\u0153\u0160\u0161\u0178\u017d\u017e\u0192\u02c6"
                     "\u02dc\u2013-\u2122]|\u00e2\u20ac")
 OTHER_LETTERS = re.compile(rb"(?i)[a-z][\x80-\x91\x93-\x95\x98-\x9f][a-z]|[a-z][\x80\x81\x83\x86-\x90\x95\x98-\x9f]|"
                            rb"[\x80\x81\x83\x86-\x90\x95\x98-\x9f][a-z]|[\xc0-\xff]{3}")
+# What is said of a text whose last line may be cut.
+NO_END = "its last line has no line end: is the text cut?"
 # What is said of an edge that is there and doesn't count.
 HIDDEN = ("hidden", "deleted", "removed", "disabled", "ignored")
+
+
+class Doubt(str):
+    """A note of what was guessed of a text, which --strict refuses."""
 
 
 @dataclass
@@ -164,7 +168,7 @@ def decoded(data: bytes, name: str) -> tuple[str, list[str]]:
     for head, what in NO_TEXT.items():
         if data.startswith(head):
             raise Wrong(f"{name}: it is no text but {what}")
-    notes = []
+    notes, is_guess = [], False
     if data.startswith((codecs.BOM_UTF16_LE, codecs.BOM_UTF16_BE)):
         try:
             text = data.decode("utf-16")
@@ -179,14 +183,18 @@ def decoded(data: bytes, name: str) -> tuple[str, list[str]]:
             refuse_both(data, name)
             refuse_other_letters(data, name)
             text, encoding = of_windows(data)
+            is_guess = True
         if encoding:
-            notes.append(f"read as {encoding}")
+            notes.append((Doubt if is_guess else str)(f"read as {encoding}"))
     if "\0" in text:
         raise Wrong(f"{name}: it has bytes of value zero, so it is no text")
     text = text.replace("\r\n", "\n")
     if "\r" in text:
         notes.append("lines end with a carriage return alone")
-    return text.replace("\r", "\n"), notes
+    text = text.replace("\r", "\n")
+    if text and not text.endswith("\n"):
+        notes.append(Doubt(NO_END))
+    return text, notes
 
 
 def as_declared(data: bytes, name: str) -> tuple[str | None, str]:
@@ -231,6 +239,6 @@ def refuse_other_letters(data: bytes, name: str) -> None:
 def of_windows(data: bytes) -> tuple[str, str]:
     """The text as western Windows has it, which is Latin-1 with more letters, or as Latin-1 if a byte is no letter."""
     try:
-        return data.decode("cp1252"), f"Windows-1252{GUESSED}"
+        return data.decode("cp1252"), "Windows-1252, since it is no UTF-8"
     except UnicodeDecodeError:
-        return data.decode("latin-1"), f"Latin-1{GUESSED}"
+        return data.decode("latin-1"), "Latin-1, since it is no UTF-8"

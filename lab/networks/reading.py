@@ -1,11 +1,13 @@
 """`forestlab network read`: a network in one of the forms, as a text that the programs read, and what was guessed and
 left out."""
 from lab.networks.forms import listed
-from lab.networks.listed import GUESSED, decoded, twin_of, with_clean_names
+from lab.networks.listed import NO_END, Doubt, decoded, twin_of, with_clean_names
 from lab.networks.network_text import MAX_DEGREE, MAX_EDGES, MAX_NODES, read_network, shown, stem, two_alike, whole
 from lab.networks.texts import Made, text_of
 from lab.wrong import Wrong
 
+# Forms whose texts end with a bracket, so that it is seen if they are cut.
+CLOSED = ("JSON of nodes and links", "GraphML", "GML", "DOT", "GEXF")
 # Places of more digits before the point aren't written.
 FARTHEST = 10 ** 9
 
@@ -60,9 +62,9 @@ def listed_of(data, name, form=None, heading=None):
     """What a text lists."""
     text, mended = decoded(data, name)
     found = listed(text, name, form, heading)
-    guessed = [what for what in mended if what.endswith(GUESSED)]
+    guessed = [what for what in mended if isinstance(what, Doubt)]
     found.notes[:0] = [what for what in mended if what not in guessed]
-    found.left_out[:0] = guessed
+    found.left_out[:0] = [what for what in guessed if what != NO_END or found.form not in CLOSED]
     with_clean_names(found, name)
     return found
 

@@ -4,9 +4,10 @@ import re
 from dataclasses import dataclass, field
 
 from lab.networks.lines import table_of
-from lab.networks.listed import Listed, clean, decoded
+from lab.networks.listed import Doubt, Listed, clean, decoded, note_alike
 from lab.networks.network_text import IDENTIFIERS, MAX_BARS, MAX_CHANNEL, MAX_EDGES, MAX_NODES, shown
 from lab.networks.reading import counted, numbered_by_text
+from lab.networks.site_doubts import flags, refuse_again, refuse_names, refuse_no_place, said_of_reach
 from lab.networks.spelling import named
 from lab.wrong import Wrong, wrong_line
 
@@ -27,6 +28,7 @@ DEGREES = ("", "deg", "degree", "degrees", "°", "grad", "decimal", "decimaldegr
            "wgs84", "wgs 84", "n", "s", "e", "w", "o")
 CHANNELS = ("channel", "channels", "barredchannel", "barredchannels", "barred", "bar", "kanal", "kanäle",
             "gesperrterkanal", "gesperrtekanäle", "gesperrt")
+HARMLESS = ("frequency", "frequenz", "mhz", "frequencymhz", "remark", "bemerkung", "comment", "name", "town", "ort")
 KNOWN = {*NAMES, *CHANNELS, IDENTIFIER, *(word for pair in (*PLANES, *GLOBES) for word in pair[:2])}
 # The mean radius of the earth in kilometres, and half of its circumference.
 EARTH = 6371.0088
@@ -45,7 +47,10 @@ class Sites:
     points: list[tuple[float, float, float] | None] = field(default_factory=list)
     identifiers: list[int | None] = field(default_factory=list)
     notes: list[str] = field(default_factory=list)
+    left_out: list[str] = field(default_factory=list)
     is_globe: bool = False
+    is_metres: bool = False
+    has_quotes: bool = False
 
 
 def table(data: bytes, name: str) -> tuple[list[str], list[tuple[int, list[str]]], str | None, list[str]]:
@@ -64,6 +69,11 @@ def table(data: bytes, name: str) -> tuple[list[str], list[tuple[int, list[str]]
     twice = next((word for at, word in enumerate(words) if word in KNOWN and word in words[:at]), None)
     if twice:
         raise Wrong(f"{name}: two columns are named {shown(twice)}: which one is meant?")
+    refuse_again(words, KNOWN, name)
+    marked = [line for line in found.marked if line != rows[0][0]]
+    if 0 < len(marked) < len(rows) - 1:
+        raise wrong_line(name, marked[0], "it begins with # or %, and other rows don't: write a name that begins so in "
+                                          "quotes, or leave the line out")
     for line, fields in rows[1:]:
         if any(fields[len(words):]):
             raise wrong_line(name, line, f"more fields than the heading: `{shown(','.join(fields))}`")
@@ -110,6 +120,7 @@ def read_sites(data: bytes, name: str) -> Sites:
     if globe and plane:
         mended = [*mended, f"places by {globe[0]} and {globe[1]}, not by {plane[0]} and {plane[1]}"]
     found = Sites([words[at] for at in columns], [[] for _ in columns], notes=mended, is_globe=globe is not None)
+    found.has_quotes = b'"' in data
     numbers = []
     for line, fields in rows:
         fields = fields + [""] * (len(words) - len(fields))
@@ -122,6 +133,8 @@ def read_sites(data: bytes, name: str) -> Sites:
             has_groups = any(re.search(r"\d[ '\u2019\u00a0\u202f.,]\d", field) for field in said)
             raise wrong_line(name, line, f"no place: `{shown((separator or ',').join(fields))}`" + (
                 "; write numbers without separators of thousands" if has_groups else ""))
+        if None not in place:
+            refuse_no_place(said, place, line, globe is not None, name)
         numbers.append((line, said))
         add_place(found, name, line, None if None in place else place, plane[2] if not globe and plane else None)
         own = fields[words.index(IDENTIFIER)] if IDENTIFIER in words else ""
@@ -129,11 +142,16 @@ def read_sites(data: bytes, name: str) -> Sites:
         if own and (number is None or number >= IDENTIFIERS):
             raise wrong_line(name, line, f"no identifier below 2^128: `{shown(own)}`")
         found.identifiers.append(number)
+    found.is_metres = not globe and plane is not None and plane[2] != 1.0
     if plane and not globe:
-        found.notes += check_marks(numbers, separator, plane[2] != 1.0, name)
-    xs, ys = zip(*(point[:2] for point in found.points if point)) if any(found.points) else ((0,), (0,))
-    across = max(max(xs) - min(xs), max(ys) - min(ys))
-    farthest = max(map(abs, (*xs, *ys)))
+        found.notes += check_marks(numbers, separator, found.is_metres, name)
+    are_read = {at for at, word in enumerate(words) if at in columns or word in (IDENTIFIER, *(pair or ())[:2])}
+    doubtful = flags(words, rows, are_read)
+    if doubtful:
+        found.left_out.append(f"columns of {name} that may say which sites count aren't read: "
+                              f"{shown(', '.join(doubtful))}")
+    across = across_of(found)
+    farthest = max((abs(part) for point in found.points if point for part in point), default=0)
     if not globe and plane and farthest > 2 * WIDEST:
         raise Wrong(f"{name}: {plane[0]} and {plane[1]} reach {farthest:,.0f} km, farther than around the earth: "
                     "columns in metres are called `x (m)` and `y (m)`, or easting and northing")
@@ -271,8 +289,12 @@ def with_sites(found: Listed, sites: Sites, name: str, reach: float | None) -> N
         found.left_out.append(f"{counted(lost, kind)} left out, with {what}")
         found.edges = [row for row in found.edges if known.issuperset(row[1:])]
         found.alone = [row for row in found.alone if row[1] in known]
+    refuse_names(names, sites.lines, sites.has_quotes, name)
     found.order = names
-    found.notes += sites.notes
+    if not pairs:
+        note_alike(found, sorted(names, key=lambda one: (one.casefold(), one)))
+    say_of_table(found, sites.notes, name)
+    found.left_out += sites.left_out
     found.places = {names[at]: place for at, place in on_map(sites).items()}
     found.identifiers |= {one: number for one, number in zip(names, sites.identifiers) if number is not None}
     if reach is None:
@@ -283,12 +305,26 @@ def with_sites(found: Listed, sites: Sites, name: str, reach: float | None) -> N
     if lost:
         found.left_out.append(f"{counted(len(lost), 'site')} without a place, joined to none by the reach, first: "
                               f"{shown(lost[0])}")
-    there = {frozenset(ends) for _, *ends in found.edges}
-    for count, (one, other) in enumerate(near(sites.points, reach, sites.is_globe)):
+    there, count = {frozenset(ends) for _, *ends in found.edges}, 0
+    for one, other in near(sites.points, reach, sites.is_globe):
+        count += 1
         if count > MAX_EDGES:
             raise Wrong(f"{name}: more than {MAX_EDGES} edges within {reach:g} km")
         if frozenset((names[one], names[other])) not in there:
             found.edges.append((sites.lines[other], names[one], names[other]))
+    found.left_out += said_of_reach(count, len(names) - len(lost), across_of(sites), sites.is_metres)
+
+
+def say_of_table(found: Listed, said: list[str], name: str) -> None:
+    """Adds what is said of a table: what was mended to the notes, and what was guessed to what --strict refuses."""
+    found.notes += [what for what in said if not isinstance(what, Doubt)]
+    found.left_out += [f"{name}: {what}" for what in said if isinstance(what, Doubt)]
+
+
+def across_of(sites: Sites) -> float:
+    """How far the sites reach from west to east, or from south to north, in kilometres."""
+    xs, ys = zip(*(point[:2] for point in sites.points if point)) if any(sites.points) else ((0,), (0,))
+    return max(max(xs) - min(xs), max(ys) - min(ys))
 
 
 def with_bars(found: Listed, data: bytes, name: str, licence: list[int] | None) -> None:
@@ -303,11 +339,13 @@ def with_bars(found: Listed, data: bytes, name: str, licence: list[int] | None) 
     channel = words.index(barred[0])
     others = [word for at, word in enumerate(words) if word and at not in (site, channel)]
     if others:
-        found.notes.append(f"further columns of {name} aren't read: {shown(', '.join(others))}")
+        are_known = not flags(words, rows, {site, channel}) and all(word in HARMLESS for word in others)
+        said = found.notes if are_known else found.left_out
+        said.append(f"further columns of {name} aren't read: {shown(', '.join(others))}")
     known = {end for _, *ends in found.edges + found.alone for end in ends} | set(found.order or ())
     if found.nodes is not None:
         known |= set(numbered_by_text(found, name)[0].values())
-    found.notes += mended
+    say_of_table(found, mended, name)
     strange, outside, empty = [], [], []
     for line, fields in rows:
         fields = fields + [""] * (len(words) - len(fields))

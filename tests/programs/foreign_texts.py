@@ -190,10 +190,11 @@ def spoilt(source, text, other):
 
 def tables(source):
     """A table of sites with places by chance, and one of bars."""
-    names = source.sample(sorted({name for kind in QUOTED for name in kind}), 6)
+    names = source.sample(sorted({name for kind in QUOTED for name in kind} - {"A", "{}"}), 6)
     places = [(name, *(source.choice((0, 1, 2.5, -1, 7)) for _ in "xy")) for name in names]
     bars = [(source.choice(names), source.choice((1, 6, 11))) for _ in range(source.randrange(4))]
-    return as_csv([("site", "x", "y"), *places]), as_csv([("site", "channel"), *bars])
+    return (as_csv([("site", "x", "y"), *places], quoting=csv.QUOTE_NONNUMERIC),
+            as_csv([("site", "channel"), *bars], quoting=csv.QUOTE_NONNUMERIC))
 
 
 def ours_of_tables(places, bars):
@@ -206,7 +207,9 @@ def ours_of_tables(places, bars):
     except Wrong:
         return None
     names = {v: made.names.get(v, str(v)) for v in range(1, made.nodes + 1)}
-    return None if left_out else (named(made), {names[v]: channels for v, channels in made.bars.items()})
+    if any(not what.startswith("no site is within the reach") for what in left_out):
+        return None
+    return (named(made), {names[v]: channels for v, channels in made.bars.items()})
 
 
 def second_of_tables(places, bars):
@@ -270,4 +273,4 @@ class ForeignTexts(Case):
             if got is not None and got != second_of_tables(spoilt_places, spoilt_bars):
                 wrong.append((spoilt_places, spoilt_bars, got))
         self.note("each table is the same to both", not wrong, (len(wrong), wrong[:1]))
-        self.note("many are read", read > MUTATED // 25, read)
+        self.note("many are read", read > MUTATED // 30, read)

@@ -169,6 +169,24 @@ TABLES = (
     ("metres in x and y", b"site,X,Y\nA,453000,5600000\nB,453900,5600000\n", b"site,channel\n"),
     ("JSON", b'{"type": "FeatureCollection", "features": []}', b"site,channel\n"),
     ("two encodings", "site\nKöln\n".encode() + "Mörs\n".encode("cp1252"), b"site,channel\n"),
+    *((f"a row {row!r}", f"site,x,y\nUlm,0,0\nAue,1,1\n{row}\n".encode(), b"site,channel\n") for row in (
+        "Summe,5,5", "Average,5,5", "Hof,-9999,-9999", "Hof,1e20,1e20", "#Hof,1,1", "//Hof,1,1", "NA,0,0", "#N/A,0,0",
+        "====,0,0", "Ulm*,1,1", "- Hof,1,1", "Hof;Bonn,1,1", '="Hof",1,1', "KÃ¶ln,1,1", "«Hof,1,1")),
+    ("a place that isn't known", b"site,lat,lon\nUlm,48,10\nHof,0,0\n", b"site,channel\n"),
+    ("names after numbers", b"site,x,y\n1. Ulm,0,0\n2. Aue,1,1\n", b"site,channel\n"),
+    ("two sites a row", b"site,x,y,site 2,x 2,y 2\nUlm,0,0,Aue,1,1\n", b"site,channel\n"),
+)
+# Tables of which something is counted that isn't read, or may be wrong.
+COUNTED = (
+    ("sites that are off", b"site,x,y,active\nUlm,0,0,yes\nAue,1,1,no\n", b"site,channel\n"),
+    ("sites with a status", b"site,x,y,status\nUlm,0,0,on air\nAue,1,1,planned\n", b"site,channel\n"),
+    ("bars that are free", b"site,x,y\nUlm,0,0\nAue,1,1\n", b"site,channel,allowed\nUlm,1,yes\nAue,6,no\n"),
+    ("bars that end", b"site,x,y\nUlm,0,0\nAue,1,1\n", b"site,channel,until\nUlm,1,1999\nAue,6,2030\n"),
+    ("metres in x and y", b"site,x,y\nUlm,0,0\nAue,1000,1000\n", b"site,channel\n"),
+    ("kilometres in metres", b"site,easting,northing\nUlm,1,2\nAue,3,5\nHof,9,9\n", b"site,channel\n"),
+    ("two spellings of a site", b"site,x,y\nUlm,0,0\nULM,1,1\n", b"site,channel\n"),
+    ("a line without its end", b"site,x,y\nUlm,0,0\nAue,1,1", b"site,channel\n"),
+    ("letters of Windows", "site,x,y\nUlm,0,0\nKöln,1,1\n".encode("cp1252"), b"site,channel\n"),
 )
 
 
@@ -211,6 +229,20 @@ class NearTexts(Case):
                 found = Listed("sites")
                 sites.with_sites(found, sites.read_sites(places, "sites"), "sites", None)
                 sites.with_bars(found, bars, "bars", None)
+
+    def test_counted(self):
+        for name, places, bars in COUNTED:
+            found = Listed("sites")
+            sites.with_sites(found, sites.read_sites(places, "sites"), "sites", 3)
+            sites.with_bars(found, bars, "bars", None)
+            self.note(f"counted: {name}", len(made_of(found, "sites")[2]) == 1, found.left_out)
+
+    def test_cut(self):
+        """A list without the end of its last line may be cut inside a name; JSON ends with a bracket."""
+        for text, count in ((b"Ulm,Aue\nAue,Hof", 1), (b"Ulm,Aue\nAue,Hof\n", 0), (b"p edge 2 1\ne 1 2", 1),
+                            (as_dot(["a", "b"], [("a", "b")]).strip().encode(), 0)):
+            left_out = made_of(listed_of(text, "net"), "net")[2]
+            self.note(f"a line without its end: {text!r}", len(left_out) == count, left_out)
 
     def test_pairs_within_the_reach(self):
         """A pair that is within the reach, too, isn't an edge that comes twice."""
