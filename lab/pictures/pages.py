@@ -11,7 +11,8 @@ from lab.pictures.svg import escaped
 FOLDER = os.path.join(os.path.dirname(os.path.abspath(__file__)), "page")
 # Each imports only those before it.
 MODULES = ("marks", "stage", "time", "rounds", "run")
-# In pixels of a large screen; the radius of a node at most and at least, and how many radii two are apart.
+# In pixels of a large screen; the radius of a node at most and at least (of a hundred and fewer; of more all are
+# smaller), and how many radii two are apart.
 WIDE, HIGH, MARGIN, RADIUS, LEAST, APART = 1000, 700, 70, 22, 9, 3
 
 FRAME = """\
@@ -36,7 +37,8 @@ def hues():
 
 def net_of(network):
     """A network as the modules have it. Identifiers are texts: they may have 39 digits."""
-    places = spaced(places_of(network), WIDE, HIGH, MARGIN, RADIUS, LEAST, APART)[0] if network.nodes else {}
+    least = min(LEAST, 10 * LEAST / max(1, network.nodes) ** 0.5)
+    places = spaced(places_of(network), WIDE, HIGH, MARGIN, RADIUS, least, APART)[0] if network.nodes else {}
     nodes = [{"x": round(places[v][0], 1), "y": round(places[v][1], 1), "id": str(network.said.get(v, "")),
               "name": network.names.get(v, ""), "bars": network.barred(v)} for v in network.vertices]
     return {"name": network.name, "nodes": nodes, "edges": network.edges}

@@ -66,17 +66,22 @@ def verdict_on(network, text, plan):
     return f"C4 vertices {same[0][0]} {same[0][1]}" if same else f"proper {max(plan.values())}"
 
 
-def judged(network, network_text, text, program):
-    """What is said of a whole transcript: {ok, said, by}."""
-    entries = {"entries": max(0, text.count("\n") - 1)}
-    if OPENED["is_proved"] and not is_own(program):
-        status, output, said = said_by("forestplay", ["replay", *program_words(program)], network_text, "\n", text)
-        return entries | {"ok": status == 0, "said": said or output, "by": MACHINE}
+def by_definitions(network, text, program):
+    """What they say of a whole transcript, and the line of its fault."""
     try:
-        _, words = whole_run(network_of(network), text.encode(), program)
-        return entries | {"ok": True, "said": words, "by": PYTHON}
+        said = whole_run(network_of(network), text.encode(), program)[1]
+        return {"ok": True, "said": said, "line": None, "by": PYTHON}
     except WrongEntry as fault:
-        return entries | {"ok": False, "said": str(fault), "by": PYTHON}
+        return {"ok": False, "said": str(fault), "line": fault.line, "by": PYTHON}
+
+
+def judged(network, network_text, text, program):
+    """What is said of a whole transcript: {entries, ok, said, by}."""
+    entries = {"entries": max(0, text.count("\n") - 1)}
+    if not OPENED["is_proved"] or is_own(program):
+        return entries | by_definitions(network, text, program)
+    status, output, said = said_by("forestplay", ["replay", *program_words(program)], network_text, "\n", text)
+    return entries | {"ok": status == 0, "said": said or output, "by": MACHINE}
 
 
 def beginning_judged(network, network_text, entries, program):

@@ -1,6 +1,7 @@
 """The calls on runs without a clock: a run by a seed, by threads or of a transcript, its verdicts, and a run that is
 made step by step."""
 from lab.definitions.nodes import Colouring
+from lab.definitions.programs import program_words
 from lab.pictures.program_rounds import ProgramRounds, is_own, rounds_of
 from lab.pictures.sizes import last_pulse, least_wires
 from lab.pictures.watch_page import MOST_ENTRIES, Run, Steps, look_of, steps_of_text
@@ -10,9 +11,7 @@ from lab.schedules.rules import OF_SCHEDULES
 from lab.schedules.simulate import Held, Player, edges_of, events_of, text_of_rows
 from lab.schedules.stepwise import Stepwise
 from lab.studio.asked import MOST_DRAWN, MOST_RUN, OPENED, network_asked, pairs_asked, program_asked, rules_asked
-from lab.studio.judges import beginning_judged, judged, option, text_from
-from lab.transcripts.check import whole_run
-from lab.transcripts.reading import Wrong as WrongEntry
+from lab.studio.judges import beginning_judged, by_definitions, judged, text_from
 from lab.wrong import Wrong
 
 # More wires than this are played by threads alone: the slow definitions would take minutes.
@@ -77,7 +76,7 @@ def by_threads(asked, program):
     if not OPENED["is_proved"]:
         raise Wrong("threads run the proved programs, which aren't built yet: take a run by a seed")
     name = "forestplan" if program is Colouring else "forestplay"
-    words = ["transcript"] if program is Colouring else ["run", "--transcript", *option(program)]
+    words = ["transcript"] if program is Colouring else ["run", "--transcript", *program_words(program)]
     workers, capacity = int(asked.get("workers", 4)), int(asked.get("capacity", 4))
     return text_from(name, [*words, f"--workers={workers}", f"--capacity={capacity}"], asked["network"])
 
@@ -140,13 +139,8 @@ def replay(asked, _tell):
 def judge(asked, _tell):
     """What is said of a transcript, whoever wrote it: in words by the definitions, and by the proved machine."""
     program, network, text = program_asked(asked), network_asked(asked, MOST_DRAWN), str(asked["transcript"])
-    try:
-        _, words = whole_run(network_of(network), text.encode(), program)
-        told = {"ok": True, "words": words, "line": None}
-    except WrongEntry as fault:
-        told = {"ok": False, "words": str(fault), "line": fault.line}
     proved = judged(network, asked["network"], text, program) if OPENED["is_proved"] else None
-    return told | {"proved": proved, "before": asked["network"].count("\n") + 1}
+    return by_definitions(network, text, program) | {"proved": proved, "before": asked["network"].count("\n") + 1}
 
 
 def steps(asked, _tell):

@@ -179,10 +179,10 @@ class Handler(http.server.BaseHTTPRequestHandler):
 
     def answer_call(self, call, asked):
         self.headed(200, "application/x-ndjson", OF_PAGE)
-        answer, begun = Answer(self), time.monotonic()
+        answer = Answer(self)
         with limited(self.connection, lambda why: answer.line(wrong=why)):
             found = outcome(call, asked, answer.tell)
-        answer.line(**found, ms=round(1000 * (time.monotonic() - begun), 1))
+        answer.line(**found)
 
     def answer_frame(self, call, asked):
         with limited(self.connection, lambda why: None):

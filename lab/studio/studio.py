@@ -60,11 +60,6 @@ def command_line():
     return words
 
 
-def opened(given):
-    """The network to begin with, as the page gets it."""
-    return None if given.network is None else shown(*read_any(network_bytes(given.network), called(given.network)))
-
-
 def own_programs(files):
     found = {}
     for file in files:
@@ -105,7 +100,9 @@ def main(words):
     given = command_line().parse_args(words)
     with tempfile.TemporaryDirectory(prefix="forestplan-studio-") as folder:
         try:
-            OPENED.update(network=opened(given), own=own_programs(given.own), is_proved=are_built())
+            if given.network is not None:
+                OPENED["network"] = shown(*read_any(network_bytes(given.network), called(given.network)))
+            OPENED.update(own=own_programs(given.own), is_proved=are_built())
             server = server_at(given.port, folder)
         except Wrong as why:
             print(f"studio: {why}", file=sys.stderr)

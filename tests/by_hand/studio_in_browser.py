@@ -37,14 +37,11 @@ SHOWN = {
     "lesson": "lesson=3", "hundred": "example=disk100&tab=rounds&at=14"}
 EVIL = """<!doctype html><script>
 (async () => {
-  const said = [], at = "ADDRESS", token = {"X-Token": "TOKEN"};
-  const tries = {
-    "a call": () => fetch(at + "/call/hello", {method: "POST", body: "{}"}),
-    "a call with the token": () => fetch(at + "/call/hello", {method: "POST", body: "{}", headers: token}),
-    "the page": () => fetch(at + "/"),
+  const said = [], at = "ADDRESS", call = {method: "POST", body: "{}"}, tries = {
+    "a call": () => fetch(at + "/call/hello", call), "the page": () => fetch(at + "/"),
+    "a call with the token": () => fetch(at + "/call/hello", {...call, headers: {"X-Token": "TOKEN"}}),
     "a script": () => new Promise((good, bad) => { const s = document.createElement("script"); s.src = at + "/api.js";
-      s.onload = good; s.onerror = bad; document.head.append(s); }),
-  };
+      s.onload = good; s.onerror = bad; document.head.append(s); })};
   for (const name in tries) { try { await tries[name](); said.push(name); } catch (refused) { } }
   const frame = document.createElement("iframe");
   frame.src = at + "/";
@@ -54,16 +51,13 @@ EVIL = """<!doctype html><script>
   document.title = "tried: " + said.join(", ");
 })();
 </script><body>"""
-
-
 TWO, ALL_OF_FOUR = "p edge 2 1\ne 1 2\n", "p edge 4 6\ne 1 2\ne 1 3\ne 1 4\ne 2 3\ne 2 4\ne 3 4\n"
 ADVERSARIES = {
     "two": (TWO, ()), "triangle": ("p edge 3 3\ne 1 2\ne 1 3\ne 2 3\n", ()),
     "row": ("p edge 4 3\ne 1 2\ne 2 3\ne 3 4\n", ()), "star": ("p edge 4 3\ne 1 4\ne 2 4\ne 3 4\n", ()),
     "ring": ("p edge 4 4\ne 1 2\ne 2 3\ne 3 4\ne 1 4\n", ()), "two without safes": (TWO, ("--without", "safes")),
     "two without early": (TWO, ("--without", "early")), "four without safes": (ALL_OF_FOUR, ("--without", "safes"))}
-# How long each takes: what the page does for a place of the slider; from frame to frame while it plays; and a node that
-# is moved, with its layout.
+# What the page does for a place of the slider; and from frame to frame while it plays.
 FRAMES = {
     "a place of the slider": """(() => { const s = document.getElementById('slider'), took = [];
       for (let k = 0; k <= 200; k++) { s.value = s.max * k / 200; const b = performance.now(); s.oninput();
@@ -72,15 +66,7 @@ FRAMES = {
     "a frame while it plays": """(async () => { const took = [], {time} = studio; time.set(13); time.toggle();
       for (let before = 0; took.length < 300; ) { const now = await new Promise(requestAnimationFrame);
         if (before) took.push(now - before); before = now; }
-      time.stop(); return took; })()""",
-    "a node that is dragged": """(async () => { document.querySelector('[data-tab=draw]').click(); const took = [],
-      svg = document.getElementById('net'), b = svg.getBoundingClientRect(), x = b.x + studio.stage.X(7),
-      y = b.y + studio.stage.Y(7), fire = (kind, k) => svg.dispatchEvent(new PointerEvent(kind,
-        {clientX: x + 2 * k, clientY: y + k, pointerId: 1, button: 0, bubbles: true}));
-      svg.setPointerCapture = () => 0; fire('pointerdown', 0);
-      for (let k = 4; k < 104; k++) { const t = performance.now(); fire('pointermove', k); svg.getBoundingClientRect();
-        took.push(performance.now() - t); }
-      fire('pointerup', 104); return took; })()"""}
+      time.stop(); return took; })()"""}
 EVENTS, WIRE = "run.length - 1", "#net [data-step]"
 READY = "T.nodes.map((_, a) => a + 1).filter(v => possible().some(one => !one.take && one.v === v))"
 # The texts and messages of the map that lie outside of it.
@@ -133,6 +119,13 @@ class More(studio_page.Page):
         scale = self.page.value("studio.stage.to.scale")
         self.page.key("+", text="+")
         self.note("a key zooms", self.page.value("studio.stage.to.scale") > scale)
+        self.go_to("example=two&tab=draw&node=1")
+        self.sees("the fields of a node", "document.querySelector('#chosen input')")
+        self.page.value("document.querySelector('#chosen input').focus()")
+        for words in ("Oslo", "77"):
+            self.page.ask("Input.insertText", text=words)
+            self.page.key("Tab", code="Tab", windowsVirtualKeyCode=9)
+        self.sees("Tab goes from field to field", "studio.net.nodes[0].name + studio.net.nodes[0].id === 'Oslo77'")
 
     def test_widths(self):
         for name, words in SHOWN.items():
@@ -140,12 +133,13 @@ class More(studio_page.Page):
             self.sees(f"{name} is there", "document.getElementById('busy').hidden && studio.net.nodes.length > 0")
             time.sleep(1.5)
             for kind, wide, high, phone, dark in (("desk", 1280, 800, False, False), ("phone", 360, 780, True, False),
-                                                  ("dark", 1280, 800, False, True)):
+                                                  ("side", 740, 360, True, False), ("dark", 1280, 800, False, True)):
                 self.page.size(wide, high, phone)
                 self.page.dark(dark)
                 time.sleep(0.4)
-                shown = self.page.value("document.documentElement.scrollWidth")
-                self.note(f"{name}, {kind}: no wider than the window", shown <= wide, shown)
+                shown = self.page.value("(({scrollWidth: w, scrollHeight: h}) => [w, h])(document.documentElement)")
+                self.note(f"{name}, {kind}: no wider than the window", shown[0] <= wide, shown)
+                self.note(f"{name}, {kind}: and no higher", kind == "phone" or shown[1] <= high, shown)
                 if self.shots:
                     self.page.shot(os.path.join(self.shots, f"{name}-{kind}.png"))
             self.page.size(1280, 800)
@@ -202,13 +196,12 @@ class More(studio_page.Page):
         self.page.click_on("#make button")
         self.sees("a random network", "studio.net.nodes.length === 8")
 
-    def test_pictures(self):
+    def test_links(self):
+        """Each picture is drawn, and each lesson opens."""
         for kind in ("plan", "forests", "rounds", "bits", "why", "matrix", "run", "overview", "node", "tally"):
             self.go_to(f"example=triangle&tab=pictures&kind={kind}")
             self.sees(kind, f"document.querySelector('#picture img[alt={kind}]')")
-
-    def test_lessons(self):
-        for number in range(1, 7):
+        for number in range(1, 8):
             self.go_to(f"lesson={number}")
             self.sees(f"lesson {number}", "document.querySelector('#lesson b') && document.querySelector('#lesson b')"
                                           f".textContent.startsWith('{number}.') && studio.net.nodes.length")
@@ -305,13 +298,7 @@ class More(studio_page.Page):
 
         class Evil(http.server.BaseHTTPRequestHandler):
             def do_GET(self):
-                self.send_response(200)
-                self.send_header("Content-Type", "text/html")
-                self.end_headers()
-                self.wfile.write(evil)
-
-            def log_message(self, *_):
-                pass
+                self.wfile.write(b"HTTP/1.0 200 OK\r\nContent-Type: text/html\r\n\r\n" + evil)
 
         faults = list(self.page.faults)
         self.note("no script complained", not [fault for fault in faults if "favicon" not in fault], faults[:5])
@@ -405,8 +392,9 @@ class Adversary(studio_page.Page):
         self.page.click_on("#rest")
         self.has("nothing comes over a frozen line", f"frozen['{v}–{w}'] && T.links.filter(link => edgeOf(link) === "
                  f"'{v}–{w}').every(link => held(link, now().state).length)")
-        self.page.click_on("#freeze button")
-        self.has("its button thaws it", f"!frozen['{v}–{w}'] && possible().length > 0")
+        self.page.value(f"document.querySelector('#net [data-edge=\"{v}-{w}\"]').focus()")
+        self.type("Enter", text="\r", windowsVirtualKeyCode=13)
+        self.has("a key thaws it", f"!frozen['{v}–{w}'] && possible().length > 0")
 
     def refused(self):
         """What isn't possible is said, in a list and in an address."""

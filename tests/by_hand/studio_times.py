@@ -33,11 +33,10 @@ def asked(address, name, **words):
 
 
 def row(address, call, count, **words):
-    got = [asked(address, call.split()[0], **words) for _ in range(count)]
-    took = sorted(ms for ms, _ in got)
-    said = got[0][1].get("wrong", "")
+    took, got = zip(*sorted((asked(address, call.split()[0], **words) for _ in range(count)), key=lambda one: one[0]))
+    said = got[0].get("wrong", "")
     print(f"  {call:16} {took[0]:6.0f} ms at least, {took[len(took) // 2]:6.0f} in the middle  {said}", flush=True)
-    return got[0][1].get("answer")
+    return got[0].get("answer")
 
 
 def first_picture():

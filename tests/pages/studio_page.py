@@ -177,6 +177,11 @@ class Drawn(Page):
         self.sees("No clock plays the rest", "studio.seen.tab === 'run' && document.getElementById('judge').textContent"
                                              ".startsWith('✓')")
         self.note("with these steps first", self.page.value("studio.run.steps.length") > 2)
+        self.go_to("example=triangle&tab=adversary&node=1")
+        self.sees("all of it again", "!studio.steps.made.length && document.querySelector('#possible button')")
+        self.page.value("window.often = setInterval(() => document.getElementById('chance').click(), 2)")
+        self.sees("a key that is held makes steps", "studio.steps.made.length > 3", 10)
+        self.page.value("clearInterval(often)")
         self.go_to("example=two&tab=adversary&without=acks&steps=1-2")
         self.sees("a rule left out", "document.getElementById('rule').textContent.includes('says safe at once')")
 

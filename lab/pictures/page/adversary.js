@@ -1,7 +1,7 @@
 // The adversary's page: whoever looks is the network, and chooses which message comes next. It follows a table of all
 // states, D.table; it has no algorithm in it.
 import {HALO, blank, channelCircle, element, html, words} from "./marks.js";
-import {SLOW, queueMarks} from "./run.js";
+import {heldEdge, queueMarks} from "./run.js";
 import {Stage} from "./stage.js";
 
 const T = D.table, stage = new Stage(element("net"), D.net);
@@ -128,7 +128,7 @@ function showMap(steps) {
   const pulse = new Set(steps.filter(one => !one.take).map(one => one.v));
   stage.draw({apart: 4.6, bars: false, below: true, label: v => String(v),
     node: (v, x, y, r) => discOf(nodeAt(v, now().state), x, y, r),
-    ring: v => pulse.has(v) ? "var(--good)" : null, edge: (v, w) => frozen[v + "–" + w] ? SLOW : {},
+    ring: v => pulse.has(v) ? "var(--good)" : null, edge: (v, w) => heldEdge(v, w, frozen[v + "–" + w] === true),
     above: () => T.links.flatMap(wiresOf)});
 }
 // A node: its pulse, or its channel once it has halted, and below it what it waits for.
@@ -160,11 +160,6 @@ function button(said, mark, step) {
   made.onclick = () => play(step);
   return made;
 }
-// What the element that has the focus carries, as the button that takes its place gets it again.
-function focused(key) {
-  const active = document.activeElement;
-  return active && active.dataset ? active.dataset[key] : null;
-}
 function nodeBox(v, step) {
   const is = nodeAt(v, now().state), [pulse, waits, found, , holds, more] = is, box = html("div"), line = html("div");
   box.className = "possible";
@@ -180,7 +175,8 @@ function nodeBox(v, step) {
   return box;
 }
 function showNodes(steps) {
-  const place = element("nodes"), focus = focused("key");
+  // What takes the place of the button that has the focus gets it again.
+  const place = element("nodes"), focus = document.activeElement.dataset.key;
   place.replaceChildren(...T.nodes.map((_, a) => nodeBox(a + 1, steps.find(one => !one.take && one.v === a + 1))));
   const free = Array.from(place.querySelectorAll("button:not(:disabled)"));
   free.slice(0, 9).forEach((made, k) => made.prepend(html("kbd", k + 1)));
@@ -220,24 +216,12 @@ function showDares() {
     return line;
   }));
 }
-function showFreeze() {
-  const place = element("freeze"), focus = focused("edge");
-  place.replaceChildren(...D.net.edges.map(edge => {
-    const name = edge.join("–"), made = html("button", name, {"aria-label": "freeze " + name, "data-edge": name,
-      "aria-pressed": frozen[name] === true});
-    made.onclick = () => freeze(name);
-    return made;
-  }));
-  const again = focus && place.querySelector(`[data-edge="${focus}"]`);
-  if (again) again.focus();
-}
 function show() {
   const steps = possible(), list = element("list");
   showMap(steps);
   showNodes(steps);
   showSaid(steps);
   showDares();
-  showFreeze();
   list.value = listed().join("\n") + "\n";
   list.scrollTop = list.scrollHeight;
   element("state").textContent = stateLines().join("\n");
@@ -288,13 +272,13 @@ const tools = {undo, anew: () => { restart(); show(); }, random: () => { randoml
   rest: () => { while (randomly()); show(); }, step: () => { inStep(); show(); }, paste: playList};
 Object.keys(tools).forEach(id => { element(id).onclick = tools[id]; });
 element("copy").onclick = () => {
-  const copied = () => document.execCommand("copy");
   element("list").select();
-  if (navigator.clipboard) navigator.clipboard.writeText(element("list").value).catch(copied); else copied();
-  element("copy").textContent = "copied";
+  if (document.execCommand("copy")) element("copy").textContent = "copied";
 };
 document.onkeydown = pressed => {
   if (pressed.ctrlKey || pressed.metaKey || pressed.altKey || pressed.target === element("list")) return;
+  const {edge} = pressed.target.dataset;
+  if (edge && pressed.key === "Enter") return freeze(edge.replace("-", "–"));
   const key = {u: "#undo", r: "#random", s: "#step"}[pressed.key], made = key ? [document.querySelector(key)]
     : /^[1-9]$/.test(pressed.key) ? [element("nodes").querySelectorAll("button:not(:disabled)")[pressed.key - 1]] : [];
   made.filter(Boolean).forEach(one => one.click());

@@ -150,7 +150,6 @@ export class RunFilm {
 }
 // An edge whose link can be made to wait, also by a key.
 export function heldEdge(v, w, isHeld) {
-  return {...isHeld ? SLOW : {}, tabindex: 0, role: "button", "aria-pressed": isHeld,
-    "aria-label": `link ${v}–${w} waits`};
+  return {...isHeld ? {stroke: "#0072B2", "stroke-width": 5, "stroke-dasharray": "2 6"} : {}, tabindex: 0,
+    role: "button", "aria-pressed": isHeld, "aria-label": `link ${v}–${w} waits`};
 }
-export const SLOW = {stroke: "#0072B2", "stroke-width": 5, "stroke-dasharray": "2 6"};

@@ -21,10 +21,10 @@ export function cancel(key) {
   running.delete(key);
 }
 
-// The answer and how long it took, {answer, ms, whole}; null if a later call of the key, or cancel, ended it.
+// The answer; null if a later call of the key, or cancel, ended it.
 export async function call(name, asked = {}, {key = name, progress, part} = {}) {
   cancel(key);
-  const control = new AbortController(), begun = performance.now();
+  const control = new AbortController();
   running.set(key, control);
   try {
     const got = await fetch("/call/" + name, {method: "POST", signal: control.signal, body: JSON.stringify(asked),
@@ -46,7 +46,7 @@ export async function call(name, asked = {}, {key = name, progress, part} = {}) 
     }
     if (last && last.wrong !== undefined) throw new Wrong(last.wrong);
     if (!last || last.answer === undefined) throw new Wrong("the call was ended: it took too much time or memory");
-    return {answer: last.answer, ms: last.ms, whole: performance.now() - begun};
+    return last.answer;
   } catch (fault) {
     if (control.signal.aborted) return null;
     throw fault;

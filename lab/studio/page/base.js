@@ -45,7 +45,6 @@ export function wrong(said, key = null) {
   by("wrong").textContent = said || "";
   wrongKey = key;
 }
-export function took(said, tab = seen.tab) { if (tab === seen.tab) by("took").textContent = said; }
 export function busy(said, key, onCancel) {
   const box = by("busy");
   if (!said) {
@@ -80,14 +79,8 @@ export async function tried(key, said, does) {
 export function asks(name, asked, said, does, key = name) {
   return tried(key, said, async () => {
     const got = await call(name, asked, {key});
-    if (got) await does(got.answer, got);
+    if (got) await does(got);
   });
-}
-// How long the last answer to each call took, for tests.
-export const measured = {};
-export function ms(got, name) {
-  measured[name] = [got.ms, got.whole];
-  return `${Math.round(got.ms)} ms, ${Math.round(got.whole)} ms until it was here`;
 }
 export function option(select, value, said, title = "") {
   select.append(html("option", said || value, {value, title}));
@@ -118,11 +111,8 @@ export function among(of, name) { return Object.hasOwn(of, name) ? name : ""; }
 export function whole(said) { return /^\d{1,6}$/.test(said) ? +said : 0; }
 export function listOf(said) { return (said || "").split("_").filter(Boolean); }
 export function edgesOf(said) { return listOf(said).map(pair => pair.split("-").map(Number)); }
-// A click on an edge has its link wait, or no more.
-export function toggleSlow(edge) {
-  const name = edge.join("-"), has = seen.slow.some(e => e.join("-") === name);
-  seen.slow = has ? seen.slow.filter(e => e.join("-") !== name) : seen.slow.concat([edge]);
-}
-export function toggleLazy(v) {
-  seen.lazy = seen.lazy.includes(v) ? seen.lazy.filter(w => w !== v) : seen.lazy.concat(v);
+// A click on an edge has its link wait, or no more; and so with a node.
+export function toggle(list, one) {
+  const rest = seen[list].filter(other => String(other) !== String(one));
+  seen[list] = rest.length < seen[list].length ? rest : rest.concat([one]);
 }

@@ -1,5 +1,5 @@
 // The tab Check: a plan that is typed or clicked, with the verdict on it, and transcripts.
-import {asks, by, capital, hooks, listOf, ms, seen, show, stage, tabs, took, whole} from "./base.js";
+import {asks, by, capital, hooks, listOf, seen, show, stage, tabs, whole} from "./base.js";
 import {blank, channelCircle, html, note} from "./marks.js";
 import {net, neighbours, text} from "./model.js";
 
@@ -10,9 +10,8 @@ const SAID = {C4: "one channel", C8: "barred here", C1: "no channel yet", C5: "t
 function set(v, channel) { check.plan[v - 1] = Math.max(0, Math.min(9999, channel)); }
 function ask() {
   show();
-  return asks("check", {network: text(), plan: check.plan}, "checking", (verdict, got) => {
+  return asks("check", {network: text(), plan: check.plan}, "checking", verdict => {
     check.verdict = verdict;
-    took("check: " + ms(got, "check"), "check");
     show();
   });
 }
@@ -82,7 +81,7 @@ by("judged").onclick = () => asks("judge", {network: text(), transcript: by("tra
   // The machine counts lines from the network's first one.
   const said = proved && proved.said.replace(/line (\d+)/, (_, line) => `line ${line - is.before}`);
   place.className = "verdict " + (is.ok ? "good" : "bad");
-  place.replaceChildren(html("p", (is.ok ? "✓ " : "✗ ") + is.words));
+  place.replaceChildren(html("p", (is.ok ? "✓ " : "✗ ") + is.said));
   // Without a first line all of it is read as more of the network.
   if (proved && is.line !== 1) {
     place.append(html("p", proved.ok ? `✓ ${proved.by} accepts it, too.` : `✗ ${proved.by}: ${said}`));

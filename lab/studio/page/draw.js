@@ -1,7 +1,6 @@
 // The tab Draw: the network is drawn with the mouse, a finger or keys, and its plan is shown after each change.
 import {call, cancel} from "./api.js";
-import {all, among, asks, by, count, go, hang, hooks, ms, seen, show, stage, tabs, took, tried, whole, wrong}
-  from "./base.js";
+import {all, among, asks, by, count, go, hang, hooks, seen, show, stage, tabs, tried, whole, wrong} from "./base.js";
 import {blank, channelCircle, html} from "./marks.js";
 import * as model from "./model.js";
 import {change, net, neighbours, text} from "./model.js";
@@ -38,10 +37,9 @@ export function askPlan() {
   drawn.fresh = false;
   by("plan").classList.add("old");
   if (!net.nodes.length) { drawn.plan = null; facts(); return show(); }
-  timer = setTimeout(() => asks("plan", {network: text()}, "looking for the plan", (plan, got) => {
+  timer = setTimeout(() => asks("plan", {network: text()}, "looking for the plan", plan => {
     Object.assign(drawn, {plan, fresh: true});
     by("plan").classList.remove("old");
-    took("plan: " + ms(got, "plan"), "draw");
     if (seen.tab === "draw") { facts(); if (!by("chosen").contains(document.activeElement)) inspect(); show(); }
   }), 40);
 }
@@ -139,7 +137,6 @@ tabs.draw = {
 // Files.
 export async function openFile(file, heading = null, name = null) {
   by("heading").hidden = true;
-  by("notes").textContent = "";
   if (file.size > 4e6) return wrong("That file is larger than the studio reads.");
   const bytes = new Uint8Array(await file.arrayBuffer());
   let words = "";
@@ -180,21 +177,17 @@ export function makeForm() {
   form.onsubmit = event => {
     event.preventDefault();
     const asked = Object.fromEntries(Array.from(sizes.querySelectorAll("input"), one => [one.name, one.value]));
-    asks("make", {kind: kind.value, sizes: asked, seed: asked.seed}, "making it", (found, got) => {
-      model.load(found);
-      took("made: " + ms(got, "made"));
-    });
+    asks("make", {kind: kind.value, sizes: asked, seed: asked.seed}, "making it", found => model.load(found));
   };
 }
 by("undo").onclick = model.undo;
 by("redo").onclick = model.redo;
 by("delete").onclick = remove;
 by("clear").onclick = () => change(n => { n.nodes = []; n.edges = []; n.name = ""; });
-by("tidy").onclick = () => asks("tidy", {network: text()}, "laying it out", ({nodes}, got) => {
+by("tidy").onclick = () => asks("tidy", {network: text()}, "laying it out", ({nodes}) => {
   change(n => { n.nodes = nodes; });
   stage.fit();
   show();
-  took("tidied: " + ms(got, "tidied"));
 });
 by("apply").onclick = () => openFile(new File([by("text").value], "the text"), null, net.name);
 by("file").onchange = () => { if (by("file").files[0]) openFile(by("file").files[0]); by("file").value = ""; };
@@ -224,10 +217,9 @@ function askPicture() {
     const got = await call("picture", {kind, network: text(), name: net.name, forest: tabs.rounds.forest(), vertex,
       transcript, pulses: isOfRun ? pulses : null});
     if (!got) return;
-    hang(got.answer, kind);
-    by("keep").href = URL.createObjectURL(new Blob([got.answer], {type: "image/svg+xml"}));
+    hang(got, kind);
+    by("keep").href = URL.createObjectURL(new Blob([got], {type: "image/svg+xml"}));
     by("keep").download = `${net.name || "network"}-${kind}.svg`;
-    took("picture: " + ms(got, "picture"), "pictures");
   });
 }
 Object.keys(KINDS).forEach(one => {

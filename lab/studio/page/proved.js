@@ -20,9 +20,8 @@ function show(is) {
 async function ask(name) {
   clearTimeout(timer);
   try {
-    const got = await call(name);
-    if (!got) return;
-    const is = got.answer;
+    const is = await call(name);
+    if (!is) return;
     if (is.proved && !seen.hello.proved) { await ready(); return show(is); }
     show(is);
     if (is.lines.length && !is.ended) timer = setTimeout(look, 2000);

@@ -1,7 +1,7 @@
 // The tab Rounds: the network at each pulse, why a node has its channel, and what goes wrong without a rule.
 import {call} from "./api.js";
-import {KEYS, among, asks, by, capital, fill, go, hang, hide, ms, picture, say, seen, show, stage, tabs, time, took,
-  tried, whole} from "./base.js";
+import {KEYS, among, asks, by, capital, fill, go, hang, hide, picture, say, seen, show, stage, tabs, time, tried, whole}
+  from "./base.js";
 import {html, patch} from "./marks.js";
 import {load as load_, net, text} from "./model.js";
 import {RoundsFilm, roundsLegend} from "./rounds.js";
@@ -13,8 +13,7 @@ export async function load(program = seen.program) {
   if (key === rounds.of) return true;
   const got = await call("rounds", {network: asked, program});
   if (!got) return false;
-  const film = new RoundsFilm(got.answer, net);
-  Object.assign(rounds, {film, of: key, why: null, whyOf: null, took: got});
+  Object.assign(rounds, {film: new RoundsFilm(got, net), of: key, why: null, whyOf: null});
   return true;
 }
 function isReady() { return rounds.film && rounds.of === seen.program + text(); }
@@ -43,9 +42,8 @@ async function askWhy() {
   if (rounds.whyOf === v && rounds.why) return show();
   const got = await call("why", {network: text(), vertex: v});
   if (!got || seen.node !== v) return;
-  Object.assign(rounds, {why: got.answer, whyOf: v});
-  took("why: " + ms(got, "why"), "rounds");
-  const [head, summary, ...lines] = got.answer.lines, more = html("details"), list = html("ul");
+  Object.assign(rounds, {why: got, whyOf: v});
+  const [head, summary, ...lines] = got.lines, more = html("details"), list = html("ul");
   more.append(html("summary", "step by step, back to identifiers (colours count from 0)"), list);
   lines.forEach(line => list.append(html("li", line.trim().replace(/\bchosen (\d+)/, (said, colour) =>
     `${said} (channel ${+colour + 1})`))));
@@ -108,7 +106,6 @@ tabs.rounds = {
       if (!await load() || seen.tab !== "rounds") return;
       time.range(0, rounds.film.last);
       roundsLegend(by("roundslegend"), rounds.film);
-      took("rounds: " + ms(rounds.took, "rounds"));
       time.set(time.at);
       await askWhy();
     });

@@ -1,7 +1,7 @@
 // The tab No clock: a run by a seed or by real threads, its verdicts, another order or the rounds beside it.
 import {call} from "./api.js";
-import {KEYS, all, among, by, capital, fill, hide, isHidden, listOf, ms, progress, say, seen, show, stage, tabs, time,
-  took, toggleLazy, toggleSlow, tried, wrong} from "./base.js";
+import {KEYS, all, among, by, capital, fill, hide, isHidden, listOf, progress, say, seen, show, stage, tabs, time,
+  toggle, tried, wrong} from "./base.js";
 import {net, text} from "./model.js";
 import {rounds} from "./rounds_tab.js";
 import {RunFilm, runLegend, waitsTable} from "./run.js";
@@ -39,8 +39,7 @@ export async function load() {
     const got = await call("run", wanted, {progress, part});
     if (!got) return false;
     run.key = wanted.how === "threads" ? null : key;
-    run.took = got;
-    take(got.answer, wanted.network, false);
+    take(got, wanted.network, false);
   }
   return await loadOther();
 }
@@ -50,7 +49,7 @@ async function loadOther() {
   if (key === run.key2 && run.film2) return true;
   const got = await call("run", wanted, {progress, key: "run2"});
   if (!got) return false;
-  Object.assign(run, {key2: key, film2: new RunFilm(got.answer, net), found2: got.answer});
+  Object.assign(run, {key2: key, film2: new RunFilm(got, net), found2: got});
   return true;
 }
 function isReady() { return run.film && run.of === text(); }
@@ -73,7 +72,6 @@ function ask() {
     if (by("beside").checked) await tabs.rounds.load();
     place(time.at);
     if (run.found.of) by("policysaid").textContent += ` Here it is ${run.found.of}.`;
-    took("run: " + ms(run.took, "run"));
     judgeSoon();
   });
 }
@@ -176,10 +174,10 @@ async function judgeHere() {
   const {at, found} = run;
   if (seen.tab !== "run" || !isReady() || run.isPart || run.judgedAt === at) return;
   const lines = found.text.split("\n", at + 1).join("\n");
-  const got = await call("replay", {network: text(), transcript: lines, program: seen.program});
-  if (!got || run.at !== at || run.found !== found) return;
+  const is = await call("replay", {network: text(), transcript: lines, program: seen.program});
+  if (!is || run.at !== at || run.found !== found) return;
   run.judgedAt = at;
-  const is = got.answer, agrees = is.ok && is.pulses.every((p, k) => p === run.film.look(k + 1, at).p);
+  const agrees = is.ok && is.pulses.every((p, k) => p === run.film.look(k + 1, at).p);
   by("judgehere").className = "verdict " + (agrees ? "good" : "bad");
   by("judgehere").textContent = !is.ok ? `✗ Up to here: ${is.said}` : `${agrees ? "✓" : "✗"} Up to here it accepts `
     + `${is.entries.toLocaleString("en")} entries; its nodes are ${agrees ? "at the pulses shown" : "elsewhere"}, and `
@@ -202,7 +200,7 @@ tabs.run = {
   click(v, edge) {
     if (v) { seen.node = v === seen.node ? null : v; return show(); }
     if (!edge) return;
-    toggleSlow(edge);
+    toggle("slow", edge);
     by("made").value = "seed";
     ask();
   },
@@ -268,4 +266,4 @@ by("beside").onchange = ask;
     ask();
   };
 });
-by("lazy").onchange = () => { toggleLazy(seen.node); by("made").value = "seed"; ask(); };
+by("lazy").onchange = () => { toggle("lazy", seen.node); by("made").value = "seed"; ask(); };

@@ -1,7 +1,6 @@
 // The tab Adversary: whoever looks is the network, and chooses which message is taken next and which node pulses.
 import {token} from "./api.js";
-import {all, among, asks, busy, by, go, hooks, listOf, seen, show, stage, tabs, toggleLazy, toggleSlow, took}
-  from "./base.js";
+import {all, among, asks, busy, by, go, hooks, listOf, seen, show, stage, tabs, toggle} from "./base.js";
 import {html} from "./marks.js";
 import {net, text} from "./model.js";
 import {alphaMarks, heldEdge, queueMarks, waitsWords} from "./run.js";
@@ -16,11 +15,7 @@ async function ask(more = {}) {
   const {slow, lazy, program} = seen, {without, made} = steps;
   asking += 1;
   await asks("steps", {network: text(), program, slow, lazy, without, steps: made.join("_"), ...more},
-    "playing these steps", (found, {ms}) => {
-      Object.assign(steps, {found, made: found.made});
-      took(`${found.made.length} steps, ${Math.round(ms)} ms`, "adversary");
-      show();
-    });
+    "playing these steps", found => { Object.assign(steps, {found, made: found.made}); show(); });
   asking -= 1;
 }
 // A step is made after the one before: a click that comes too early is none.
@@ -81,7 +76,7 @@ function listSteps(is) {
   place.replaceChildren(...rows.slice(0, 14).map(v => {
     const line = html("div", null, {class: "possible"}), look = is.looks[v - 1], hold = html("button",
       seen.lazy.includes(v) ? "let go" : "hold", {class: "quiet", "aria-label": `hold node ${v}`});
-    hold.onclick = () => { toggleLazy(v); show(); };
+    hold.onclick = () => { toggle("lazy", v); show(); };
     line.append(html("b", `node ${v} `), html("span", `pulse ${look.p}: ${waitsWords(look)} `, {class: "soft"}), hold);
     (byNode.get(v) || []).forEach(step => {
       const free = isFree(step), button = html("button", null, {"data-step": step, class: kindOf(is, step)});
@@ -142,7 +137,7 @@ tabs.adversary = {
     if (step) return make(step);
     if (v && steps.found && isFree(String(v))) return make(String(v));
     if (v) { seen.node = v === seen.node ? null : v; return show(); }
-    if (edge) { toggleSlow(edge); show(); }
+    if (edge) { toggle("slow", edge); show(); }
   },
   key(event, on) {
     if (on) return false;

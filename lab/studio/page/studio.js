@@ -1,7 +1,7 @@
 // The studio: its tabs, the mouse on the stage, keys, and the address, which says all that is seen.
 import {call, cancel, token} from "./api.js";
-import {all, asks, by, edgesOf, hooks, listOf, measured, option, say, seen, show, stage, tabs, time, took, tried, whole,
-  wrong, zoomPicture} from "./base.js";
+import {all, asks, by, edgesOf, hooks, listOf, option, say, seen, show, stage, tabs, time, tried, whole, wrong,
+  zoomPicture} from "./base.js";
 import {askPlan, drawn, inspect, makeForm, openFile} from "./draw.js";
 import {check} from "./check.js";
 import {rounds} from "./rounds_tab.js";
@@ -22,12 +22,11 @@ const CALLS = ["rounds", "why", "broken", "run", "run2", "replay", "check", "pic
 hooks.show = () => {
   const tab = tabs[seen.tab], isThere = !net.nodes.length && seen.tab !== "draw" || tab.show() !== false;
   // Nothing is known of this network yet, and nothing of another one is left.
-  if (!isThere) stage.draw({node: (v, x, y, r) => blank(x, y, r)});
+  if (!isThere) { stage.draw({node: (v, x, y, r) => blank(x, y, r)}); say("when", ""); }
   ["back", "play", "next", "slider"].forEach(id => { by(id).disabled = !isThere; });
   by("empty").hidden = net.nodes.length > 0;
   say("hint", (isReplaced ? "Undo (Ctrl-Z, or in Draw) brings your drawing back. " : "") + tab.hint());
-  say("name", [net.name, seen.program === "colouring" ? "" : seen.program].filter(Boolean).map(name => "· " + name)
-    .join(" "));
+  say("name", [net.name, seen.program].filter(one => one && one !== "colouring").map(one => "· " + one).join(" "));
   hooks.link();
 };
 hooks.go = (name, more = {}) => {
@@ -40,6 +39,7 @@ hooks.go = (name, more = {}) => {
   if (name !== seen.tab) history.pushState(null, "", location.href);
   seen.tab = name;
   enter(more);
+  link();
 };
 function enter(more = {}) {
   const name = seen.tab;
@@ -51,7 +51,6 @@ function enter(more = {}) {
   by("net").style.display = name === "pictures" ? "none" : "";
   by("picture").hidden = name !== "pictures";
   by("picture").replaceChildren();
-  took("");
   wrong("");
   if (name !== "draw" && !net.nodes.length) { tabs.draw.show(); wrong("Draw a network first."); return hooks.link(); }
   Object.keys(tabs).forEach(other => { if (other !== name && tabs[other].leave) tabs[other].leave(); });
@@ -77,6 +76,7 @@ model.onChange(what => {
   if (what === "undo" && stage.isOutside()) stage.fit();
   if (what === "load") {
     wrong("");
+    say("notes", "");
     Object.assign(left, {rounds: 0, run: 0});
     Object.assign(seen, {node: null, slow: [], lazy: []});
     check.plan = [];
@@ -194,7 +194,7 @@ async function follow() {
     const example = given.get("example"), got = example && await call("example", {name: example});
     // Another address has been followed since.
     if (mine !== follows || example && !got) return;
-    const found = got ? got.answer : given.has("net") ? model.fromCode(given.get("net"))
+    const found = got ? got : given.has("net") ? model.fromCode(given.get("net"))
       : net.nodes.length ? null : hello.opened;
     seen.tab = "draw";
     if (found) model.load(found, example || "");
@@ -229,24 +229,16 @@ by("copy").onclick = async () => {
   try { await navigator.clipboard.writeText(location.href); said("copied"); } catch { said("see the address"); }
   setTimeout(() => said("link"), 2000);
 };
-by("examples").onchange = () => {
-  const name = by("examples").value;
-  by("examples").value = "";
-  if (name) asks("example", {name}, "opening", found => model.load(found, name));
-};
-by("lessons").onchange = () => {
-  const number = by("lessons").value;
-  by("lessons").value = "";
-  if (number) location.hash = "lesson=" + number;
-};
-// An arrow on a closed list opens it: it would choose at once.
-["lessons", "examples"].forEach(id => {
-  by(id).onkeydown = event => {
-    if (!/^Arrow(Up|Down)$/.test(event.key) || !by(id).showPicker) return;
-    event.preventDefault();
-    by(id).showPicker();
+// A menu has its title again once something is chosen. An arrow on a closed one opens it: it would choose at once.
+function menu(id, choose) {
+  const list = by(id);
+  list.onchange = () => { const {value} = list; list.value = ""; if (value) choose(value); };
+  list.onkeydown = event => {
+    if (/^Arrow(Up|Down)$/.test(event.key) && list.showPicker) { event.preventDefault(); list.showPicker(); }
   };
-});
+}
+menu("examples", name => asks("example", {name}, "opening", found => model.load(found, name)));
+menu("lessons", number => { location.hash = "lesson=" + number; });
 all("nav button").forEach(one => { one.onclick = () => hooks.go(one.dataset.tab); });
 
 document.onkeydown = event => {
@@ -264,18 +256,17 @@ document.onkeydown = event => {
   else if (!tabs[seen.tab].key || !tabs[seen.tab].key(event, node)) return;
   event.preventDefault();
 };
-document.ondragover = event => { event.preventDefault(); document.body.classList.add("drop"); };
-document.ondragleave = () => document.body.classList.remove("drop");
-document.ondrop = event => {
+function drop(event) {
   event.preventDefault();
-  document.body.classList.remove("drop");
-  if (event.dataTransfer.files[0]) openFile(event.dataTransfer.files[0]);
-};
+  document.body.classList.toggle("drop", event.type === "dragover");
+  if (event.type === "drop" && event.dataTransfer.files[0]) openFile(event.dataTransfer.files[0]);
+}
+document.ondragover = document.ondragleave = document.ondrop = drop;
 window.onhashchange = follow;
 
 // What there is to choose from; asked again when the programs are built.
 async function greet() {
-  seen.hello = (await call("hello")).answer;
+  seen.hello = await call("hello");
   const threads = by("made").querySelector("[value=threads]");
   threads.disabled = !seen.hello.proved;
   threads.textContent = seen.hello.proved ? "by real threads" : "by real threads (not built)";
@@ -299,5 +290,5 @@ async function begin() {
   watchBuild(async () => { await greet(); run.key = rounds.of = null; enter(); askPlan(); });
   await follow();
 }
-window.studio = {net, seen, time, drawn, run, rounds, check, steps, stage, measured};
+window.studio = {net, seen, time, drawn, run, rounds, check, steps, stage};
 begin();
