@@ -84,7 +84,7 @@ def copied_program(program):
         return program.copied()
     node = copy.copy(program)
     for name, value in vars(program).items():
-        if isinstance(value, (list, set)):
+        if isinstance(value, (list, set, dict)):
             setattr(node, name, copy.copy(value))
         elif isinstance(value, Colouring):
             setattr(node, name, copied_program(value))
@@ -92,11 +92,16 @@ def copied_program(program):
 
 
 def key_of_program(program):
-    """Equal for equal nodes of one vertex; by its fields, of which lists and sets hold plain values."""
-    if isinstance(program, OwnNode):
-        return program.key()
-    return tuple(tuple(value) if isinstance(value, list) else frozenset(value) if isinstance(value, set) else
-                 key_of_program(value) if isinstance(value, Colouring) else value for value in vars(program).values())
+    """Equal for equal nodes of one vertex; by its fields, of which lists, sets and dictionaries hold plain values."""
+    return program.key() if isinstance(program, OwnNode) else tuple(map(key_of_field, vars(program).values()))
+
+
+def key_of_field(value):
+    if isinstance(value, list):
+        return tuple(value)
+    if isinstance(value, (set, dict)):
+        return frozenset(value.items() if isinstance(value, dict) else value)
+    return key_of_program(value) if isinstance(value, Colouring) else value
 
 
 class Rounds:

@@ -466,3 +466,36 @@ class Schedules(Case):
             self.note("more states than the limit", Space(net_of("two"), limit=280) is None)
         except TooMany:
             self.note("more states than the limit", True)
+
+    def test_fields_of_a_program(self):
+        """A node may count by port in a dictionary: in a row of three each payload is counted once, in every schedule."""
+        space = Space(network_of(b"p edge 3 2\ne 1 2\ne 2 3\n"), program=Counting)
+        found = [{v: node.result for v, node in space.nodes(end).items()} for end in space.ends]
+        self.note("counts", found == [{1: "{0: 2}", 2: "{0: 2, 1: 2}", 3: "{0: 2}"}] and not space.faults, found)
+
+
+class Counting:
+    """A program whose nodes send something in the pulses 0 and 1, and count by port what comes."""
+    name = "counting"
+
+    def __init__(self, net, v):
+        self.count, self.degree = {}, len(net.neighbours[v])
+
+    @staticmethod
+    def last_pulse(_net):
+        return 2
+
+    def greet(self):
+        return [("Tick", 1)] * self.degree
+
+    def next(self, pulse, inbox):
+        for port, slot in enumerate(inbox):
+            if slot:
+                self.count[port] = self.count.get(port, 0) + 1
+        return self.greet() if pulse < 2 else [None] * self.degree
+
+    def refuses(self, _pulse, _inbox):
+        return False
+
+    def result(self):
+        return str(self.count)
