@@ -2,7 +2,7 @@
 use Rattle.std.specs.Prelude.{ℕ, ◌+◌, ◌/◌, ◌%◌, ◌==◌, Bool, true, false, if◌then◌else◌, List, [], ◌∷◌, ◌++◌, codes, flat_map}
 use Rattle.std.specs.Prelude.{slice_index}
 use Rattle.std.specs.List.{range_with_len}
-use Rattle.std.proofs.Common.{arith, inl, refl, rules}
+use Rattle.std.proofs.Common.{inl, refl}
 use Rattle.interference.specs.Net.{Net, count_of, forest_count_of, greatest_bars_of, greatest_degree_of}
 use Rattle.node_api.specs.Program.{Sizes, last_pulse_on, sizes_of, span}
 use Rattle.colour_rules.specs.declared.phase.Reduction.{Reduction}
@@ -146,7 +146,7 @@ lines-node Halted v node = inl refl
 
 pub colouring_lined : AreTexts colouring_texts
 colouring_lined = record {
-  name = record { some = omega arith; letters = grind (arith, rules) };
+  name = refl;
   head = λ net.
       let last : ℕ = last_pulse_on colouring net in
       let plain : List ℕ = 1 ∷ count_of net ∷ greatest_degree_of net ∷ forest_count_of net ∷ last ∷ [] in

@@ -1,6 +1,6 @@
 -- The words of the layers in texts.
 use Rattle.std.specs.Prelude.{ℕ, Bool, true, false, List, [], ◌++◌, codes, if◌then◌else◌, nat_lt}
-use Rattle.std.proofs.Common.{arith, refl, rules}
+use Rattle.std.proofs.Common.{refl}
 use Rattle.interference.specs.Net.{Net, IsVertex, degree_of, neighbour_of}
 use Rattle.number_rows.specs.Feeds.{HasNoFeed}
 use Rattle.number_rows.specs.Row.{numbered}
@@ -72,7 +72,7 @@ no-feed-towards net v (Away hops port) = no-feed-if (nat_lt port (degree_of net 
 
 pub layers_named : AreNamed layers_words
 layers_named = record {
-  name = record { some = omega arith; letters = grind (arith, rules) };
+  name = refl;
   found = λ s. no-feed-layer s.layer;
   more = λ net v s. no-feed-towards net v s.layer;
 }

@@ -1,6 +1,6 @@
 -- The words of the election in texts.
 use Rattle.std.specs.Prelude.{ℕ, Bool, true, false, List, [], codes, if◌then◌else◌, nat_eq}
-use Rattle.std.proofs.Common.{arith, refl, rules}
+use Rattle.std.proofs.Common.{refl}
 use Rattle.interference.specs.Net.{Net, IsVertex, id_of}
 use Rattle.number_rows.specs.Feeds.{HasNoFeed}
 use Rattle.number_rows.specs.Row.{numbered}
@@ -42,7 +42,7 @@ no-feed-elected false = refl
 
 pub leader_named : AreNamed leader_words
 leader_named = record {
-  name = record { some = omega arith; letters = grind (arith, rules) };
+  name = refl;
   found = λ s. no-feed-numbered (codes " leader ") s.best refl;
   more = λ net v s. no-feed-elected (nat_eq (id_of net v) s.best);
 }

@@ -1,10 +1,14 @@
--- Which texts have no line feed, and which are lines: numbers have none (no-feed-decimal), a row is a line (line-row), and
--- so is a line behind words without one (line-behind); lines one after the other are lines (lines-append, lines-each).
-use Rattle.std.proofs.Common.{◌≡◌, ◌≤◌, ◌+◌, ◌/◌, ◌%◌, ◌==◌, ◌||◌, ◌∙◌, ℕ, zero, suc, Bool, true, false, cond, List, [], ◌∷◌, ◌++◌, map, flat_map}
+-- Which texts have no line feed, and which are lines: numbers have none (no-feed-decimal), and names neither (no-feed-name);
+-- a row is a line (line-row), and so is a line behind words without one (line-behind); lines one after the other are lines
+-- (lines-append, lines-each).
+use Rattle.std.proofs.Common.{◌≡◌, ◌≤◌, ◌+◌, ◌-◌, ◌/◌, ◌%◌, ◌==◌, ◌&&◌, ◌||◌, ◌∙◌, ℕ, zero, suc, Bool, true, false, cond, length, List, [], ◌∷◌, ◌++◌, map, flat_map}
 use Rattle.std.proofs.Common.{append-nil, append_assoc, ap, arith, codes, inl, inr, ltb, ne_eqb, refl, subst, sym}
+use Rattle.std.proofs.lemmas.Bool.{and_parts}
 use Rattle.std.specs.Fmt.{decimal, digit_glyph, digits, digits_onto}
 use Rattle.std.specs.List.{join_with_byte}
+use Rattle.std.specs.Prelude.{slice_index}
 use Rattle.number_rows.specs.Feeds.{AreLines, HasNoFeed, IsLine, has_feed}
+use Rattle.number_rows.specs.Names.{IsName, are_joined, is_small}
 use Rattle.number_rows.specs.Row.{numbered, row}
 
 -- ---- texts without a line feed
@@ -51,6 +55,22 @@ no-feed-joined (n ∷ []) = no-feed-decimal n
 no-feed-joined (n ∷ m ∷ numbers) =
     no-feed-append (decimal n) (32 ∷ join_with_byte 32 (map decimal (m ∷ numbers))) (no-feed-decimal n)
     (no-feed-joined (m ∷ numbers))
+
+-- ---- names
+no-feed-of : (c : ℕ) → (is_small c || c == 45) ≡ true → c ≡ 10 → ⊥
+no-feed-of c is e = let none : (is_small c || c == 45) ≡ false = rw e refl in absurd cc
+
+no-feed-letters : (text : List ℕ) → are_joined text ≡ true → HasNoFeed text
+no-feed-letters [] are = refl
+no-feed-letters (c ∷ cs) are =
+    let parts : ((is_small c || c == 45) ≡ true) × (are_joined cs ≡ true) = and_parts (is_small c || c == 45) (are_joined cs) are in
+    no-feed-cons c cs (no-feed-of c parts.0) (no-feed-letters cs parts.1)
+
+pub no-feed-name : (text : List ℕ) → IsName text → HasNoFeed text
+no-feed-name text is =
+    let some : Bool = ltb 0 (length text) in
+    let ends : Bool = is_small (slice_index text 0) && is_small (slice_index text (length text - 1)) in
+    no-feed-letters text (and_parts some (are_joined text) (and_parts (some && are_joined text) ends is).0).1
 
 -- ---- lines
 pub line-row : (numbers : List ℕ) → IsLine (row numbers)

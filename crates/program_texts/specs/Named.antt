@@ -1,14 +1,14 @@
 -- The texts of a program that begin with its name, edition 3, from the words of its results.
-use Rattle.std.specs.Prelude.{ℕ, Bool, true, false, List, [], ◌∷◌, ◌++◌, codes, if◌then◌else◌, nat_eq, All}
-use Rattle.std.proofs.Common.{arith, inl, refl}
-use Rattle.std.proofs.lemmas.List.Elements.{All-head, All-tail}
+use Rattle.std.specs.Prelude.{ℕ, Bool, true, false, List, [], ◌∷◌, ◌++◌, codes, if◌then◌else◌, nat_eq}
+use Rattle.std.proofs.Common.{inl, refl}
 use Rattle.interference.specs.Net.{Net, count_of, greatest_degree_of}
 use Rattle.node_api.specs.Program.{Program, last_pulse_on}
 use Rattle.number_rows.specs.Feeds.{AreLines, HasNoFeed, IsLine}
+use Rattle.number_rows.specs.Names.{IsName}
 use Rattle.number_rows.specs.Row.{row, numbered}
-use Rattle.number_rows.proofs.Feeds.{are-lines, line-behind, line-end, line-row, no-feed-append, no-feed-cons}
-use Rattle.number_rows.proofs.Feeds.{no-feed-decimal}
-use Rattle.program_texts.specs.Texts.{AreTexts, IsName, IsSmallLetter, ProgramTexts}
+use Rattle.number_rows.proofs.Feeds.{are-lines, line-behind, line-end, line-row, no-feed-append, no-feed-decimal}
+use Rattle.number_rows.proofs.Feeds.{no-feed-name}
+use Rattle.program_texts.specs.Texts.{AreTexts, ProgramTexts}
 
 -- What such a program says, with a space before each word.
 pub record NamedTexts (S : Type 0) : Type 1 where
@@ -48,13 +48,6 @@ texts_of program words = record {
 }
 
 -- ---- these are texts
--- a name has no line feed
-no-feed-name : (name : List ℕ) → All IsSmallLetter name → HasNoFeed name
-no-feed-name [] small = refl
-no-feed-name (c ∷ cs) small =
-    let low : IsSmallLetter c = All-head IsSmallLetter c cs small in
-    no-feed-cons c cs (λ e. omega (arith, e, low.0)) (no-feed-name cs (All-tail IsSmallLetter c cs small))
-
 line-if : (b : Bool) (text : List ℕ) → IsLine text → AreLines (if b then text else [])
 line-if true text is = are-lines text is
 line-if false text is = inl refl
@@ -67,7 +60,7 @@ named_are_texts program words are = record {
       let numbers : List ℕ = count_of net ∷ greatest_degree_of net ∷ last_pulse_on program net ∷ [] in
       line-behind (codes "rounds 3 " ++ words.name ++ codes " ") (row numbers)
       (no-feed-append (codes "rounds 3 " ++ words.name) (codes " ")
-      (no-feed-append (codes "rounds 3 ") words.name refl (no-feed-name words.name are.name.letters)) refl)
+      (no-feed-append (codes "rounds 3 ") words.name refl (no-feed-name words.name are.name)) refl)
       (line-row numbers);
   phase = λ net p. refl;
   lines = λ net p v s. line-if (nat_eq p (last_pulse_on program net)) (found_line (words.found s) v)

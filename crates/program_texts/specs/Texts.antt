@@ -1,12 +1,13 @@
 -- The texts of a program whose nodes have states S, and what they are to say.
-use Rattle.std.specs.Prelude.{ℕ, ◌<◌, ◌≤◌, Bool, List, All, length}
+use Rattle.std.specs.Prelude.{ℕ, Bool, List}
 use Rattle.interference.specs.Net.{Net}
 use Rattle.number_rows.specs.Feeds.{AreLines, HasNoFeed, IsLine}
+use Rattle.number_rows.specs.Names.{IsName}
 
 pub record ProgramTexts (S : Type 0) : Type 1 where
   -- the program's name
   pub name : List ℕ
-  -- whether its rounds and its transcripts begin with its name, in edition 3; the colouring's have editions of their own
+  -- whether its rounds and its transcripts begin with its name, in edition 3; the colouring has editions of its own
   pub is_named : Bool
   -- the first line of its rounds on a network, its end included
   pub head : Net → List ℕ
@@ -18,15 +19,6 @@ pub record ProgramTexts (S : Type 0) : Type 1 where
   pub result : Net → ℕ → S → List ℕ
   -- what the program is for, of the last states of all vertices: its result in the words of the subject
   pub Solves : Net → (ℕ → S) → Type 0
-
--- a small ASCII letter: 'a' to 'z'
-abbrev pub IsSmallLetter : ℕ → Type 0
-IsSmallLetter c = (97 ≤ c) × (c ≤ 122)
-
--- A name is one or more small ASCII letters, so that it is one word of a command line and of a text.
-pub record IsName (name : List ℕ) : Type 0 where
-  pub some : 0 < length name
-  pub letters : All IsSmallLetter name
 
 -- What is said above of the texts: so each line that a program writes is whole, and a result stays within its line.
 pub record AreTexts {S : Type 0} (texts : ProgramTexts S) : Type 0 where

@@ -18,7 +18,7 @@ pub trait NamedText: NodeProgram {
     /// The name, the words of a result, and what the last states are for.
     ghost words: { NamedTexts Self };
 
-    /// The name is one or more small ASCII letters, and no word has a line feed.
+    /// The name is small ASCII letters and hyphens, with a letter first and last, and no word has a line feed.
     ghost are_named: { AreNamed words };
 
     /// On every network the synchronous run ends with what the program is for: the law that `rounds_solve` of

@@ -1,6 +1,6 @@
 -- The words of the program in texts.
 use Rattle.std.specs.Prelude.{◌≡◌, ℕ, List, [], codes}
-use Rattle.std.proofs.Common.{arith, refl, rules}
+use Rattle.std.proofs.Common.{refl}
 use Rattle.interference.specs.Net.{Net, IsVertex}
 use Rattle.number_rows.specs.Row.{numbered}
 use Rattle.number_rows.proofs.Feeds.{no-feed-numbered}
@@ -26,7 +26,7 @@ silent_words = record {
 -- the name is a word, and no line feed is in the others
 pub silent_named : AreNamed silent_words
 silent_named = record {
-  name = record { some = omega arith; letters = grind (arith, rules) };
+  name = refl;
   found = λ s. no-feed-numbered (codes " silent ") s.number refl;
   more = λ net v s. refl;
 }

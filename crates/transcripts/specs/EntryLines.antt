@@ -1,8 +1,9 @@
 -- Which entry a line is, for payloads that a word and a number say.
 use Rattle.std.specs.Prelude.{ℕ, ◌^◌, Bool, true, Option, Some, None, option_and_then, option_map, nat_le, nat_lt}
-use Rattle.std.specs.Prelude.{List, [], ◌∷◌, ◌&&◌, codes, if◌then◌else◌, length}
+use Rattle.std.specs.Prelude.{List, [], ◌∷◌, ◌&&◌, codes, if◌then◌else◌}
 use Rattle.std.specs.Str.{bytes_eq, is_utf8}
 use Rattle.dimacs_col.specs.Lines.{Line, number_of, small_number}
+use Rattle.number_rows.specs.Names.{is_name}
 use Rattle.alpha_core.specs.declared.wire.Wire.{Wire}
 use Rattle.alpha_core.specs.declared.wire.Wire.TheVariants.{Payload, Ack, Safe, Close}
 use Rattle.entries.specs.declared.entry.Entry.{Entry}
@@ -84,15 +85,6 @@ module _ {M : Type 0} (payload_of : List ℕ → ℕ → Option M) where
   abbrev pub stamped_row_of : Line → Option (StampedRow M)
   stamped_row_of line = with_next (λ field others.
       option_and_then (λ stamp. row_with (λ v entry. stamped_row stamp v entry) others) (stamp_number field)) line
-
--- small ASCII letters alone
-abbrev pub are_small : List ℕ → Bool
-are_small [] = true
-are_small (c ∷ cs) = (nat_le 97 c && nat_le c 122) && are_small cs
-
--- the name of a program: one or more of them
-abbrev pub is_name : List ℕ → Bool
-is_name field = nat_lt 0 (length field) && are_small field
 
 -- the fields behind those of an edition: in edition 3 there is the name of a program first
 abbrev pub behind_name : List ℕ → Line → Option Line
