@@ -59,6 +59,7 @@ module _ {A B : Type 0} where
         | yes early ↦ heard.before k early ∙ sym there
         | no late ↦
             let none : at_port slots k ≡ None = ap (λ (s : List (Option (Said A B))). at_port s k) (sym same) ∙
-            none_unless (at_port mail.slots k) (λ some. quiet (k, omega arith, (let size : length mail.slots ≡ length slots = ap (λ (s : List (Option (Said A B))). length s) same in omega arith), some)) in
+            none_unless (at_port mail.slots k) (λ some. quiet
+            (k, omega arith, (let size : length mail.slots ≡ length slots = ap (λ (s : List (Option (Said A B))). length s) same in omega arith), some)) in
             heard.after k (omega arith) ∙ sym (there ∙ ap first_of none)
       ])

@@ -16,8 +16,11 @@ pub record Both (S X : Type 0) : Type 0 where
   pub first : S
   pub beside : X
 
--- The part that follows. S is a state of the first program and A its payloads; X is what a node has beside it, and B are
--- the payloads of its own. Its pulses count from 0.
+abbrev pub both_of : {S X : Type 0} → S → X → Both S X
+both_of s x = record { first = s; beside = x }
+
+-- The part that follows. S is a state of the first program and A its payloads; X is what a node has beside it, and B
+-- are the payloads of its own. Its pulses count from 0.
 pub record Sequel (S X A B : Type 0) : Type 0 where
   -- the last pulse of the first program that is made, as a node knows it
   pub until : X → ℕ

@@ -6,9 +6,11 @@ use crate::hearing::{hear, tell};
 use crate::rules::TOO_EARLY;
 use crate::said::Said;
 use crate::sequel::Sequel;
+use crate::texts::SequelText;
 use interference::{Memory, Network};
 use node_api::{Inbox, NodeProgram, Outbox, Refused};
-use std::alloc::Global;
+use program_texts::NamedText;
+use std::alloc::{AllocError, Global};
 use std::marker::Model;
 
 /// A node of a program that is followed by a sequel. Contracts see its state of the first program, and what it has
@@ -132,5 +134,27 @@ impl<P: NodeProgram, R: Sequel<P>> NodeProgram for Followed<P, R> {
     // Up to the cut the node rests while the first program does.
     fn rests_until(&self, pulse: u32) -> u32 {
         self.first.rests_until(pulse).min(self.beside.until())
+    }
+}
+
+impl<P: NodeProgram, R: SequelText<P>> NamedText for Followed<P, R> {
+    ghost words = { R.words };
+
+    ghost are_named = { R.are_named };
+
+    fn rounds_end() {
+        R::rounds_end();
+    }
+
+    fn program_name() -> &'static str {
+        R::program_name()
+    }
+
+    fn push_found(&self, text: &mut Vec<u8>) -> Result<(), AllocError> {
+        self.beside.push_found(&self.first, text)
+    }
+
+    fn push_more(&self, text: &mut Vec<u8>, net: &Network, v: u32) -> Result<(), AllocError> {
+        self.beside.push_more(&self.first, text, net, v)
     }
 }

@@ -16,7 +16,9 @@ mod hearing;
 pub mod rules;
 mod said;
 mod sequel;
+mod texts;
 
 pub use followed::Followed;
 pub use said::{Said, WordsBeside};
 pub use sequel::Sequel;
+pub use texts::SequelText;

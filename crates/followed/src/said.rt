@@ -30,8 +30,8 @@ impl<A: PayloadText, B: WordsBeside<A>> PayloadText for Said<A, B> {
 
     ghost letters = { letters_beside A.word_of B.word_of A.letters B.letters };
 
-    ghost reads_back = { read_back_beside A.is_payload B.is_payload A.word_of B.word_of A.number_of B.number_of A.payload_of B.payload_of
-        A.reads_back B.reads_back };
+    ghost reads_back = { read_back_beside A.is_payload B.is_payload A.word_of B.word_of A.number_of B.number_of
+        A.payload_of B.payload_of A.reads_back B.reads_back };
 
     fn words(self) -> (&'static str, u128) {
         match self {

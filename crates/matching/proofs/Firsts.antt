@@ -73,5 +73,6 @@ none-later (Some y) slots i e rest = cc
 pub comes-none : {M : Type 0} (sent : ℕ → Option M) (ws : List ℕ) (i k : ℕ) (x : M) → k < length ws → sent (get_or ws k 0) ≡ Some x →
     first_from i (map sent ws) ≡ None → ⊥
 comes-none sent [] i k x below is e = absurd (omega arith)
-comes-none sent (w ∷ ws) i zero x below is e = let there : first_from i (Some x ∷ map sent ws) ≡ None = ap (λ slot. first_from i (slot ∷ map sent ws)) (sym is) ∙ e in cc
+comes-none sent (w ∷ ws) i zero x below is e =
+    let there : first_from i (Some x ∷ map sent ws) ≡ None = ap (λ slot. first_from i (slot ∷ map sent ws)) (sym is) ∙ e in cc
 comes-none sent (w ∷ ws) i (suc k) x below is e = none-later (sent w) (map sent ws) i e (comes-none sent ws (i + 1) k x (omega arith) is)

@@ -100,7 +100,8 @@ one-port : (n f j k : ℕ) → j < n → at_port (slice_set (nothing n) j (Some 
 one-port n f j k below = elim (cases_eq k j) [
   | inl same ↦
       subst (λ (i : ℕ). at_port (slice_set (nothing n) j (Some (chooses f))) i ≡ taken_by f (Some j) i) (sym same)
-      (get_or-set_same (nothing n) j (Some (chooses f)) None (let size : length (nothing {M = Wire} n) ≡ n = length-replicate n None in omega (arith, size, below))
+      (get_or-set_same (nothing n) j (Some (chooses f)) None
+      (let size : length (nothing {M = Wire} n) ≡ n = length-replicate n None in omega (arith, size, below))
       ∙ sym (taken-if j j f true (same_forest j)))
   | inr other ↦
       get_or-set_other (nothing n) j k (Some (chooses f)) None other ∙ at_port-nothing n k
@@ -174,7 +175,8 @@ module _ (net : Net) (ok : IsNetwork net) (f c p : ℕ) (in_range : f < forest_c
   first v is_vertex =
       let q : ℕ = p - 12 in
       let inbox : List (Option Wire) = inbox_from net (at net ok p) v in
-      let even : q % 2 ≡ 0 = ap (λ (n : ℕ). n % 2) (let same : q ≡ (f * 3 + c) * 2 + 0 = omega (arith, e) in same) ∙ mod-mul-add (f * 3 + c) 2 0 (omega arith) in
+      let even : q % 2 ≡ 0 = ap (λ (n : ℕ). n % 2) (let same : q ≡ (f * 3 + c) * 2 + 0 = omega (arith, e) in same)
+      ∙ mod-mul-add (f * 3 + c) 2 0 (omega arith) in
       let forest : q / 6 ≡ f = ap (λ (n : ℕ). n / 6) (let same : q ≡ f * 6 + c * 2 = omega (arith, e) in same) ∙ div-mul-add f 6 (c * 2) (omega (arith, low)) in
       at-turn net ok p v is_vertex (omega (arith, e))
       ∙ ap (beside_of (node v)) (turn-even (node v) (at net ok p v).0.beside q inbox even
@@ -250,7 +252,8 @@ module _ (net : Net) (ok : IsNetwork net) (f c p : ℕ) (in_range : f < forest_c
       ap (λ (next : Both Node (Option ℕ) × List (Option Wire)). next.1) (second v is_vertex)
       ∙ (ap (λ (n : ℕ). told_taken n f (child v)) many
       ∙ told_taken-map f (degree_of net v) (child v) (port_to net v) (neighbours net v) refl (λ k is. (chose v k is_vertex is).2)
-      (λ k below. sym (ap (λ u. port_to net u (neighbour_of net v k)) (at-back_port net ok v k is_vertex below)) ∙ back-of-back_port net ok v k is_vertex below))
+      (λ k below. sym (ap (λ u. port_to net u (neighbour_of net v k)) (at-back_port net ok v k is_vertex below))
+      ∙ back-of-back_port net ok v k is_vertex below))
 
   came3 : (v : ℕ) → IsVertex net v → inbox_from net (at net ok (suc (suc p))) v ≡ map (λ w. taken_by f (child w) (port_to net w v)) (neighbours net v)
   came3 v is_vertex = inbox_is net ok (at net ok (suc (suc p))) (λ w u. taken_by f (child w) (port_to net w u)) told2 v is_vertex

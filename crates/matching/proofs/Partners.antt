@@ -108,7 +108,8 @@ module _ (net : Net) (ok : IsNetwork net) where
 
   -- turn t, which is that of forest t / 3 and colour t % 3
   turn_of : (t : ℕ) → t < turns → (taken : ℕ → Option ℕ) × Turn net (t / 3) (t % 3) (partner t) taken (partner (suc t))
-  turn_of t h = turn_at t (t / 3) (t % 3) (sym (div-add-mod' t 3)) (div_below t 3 (forest_count_of net) (omega arith) (omega (arith, h))) (mod_below t 3 (omega arith))
+  turn_of t h = turn_at t (t / 3) (t % 3) (sym (div-add-mod' t 3)) (div_below t 3 (forest_count_of net) (omega arith) (omega (arith, h)))
+      (mod_below t 3 (omega arith))
 
   -- before the first turn all are free
   free_first : (v : ℕ) → IsVertex net v → partner 0 v ≡ None
@@ -121,7 +122,8 @@ module _ (net : Net) (ok : IsNetwork net) where
       let comes = first-comes {M = Wire} (λ w. None) (neighbours net v) 0 k (ap first_came (sym came) ∙ is) in
       let none : None ≡ Some comes.2.payload = comes.2.came in cc) in
       ap (λ (next : Both Node (Option ℕ) × List (Option Wire)). next.0.beside) (at-turn net ok 12 v is_vertex (omega arith))
-      ∙ (ap (λ (next : Both Node (Option ℕ) × List (Option Wire)). option_or next.0.beside (first_came (inbox_from net (at net ok 12) v))) (at-first net ok v is_vertex)
+      ∙ (ap (λ (next : Both Node (Option ℕ) × List (Option Wire)). option_or next.0.beside (first_came (inbox_from net (at net ok 12) v)))
+      (at-first net ok v is_vertex)
       ∙ nobody)
 
   pub are_partners : (t : ℕ) → t ≤ turns → ArePartners net (partner t)

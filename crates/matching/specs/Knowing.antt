@@ -1,7 +1,7 @@
--- A maximal matching (Panconesi and Rizzi 2001): what a node knows, and what it does. Up to pulse 12 it is a node of the
--- colouring, with three colours in each forest. Then each forest has a turn for each of its colours, of two pulses: at
--- the first each free node says to its parent that it is free, at the second each free node of this colour takes one of
--- the children that did.
+-- A maximal matching (Panconesi and Rizzi 2001): what a node knows, and what it does. Up to pulse 12 it is a node of
+-- the colouring, with three colours in each forest. Then each forest has a turn for each of its colours, of two pulses:
+-- at the first each free node says to its parent that it is free, at the second each free node of this colour takes one
+-- of the children that did.
 use Rattle.std.specs.Prelude.{ℕ, ◌+◌, ◌-◌, ◌*◌, ◌/◌, ◌%◌, ◌==◌, ◌&&◌, Bool, if◌then◌else◌, nat_lt}
 use Rattle.std.specs.Prelude.{List, length, map, slice_index, slice_set, Option, Some, None, Ok}
 use Rattle.std.specs.Option.{option_or}

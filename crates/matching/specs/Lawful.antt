@@ -46,19 +46,22 @@ length-told_taken n f (Some port) = length-set (nothing n) port _ ∙ length-rep
 length-turned : (node : Node) (partner : Option ℕ) (q : ℕ) (inbox : List (Option Wire))
     → length (turned node partner q inbox).1 ≡ ports node
 length-turned node partner q inbox =
-    either (λ (next : Option ℕ × List (Option Wire)). length next.1 ≡ ports node) (q % 2 == 0) (offered node (option_or partner (first_came inbox)) (q / 6)) _
+    either (λ (next : Option ℕ × List (Option Wire)). length next.1 ≡ ports node) (q % 2 == 0)
+    (offered node (option_or partner (first_came inbox)) (q / 6)) _
     (length-told_free (option_or partner (first_came inbox)) (q / 6) node.roles)
     (length-told_taken (ports node) (q / 6) (takes node partner (q / 6) (q % 6 / 2) (first_came inbox)))
 
 -- a pulse of the turns, by whether it is the first of one
 pub turn-even : (node : Node) (partner : Option ℕ) (q : ℕ) (inbox : List (Option Wire)) → q % 2 ≡ 0 →
     turned node partner q inbox ≡ offered node (option_or partner (first_came inbox)) (q / 6)
-turn-even node partner q inbox e = ap (λ (n : ℕ). if n == 0 then offered node (option_or partner (first_came inbox)) (q / 6)
+turn-even node partner q inbox e =
+    ap (λ (n : ℕ). if n == 0 then offered node (option_or partner (first_came inbox)) (q / 6)
     else took node partner (q / 6) (takes node partner (q / 6) (q % 6 / 2) (first_came inbox))) e
 
 pub turn-odd : (node : Node) (partner : Option ℕ) (q : ℕ) (inbox : List (Option Wire)) → q % 2 ≡ 1 →
     turned node partner q inbox ≡ took node partner (q / 6) (takes node partner (q / 6) (q % 6 / 2) (first_came inbox))
-turn-odd node partner q inbox e = ap (λ (n : ℕ). if n == 0 then offered node (option_or partner (first_came inbox)) (q / 6)
+turn-odd node partner q inbox e =
+    ap (λ (n : ℕ). if n == 0 then offered node (option_or partner (first_came inbox)) (q / 6)
     else took node partner (q / 6) (takes node partner (q / 6) (q % 6 / 2) (first_came inbox))) e
 
 -- beyond the forests nobody is told anything
@@ -87,21 +90,27 @@ module _ (net : Net) (ok : IsNetwork net) where
   reduced : (v : ℕ) → IsVertex net v
       → node_at colouring net 12 v ≡ (state_while_reducing net 10 v, nothing (degree_of net v))
   reduced v is_vertex =
-      work_stands net ok (has_forest net ok) (seeded net ok (has_forest net ok) (has_start net ok)) 10 (omega arith) v is_vertex
-      ∙ ap (λ (out : List (Option Payload)). (state_while_reducing net 10 v, out)) (sym (same-for_all None (neighbours net v)))
+      work_stands net ok (has_forest net ok) (seeded net ok (has_forest net ok) (has_start net ok)) 10
+      (omega arith) v is_vertex
+      ∙ ap (λ (out : List (Option Payload)). (state_while_reducing net 10 v, out))
+      (sym (same-for_all None (neighbours net v)))
 
-  pub at-first : (v : ℕ) → IsVertex net v → at 12 v ≡ (record { first = state_while_reducing net 10 v; beside = None }, nothing (degree_of net v))
+  pub at-first : (v : ℕ) → IsVertex net v → at 12 v
+      ≡ (record { first = state_while_reducing net 10 v; beside = None }, nothing (degree_of net v))
   at-first v is_vertex = same_run colouring turns turns_cut net ok 12 v is_vertex (omega arith)
-      ∙ (ap (λ (node : Node × List (Option Payload)). with_beside None (told_by {B = Proposal} node)) (reduced v is_vertex)
+      ∙ (ap (λ (node : Node × List (Option Payload)). with_beside None (told_by {B = Proposal} node))
+      (reduced v is_vertex)
       ∙ ap (λ (out : List (Option Wire)). (record { first = state_while_reducing net 10 v; beside = None }, out))
       (said-nothing {A = Payload} {B = Proposal} (degree_of net v)))
 
   -- and then a pulse of the turns
   pub at-turn : (p v : ℕ) → IsVertex net v → 12 ≤ p → at (suc p) v
-      ≡ beside_of (state_while_reducing net 10 v) (turned (state_while_reducing net 10 v) (at p v).0.beside (p - 12) (inbox_from net (at p) v))
+      ≡ beside_of (state_while_reducing net 10 v)
+      (turned (state_while_reducing net 10 v) (at p v).0.beside (p - 12) (inbox_from net (at p) v))
   at-turn p v is_vertex h =
       let s : Node = state_at colouring net 12 v in
-      at-more colouring turns turns_cut net ok p v is_vertex h (turned s (at p v).0.beside (p - 12) (inbox_from net (at p) v)) refl
+      at-more colouring turns turns_cut net ok p v is_vertex h
+      (turned s (at p v).0.beside (p - 12) (inbox_from net (at p) v)) refl
       ∙ ap (λ (node : Node). beside_of node (turned node (at p v).0.beside (p - 12) (inbox_from net (at p) v)))
       (ap (λ (node : Node × List (Option Payload)). node.0) (reduced v is_vertex))
 
@@ -110,7 +119,8 @@ module _ (net : Net) (ok : IsNetwork net) where
   quiet v is_vertex None =
       map-map (tells_free (forest_count_of net)) (role_of net v) (neighbours net v)
       ∙ (map-members (λ w. tells_free (forest_count_of net) (role_of net v w)) (λ w. None) (neighbours net v)
-      (λ k below. tells-none (forest_count_of net) (role_of net v (neighbour_of net v k)) (λ g e. ((has_forest net ok).up v k g is_vertex below e).2))
+      (λ k below. tells-none (forest_count_of net) (role_of net v (neighbour_of net v k))
+      (λ g e. ((has_forest net ok).up v k g is_vertex below e).2))
       ∙ sym (same-for_all None (neighbours net v)))
   quiet v is_vertex (Some port) = ap (λ (n : ℕ). nothing n) (length-map (neighbours net v) (role_of net v))
 
@@ -123,8 +133,10 @@ module _ (net : Net) (ok : IsNetwork net) where
       let inbox : List (Option Wire) = inbox_from net (at p) v in
       let partner : Option ℕ = option_or (at p v).0.beside (first_came inbox) in
       let last : suc p ≡ FIRST_MERGE + 6 * u = omega arith in
-      let even : (p - 12) % 2 ≡ 0 = ap (λ (n : ℕ). n % 2) (let e : p - 12 ≡ u * 3 * 2 + 0 = omega arith in e) ∙ mod-mul-add (u * 3) 2 0 (omega arith) in
-      let forest : (p - 12) / 6 ≡ u = ap (λ (n : ℕ). n / 6) (let e : p - 12 ≡ u * 6 + 0 = omega arith in e) ∙ div-mul-add u 6 0 (omega arith) in
+      let even : (p - 12) % 2 ≡ 0 = ap (λ (n : ℕ). n % 2) (let e : p - 12 ≡ u * 3 * 2 + 0 = omega arith in e)
+      ∙ mod-mul-add (u * 3) 2 0 (omega arith) in
+      let forest : (p - 12) / 6 ≡ u = ap (λ (n : ℕ). n / 6) (let e : p - 12 ≡ u * 6 + 0 = omega arith in e)
+      ∙ div-mul-add u 6 0 (omega arith) in
       subst (λ (n : ℕ). (at n v).1 ≡ nothing (degree_of net v)) last
       (ap (λ (next : Both Node (Option ℕ) × List (Option Wire)). next.1) (at-turn p v is_vertex (omega arith))
       ∙ (ap (λ (next : Option ℕ × List (Option Wire)). next.1) (turn-even node (at p v).0.beside (p - 12) inbox even)

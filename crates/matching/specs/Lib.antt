@@ -2,3 +2,4 @@ pub mod First
 pub mod Words
 pub mod Knowing
 pub mod Lawful
+pub mod Texts

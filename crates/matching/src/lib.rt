@@ -1,6 +1,6 @@
-//! A maximal matching: each node ends with the port that leads to its partner, whose partner it is, or free, and then no
-//! neighbour of it is free. The algorithm is that of A. Panconesi and R. Rizzi, Some simple distributed algorithms for
-//! sparse networks, 2001, on the forests and three-colours of `colour_rules`, which a node runs up to pulse 12.
+//! A maximal matching: each node ends with the port that leads to its partner, whose partner it is, or free, and then
+//! no neighbour of it is free. The algorithm is that of A. Panconesi and R. Rizzi, Some simple distributed algorithms
+//! for sparse networks, 2001, on the forests and three-colours of `colour_rules`, which a node runs up to pulse 12.
 //!
 //! ```text
 //! for node in &run_rounds::<Matching>(alloc, &net)? {
@@ -16,6 +16,7 @@ mod node;
 mod proposal;
 #[cfg(test)]
 mod tests;
+mod texts;
 
 pub use node::{Matching, Turns};
 pub use proposal::Proposal;

@@ -128,7 +128,8 @@ module _ (net : Net) (ok : IsNetwork net) where
       let low : colours net v ≤ span = low-colour net ok v in
       let c : ℕ = colour (neighbour_of net v k) in
       or_left (contains (heard net ok (place net ok v) v) c) (contains (up_to span (bars_of net v)) c)
-      (heard-has net ok (place net ok v) v k is_vertex below (omega arith) (omega (arith, less, low)) (in_room (neighbour_of net v k) (ok.vertices v k is_vertex below)))
+      (heard-has net ok (place net ok v) v k is_vertex below (omega arith) (omega (arith, less, low))
+      (in_room (neighbour_of net v k) (ok.vertices v k is_vertex below)))
 
   apart : (v k : ℕ) → IsVertex net v → k < degree_of net v → colours net v < colours net (neighbour_of net v k) → colour v ≢ colour (neighbour_of net v k)
   apart v k is_vertex below less same =
@@ -186,7 +187,8 @@ module _ (net : Net) (ok : IsNetwork net) where
         omega (arith, is v is_vertex, least, low)
 
     mirrored : (n v : ℕ) → IsVertex net v → greatest - colours net v ≤ n → colour v + colours net v ≤ greatest
-    mirrored zero v is_vertex h = step v is_vertex (λ w inside less. let bound : colours net w ≤ greatest = most w inside in absurd (omega (arith, h, bound, less)))
+    mirrored zero v is_vertex h = step v is_vertex (λ w inside less. let bound : colours net w ≤ greatest = most w inside in
+        absurd (omega (arith, h, bound, less)))
     mirrored (suc n) v is_vertex h = step v is_vertex (λ w inside less.
         let bound : colours net w ≤ greatest = most w inside in mirrored n w inside (omega (arith, h, bound, less)))
 

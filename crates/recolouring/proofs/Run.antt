@@ -162,7 +162,8 @@ module _ (net : Net) (ok : IsNetwork net) where
   stays (suc d) v is_vertex =
       let q : ℕ = suc (place v) + d in
       let low : colours net v ≤ span_of net = low-colour v in
-      let over : turn q v ≡ false = false_from_ne_true (turn q v) (λ is. let when : colours net v + q ≡ span_of net = turn-is q v is_vertex is in omega (arith, when, low)) in
+      let over : turn q v ≡ false = false_from_ne_true (turn q v)
+      (λ is. let when : colours net v + q ≡ span_of net = turn-is q v is_vertex is in omega (arith, when, low)) in
       ap (λ (n : ℕ). (mine n v).colour) (let e : suc (place v) + suc d ≡ suc q = omega arith in e)
       ∙ (colour-more q v is_vertex ∙ (ap (colour_after (mine q v) (heard q v)) over ∙ stays d v is_vertex))
 
@@ -190,7 +191,8 @@ module _ (net : Net) (ok : IsNetwork net) where
   first_none v k c is_vertex below is =
       let w : ℕ = neighbour_of net v k in
       let none : None ≡ Some (says c) =
-      sym (ap (λ (out : List (Option Wire)). at_port out (port_to net w v)) (first_sent w (ok.vertices v k is_vertex below)) ∙ at_port-nothing (degree_of net w) (port_to net w v))
+      sym (ap (λ (out : List (Option Wire)). at_port out (port_to net w v)) (first_sent w (ok.vertices v k is_vertex below))
+      ∙ at_port-nothing (degree_of net w) (port_to net w v))
       ∙ (sym (slot 0 v k below) ∙ is) in
       cc
 
@@ -199,7 +201,8 @@ module _ (net : Net) (ok : IsNetwork net) where
       (k : ℕ) × (k < degree_of net v) × (span_of net < colours net (neighbour_of net v k) + q) × (new (neighbour_of net v k) ≡ c)
   heard-from zero v c is_vertex is = elim (anew-from (inbox 0 v) (mine 0 v).chosen 0 c is) [
     | inl before ↦
-        let none : false ≡ true = sym (contains-empty nat_cmp c) ∙ (ap (λ (set : FinSet nat_cmp). contains set c) (sym (first v is_vertex)) ∙ before) in absurd cc
+        let none : false ≡ true = sym (contains-empty nat_cmp c) ∙ (ap (λ (set : FinSet nat_cmp). contains set c) (sym (first v is_vertex)) ∙ before) in
+        absurd cc
     | inr there ↦ absurd (first_none v there.0 c is_vertex (omega (arith, there.1, length-inbox net (at net ok (start + 0)) v)) there.2)
   ]
   heard-from (suc q) v c is_vertex is = elim (anew-from (inbox (suc q) v) (mine (suc q) v).chosen 0 c is) [

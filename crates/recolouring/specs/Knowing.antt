@@ -1,5 +1,5 @@
--- The classes of a colouring choose anew, the greatest colour first, a class a pulse: a node takes the least colour that
--- isn't barred at it and that no neighbour which has chosen anew has, and says so.
+-- The classes of a colouring choose anew, the greatest colour first, a class a pulse: a node takes the least colour
+-- that isn't barred at it and that no neighbour which has chosen anew has, and says so.
 use Rattle.std.specs.Prelude.{ℕ, ◌+◌, ◌-◌, ◌==◌, ◌&&◌, ◌||◌, Bool, if◌then◌else◌, nat_le, nat_lt, List, replicate}
 use Rattle.std.specs.Prelude.{Option, Some, Ok}
 use Rattle.std.specs.Ordering.{nat_cmp}
@@ -66,7 +66,8 @@ told node b c = if b then replicate (ports node) (Some (says c)) else nothing (p
 
 -- a pulse, by what a node has heard of, and by whether it is its turn
 abbrev pub chose : Node → Recoloured → ℕ → FinSet nat_cmp → Bool → Recoloured × List (Option Wire)
-chose node s q chosen turn = (recoloured s chosen turn, told node (turn && nat_lt q s.greatest) (colour_after s chosen turn))
+chose node s q chosen turn =
+    (recoloured s chosen turn, told node (turn && nat_lt q s.greatest) (colour_after s chosen turn))
 
 -- a pulse, from 0
 abbrev pub anew_next : Node → Recoloured → ℕ → List (Option Wire) → Recoloured × List (Option Wire)

@@ -44,7 +44,8 @@ module _ (net : Net) (ok : IsNetwork net) where
   coloured v = state_at colouring net cut v
 
   pub at-class : (p v : ℕ) → IsVertex net v → cut ≤ p →
-      at (suc p) v ≡ beside_of (coloured v) (anew_next (coloured v) (at p v).0.beside (p - cut) (inbox_from net (at p) v))
+      at (suc p) v ≡ beside_of (coloured v)
+      (anew_next (coloured v) (at p v).0.beside (p - cut) (inbox_from net (at p) v))
   at-class p v is_vertex h = at-more colouring recolours recolours_cut net ok p v is_vertex h
       (anew_next (coloured v) (at p v).0.beside (p - cut) (inbox_from net (at p) v)) refl
 

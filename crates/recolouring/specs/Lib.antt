@@ -2,3 +2,4 @@ pub mod Words
 pub mod Knowing
 pub mod Stored
 pub mod Lawful
+pub mod Texts

@@ -9,8 +9,8 @@ ghost use Rattle.recolouring.specs.Knowing.{recolouring};
 
 /// In the last state of the synchronous run the new colours differ on every edge, none is barred at its node, and each
 /// is at most the degree and the bars of its node; each lower colour is barred at the node or is a neighbour's; and if
-/// nothing is barred, the sum of a node's new colour and its colour is at most the greatest colour, so that there are no
-/// more than before.
+/// nothing is barred, the sum of a node's new colour and its colour is at most the greatest colour, so that there are
+/// no more than before.
 pub fn rounds_end_with_a_plan_that_none_can_lower()
     ensures proper { (net : Net) → IsNetwork net → (v w : ℕ) → IsEdge net v w
         → (last_state recolouring net v).beside.colour ≢ (last_state recolouring net w).beside.colour }

@@ -1,6 +1,6 @@
-//! A plan's classes choose anew: after the colouring of `colour_program` its colours take turns, the greatest first, and
-//! a node takes the least colour that isn't barred at it and that no neighbour which has chosen anew has. This is the
-//! iterated greedy of J. C. Culberson, Iterated greedy graph coloring and the difficulty landscape, 1992, with the
+//! A plan's classes choose anew: after the colouring of `colour_program` its colours take turns, the greatest first,
+//! and a node takes the least colour that isn't barred at it and that no neighbour which has chosen anew has. This is
+//! the iterated greedy of J. C. Culberson, Iterated greedy graph coloring and the difficulty landscape, 1992, with the
 //! classes in reverse order, by messages.
 //!
 //! The new colours are proper and not barred, at most the degree and the bars of each node, and no node can lower its
@@ -20,6 +20,7 @@ pub mod laws;
 mod node;
 #[cfg(test)]
 mod tests;
+mod texts;
 
 pub use anew::Anew;
 pub use node::{Recolouring, Recolours};

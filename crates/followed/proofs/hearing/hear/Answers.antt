@@ -17,7 +17,8 @@ loop-inbox-preserved g c =
       heard = heard-more c.args.inbox.now.slots c.loop-inbox.own.slots c.put_first-other.new.own.slots c.loop-inbox.inbox after c.next-payload.result port
           c.loop-inbox.invariant.same c.loop-inbox.invariant.heard c.next-payload.ensures.reads c.sender.ensures.port c.put_first-other.ensures.size
           c.put_first-other.ensures.here c.put_first-other.ensures.others;
-      rest = ap (λ (found : Option ℕ). fold_rest and_misplaced found after) (c.or-found.ensures ∙ ap (option_or c.loop-inbox.found) c.put_first-other.ensures.misplaced)
+      rest = ap (λ (found : Option ℕ). fold_rest and_misplaced found after)
+          (c.or-found.ensures ∙ ap (option_or c.loop-inbox.found) c.put_first-other.ensures.misplaced)
           ∙ (ap (λ (k : ℕ). fold_rest and_misplaced (option_or c.loop-inbox.found (then_port k c.next-payload.result)) after) (sym last)
           ∙ (sym (fold_rest-read and_misplaced c.loop-inbox.inbox c.next-payload.result after c.loop-inbox.found c.next-payload.ensures.reads)
           ∙ c.loop-inbox.invariant.rest));
