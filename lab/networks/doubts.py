@@ -7,16 +7,16 @@ from functools import lru_cache
 from lab.networks.fields import is_number, shown, value_of, whole
 from lab.networks.headings import MISSING
 from lab.networks.lines import Rows, Table
-from lab.networks.name_doubts import Pairs
+from lab.networks.listed import FLAGS, NOT
+from lab.networks.name_doubts import SUMS, Pairs, look_of
 from lab.wrong import Wrong, wrong_line
 
 PAIRS, NEIGHBOURS = "--as pairs (the first two fields are a pair)", "--as adjacency (a node and its neighbours)"
 DATE = re.compile(r"\d{4}-\d\d-\d\d|\d\d?[./]\d\d?[./]\d{4}")
+PORT = re.compile(r"(.+?)[:/.#@_-]\w*\d+")
 # What the last line of an export may say.
-SUMS = ("total", "sum", "summe", "gesamt", "count", "end", "eof", "row", "rows", "records", "zeilen")
-# Words of a column that says which pairs count, and titles of one whose zeros say that a pair doesn't.
-NOT = {"no", "n", "nein", "false", "f", "falsch", "off", "0"}
-FLAGS = NOT | {"yes", "y", "ja", "j", "true", "t", "wahr", "w", "on", "x", "1", "", "-"}
+LAST = ("total", "sum", "summe", "gesamt", "count", "end", "eof", "row", "rows", "records", "zeilen")
+# Titles of a column whose zeros say that a pair doesn't count.
 WEIGHTS = re.compile(r"(weight|value|val|w|freq|frequency|gewicht|wert|adj|adjacent|edge|kante|link|there|present)s?")
 # Kinds of columns, as some programs write them below the heading.
 KINDS = {"string", "text", "str", "char", "varchar", "character", "integer", "int", "long", "float", "double", "number",
@@ -74,14 +74,31 @@ def refuse_alone(pairs: Pairs, is_unknown: bool, is_closed: bool, name: str) -> 
     is a node with neighbours that have lines."""
     times = Counter(end for _, *ends in pairs for end in ends)
     last = max((line for line, _, other in pairs if other), default=0)
+    looks = {look_of(end) for _, *ends in pairs if ends[1] for end in ends}
     for line, one, other in pairs:
         if other or line == pairs[0][0] and not is_unknown:
             continue
         is_end = one == "0" and line == pairs[-1][0] and all(whole(end or "1") for row in pairs[:-1] for end in row[1:])
-        if is_end or line < last and times[one] == 1 or not is_closed and times[one] > 1:
+        is_odd = times[one] == 1 and (SUMS.fullmatch(one) or DATE.fullmatch(one) or look_of(one) not in looks)
+        if is_end or is_odd or line < last and times[one] == 1 or not is_closed and times[one] > 1:
             raise wrong_line(name, line, f"`{shown(one)}` alone may be a title, a count, or merged with the line "
                                          "above: write nodes without a neighbour after all pairs (if it is a node: "
                                          "--as pairs, or --as adjacency)")
+
+
+def refuse_shape(pairs: Pairs, name: str) -> None:
+    """Refuses pairs of which each name comes once, if it is a device's and a port's; and those of which one column has
+    each name twice and no name of the other, as numbers of edges beside their two ends."""
+    ones, others = Counter(one for _, one, other in pairs if other), Counter(other for _, _, other in pairs if other)
+    if ones.keys() & others.keys():
+        return
+    stems = [PORT.fullmatch(end) for end in (*ones, *others)]
+    if len(ones) == len(others) == len(pairs) > 1 and all(stems) and len({stem[1] for stem in stems}) < len(stems):
+        raise unsure(name, f"each name comes once, as `{shown(stems[0][0])}`, so they may be ports of the nodes", PAIRS)
+    for times in (ones, others):
+        if len(times) > 1 and set(times.values()) == {2}:
+            raise unsure(name, f"one column has each name twice, as `{shown(next(iter(times)))}`, so they may number "
+                               "edges, each beside its two ends", PAIRS)
 
 
 def refuse_kinds(titles: list[str], body: Rows, name: str) -> None:
@@ -131,7 +148,7 @@ def refuse_edges(body: Rows, name: str, is_unknown: bool, is_closed: bool) -> No
     if is_unknown and not is_closed and len(first) == times[first[0]] == 1 and any(len(ends) > 1 for _, ends in rows):
         raise unsure(name, f"the first line (`{shown(first[0])}`) may be a title or a node", PAIRS, NEIGHBOURS)
     last, ends = rows[-1]
-    if any(end.strip(":()").casefold() in SUMS and times[end] == 1 for end in ends):
+    if any(end.strip(":()").casefold() in LAST and times[end] == 1 for end in ends):
         raise wrong_line(name, last, f"`{shown(' '.join(ends))}` may be no row (if it is a pair or a node: --as pairs)")
     if all(map(is_number, first)) and not any(is_number(end) for _, ends in rows[1:] for end in ends):
         raise unsure(name, f"the first line (`{shown(' '.join(first))}`) may say how many there are", PAIRS)

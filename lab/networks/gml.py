@@ -3,7 +3,7 @@ import html
 import re
 
 from lab.networks.fields import refuse_zero, shown
-from lab.networks.listed import HIDDEN, Listed
+from lab.networks.listed import HIDDEN, Listed, refuse_flags
 from lab.wrong import Wrong, wrong_line
 
 BEGINS = re.compile(
@@ -99,6 +99,7 @@ def read(text: str, name: str) -> Listed:
             hidden = next((word for word in HIDDEN if value_of(entries, word) == "1"), None)
             if hidden:
                 raise wrong_line(name, line, f"an edge that is {hidden}: leave it out if it is none")
+    refuse_flags(flags_of(graphs[0]), name)
     for line, *ends in found.edges:
         for end in ends:
             if end not in lines:
@@ -117,6 +118,14 @@ def read(text: str, name: str) -> Listed:
     if value_of(graphs[0], "directed") == "1":
         found.notes.append("directions aren't read")
     return found
+
+
+def flags_of(graph: list) -> dict[str, set[str]]:
+    """What each key of edges says, by key."""
+    edges = [{known: value for _, known, value in entries if isinstance(value, str)}
+             for _, key, entries in graph if key == "edge" and isinstance(entries, list)]
+    keys = {key for edge in edges for key in edge} - {"source", "target"}
+    return {key: {edge.get(key, "").lower() for edge in edges} for key in keys}
 
 
 def refuse_others(tree: list, graph: list, name: str) -> None:

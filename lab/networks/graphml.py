@@ -2,7 +2,7 @@
 from xml.etree import ElementTree
 
 from lab.networks.fields import refuse_zero, shown
-from lab.networks.listed import Listed
+from lab.networks.listed import Listed, refuse_flags
 from lab.wrong import Wrong
 
 # The names of data that say where a node is: networkx and Gephi write them. y grows downwards there.
@@ -38,9 +38,10 @@ def read(text: str, name: str) -> Listed:
         raise Wrong(f"{name}: a node or an edge is outside of the graph")
     found = Listed("GraphML", is_exact=True)
     words = {key.get("id"): key.get("attr.name", "").lower() for key in root.iter() if plain(key.tag) == "key"}
-    said = {word: {} for word in LABELS + ACROSS + DOWN}
+    said, flags = {word: {} for word in LABELS + ACROSS + DOWN}, {}
     for at, element in enumerate(graphs[0].iter(), 1):
-        read_element(found, name, at, element, words, said)
+        read_element(found, name, at, element, words, said, flags)
+    refuse_flags(flags, name)
     listed = {node for _, node in found.alone}
     if len(listed) != len(found.alone):
         raise Wrong(f"{name}: two nodes have one id")
@@ -57,8 +58,9 @@ def read(text: str, name: str) -> Listed:
     return found
 
 
-def read_element(found: Listed, name: str, at: int, element: ElementTree.Element, words: dict, said: dict) -> None:
-    """A node with what is said of it, or an edge."""
+def read_element(found: Listed, name: str, at: int, element: ElementTree.Element, words: dict, said: dict,
+                 flags: dict[str, set[str]]) -> None:
+    """A node with what is said of it, or an edge, with what its keys say."""
     tag = plain(element.tag)
     if tag == "hyperedge":
         raise Wrong(f"{name}: a hyperedge isn't read, since an edge has two ends")
@@ -81,8 +83,11 @@ def read_element(found: Listed, name: str, at: int, element: ElementTree.Element
             raise Wrong(f"{name}: an edge has no source or no target")
         found.edges.append((at, *ends))
         for data in element:
-            if words.get(data.get("key")) in WEIGHTS:
+            word = words.get(data.get("key"))
+            if word in WEIGHTS:
                 refuse_zero(data.text, name)
+            if word and data.text:
+                flags.setdefault(word, set()).add(data.text.strip().lower())
 
 
 def read_drawing(node: str, data: ElementTree.Element, said: dict) -> None:

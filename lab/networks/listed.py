@@ -30,8 +30,19 @@ OTHER_LETTERS = re.compile(rb"(?i)[a-z][\x80-\x91\x93-\x95\x98-\x9f][a-z]|[a-z][
                            rb"[\x80\x81\x83\x86-\x90\x95\x98-\x9f][a-z]|[\xc0-\xff]{3}")
 # What is said of a text whose last line may be cut.
 NO_END = "its last line has no line end: is the text cut?"
+# Words that say no, and those that say yes or no.
+NOT = {"no", "n", "nein", "false", "f", "falsch", "off", "0"}
+FLAGS = NOT | {"yes", "y", "ja", "j", "true", "t", "wahr", "w", "on", "x", "1", "", "-"}
 # What is said of an edge that is there and doesn't count.
 HIDDEN = ("hidden", "deleted", "removed", "disabled", "ignored")
+
+
+def refuse_flags(said: dict[str, set[str]], name: str) -> None:
+    """Refuses edges of which a key says yes of some and no of others: these may be none."""
+    for key, words in said.items():
+        if len(words) > 1 and words <= FLAGS and words & NOT and key not in ("key", "id", "index", "group", "type"):
+            raise Wrong(f"{name}: the key `{shown(key)}` may say which edges count: leave out those that are none, and "
+                        "the key of the others")
 
 
 class Doubt(str):

@@ -15,7 +15,7 @@ IF_NAME = " (if it is a name: --as pairs)"
 # Names of which nobody can doubt, and those that have more marks, with `a` in place of each letter and digit.
 BARE = re.compile(r"[^\W_](?:[\w .-]*[^\W_])?")
 PLAIN = re.compile(r"([#%]?a|['\u2019]a{1,2}[ -])([a _.\-\u2010-\u2014/&'\u2019+:@#,;()\[\]{}\"]*[a.)\]}\"])?")
-TWICE = re.compile(r"--|\.\.|['&+,;]{2}|(?<!:)//|^\d+\. |^\w{1,3}\) |&#?\w+;|\+\w{3,}-")
+TWICE = re.compile(r"--|: |\.\.|['&+,;]{2}|(?<!:)//|^\d+\. |^\w{1,3}\) |&#?\w+;|\+\w{3,}-")
 # What separates the names of a list in one field; what begins a comment, alone or after a name.
 LIST, WORDS = re.compile(r"[\s,;|/&+]+"), re.compile(r"\s*([,;|/&+]|\b(?:and|und|or|oder|et)\b)\s*")
 COMMENT, AFTER = re.compile(r"(^|.*\s)([#%!]+|//|--|/\*)\s"), re.compile(r"(.*?\S)\s*([#%!(\[]|//|--|/\*)")
@@ -26,6 +26,11 @@ JOINED = re.compile(r"([^\s:/\u2010-\u2015-][^:/\u2010-\u2015-]*?)\s?[:/\u2010-\
 # A number of the line in front, and a measure after a name, as weights with their unit are.
 IN_ORDER = re.compile(r"\d+[.:)\s-]+\S.*")
 MEASURE = re.compile(r".*\S(\s+\d[\d.,]*\s?[^\W\d]{1,3}|\s*[:@(\[]\s*\d[\d.,]*\s?[^\W\d]{0,3}[)\]]?)")
+# What the last row of a table may be, other than a name, and words that begin it.
+SUMS = re.compile(r"(grand |sub)?total|sum|summe|zwischensumme|gesamt|insgesamt|count|anzahl|average|mean|mittelwert|"
+                  r"median|min|max|minimum|maximum|end|ende|eof|(\d+ )?(rows?|records|sites|zeilen|standorte)|"
+                  r"(source|quelle|stand|as of|page|seite|sheet|blatt|version|exported|created|erstellt|printed)\b.*",
+                  re.I)
 LETTERED = re.compile(NOUN + "[ _.-]?[ab12]")
 # How spreadsheets and databases write that there is no value, and people that it is the one above.
 NO_VALUE = re.compile(r"#[A-Z/0]+[!?]|#n/a|#nv|<na>|\\n", re.I)
@@ -160,10 +165,10 @@ def refuse_strays(pairs: Pairs, times: Counter, name: str) -> None:
                                          "(if it is one: --as pairs)")
 
 
-def look_of(end: str) -> tuple[bool, bool, bool]:
-    """How a name looks: whether it begins with a capital, has digits, and has anything else."""
+def look_of(end: str) -> tuple[bool, bool, bool, bool]:
+    """How a name looks: whether it begins with a capital, has digits, has anything else, and has blanks."""
     digits = sum(map(str.isdecimal, end))
-    return end[0].isupper(), digits > 0, digits < len(end)
+    return end[0].isupper(), digits > 0, digits < len(end), " " in end
 
 
 def refuse_headings(pairs: Pairs, lines: dict[str, int], name: str) -> None:

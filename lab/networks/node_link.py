@@ -2,7 +2,7 @@
 import json
 
 from lab.networks.fields import refuse_zero, shown
-from lab.networks.listed import HIDDEN, Listed
+from lab.networks.listed import HIDDEN, Listed, refuse_flags
 from lab.networks.unread import unread
 from lab.wrong import Wrong
 
@@ -74,6 +74,7 @@ def read(text: str, name: str) -> Listed:
     names = set(known)
     for at, link in enumerate(links, 1 + len(nodes)):
         found.edges.append((at, *ends_of(name, link, names)))
+    refuse_flagged(nodes, links, name)
     refuse_other_ends(found, ids, links, labels, "multigraph" in graph, name)
     found.names_by(labels, "label or name")
     lists = [key for node in nodes for key, value in node.items() if isinstance(value, list) and value and (
@@ -107,6 +108,15 @@ def read_node(found: Listed, node: dict, one: str, labels: dict) -> None:
         found.places[one] = place
 
 
+def refuse_flagged(nodes: list, links: list, name: str) -> None:
+    """Refuses nodes and links of which some may not count, by a key that says so."""
+    keys = {key for link in links for key in link} - {word for words in ENDS for word in words}
+    refuse_flags({key: {json.dumps(link.get(key, False)).strip('"').lower() for link in links} for key in keys}, name)
+    hidden = next((key for one in (*links, *nodes) for key in HIDDEN if one.get(key) is True), None)
+    if hidden:
+        raise Wrong(f"{name}: a node or a link is {hidden}: leave it out if it is none")
+
+
 def refuse_other_ends(found: Listed, ids: list, links: list, labels: dict, by_networkx: bool, name: str) -> None:
     """Refuses links that may name nodes in another way: by place where there are ids, by place from 1, or by label; and
     a link whose weight is zero, which may mean that there is none. networkx names them by `id`."""
@@ -122,10 +132,6 @@ def refuse_other_ends(found: Listed, ids: list, links: list, labels: dict, by_ne
     if whole_ends and len(texts) == len(ids) and all(0 <= end < len(ids) for end in whole_ends) and any(
             ids[end] != str(end) for end in whole_ends):
         raise Wrong(f"{name}: the links have numbers, and the ids are texts, so they may name places from 0: write ids")
-    for key in {key for link in links for key in link}:
-        flags = {link.get(key) for link in links if type(link.get(key)) in (bool, type(None))}
-        if True in flags and (False in flags or key in HIDDEN):
-            raise Wrong(f"{name}: the key `{shown(key)}` may say which links are edges: leave out those that are none")
     for link in links:
         ends = [end for words in ENDS for word in words if isinstance(end := link.get(word), str)]
         by_label = next((end for end in ends if end not in texts and end in labels.values()), None)

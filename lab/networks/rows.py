@@ -1,7 +1,10 @@
 """A network as rows of fields: pairs, and adjacency in one line or in several. What a text is, is guessed only if it
 can be one of them alone."""
+import re
+
 from lab.networks.doubts import (
-    NEIGHBOURS, PAIRS, columns_of_words, refuse_alone, refuse_columns, refuse_kinds, refuse_others, unsure)
+    NEIGHBOURS, PAIRS, columns_of_words, refuse_alone, refuse_columns, refuse_kinds, refuse_others, refuse_shape,
+    unsure)
 from lab.networks.fields import is_number
 from lab.networks.headings import heading_of
 from lab.networks.lines import Rows, Table, table_of, uneven
@@ -11,6 +14,10 @@ from lab.networks.network_text import shown, whole
 from lab.networks.unread import refuse_rows
 from lab.wrong import Wrong, wrong_line
 
+# How a comment says how many edges there are.
+EDGES = (re.compile(r"(?i)\b(?:edges|links|pairs|kanten|arcs)\s*[:=]?\s*(\d{1,9})\b"),
+         re.compile(r"(?i)\b(\d{1,9})\s+(?:edges|links|pairs|kanten|arcs)\b"),
+         re.compile(r"^%\s*(\d{1,9})(?:\s+\d+){1,2}\s*$"))
 FORMS = ("pairs", "adjacency", "multiline")
 
 
@@ -29,7 +36,18 @@ def read(text: str, name: str, form: str | None, heading: bool | None) -> Listed
         refuse_rows(table.rows, table.separator, text, name)
     found = read_table(table, name, form, heading)
     found.notes[:0], found.left_out[:0] = table.notes, table.left_out
+    found.left_out += cut_by_comments(table.comments, {frozenset(ends) for _, *ends in found.edges}, len(found.edges))
     return found
+
+
+def cut_by_comments(comments: list[str], pairs: set[frozenset[str]], lines: int) -> list[str]:
+    """What is said if a comment, as SNAP, KONECT and people write it, has another number of edges than there are."""
+    for comment in comments:
+        said = next(filter(None, (kind.search(comment) for kind in EDGES)), None)
+        count = int(said[1]) if said else None
+        if count is not None and count not in (lines, len(pairs), 2 * len(pairs)):
+            return [f"a comment says {count:,} edges, and the text has {len(pairs):,}: is it cut?"]
+    return []
 
 
 def read_table(table: Table, name: str, form: str | None, heading: bool | None) -> Listed:
@@ -121,6 +139,7 @@ def read_pairs(table: Table, name: str, heading: bool | None, is_sure: bool) -> 
     if not is_sure:
         refuse_alone(pairs, heading is None, is_closed(head.body), name)
         refuse_names(pairs, table.separator, name)
+        refuse_shape(pairs, name)
         refuse_columns(titles, head.body, columns, {end for _, *ends in pairs for end in ends}, name)
         words = columns_of_words(titles, head.body, columns, name)
         if words:

@@ -4,13 +4,9 @@ import re
 
 from lab.networks.fields import shown
 from lab.networks.listed import SPOILT
-from lab.networks.name_doubts import NO_VALUE, NOTHING
+from lab.networks.name_doubts import NO_VALUE, NOTHING, SUMS
 from lab.wrong import Wrong, wrong_line
 
-# What the last row of a table may be, other than a site; and words that begin it.
-SUMS = re.compile(r"(grand |sub)?total|sum|summe|zwischensumme|gesamt|insgesamt|count|anzahl|average|mean|mittelwert|"
-                  r"median|min|max|minimum|maximum|end|ende|eof|(\d+ )?(rows?|records|sites|zeilen|standorte)|"
-                  r"(source|quelle|stand|as of)\b.*", re.I)
 # Marks of lists, comments and spreadsheets before a name, and of footnotes after it.
 BEFORE = re.compile(r"[=;,|/*>~+\u2022\u2013-]|\\")
 AFTER = re.compile(r"[*\u2020\u2021^~\u00b0\u00b9\u00b2\u00b3?!;,]$")

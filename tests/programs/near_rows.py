@@ -50,6 +50,17 @@ def of_all(writer, old, new):
     return text
 
 
+def ports(nodes, pairs, source):
+    """Pairs of ports, each of which a device has once."""
+    count = dict.fromkeys(nodes, 0)
+    text = "source,target\n"
+    for pair in pairs:
+        for node in pair:
+            count[node] += 1
+        text += ",".join(f"{node}:{count[node]}" for node in pair) + "\n"
+    return text
+
+
 def queries(nodes, pairs, source):
     return lines(pairs, " ") + f"2\n{nodes[0]} {nodes[1]}\n{nodes[1]} {nodes[2]}\n"
 
@@ -112,6 +123,22 @@ NEAR = (
         f'"{a}", "{b}";\n' for a, b in pairs) + "}\n"),
     ("DOT of names with hyphens", (("a-1", "a-2", "b-1", "c-3", "d-4"),), lambda nodes, pairs, source: (
         "graph {\n" + "".join(f"{a} -- {b};\n" for a, b in pairs) + "}\n")),
+    ("ports of devices", (("s1", "s2", "s3", "s4", "s5"),), ports),
+    ("numbers of edges before each end", (TOWNS, CELLS), lambda nodes, pairs, source: "".join(
+        f"L{at},{end}\n" for at, pair in enumerate(pairs) for end in pair)),
+    *((f"a comment {comment!r} over a list that is cut", NUMBERS, lambda nodes, pairs, source, comment=comment:
+       comment.format(len(nodes), len(pairs)) + lines(pairs[1:], " ")) for comment in (
+           "# Nodes: {} Edges: {}\n", "% sym\n% {1} {0} {0}\n", "# {1} edges\n")),
+    *((f"a last line {line!r}", (TOWNS, CELLS), lambda nodes, pairs, source, line=line: lines(pairs, ",") + line)
+      for line in ("Page 1,\n", "Source: BNetzA,\n", "5 more rows,\n", "2026-01-01,\n", "Stand 2026,\n")),
+    ("GraphML with a flag", WORDS, of_all(lambda *graph: as_graphml(*graph).replace(
+        '"weight"', '"interferes"').replace(">2<", ">yes<"), ">yes<", ">no<")),
+    ("GraphML with a flag of numbers", WORDS, of_all(lambda *graph: as_graphml(*graph).replace(
+        '"weight"', '"interferes"').replace(">2<", ">1<"), ">1<", ">0<")),
+    ("GML with a flag", WORDS, of_all(lambda *graph: as_gml(*graph).replace("edge [", "edge [ near 1"), "near 1",
+                                      "near 0")),
+    ("JSON with a flag", WORDS, of_all(lambda *graph: as_json(*graph).replace('"weight": 2', '"near": "yes"'),
+                                       '"near": "yes"', '"near": "no"')),
     ("DIMACS of sets", (ONES,), lambda nodes, pairs, source: f"p hs 8 {len(pairs)}\n" + "".join(
         f"{a} {b} {source.choice(nodes)}\n" for a, b in pairs)),
 )
