@@ -113,8 +113,9 @@ class Stepwise(Player):
         return fault
 
     def free(self, held):
-        """The steps that can come next and that nothing holds."""
-        return [step for own in self.steps.values() for step in own if not held.waits(step)]
+        """The steps that can come next and that nothing holds: of a node that waits its pulse is held, and no more."""
+        return [step for own in self.steps.values() for step in own if not (
+            step.node in held.lazy if step.kind == "pulse" else (step.node, step.neighbour) in held.slow)]
 
     def by_chance(self, count, seed, held):
         """As many steps more, each as likely as any other."""

@@ -14,7 +14,6 @@ from lab.wrong import Wrong
 PROGRAMS = ("forestplan", "forestplay")
 # What a process that answers asks of the server's own.
 WANTED = signal.SIGUSR1
-WORDS = {"log": None}
 
 
 def is_installed():
@@ -34,11 +33,10 @@ def is_built(name):
 
 
 class Building:
-    """The build in the server's own process: `log` is what it says, as a file."""
+    """The build in the server's own process; what it says is in a file."""
 
     def __init__(self, folder):
-        self.log, self.process, self.is_wanted = os.path.join(folder, "build.log"), None, False
-        WORDS["log"] = self.log
+        self.process, self.is_wanted, OPENED["log"] = None, False, os.path.join(folder, "build.log")
         signal.signal(WANTED, self.want)
 
     def want(self, *_):
@@ -48,13 +46,13 @@ class Building:
         """Begins what is wanted, and takes note of what is done. Called again and again."""
         if self.is_wanted and self.process is None and not OPENED["is_proved"]:
             command = " && ".join(f"FORESTPLAN_BUILD_ONLY=1 bin/{name}" for name in PROGRAMS)
-            with open(self.log, "w", encoding="utf-8") as log:
+            with open(OPENED["log"], "w", encoding="utf-8") as log:
                 self.process = subprocess.Popen(["bash", "-c", command], cwd=TOP, stdin=subprocess.DEVNULL, stdout=log,
                                                 stderr=log, start_new_session=True)
         self.is_wanted = False
         if self.process and self.process.poll() is not None:
             OPENED["is_proved"] = self.process.returncode == 0 and are_built()
-            with open(self.log, "a", encoding="utf-8") as log:
+            with open(OPENED["log"], "a", encoding="utf-8") as log:
                 log.write("the programs are proved and built\n" if OPENED["is_proved"] else "ended: it isn't built\n")
             self.process = None
 
@@ -73,9 +71,9 @@ def begin(_asked, _tell):
     if shutil.which("rt") is None:
         raise Wrong("the toolchain's command rt is not on the PATH, and without it nothing can be proved")
     if so_far({}, None)["ended"]:
-        os.unlink(WORDS["log"])
+        os.unlink(OPENED["log"])
     os.kill(os.getppid(), WANTED)
-    while not os.path.exists(WORDS["log"]):
+    while not os.path.exists(OPENED["log"]):
         time.sleep(0.1)
     return so_far({}, None)
 
@@ -83,7 +81,7 @@ def begin(_asked, _tell):
 def so_far(_asked, _tell):
     """How far the build is, in its own words."""
     try:
-        with open(WORDS["log"], encoding="utf-8", errors="replace") as log:
+        with open(OPENED["log"], encoding="utf-8", errors="replace") as log:
             lines, begun = log.read().splitlines(), os.stat(log.fileno())
     except (OSError, TypeError):
         return {"proved": OPENED["is_proved"], "lines": [], "ended": False}

@@ -194,6 +194,8 @@ class Answers(Server):
         held = self.answer("steps", network=TRIANGLE, slow=[[1, 2]], by=200)["answer"]
         at = [look["p"] for look in held["looks"]]
         self.note("a held link holds its nodes", at[0] == at[1] == 0 and "1-2" in held["steps"], held)
+        held = self.answer("steps", network="p edge 3 2\ne 1 2\ne 2 3\n", lazy=[1], by=200)["answer"]
+        self.note("a held pulse holds no message", [look["p"] for look in held["looks"]] == [0, 1, 2], held["looks"])
         step = self.answer("steps", network=TRIANGLE, in_step=True)["answer"]
         self.note("in step", [look["p"] for look in step["looks"]] == [1, 1, 1], step["looks"])
         early = "3-1_1-3_1-2_2-1_1-2_2-1"

@@ -15,7 +15,6 @@ export const stage = new Stage(by("net"), net);
 export const tabs = Object.create(null), hooks = {};
 // Elements of a picture have no property `hidden`.
 export function hide(id, isHidden) { by(id).toggleAttribute("hidden", isHidden); }
-export function isHidden(id) { return by(id).hasAttribute("hidden"); }
 export function show() { hooks.show(); }
 export function go(tab, more) { hooks.go(tab, more); }
 export const KEYS = matchMedia("(pointer: coarse)").matches ? "" : "Space plays, arrows step.";

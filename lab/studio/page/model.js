@@ -37,10 +37,8 @@ export function load(found, example = "") {
 export function hasEdge(v, w) { return net.edges.some(e => e[0] === Math.min(v, w) && e[1] === Math.max(v, w)); }
 export function toggleEdge(v, w) {
   const [low, high] = [Math.min(v, w), Math.max(v, w)];
-  change(n => {
-    if (hasEdge(v, w)) n.edges = n.edges.filter(e => e[0] !== low || e[1] !== high);
-    else n.edges.push([low, high]);
-  });
+  const rest = net.edges.filter(e => e[0] !== low || e[1] !== high);
+  change(n => { n.edges = rest.length < n.edges.length ? rest : n.edges.concat([[low, high]]); });
 }
 export function removeNode(v) {
   change(n => {

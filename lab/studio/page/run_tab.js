@@ -1,6 +1,6 @@
 // The tab No clock: a run by a seed or by real threads, its verdicts, another order or the rounds beside it.
 import {call} from "./api.js";
-import {KEYS, all, among, by, capital, fill, hide, isHidden, listOf, progress, say, seen, show, stage, tabs, time,
+import {KEYS, all, among, by, capital, fill, hide, listOf, progress, say, seen, show, stage, tabs, time,
   toggle, tried, wrong} from "./base.js";
 import {net, text} from "./model.js";
 import {rounds} from "./rounds_tab.js";
@@ -143,7 +143,7 @@ function apart(looks) {
 }
 // The rounds, small, at the pulse of the slowest node or of the one that is followed.
 function showRounds(at) {
-  if (isHidden("small") || !rounds.film || rounds.of !== seen.program + text()) return say("besidesaid", "");
+  if (!by("beside").checked || !rounds.film || rounds.of !== seen.program + text()) return say("besidesaid", "");
   const looks = run.film.looks(at);
   const p = seen.node ? looks[seen.node - 1].p : Math.min(...looks.map(is => is.p));
   small.refit();

@@ -21,10 +21,11 @@ async function ask(more = {}) {
 // A step is made after the one before: a click that comes too early is none.
 function goOn(more) { if (!asking) ask(more); }
 function from(made) { goOn({steps: made.join("_")}); }
-// Whether a step is held: its link, or its node, waits.
+// Whether a step is held: a pulse by its node, and a message by its link.
 function isHeld(step) {
   const [v, w] = step.split("-").map(Number);
-  return seen.lazy.includes(v) || w && seen.slow.some(e => e.join("-") === [v, w].sort((a, b) => a - b).join("-"));
+  if (!w) return seen.lazy.includes(v);
+  return seen.slow.some(e => e.join("-") === [v, w].sort((a, b) => a - b).join("-"));
 }
 function isFree(step) { return steps.found.steps.includes(step) && !isHeld(step); }
 function make(step) { if (isFree(step)) from(steps.made.concat(step)); }
@@ -75,7 +76,7 @@ function listSteps(is) {
   const rows = net.nodes.map((_, k) => k + 1).filter(v => few || (seen.node ? v === seen.node : byNode.has(v)));
   place.replaceChildren(...rows.slice(0, 14).map(v => {
     const line = html("div", null, {class: "possible"}), look = is.looks[v - 1], hold = html("button",
-      seen.lazy.includes(v) ? "let go" : "hold", {class: "quiet", "aria-label": `hold node ${v}`});
+      seen.lazy.includes(v) ? "let go" : "hold its pulse", {class: "quiet", "aria-label": `hold the pulse of node ${v}`});
     hold.onclick = () => { toggle("lazy", v); show(); };
     line.append(html("b", `node ${v} `), html("span", `pulse ${look.p}: ${waitsWords(look)} `, {class: "soft"}), hold);
     (byNode.get(v) || []).forEach(step => {

@@ -141,7 +141,6 @@ svg.onwheel = event => {
   stage.zoom(Math.exp(-event.deltaY / 500), ...stage.point(event));
   show();
 };
-function refit() { stage.fit(); show(); }
 // What is on the stage: the network, or a picture.
 function zoom(by_) {
   if (!by("picture").hidden) return zoomPicture(by_);
@@ -151,7 +150,7 @@ function zoom(by_) {
 by("zoomin").onclick = () => zoom(1.25);
 by("zoomout").onclick = () => zoom(0.8);
 by("zoomfit").onclick = () => zoom(0);
-new ResizeObserver(() => { if (!drag && seen.hello && !stage.isZoomed) refit(); }).observe(by("stage"));
+new ResizeObserver(() => { if (!drag && seen.hello && !stage.isZoomed) zoom(0); }).observe(by("stage"));
 
 // The address. It is written a moment after the last change: browsers refuse many changes in a row.
 let linked = "", isFollowing = false, follows = 0, linking = null;
