@@ -53,6 +53,8 @@ CODES = (
     Code("N2", NETWORK, "{at} have the same identifier",
          "give one of them another by a line `i V NUMBER`; without such a line a vertex has its own number", TWO),
     Code("N3", NETWORK, "memory ran out; the programs write `memory`", MEMORY),
+    Code("NoRoot", NETWORK, "{at}, which `--root` names, isn't in the network",
+         "name one of its vertices: they are 1 to the NODES of the `p` line", VERTEX),
     Code("C1", PLAN, "{at} has no line in the plan", "add the line `V CHANNEL`; is the plan of this network?", VERTEX),
     Code("C2", PLAN, "the plan has a line of {at}, which isn't in the network",
          "take the line out; is the plan of this network?", VERTEX),

@@ -1,6 +1,7 @@
 mod Ends
 pub mod Numbering
 mod GivenIds
+pub mod Rooted
 pub mod Plain
 pub mod Following
 pub mod ProperPlans

@@ -9,18 +9,21 @@ use Rattle.event_machine.specs.Step.{run}
 use Rattle.event_machine.specs.declared.event.Event.{Event}
 use Rattle.dimacs_col.proofs.Blank.{fault-of, graph-of}
 use Rattle.event_texts.specs.StateText.{state_text}
-use Rattle.transcripts.specs.Behind.{AreNetworkLines, transcript_word}
+use Rattle.transcripts.specs.Behind.{AreNetworkLines, network_lines, transcript_word}
 use Rattle.transcripts.specs.Editions.{One, Two}
 use Rattle.program_texts.specs.Texts.{ProgramTexts}
-use Rattle.answers.specs.Answers.{IsFaultOfText, ReadsAs}
+use Rattle.answers.specs.Answers.{IsFaultOfText, LinesReadAs, ReadsAs, network_with}
 use Rattle.answers.specs.EventAnswers.{AreInStep}
+use Rattle.answers.specs.Roots.{OfRooted}
 use Rattle.answers.specs.ReplayAnswers.{IsFaultOfNamed, IsFaultOfReplay, IsOfProgram, IsReplayAnswer, IsReplayed}
 use Rattle.answers.specs.declared.fault.PlanFault.{PlanFault}
 use Rattle.answers.specs.declared.fault.PlanFault.TheVariants as plan
 use Rattle.answers.specs.declared.replaying.ReplayFault.{ReplayFault}
+use Rattle.answers.specs.declared.root.Root.{Root}
+use Rattle.answers.proofs.Rooted.{rooted-more}
 
-abbrev Reads : List ℕ → Net → Type 0
-Reads network net = ReadsAs network (λ read. IsNetwork read × (net ≡ read))
+abbrev Reads : Option Root → List ℕ → Net → Type 0
+Reads root network net = ReadsAs network (OfRooted root (λ read. IsNetwork read × (net ≡ read)))
 
 -- the state of a replay is one that events reach
 pub in-step : {S M E : Type 0} (program : Program S M E) (payload_of : List ℕ → ℕ → Option M) (net : Net) (state : State S M) (lines : List Line) →
@@ -29,10 +32,13 @@ pub in-step : {S M E : Type 0} (program : Program S M E) (payload_of : List ℕ 
 in-step program payload_of net state lines (One read, is, leads) made = made leads.events leads.is_run
 in-step program payload_of net state lines (Two read, is, leads) made = made leads.replay.replay.events leads.replay.replay.is_run
 
-module _ {S M E : Type 0} (program : Program S M E) (word_of : M → List ℕ) (number_of : M → ℕ) (payload_of : List ℕ → ℕ → Option M) where
-  pub fault-network : (texts : ProgramTexts S) (input network : List ℕ) (fault : PlanFault) → AreNetworkLines (lines_of input) (lines_of network) → IsFaultOfText network fault →
-      IsFaultOfReplay program word_of number_of payload_of texts input fault
+module _ {S M E : Type 0} (program : Program S M E) (word_of : M → List ℕ) (number_of : M → ℕ) (payload_of : List ℕ → ℕ → Option M)
+    (root : Option Root) where
+  pub fault-network : (texts : ProgramTexts S) (input network : List ℕ) (fault : PlanFault) → AreNetworkLines (lines_of input) (lines_of network) →
+      IsFaultOfText root network fault → IsFaultOfReplay program word_of number_of payload_of texts root input fault
   fault-network texts input network (plan.Col fault) are is = fault-of transcript_word (lines_of input) (lines_of network) fault are is
+  fault-network texts input network (plan.NoRoot v) are (graph, reads, is) =
+      (graph, graph-of transcript_word (lines_of input) (lines_of network) graph are reads, is)
   fault-network texts input network (plan.Net fault) are (graph, reads, is) =
       (graph, graph-of transcript_word (lines_of input) (lines_of network) graph are reads, is)
   fault-network texts input network (plan.Check fault) are is = absurd is
@@ -42,32 +48,32 @@ module _ {S M E : Type 0} (program : Program S M E) (word_of : M → List ℕ) (
   fault-network texts input network plan.Stopped are is = absurd is
   fault-network texts input network plan.Memory are is = tt
 
-  pub fault-transcript : (texts : ProgramTexts S) (input network : List ℕ) (net : Net) (fault : ReplayFault) →
-      AreNetworkLines (lines_of input) (lines_of network) → Reads network net →
-      IsFaultOfNamed program word_of number_of payload_of texts.name net (lines_of input) fault →
-      IsFaultOfReplay program word_of number_of payload_of texts input (plan.Replay fault)
-  fault-transcript texts input network net fault are (graph, reads, (ok, same)) is = (
+  -- what is known of the network that was read, and of the lines behind it
+  behind : (input network : List ℕ) (net : Net) (Q : Net → Type 0) → AreNetworkLines (lines_of input) (lines_of network) →
+      Reads root network net → (IsNetwork net → Q net) → LinesReadAs (network_lines (lines_of input)) (OfRooted root Q)
+  behind input network net Q are (graph, reads, is) so = (
     graph,
     graph-of transcript_word (lines_of input) (lines_of network) graph are reads,
-    (ok, subst (λ known. IsFaultOfNamed program word_of number_of payload_of texts.name known (lines_of input) fault) same is),
+    rooted-more root (λ read. IsNetwork read × (net ≡ read)) Q
+        (λ read both. subst Q both.1 (so (subst (λ n. IsNetwork n) (sym both.1) both.0))) (network_with graph) is,
   )
 
+  pub fault-transcript : (texts : ProgramTexts S) (input network : List ℕ) (net : Net) (fault : ReplayFault) →
+      AreNetworkLines (lines_of input) (lines_of network) → Reads root network net →
+      IsFaultOfNamed program word_of number_of payload_of texts.name net (lines_of input) fault →
+      IsFaultOfReplay program word_of number_of payload_of texts root input (plan.Replay fault)
+  fault-transcript texts input network net fault are reads is =
+      behind input network net
+      (λ known. IsNetwork known × IsFaultOfNamed program word_of number_of payload_of texts.name known (lines_of input) fault) are reads
+      (λ ok. (ok, is))
+
   pub reached : (texts : ProgramTexts S) (input network text : List ℕ) (net : Net) (state : State S M) → AreNetworkLines (lines_of input) (lines_of network) →
-      Reads network net → IsReplayed program payload_of net (lines_of input) state → text ≡ state_text program texts word_of number_of net state →
+      Reads root network net → IsReplayed program payload_of net (lines_of input) state → text ≡ state_text program texts word_of number_of net state →
       (IsNetwork net → AreInStep program net state) → ((net : Net) → IsNetwork net → texts.Solves net (last_state program net)) →
-      IsOfProgram texts.name (lines_of input) → IsReplayAnswer program texts word_of number_of payload_of input text
-  reached texts input network text net state are (graph, reads, (ok, same)) played is in_step solves named = (
-    graph,
-    graph-of transcript_word (lines_of input) (lines_of network) graph are reads,
-    (
-      ok,
-      (
-        state,
-        subst (λ known. IsReplayed program payload_of known (lines_of input) state) same played,
-        subst (λ known. text ≡ state_text program texts word_of number_of known state) same is,
-        subst (λ known. AreInStep program known state) same (in_step (subst (λ n. IsNetwork n) (sym same) ok)),
-      ),
-      solves _ ok,
-      named,
-    ),
-  )
+      IsOfProgram texts.name (lines_of input) → IsReplayAnswer program texts word_of number_of payload_of root input text
+  reached texts input network text net state are reads played is in_step solves named =
+      behind input network net
+      (λ known. IsNetwork known × ((state : State S M) × IsReplayed program payload_of known (lines_of input) state
+      × (text ≡ state_text program texts word_of number_of known state) × AreInStep program known state)
+      × texts.Solves known (last_state program known) × IsOfProgram texts.name (lines_of input)) are reads
+      (λ ok. (ok, (state, played, is, in_step ok), solves net ok, named))

@@ -7,7 +7,7 @@ use Rattle.run_faults.specs.declared.fault.PoolFault.TheVariants as pool
 use Rattle.channel_plan.specs.declared.plan.CheckFault.TheVariants as check
 use Rattle.event_texts.specs.declared.fault.EventFault.TheVariants as event
 use Rattle.answers.specs.declared.fault.PlanFault.{PlanFault}
-use Rattle.answers.specs.declared.fault.PlanFault.TheVariants.{Check, Col, Event, Net, Memory, Pool, Replay, Stopped}
+use Rattle.answers.specs.declared.fault.PlanFault.TheVariants.{Check, Col, Event, Net, NoRoot, Memory, Pool, Replay, Stopped}
 use Rattle.answers.specs.declared.replaying.ReplayFault.TheVariants as replay
 use Rattle.answers.specs.declared.report.Place.{Place}
 use Rattle.answers.specs.declared.report.Place.TheVariants.{None, Line, Vertex, Vertices}
@@ -47,6 +47,7 @@ fault_text (Col (col.IdTwice n)) = (at_line (codes "F12") n, 1)
 fault_text (Col (col.ChannelRange n)) = (at_line (codes "F13") n, 1)
 fault_text (Col (col.TooManyBars n)) = (at_line (codes "F14") n, 1)
 fault_text (Col col.Memory) = (codes "memory", 4)
+fault_text (NoRoot v) = (at_vertex (codes "NoRoot") v, 1)
 fault_text (Net (net.Degree v)) = (at_vertex (codes "N1") v, 1)
 fault_text (Net (net.SameId v w)) = (at_vertices (codes "N2") v w, 1)
 fault_text (Net net.Memory) = (codes "memory", 4)

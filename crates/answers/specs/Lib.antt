@@ -1,5 +1,6 @@
 pub mod Texts
 pub mod Plans
+pub mod Roots
 pub mod Faults
 pub mod Answers
 pub mod Verdicts

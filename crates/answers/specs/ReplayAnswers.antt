@@ -31,10 +31,12 @@ use Rattle.transcripts.specs.declared.fault.TextFault.TheVariants as text
 use Rattle.program_texts.specs.Texts.{ProgramTexts}
 use Rattle.answers.specs.Answers.{LinesReadAs}
 use Rattle.answers.specs.EventAnswers.{AreInStep}
+use Rattle.answers.specs.Roots.{LacksRoot, OfRooted}
 use Rattle.answers.specs.declared.fault.PlanFault.{PlanFault}
 use Rattle.answers.specs.declared.fault.PlanFault.TheVariants as plan
 use Rattle.answers.specs.declared.replaying.ReplayFault.{ReplayFault}
 use Rattle.answers.specs.declared.replaying.ReplayFault.TheVariants as fault
+use Rattle.answers.specs.declared.root.Root.{Root}
 
 -- the transcript that follows a network, or the number of its first wrong line
 abbrev pub transcript_in : {M : Type 0} → (List ℕ → ℕ → Option M) → List Line → Result (AnyTranscript M) ℕ
@@ -56,15 +58,16 @@ IsReplayed program payload_of net lines state =
 abbrev pub IsOfProgram : List ℕ → List Line → Type 0
 IsOfProgram name lines = (named : List ℕ) → program_in lines ≡ Some named → named ≡ name
 
--- the answer is the text of the state that the transcript leads to, on the network that stands before it, and the last
--- states of the synchronous run are what the program is for; the transcript names no other program
+-- the answer is the text of the state that the transcript leads to, on the network that stands before it, with the root
+-- that is given, if there is one, and the last states of the synchronous run are what the program is for; the transcript
+-- names no other program
 abbrev pub IsReplayAnswer : {S M E : Type 0} → Program S M E → ProgramTexts S → (M → List ℕ) → (M → ℕ) →
-    (List ℕ → ℕ → Option M) → List ℕ → List ℕ → Type 0
-IsReplayAnswer program texts word_of number_of payload_of input answer =
-    LinesReadAs (network_lines (lines_of input)) (λ net. IsNetwork net
+    (List ℕ → ℕ → Option M) → Option Root → List ℕ → List ℕ → Type 0
+IsReplayAnswer program texts word_of number_of payload_of root input answer =
+    LinesReadAs (network_lines (lines_of input)) (OfRooted root (λ net. IsNetwork net
     × ((state : State _ _) × IsReplayed program payload_of net (lines_of input) state
     × (answer ≡ state_text program texts word_of number_of net state) × AreInStep program net state)
-    × texts.Solves net (last_state program net) × IsOfProgram texts.name (lines_of input))
+    × texts.Solves net (last_state program net) × IsOfProgram texts.name (lines_of input)))
 
 -- the fault of a transcript's text
 abbrev pub fault_of_text : TextFault → ReplayFault
@@ -242,15 +245,17 @@ module _ {S M E : Type 0} (program : Program S M E) (word_of : M → List ℕ) (
   IsFaultOfNamed name net lines told =
       IsFaultOfName name lines told ⊎ (IsOfProgram name lines × IsFaultOfTranscript net lines told)
 
-  -- the fault of an input of `replay`, for a program with texts: of the network text before the transcript, or else of the
-  -- transcript
-  abbrev pub IsFaultOfReplay : ProgramTexts S → List ℕ → PlanFault → Type 0
-  IsFaultOfReplay texts input (plan.Col fault) = IsFault (network_lines (lines_of input)) fault
-  IsFaultOfReplay texts input (plan.Net fault) = LinesReadAs (network_lines (lines_of input)) (λ net. IsFaultOf net fault)
-  IsFaultOfReplay texts input (plan.Pool fault) = ⊥
-  IsFaultOfReplay texts input (plan.Check fault) = ⊥
-  IsFaultOfReplay texts input (plan.Event fault) = ⊥
-  IsFaultOfReplay texts input (plan.Replay fault) = LinesReadAs (network_lines (lines_of input))
-      (λ net. IsNetwork net × IsFaultOfNamed texts.name net (lines_of input) fault)
-  IsFaultOfReplay texts input plan.Stopped = ⊥
-  IsFaultOfReplay texts input plan.Memory = Unit {0}
+  -- the fault of an input of `replay`, for a program with texts: of the network text before the transcript, or of the root,
+  -- or else of the transcript
+  abbrev pub IsFaultOfReplay : ProgramTexts S → Option Root → List ℕ → PlanFault → Type 0
+  IsFaultOfReplay texts root input (plan.Col fault) = IsFault (network_lines (lines_of input)) fault
+  IsFaultOfReplay texts root input (plan.NoRoot v) = LinesReadAs (network_lines (lines_of input)) (LacksRoot root v)
+  IsFaultOfReplay texts root input (plan.Net fault) =
+      LinesReadAs (network_lines (lines_of input)) (OfRooted root (λ net. IsFaultOf net fault))
+  IsFaultOfReplay texts root input (plan.Pool fault) = ⊥
+  IsFaultOfReplay texts root input (plan.Check fault) = ⊥
+  IsFaultOfReplay texts root input (plan.Event fault) = ⊥
+  IsFaultOfReplay texts root input (plan.Replay fault) = LinesReadAs (network_lines (lines_of input))
+      (OfRooted root (λ net. IsNetwork net × IsFaultOfNamed texts.name net (lines_of input) fault))
+  IsFaultOfReplay texts root input plan.Stopped = ⊥
+  IsFaultOfReplay texts root input plan.Memory = Unit {0}

@@ -1,6 +1,6 @@
 //! The answer of each command to the bytes of a text.
 
-ghost use Rattle.std.specs.Prelude.{◌≡◌, IfOk, IfErr};
+ghost use Rattle.std.specs.Prelude.{◌≡◌, None, IfOk, IfErr};
 ghost use Rattle.std.specs.List.{range_with_len};
 ghost use Rattle.graph_limits.specs.Pairs.{AreVertices};
 ghost use Rattle.dimacs_col.specs.Reading.{graph_of};
@@ -8,10 +8,13 @@ ghost use Rattle.interference.specs.Making.{BarsFit, EdgesFit, IsFaultOf};
 ghost use Rattle.interference.specs.Net.{IsNetwork};
 ghost use Rattle.answers.specs.Answers.{IsFaultOfText, IsForestsAnswer, IsPlainAnswer, ReadsAs};
 ghost use Rattle.answers.specs.Answers.{identifiers_with, network_with};
+ghost use Rattle.answers.specs.Roots.{IsRootAmong, OfRooted};
 
 use crate::colours_text::text_of_plan;
 use crate::fault::PlanFault;
 use crate::forests_text::text_of_forests;
+use crate::root::Root;
+use crate::rooting::{missing_root, with_root};
 use colour_laws::laws::colours_are_proper;
 use dimacs_col::{ColFile, read};
 use interference::{NetFault, Network};
@@ -42,15 +45,21 @@ fn identifiers(alloc: Global, nodes: u32, given: &[(u32, u128)]) -> Result<Vec<u
     Ok(ids)
 }
 
-// The network of a graph.
-fn network_of_graph(alloc: Global, graph: &ColFile) -> Result<Network, NetFault>
+// The network of a graph, with the root that is given, if there is one.
+fn network_of_graph(alloc: Global, graph: &ColFile, root: Option<Root>) -> Result<Network, NetFault>
     requires edges { EdgesFit graph.now.nodes graph.now.edges.items }
     requires vertices { AreVertices graph.now.nodes graph.now.ids.items }
     requires bars { BarsFit graph.now.nodes graph.now.bars.items }
-    ensures ok { IfOk result (λ net. (net ≡ network_with (graph_of graph.now)) × IsNetwork net) }
-    ensures fault { IfErr result (IsFaultOf (network_with (graph_of graph.now))) }
+    requires root { IsRootAmong root graph.now.nodes }
+    ensures ok { IfOk result (λ net.
+        OfRooted root (λ made. IsNetwork made × (net ≡ made)) (network_with (graph_of graph.now))) }
+    ensures fault { IfErr result (λ fault.
+        OfRooted root (λ made. IsFaultOf made fault) (network_with (graph_of graph.now))) }
 {
     let Ok(ids) = identifiers(alloc, graph.nodes, graph.ids.as_slice()) else {
+        return Err(NetFault::Memory);
+    };
+    let Ok(ids) = with_root(alloc, ids, root) else {
         return Err(NetFault::Memory);
     };
     let network = Network::new(
@@ -64,17 +73,25 @@ fn network_of_graph(alloc: Global, graph: &ColFile) -> Result<Network, NetFault>
     Ok(network)
 }
 
-/// The network that a DIMACS text describes.
+/// The network that a DIMACS text describes, with the root that is given, if there is one.
 ///
 /// # Errors
-/// `Col` with the fault of the reading; if there is none, `Net` with the fault of the network. Either may instead fail
-/// for lack of memory: `ColFault::Memory` or `NetFault::Memory`.
-pub fn network_of_text(alloc: Global, input: &[u8]) -> Result<Network, PlanFault>
-    ensures ok { IfOk result (λ net. ReadsAs input.now (λ read. IsNetwork read × (net ≡ read))) }
-    ensures fault { IfErr result (IsFaultOfText input.now) }
+/// `Col` with the fault of the reading; if there is none, `NoRoot` if the root is no vertex; if it is one, `Net` with the
+/// fault of the network. Reading and network may instead fail for lack of memory: `ColFault::Memory` or
+/// `NetFault::Memory`.
+pub fn network_of_text(
+    alloc: Global,
+    input: &[u8],
+    root: Option<Root>,
+) -> Result<Network, PlanFault>
+    ensures ok { IfOk result (λ net. ReadsAs input.now (OfRooted root (λ read. IsNetwork read × (net ≡ read)))) }
+    ensures fault { IfErr result (IsFaultOfText root input.now) }
 {
     let graph = read(alloc, input)?;
-    Ok(network_of_graph(alloc, &graph)?)
+    match missing_root(root, graph.nodes) {
+        Some(v) => Err(PlanFault::NoRoot(v)),
+        None => Ok(network_of_graph(alloc, &graph, root)?),
+    }
 }
 
 /// The forests text of the network that a DIMACS text describes.
@@ -84,9 +101,9 @@ pub fn network_of_text(alloc: Global, input: &[u8]) -> Result<Network, PlanFault
 /// may instead fail for lack of memory: `ColFault::Memory`, `NetFault::Memory` or `Memory`.
 pub fn forest_bytes(alloc: Global, input: &[u8]) -> Result<Vec<u8>, PlanFault>
     ensures ok { IfOk result (λ text. IsForestsAnswer input.now text.items) }
-    ensures fault { IfErr result (IsFaultOfText input.now) }
+    ensures fault { IfErr result (IsFaultOfText None input.now) }
 {
-    let network = network_of_text(alloc, input)?;
+    let network = network_of_text(alloc, input, None)?;
     Ok(text_of_forests(alloc, &network)?)
 }
 
@@ -97,9 +114,9 @@ pub fn forest_bytes(alloc: Global, input: &[u8]) -> Result<Vec<u8>, PlanFault>
 /// As of `forest_bytes`.
 pub fn plain_bytes(alloc: Global, input: &[u8]) -> Result<Vec<u8>, PlanFault>
     ensures ok { IfOk result (λ text. IsPlainAnswer input.now text.items) }
-    ensures fault { IfErr result (IsFaultOfText input.now) }
+    ensures fault { IfErr result (IsFaultOfText None input.now) }
 {
     colours_are_proper();
-    let network = network_of_text(alloc, input)?;
+    let network = network_of_text(alloc, input, None)?;
     Ok(text_of_plan(alloc, &network)?)
 }

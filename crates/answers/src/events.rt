@@ -5,6 +5,7 @@ ghost use Rattle.answers.specs.EventAnswers.{IsEventsAnswer, IsFaultOfEvents};
 
 use crate::answer::network_of_text;
 use crate::fault::PlanFault;
+use crate::root::Root;
 use event_machine::laws::every_run_simulates;
 use event_texts::{network_text, play, read_events, text_of_state};
 use node_api::Refused;
@@ -13,20 +14,24 @@ use std::alloc::Global;
 
 /// The state of the nodes of a program after a list of events: the input is a DIMACS text, and then a
 /// line for each event, `pulse V`, `put V PORT` or `take V PORT`. The events begin at the first line whose
-/// first field is one of these words.
+/// first field is one of these words. If a root is given, the network is that with this root.
 ///
 /// # Errors
-/// As of `forest_bytes` for the lines before the events; if there is none, `Event` with the first line that is
+/// As of `network_of_text` for the lines before the events; if there is none, `Event` with the first line that is
 /// no event; if there is none, `Event` with the first event that isn't possible. Lines count from the first of
 /// the input. Any call may instead fail for lack of memory: `EventFault::Memory` or as `forest_bytes`.
-pub fn events_bytes<P: ProgramText>(alloc: Global, input: &[u8]) -> Result<Vec<u8>, PlanFault>
+pub fn events_bytes<P: ProgramText>(
+    alloc: Global,
+    input: &[u8],
+    root: Option<Root>,
+) -> Result<Vec<u8>, PlanFault>
     ensures ok { IfOk result (λ text.
-        IsEventsAnswer P.program P.texts P.Payload.word_of P.Payload.number_of input.now text.items) }
-    ensures fault { IfErr result (IsFaultOfEvents P.program input.now) }
+        IsEventsAnswer P.program P.texts P.Payload.word_of P.Payload.number_of root input.now text.items) }
+    ensures fault { IfErr result (IsFaultOfEvents P.program root input.now) }
 {
     every_run_simulates::<P, P::Payload, Refused>();
     P::rounds_solve();
-    let network = network_of_text(alloc, network_text(input))?;
+    let network = network_of_text(alloc, network_text(input), root)?;
     let script = read_events(alloc, input)?;
     let state = play::<P>(alloc, &network, script.as_slice())?;
     Ok(text_of_state(alloc, &state)?)

@@ -15,6 +15,8 @@ use run_faults::PoolFault;
 pub enum PlanFault {
     /// The text is no graph.
     Col(ColFault),
+    /// The vertex that is to be the root is none of its graph.
+    NoRoot(u32),
     /// Its graph is no network.
     Net(NetFault),
     /// The run of workers on it has no outcome.

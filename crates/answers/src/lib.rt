@@ -23,6 +23,8 @@ mod fault;
 mod forests_text;
 mod replaying;
 mod report;
+mod root;
+mod rooting;
 mod rounds;
 mod verdict;
 
@@ -31,5 +33,6 @@ pub use events::events_bytes;
 pub use fault::PlanFault;
 pub use replaying::{ReplayFault, replay_bytes};
 pub use report::{FaultReport, fault_report};
+pub use root::Root;
 pub use rounds::rounds_bytes;
 pub use verdict::check_bytes;

@@ -13,6 +13,7 @@ ghost use Rattle.answers.specs.ReplayAnswers.{first_line_in, index_of, last_of, 
 
 use crate::answer::network_of_text;
 use crate::fault::PlanFault;
+use crate::root::Root;
 use dimacs_col::text_start;
 use entries::{Row, StampedRow};
 use event_machine::laws::every_run_simulates;
@@ -313,24 +314,28 @@ fn check_program(alloc: Global, input: &[u8], name: &str) -> Result<(), ReplayFa
 /// input is a DIMACS text, and then a transcript, which begins at the first line whose first field is
 /// `transcript`. If it is of edition 3, its first line has to name the program. The entries are played in the order of
 /// their lines. Those of editions 2 and 3 have to have the stamps of their nodes' counters, in their order, and to lead
-/// to a whole state.
+/// to a whole state. If a root is given, the network is that with this root.
 ///
 /// # Errors
-/// As of `forest_bytes` for the lines before the transcript; if there is none, `Replay` with the first line if that
+/// As of `network_of_text` for the lines before the transcript; if there is none, `Replay` with the first line if that
 /// names another program; if there is none, `Replay` with the first line that is none of a transcript; if there is none,
 /// `Replay` with the first entry that isn't possible, or has another pulse or wire, or, with stamps, another stamp than
 /// its node comes to, or comes too late; if there is none, with stamps, `Replay` with the last line if the state isn't
 /// whole. Lines count from the first of the input. Any call may instead fail for lack of memory: `ReplayFault::Memory`
 /// or as `forest_bytes`.
-pub fn replay_bytes<P: ProgramText>(alloc: Global, input: &[u8]) -> Result<Vec<u8>, PlanFault>
+pub fn replay_bytes<P: ProgramText>(
+    alloc: Global,
+    input: &[u8],
+    root: Option<Root>,
+) -> Result<Vec<u8>, PlanFault>
     ensures ok { IfOk result (λ text. IsReplayAnswer P.program P.texts P.Payload.word_of P.Payload.number_of
-        P.Payload.payload_of input.now text.items) }
+        P.Payload.payload_of root input.now text.items) }
     ensures fault { IfErr result (IsFaultOfReplay P.program P.Payload.word_of P.Payload.number_of
-        P.Payload.payload_of P.texts input.now) }
+        P.Payload.payload_of P.texts root input.now) }
 {
     every_run_simulates::<P, P::Payload, Refused>();
     P::rounds_solve();
-    let network = network_of_text(alloc, network_text(input))?;
+    let network = network_of_text(alloc, network_text(input), root)?;
     check_program(alloc, input, P::name())?;
     let state = replayed::<P>(alloc, &network, input)?;
     Ok(text_of_state(alloc, &state)?)

@@ -236,6 +236,7 @@ pub fn fault_report(alloc: Global, name: &str, fault: PlanFault) -> Result<Fault
 {
     match fault {
         PlanFault::Col(fault) => report_of_reading(alloc, name, fault),
+        PlanFault::NoRoot(v) => refusal(alloc, name, "NoRoot", Place::Vertex(v)),
         PlanFault::Net(fault) => report_of_network(alloc, name, fault),
         PlanFault::Pool(fault) => report_of_pool(alloc, name, fault),
         PlanFault::Check(fault) => report_of_check(alloc, name, fault),

@@ -31,7 +31,7 @@ pub fn check_bytes(alloc: Global, input: &[u8]) -> Result<Vec<u8>, PlanFault>
     ensures fault { IfErr result (IsFaultOfCheck input.now) }
 {
     let (network_text, plan_text) = split_plan(input);
-    let network = network_of_text(alloc, network_text)?;
+    let network = network_of_text(alloc, network_text, None)?;
     let plan = read_plan(alloc, plan_text)?;
     let greatest = check(alloc, &network, &plan)?;
     Ok(text_of_verdict(alloc, greatest)?)

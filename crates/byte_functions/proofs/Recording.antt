@@ -1,5 +1,5 @@
 -- The transcript of a whole run is the answer to an input.
-use Rattle.std.proofs.Common.{◌≡◌, ◌-◌, ◌∙◌, [], ℕ, suc, All, Bool, List, ap, arith, length, map, refl, slice_index_or, subst, sym, true}
+use Rattle.std.proofs.Common.{◌≡◌, ◌-◌, ◌∙◌, [], ℕ, suc, All, Bool, List, Option, ap, arith, length, map, refl, slice_index_or, subst, sym, true}
 use Rattle.std.proofs.lemmas.List.{length-map}
 use Rattle.std.proofs.lemmas.List.FromFn.{length-range_with_len}
 use Rattle.std.proofs.lemmas.List.Elements.{All-from_get_or}
@@ -11,7 +11,11 @@ use Rattle.run_options.specs.declared.Edition.{Edition}
 use Rattle.run_options.specs.declared.Edition.TheVariants as edition
 use Rattle.stamps.specs.Merged.{IsMerge}
 use Rattle.stamps.specs.Stamps.{Rises}
+use Rattle.dimacs_col.specs.Lines.{lines_of}
 use Rattle.answers.specs.Answers.{ReadsAs}
+use Rattle.answers.specs.Roots.{OfRooted}
+use Rattle.answers.specs.declared.root.Root.{Root}
+use Rattle.answers.proofs.Rooted.{lines-more}
 use Rattle.byte_functions.specs.Transcripts.{IsMergedText, IsMergedTranscriptOf, IsTextIn, IsTranscriptIn, IsTranscriptOf, entries_text}
 
 -- there are as many nodes as vertices
@@ -32,17 +36,24 @@ module _ {S M E : Type 0} (program : Program S M E) (net : Net) (capacity : ℕ)
       subst (λ k. Rises (slice_index_or (map (λ node. node.entries) outcome.nodes) k [])) back
       (is.rises refl (suc i) (omega arith, omega (arith, lt, few, same))))
 
-module _ {S M E : Type 0} (program : Program S M E) (word_of : M → List ℕ) (number_of : M → ℕ) (words input text : List ℕ) (net : Net) (capacity : ℕ)
-    (outcome : Outcome S M) (reads : ReadsAs input (λ read. IsNetwork read × (net ≡ read))) (is : IsOutcome program net capacity true outcome)
+module _ {S M E : Type 0} (program : Program S M E) (word_of : M → List ℕ) (number_of : M → ℕ) (words : List ℕ) (root : Option Root)
+    (input text : List ℕ) (net : Net) (capacity : ℕ) (outcome : Outcome S M)
+    (reads : ReadsAs input (OfRooted root (λ read. IsNetwork read × (net ≡ read)))) (is : IsOutcome program net capacity true outcome)
     (whole : is_whole outcome ≡ true) where
-  recorded : text ≡ entries_text word_of number_of (count_of net) outcome.nodes → IsTranscriptIn program word_of number_of words edition.One input text
+  -- what holds of the network that was read
+  read-as : (Q : Net → Type 0) → Q net → ReadsAs input (OfRooted root (λ read. IsNetwork read × Q read))
+  read-as Q is_so =
+      lines-more root (lines_of input) (λ read. IsNetwork read × (net ≡ read)) (λ read. IsNetwork read × Q read)
+      (λ read both. (both.0, subst Q both.1 is_so)) reads
+
+  recorded : text ≡ entries_text word_of number_of (count_of net) outcome.nodes → IsTranscriptIn program word_of number_of words edition.One root input text
   recorded told =
       let of_net : IsTranscriptOf program word_of number_of net text =
       record { capacity = capacity; outcome = outcome; is_outcome = is; whole = whole; is_text = told } in
-      (reads.0, reads.1, (reads.2.0, subst (λ n. IsTranscriptOf program word_of number_of n text) reads.2.1 of_net))
+      read-as (λ n. IsTranscriptOf program word_of number_of n text) of_net
 
   merged : IsMergedText word_of number_of words (count_of net) outcome.nodes text → WholeOutcomesReplay program net
-      → IsTranscriptIn program word_of number_of words edition.Two input text
+      → IsTranscriptIn program word_of number_of words edition.Two root input text
   merged (rows, merge, told) law =
       let all = subst (λ n. IsMerge n (entries_in outcome) rows) (nodes-count program net capacity true outcome is) merge in
       let played = law capacity outcome is whole rows all in
@@ -57,10 +68,10 @@ module _ {S M E : Type 0} (program : Program S M E) (word_of : M → List ℕ) (
         is_replay = played.1;
         is_text = told;
       } in
-      (reads.0, reads.1, (reads.2.0, subst (λ n. IsMergedTranscriptOf program word_of number_of words n text) reads.2.1 of_net))
+      read-as (λ n. IsMergedTranscriptOf program word_of number_of words n text) of_net
 
   -- the text in an edition is the answer
   pub answered : (edition : Edition) → WholeOutcomesReplay program net → IsTextIn word_of number_of words edition (count_of net) outcome.nodes text
-      → IsTranscriptIn program word_of number_of words edition input text
+      → IsTranscriptIn program word_of number_of words edition root input text
   answered edition.One law told = recorded told
   answered edition.Two law told = merged told law

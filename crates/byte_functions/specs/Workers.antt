@@ -1,5 +1,5 @@
 -- The faults of runs of worker threads.
-use Rattle.std.specs.Prelude.{ℕ, Bool, List, Result, Ok, Err, if◌then◌else◌}
+use Rattle.std.specs.Prelude.{ℕ, Bool, List, Option, Result, Ok, Err, if◌then◌else◌}
 use Rattle.dimacs_col.specs.Lines.{lines_of}
 use Rattle.dimacs_col.specs.Reading.{IsFault}
 use Rattle.interference.specs.Net.{Net, IsNetwork}
@@ -11,6 +11,8 @@ use Rattle.run_faults.specs.declared.fault.PoolFault.{PoolFault}
 use Rattle.run_faults.specs.declared.fault.PoolFault.TheVariants as pool
 use Rattle.node_api.specs.Program.{Program}
 use Rattle.answers.specs.Answers.{ReadsAs}
+use Rattle.answers.specs.Roots.{LacksRoot, OfRooted}
+use Rattle.answers.specs.declared.root.Root.{Root}
 use Rattle.answers.specs.declared.fault.PlanFault.{PlanFault}
 use Rattle.answers.specs.declared.fault.PlanFault.TheVariants as plan
 
@@ -40,6 +42,7 @@ whole_after (Ok outcome) = if is_whole outcome then Ok outcome else Err plan.Sto
 -- The fault of a run in which not every node was done. When a run is stopped isn't promised.
 abbrev pub IsFaultOfRun : Options → PlanFault → Type 0
 IsFaultOfRun options (plan.Col fault) = ⊥
+IsFaultOfRun options (plan.NoRoot v) = ⊥
 IsFaultOfRun options (plan.Net fault) = ⊥
 IsFaultOfRun options (plan.Pool fault) = IsFaultOfPool options fault
 IsFaultOfRun options (plan.Check fault) = ⊥
@@ -48,13 +51,15 @@ IsFaultOfRun options (plan.Replay fault) = ⊥
 IsFaultOfRun options plan.Stopped = AreInRange options
 IsFaultOfRun options plan.Memory = ⊥
 
--- The fault of an input of `plan`, of `transcript` and of `run`: of the network text, or else of the run.
-abbrev pub IsFaultOfWorkers : Options → List ℕ → PlanFault → Type 0
-IsFaultOfWorkers options input (plan.Col fault) = IsFault (lines_of input) fault
-IsFaultOfWorkers options input (plan.Net fault) = ReadsAs input (λ net. IsFaultOf net fault)
-IsFaultOfWorkers options input (plan.Pool fault) = ReadsAs input IsNetwork × IsFaultOfPool options fault
-IsFaultOfWorkers options input (plan.Check fault) = ⊥
-IsFaultOfWorkers options input (plan.Event fault) = ⊥
-IsFaultOfWorkers options input (plan.Replay fault) = ⊥
-IsFaultOfWorkers options input plan.Stopped = ReadsAs input IsNetwork × AreInRange options
-IsFaultOfWorkers options input plan.Memory = Unit {0}
+-- The fault of an input of `plan`, of `transcript` and of `run`: of the network text, or of the root, or else of the run.
+abbrev pub IsFaultOfWorkers : Option Root → Options → List ℕ → PlanFault → Type 0
+IsFaultOfWorkers root options input (plan.Col fault) = IsFault (lines_of input) fault
+IsFaultOfWorkers root options input (plan.NoRoot v) = ReadsAs input (LacksRoot root v)
+IsFaultOfWorkers root options input (plan.Net fault) = ReadsAs input (OfRooted root (λ net. IsFaultOf net fault))
+IsFaultOfWorkers root options input (plan.Pool fault) =
+    ReadsAs input (OfRooted root IsNetwork) × IsFaultOfPool options fault
+IsFaultOfWorkers root options input (plan.Check fault) = ⊥
+IsFaultOfWorkers root options input (plan.Event fault) = ⊥
+IsFaultOfWorkers root options input (plan.Replay fault) = ⊥
+IsFaultOfWorkers root options input plan.Stopped = ReadsAs input (OfRooted root IsNetwork) × AreInRange options
+IsFaultOfWorkers root options input plan.Memory = Unit {0}

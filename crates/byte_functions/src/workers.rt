@@ -1,6 +1,6 @@
 //! Runs of worker threads, and the channel plan that they find.
 
-ghost use Rattle.std.specs.Prelude.{◌≡◌, true, IfOk, IfErr};
+ghost use Rattle.std.specs.Prelude.{◌≡◌, None, true, IfOk, IfErr};
 ghost use Rattle.run_options.specs.Ranges.{AreInRange};
 ghost use Rattle.gather_laws.specs.Outcome.{IsOutcome, is_whole};
 ghost use Rattle.answers.specs.Answers.{IsPlainAnswer};
@@ -91,12 +91,12 @@ pub fn plan_bytes<G: Gate + Sync, R: Threads + Wait + Sync>(
 ) -> Result<Vec<u8>, PlanFault>
     ensures ok { IfOk result (λ text. IsPlainAnswer input.now text.items) }
     ensures in_range { IfOk result (λ _. AreInRange options) }
-    ensures fault { IfErr result (IsFaultOfWorkers options input.now) }
+    ensures fault { IfErr result (IsFaultOfWorkers None options input.now) }
 {
     colours_are_proper();
     whole_outcomes_are_complete::<Colouring, Payload, Refused>();
     halted_nodes_are_coloured();
-    let network = network_of_text(alloc, input)?;
+    let network = network_of_text(alloc, input, None)?;
     let outcome = whole_run::<Colouring, G, R>(rt, alloc, &network, options, false, gate)?;
     Ok(text_of_nodes(alloc, outcome.actors())?)
 }

@@ -7,6 +7,7 @@ use Rattle.clap.specs.Simple.{Shape, filled, filled_from, help_rule, new_app}
 use Rattle.clap.specs.Walk.{Row, Rule, Text, has_row, nothing_held, rows_after, settled, walk, with_default}
 use Rattle.clap.specs.declared.builder.value_parser.ValueParser.{ValueParser}
 use Rattle.clap.specs.declared.builder.value_parser.ValueParser.TheVariants as vp
+use Rattle.graph_limits.specs.declared.limits.TheConstants.{MAX_NODES}
 use Rattle.run_options.specs.Ranges.{AreInRange}
 use Rattle.run_options.specs.declared.Options.{Options}
 use Rattle.run_options.specs.declared.TheConstants.{MAX_CAPACITY, MAX_EDITION, MAX_TURNS, MAX_WORKERS}
@@ -24,7 +25,8 @@ parser_at id =
     (cond (bytes_eq id (codes "capacity")) (vp.Unsigned 1 MAX_CAPACITY)
     (cond (bytes_eq id (codes "turns")) (vp.Unsigned 0 MAX_TURNS)
     (cond (bytes_eq id (codes "edition")) (vp.Unsigned 1 MAX_EDITION)
-    (cond (bytes_eq id (codes "transcript")) vp.Bool vp.String))))
+    (cond (bytes_eq id (codes "root")) (vp.Unsigned 1 MAX_NODES)
+    (cond (bytes_eq id (codes "transcript")) vp.Bool vp.String)))))
 
 -- the rules of a command with the options of a run, once it is built; and those of a transcript
 abbrev pub run_rules : List Rule

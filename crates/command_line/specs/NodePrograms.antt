@@ -1,9 +1,12 @@
 -- The option that names a program of nodes, and the one that asks for a transcript, in clap's own words, and what they
 -- read from the rows of a command.
-use Rattle.std.specs.Prelude.{◌≡◌, List, [], ◌∷◌, Option, Some, None, if◌then◌else◌, codes, option_and_then}
+use Rattle.std.specs.Prelude.{◌≡◌, ◌^◌, ℕ, List, [], ◌∷◌, Option, Some, None, if◌then◌else◌, codes, option_and_then}
 use Rattle.std.specs.Str.{bytes_eq}
 use Rattle.clap.specs.Words.{App, Row, Rule, Text, first_of, new_rule, with_rule}
 use Rattle.clap.specs.declared.builder.action.ArgAction.TheVariants.{SetTrue}
+use Rattle.clap.specs.declared.builder.value_parser.ValueParser.TheVariants.{Unsigned}
+use Rattle.graph_limits.specs.declared.limits.TheConstants.{MAX_NODES}
+use Rattle.command_line.specs.RunOptions.{number_of}
 use Rattle.command_line.specs.declared.programs.NodeProgramName.{NodeProgramName}
 use Rattle.command_line.specs.declared.programs.NodeProgramName.TheVariants.{Colouring, Layers, Leader}
 use Rattle.command_line.specs.declared.programs.Shown.{Shown}
@@ -17,6 +20,14 @@ program_rule = record (new_rule (codes "program")) {
   defaults = codes "colouring" ∷ [];
 }
 
+-- the option that gives the root of the layers, a vertex; it has no default
+abbrev pub root_rule : Rule
+root_rule = record (new_rule (codes "root")) {
+  long = Some (codes "root");
+  value_names = 1;
+  parser = Some (Unsigned 1 MAX_NODES);
+}
+
 -- the option that asks for a transcript, which has no value
 abbrev pub transcript_rule : Rule
 transcript_rule = record (new_rule (codes "transcript")) {
@@ -28,6 +39,10 @@ transcript_rule = record (new_rule (codes "transcript")) {
 abbrev pub with_program : App → App
 with_program command = with_rule command program_rule
 
+-- a command with the option that gives a root
+abbrev pub with_root : App → App
+with_root command = with_rule command root_rule
+
 -- a command with the option that asks for a transcript, after its others
 abbrev pub with_transcript : App → App
 with_transcript command = with_rule command transcript_rule
@@ -37,16 +52,31 @@ abbrev pub program_with : Text → Option NodeProgramName
 program_with word =
     if bytes_eq word (codes "colouring") then Some Colouring
     else if bytes_eq word (codes "leader") then Some Leader
-    else if bytes_eq word (codes "layers") then Some Layers
+    else if bytes_eq word (codes "layers") then Some (Layers None)
     else None
 
--- the program that a command has, from the words or by default, if its word names one
-abbrev pub program_of : List Row → Option NodeProgramName
-program_of rows = option_and_then program_with (first_of (codes "program") rows)
+-- the root that a command is given, if it is given one
+abbrev pub root_of : List Row → Option ℕ
+root_of rows = number_of (2 ^ 32) (codes "root") rows
 
--- a word is given for a program, and names none
+-- a program with the root that is given, if one is; only the layers take one
+abbrev pub rooted_program : Option ℕ → NodeProgramName → Option NodeProgramName
+rooted_program None program = Some program
+rooted_program (Some v) (Layers root) = Some (Layers (Some v))
+rooted_program (Some v) _ = None
+
+-- the program that a word names, with the root that is given
+abbrev pub rooted_program_with : Option ℕ → Text → Option NodeProgramName
+rooted_program_with root word = option_and_then (rooted_program root) (program_with word)
+
+-- the program that a command has, from the words or by default, if its word names one that takes the root
+abbrev pub program_of : List Row → Option NodeProgramName
+program_of rows = option_and_then (rooted_program_with (root_of rows)) (first_of (codes "program") rows)
+
+-- a word is given for a program, and names none; or it names one that takes no root, and a root is given
 abbrev pub NamesNoProgram : List Row → Type 0
-NamesNoProgram rows = (word : Text) × (first_of (codes "program") rows ≡ Some word) × (program_with word ≡ None)
+NamesNoProgram rows =
+    (word : Text) × (first_of (codes "program") rows ≡ Some word) × (rooted_program_with (root_of rows) word ≡ None)
 
 -- what the value of the option `transcript` asks for
 abbrev pub shown_with : Option Text → Shown

@@ -241,6 +241,8 @@ pub const EDITION: &'static str = "The form: 2 with stamps, 1 without";
 
 pub const PROGRAM: &'static str = "colouring, leader or layers";
 
+pub const ROOT: &'static str = "The node that is the root of layers";
+
 pub const SHOW_TRANSCRIPT: &'static str = "Print the transcript, not the last states";
 
 pub const CHECK: Help = Help {
@@ -294,10 +296,12 @@ With --program NAME the nodes of any command run another program:
   colouring  finds the channel of each node, as `forestplan plain` prints it;
              without --program it is this one
   leader     finds the greatest identifier among the nodes that paths lead to
-  layers     finds how many edges lead to the node of identifier 1, and the port
-             of the first of them",
+  layers     finds how many edges lead to the root, and the port of the first of
+             them; the root is the node V of --root V, and without --root the
+             node of identifier 1",
     format: "The graph is read as forestplan reads it, with the same faults, reported as
-`forestplay: F6 line 2`: see `forestplan --help`.
+`forestplay: F6 line 2`: see `forestplan --help`. If --root V is given and the graph
+has fewer nodes, it is reported as `forestplay: NoRoot vertex V`.
 
 Status: 0 done, 1 input refused, 2 command line refused, 3 the turns of `run` were
 used up, 4 memory ran out, a thread could not be started, a stamp would be too
@@ -331,8 +335,8 @@ Output, for each node V, ascending, a line each:
   node V pulse P           its pulse; at its last one followed by its result:
                            `channel C`; `leader ID`, and `elected` after it of
                            the node that has it; `layer N by PORT to W`, or for
-                           the node of identifier 1 `layer 0`, and for one that
-                           no path leads to `layer none`
+                           the root `layer 0`, and for one that no path leads
+                           to `layer none`
   link V W taken N WIRES   for each neighbour W, ascending: the number of wires
                            that W has taken from this link, and the wires that
                            wait on it, the oldest first, as
@@ -371,7 +375,8 @@ in a run of worker threads. Such entries, whoever wrote them, are played here in
 the order of their lines, by the machine that plays events. Nothing is taken on
 trust: each entry has to be possible, and its pulse or wire has to be the one that
 the node comes to there. In editions 2 and 3 each stamp has to be right too, and all
-nodes have to be done at the end. Edition 3 has to be of the program of --program.",
+nodes have to be done at the end. Edition 3 has to be of the program of --program.
+A run with --root is replayed with the same --root.",
     format: "Input: a graph in the DIMACS format, as `p edge NODES EDGES` and then `e V W`, and
 then a transcript, a line each:
   transcript 2 NODES   the first line
@@ -474,7 +479,8 @@ With --transcript, a line each, as `forestplan transcript` writes them:
   S V pulse P              node V made pulse P
   S V put W WIRE           V put a wire on its link to its neighbour W
   S V take W WIRE          V took a wire from the link of its neighbour W
-`forestplay replay` with the same --program accepts these lines after the graph.
+`forestplay replay` with the same --program and --root accepts these lines after
+the graph.
 
 If it reports `forestplay: stopped` (status 3), the workers had looked for nodes
 as often as --turns says before all nodes were done.
@@ -484,5 +490,13 @@ Example: three nodes in a row, of which node 1 has the identifier 1
 prints
   node 1 pulse 2 layer 0
   node 2 pulse 2 layer 1 by 0 to 1
-  node 3 pulse 2 layer 2 by 0 to 2",
+  node 3 pulse 2 layer 2 by 0 to 2
+
+Example: the same nodes, with node 3 as the root
+  printf 'p edge 3 2\\ne 1 2\\ne 2 3\\n' |
+    forestplay run --program layers --root 3
+prints
+  node 1 pulse 2 layer 2 by 0 to 2
+  node 2 pulse 2 layer 1 by 1 to 3
+  node 3 pulse 2 layer 0",
 };

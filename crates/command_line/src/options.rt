@@ -78,8 +78,8 @@ pub fn with_edition<'a>(alloc: Global, command: Command<'a>) -> Result<Command<'
     with_number(command, edition)
 }
 
-// The number that an option has, if it fits.
-fn small_number(matches: &ArgMatches<'_>, name: &str) -> Option<u32>
+/// The number that an option has, if it fits.
+pub fn small_number(matches: &ArgMatches<'_>, name: &str) -> Option<u32>
     ensures { result ≡ number_of (2 ^ 32) name.now (rows_of (found_of matches.now)) }
 {
     matches.get_one::<u32>(name)

@@ -1,13 +1,16 @@
 //! The programs of nodes that a command can run, in `clap`'s builders and as what its words name.
 
-ghost use Rattle.std.specs.Prelude.{◌≡◌, [], IfOk, codes, false, option_map, unwrap_or};
+ghost use Rattle.std.specs.Prelude.{◌≡◌, [], IfOk, codes, false, is_some, option_map, unwrap_or};
 ghost use Rattle.clap.specs.Words.{app_of, first_of, found_of, rows_of, rule_of};
 ghost use Rattle.clap.specs.declared.builder.command.Command.TheViews.{out-Command};
-ghost use Rattle.command_line.specs.NodePrograms.{program_of, program_rule, shown_of, transcript_rule};
-ghost use Rattle.command_line.specs.NodePrograms.{with_program, with_transcript};
+ghost use Rattle.command_line.specs.NodePrograms.{program_of, program_rule, program_with, root_of, root_rule, rooted_program};
+ghost use Rattle.command_line.specs.NodePrograms.{shown_of, transcript_rule, with_program, with_root, with_transcript};
 
-use crate::help::{PROGRAM, SHOW_TRANSCRIPT};
+use crate::help::{PROGRAM, ROOT, SHOW_TRANSCRIPT};
+use crate::options::small_number;
+use clap::builder::ValueParser;
 use clap::{Arg, ArgAction, ArgMatches, Command};
+use graph_limits::MAX_NODES;
 use std::alloc::{AllocError, Global};
 
 /// The name of a program of nodes.
@@ -17,8 +20,8 @@ pub enum NodeProgramName {
     Colouring,
     /// Each node finds the greatest identifier of the nodes that a path leads to.
     Leader,
-    /// Each node finds how far it is from the node with identifier 1.
-    Layers,
+    /// Each node finds how far it is from a vertex that is given; if none is, from the node with identifier 1.
+    Layers(Option<u32>),
 }
 
 /// What a run of nodes prints.
@@ -40,6 +43,18 @@ fn program<'a>(alloc: Global) -> Arg<'a>
         .value_name("NAME")
         .default_value("colouring")
         .help(PROGRAM)
+}
+
+// The option that gives a root.
+fn root<'a>(alloc: Global) -> Arg<'a>
+    ensures rule { rule_of result ≡ root_rule }
+    ensures local { result.global ≡ false }
+{
+    Arg::new(alloc, "root")
+        .long("root")
+        .value_name("V")
+        .value_parser(ValueParser::unsigned(1, u64::from(MAX_NODES)))
+        .help(ROOT)
 }
 
 // The option that asks for a transcript.
@@ -65,6 +80,18 @@ pub fn with_program<'a>(alloc: Global, command: Command<'a>) -> Result<Command<'
     command.arg(program(alloc))
 }
 
+/// A command with the option `--root`.
+///
+/// # Errors
+/// If memory ran out.
+pub fn with_root<'a>(alloc: Global, command: Command<'a>) -> Result<Command<'a>, AllocError>
+    requires { (out-Command command).has_globals ≡ false }
+    ensures shape { IfOk result (λ c. app_of c ≡ with_root (app_of command.entry)) }
+    ensures local { IfOk result (λ c. (out-Command c).has_globals ≡ false) }
+{
+    command.arg(root(alloc))
+}
+
 /// A command with the option `--transcript` after its others.
 ///
 /// # Errors
@@ -84,16 +111,52 @@ fn first_word<'a>(matches: &ArgMatches<'a>, name: &str) -> Option<&'a str>
     matches.get_str(name)
 }
 
-/// The program that a command has, from the words or by default, if there is one of this name.
+// The program that a word names, without a root.
+fn program_with(word: &str) -> Option<NodeProgramName>
+    ensures { result ≡ program_with word.now }
+{
+    match word {
+        "colouring" => Some(NodeProgramName::Colouring),
+        "leader" => Some(NodeProgramName::Leader),
+        "layers" => Some(NodeProgramName::Layers(None)),
+        _ => None,
+    }
+}
+
+// The root that a command is given.
+fn root_of(matches: &ArgMatches<'_>) -> Option<u32>
+    ensures { result ≡ root_of (rows_of (found_of matches.now)) }
+{
+    small_number(matches, "root")
+}
+
+// A program with the root that is given, if it takes it.
+fn rooted_program(root: Option<u32>, program: NodeProgramName) -> Option<NodeProgramName>
+    ensures { result ≡ rooted_program root program }
+{
+    match (root, program) {
+        (None, program) => Some(program),
+        (Some(v), NodeProgramName::Layers(_)) => Some(NodeProgramName::Layers(Some(v))),
+        (Some(_), _) => None,
+    }
+}
+
+/// The program that a command has, from the words or by default, if there is one of this name that takes the root which
+/// is given.
 pub fn program_of(matches: &ArgMatches<'_>) -> Option<NodeProgramName>
     ensures { result ≡ program_of (rows_of (found_of matches.now)) }
 {
-    match first_word(matches, "program")? {
-        "colouring" => Some(NodeProgramName::Colouring),
-        "leader" => Some(NodeProgramName::Leader),
-        "layers" => Some(NodeProgramName::Layers),
-        _ => None,
-    }
+    rooted_program(
+        root_of(matches),
+        program_with(first_word(matches, "program")?)?,
+    )
+}
+
+/// Whether a word names a program.
+pub fn is_program(word: &str) -> bool
+    ensures { result ≡ is_some (program_with word.now) }
+{
+    program_with(word).is_some()
 }
 
 /// The word of a command that names its program; the empty text if it has none.

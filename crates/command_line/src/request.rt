@@ -8,14 +8,16 @@ ghost use Rattle.command_line.specs.Asked.{choice_of, has_transcript, hint_of, n
 use crate::line::whole_line;
 use crate::options::{edition_of, options_of};
 use crate::program::Program;
-use crate::programs::{NodeProgramName, Shown, program_of, program_word, shown_of};
+use crate::programs::{NodeProgramName, Shown, is_program, program_of, program_word, shown_of};
 use clap::error::ErrorKind;
 use clap::{ArgMatches, Error};
 use run_options::{Edition, Options};
-use std::alloc::Global;
+use std::alloc::{AllocError, Global};
 
 // The last lines of a refusal, as clap writes them.
 const PROGRAM_NAMES: &'static str = "[possible values: colouring, leader, layers]";
+
+const ROOT_TAKER: &'static str = "[only with: --program layers]";
 
 const TRY_HELP: &'static str = "For more information, try '--help'.";
 
@@ -143,7 +145,21 @@ fn declined_by(alloc: Global, program: Program, error: &Error) -> Declined
     }
 }
 
-// The refusal of words that name no program of nodes, in the words of clap for a value that isn't one of a list.
+// The text that refuses a word for a program: with a root, if it names one; else in the words of clap for a value that
+// isn't one of a list.
+fn refusal_of_program(alloc: Global, word: &str) -> Result<String, AllocError> {
+    if is_program(word) {
+        format!(in alloc;
+            "error: the argument '--root <V>' cannot be used with '--program {word}'\n  {ROOT_TAKER}\n\n{TRY_HELP}\n"
+        )
+    } else {
+        format!(in alloc;
+            "error: invalid value '{word}' for '--program <NAME>'\n  {PROGRAM_NAMES}\n\n{TRY_HELP}\n"
+        )
+    }
+}
+
+// The refusal of words that name no program of nodes, or give a root to one that takes none.
 fn no_program(alloc: Global, matches: &ArgMatches<'_>) -> Declined
     ensures { IsRefusal result }
 {
@@ -151,19 +167,17 @@ fn no_program(alloc: Global, matches: &ArgMatches<'_>) -> Declined
         Some((_, inner)) => program_word(inner),
         None => "",
     };
-    let Ok(text) = format!(in alloc;
-        "error: invalid value '{word}' for '--program <NAME>'\n  {PROGRAM_NAMES}\n\n{TRY_HELP}\n"
-    ) else {
-        return Declined::Memory;
-    };
-    Declined::Refused(text)
+    match refusal_of_program(alloc, word) {
+        Ok(text) => Declined::Refused(text),
+        Err(_) => Declined::Memory,
+    }
 }
 
 /// What the words ask a program for; the first is its name, and is not looked at.
 ///
 /// # Errors
 /// `Help` or `Refused` by the first fault that clap meets in the words. `Refused` if there is none, and the word of
-/// `--program` names no program of nodes. Any call may instead fail with `Memory`.
+/// `--program` names no program of nodes, or one that takes no root beside `--root`. Any call may instead fail with `Memory`.
 pub fn parse<'a>(alloc: Global, program: Program, words: &'a [&'a str]) -> Result<Request, Declined>
     ensures ok { IfOk result (λ request. request_of program (map (λ word. word.now) words.entry.now) ≡ Some request) }
     ensures in_range { IfOk result IsInRange }

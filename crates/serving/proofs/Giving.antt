@@ -1,5 +1,5 @@
 -- What was written, and reported, is what is given of an answer, or what declines the words.
-use Rattle.std.proofs.Common.{◌≡◌, ◌⊎◌, ℕ, List, None, Ok, Err, Option, inl, inr, subst, sym}
+use Rattle.std.proofs.Common.{◌≡◌, ◌⊎◌, ℕ, List, None, Some, Ok, Err, Option, inl, inr, subst, sym}
 use Rattle.command_line.specs.Line.{name_of}
 use Rattle.command_line.specs.declared.program.Program.{Program}
 use Rattle.command_line.specs.declared.request.Request.{Request}
@@ -9,9 +9,9 @@ use Rattle.command_line.specs.declared.programs.NodeProgramName.TheVariants.{Col
 use Rattle.command_line.specs.declared.request.Play.{Play as Played}
 use Rattle.command_line.specs.declared.request.Play.TheVariants.{Events, Replay, Rounds, Run}
 use Rattle.serving.specs.Answers.{MayAnswer}
-use Rattle.serving.specs.Plays.{MayPlay, MayPlayNamed}
+use Rattle.serving.specs.Plays.{MayPlay, MayPlayNamed, layers_root}
 use Rattle.colour_program.specs.ColoursText.{colouring_texts}
-use Rattle.layers.specs.Texts.{layers_texts}
+use Rattle.layers.specs.Texts.{layers_texts, layers_texts_from}
 use Rattle.leader.specs.Texts.{leader_texts}
 use Rattle.program_texts.specs.Texts.{ProgramTexts}
 use Rattle.node_api.specs.Program.{Program as NodeProgram}
@@ -21,6 +21,7 @@ use Rattle.serving.specs.Serve.{Answers, Declines, IsReported, Puts, ServesChoic
 use Rattle.serving.specs.Streams.{Taken, Written}
 use Rattle.answers.specs.declared.fault.PlanFault.{PlanFault}
 use Rattle.answers.specs.declared.fault.PlanFault.TheVariants.{Memory}
+use Rattle.answers.specs.declared.root.Root.{Root}
 
 pub of-bytes : (program : Program) (output errors : Written) (request : Request) (input bytes text : List ℕ) (status : ℕ)
     → text ≡ bytes → MayAnswer request input (Ok bytes) → Puts program output errors text status
@@ -30,16 +31,18 @@ of-bytes program output errors request input bytes text status same may puts =
 
 -- nodes of any program may answer that memory ran out
 play-memory : {S M E : Type 0} (program : NodeProgram S M E) (texts : ProgramTexts S) (word_of : M → List ℕ) (number_of : M → ℕ)
-    (payload_of : List ℕ → ℕ → Option M) (play : Played) (input : List ℕ) → MayPlay program texts word_of number_of payload_of play input (Err Memory)
-play-memory program texts word_of number_of payload_of Events input = tt
-play-memory program texts word_of number_of payload_of Replay input = tt
-play-memory program texts word_of number_of payload_of Rounds input = tt
-play-memory program texts word_of number_of payload_of (Run options show) input = (tt, λ e. cc)
+    (payload_of : List ℕ → ℕ → Option M) (root : Option Root) (play : Played) (input : List ℕ)
+    → MayPlay program texts word_of number_of payload_of root play input (Err Memory)
+play-memory program texts word_of number_of payload_of root Events input = tt
+play-memory program texts word_of number_of payload_of root Replay input = tt
+play-memory program texts word_of number_of payload_of root Rounds input = tt
+play-memory program texts word_of number_of payload_of root (Run options show) input = (tt, λ e. cc)
 
 named-memory : (name : NodeProgramName) (play : Played) (input : List ℕ) → MayPlayNamed name play input (Err Memory)
-named-memory Colouring play input = play-memory _ colouring_texts _ _ _ play input
-named-memory Leader play input = play-memory _ leader_texts _ _ _ play input
-named-memory Layers play input = play-memory _ layers_texts _ _ _ play input
+named-memory Colouring play input = play-memory _ colouring_texts _ _ _ None play input
+named-memory Leader play input = play-memory _ leader_texts _ _ _ None play input
+named-memory (Layers None) play input = play-memory _ layers_texts _ _ _ None play input
+named-memory (Layers (Some v)) play input = play-memory _ (layers_texts_from v) _ _ _ (Some (layers_root v)) play input
 
 memory-may : (request : Request) (input : List ℕ) → MayAnswer request input (Err Memory)
 memory-may Forests input = tt

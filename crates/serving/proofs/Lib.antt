@@ -1,1 +1,2 @@
 mod Giving
+mod Rooted

@@ -1,5 +1,5 @@
 -- What a command may answer to the bytes of its input.
-use Rattle.std.specs.Prelude.{◌≢◌, ℕ, List, Result, Ok, Err}
+use Rattle.std.specs.Prelude.{◌≢◌, ℕ, List, None, Result, Ok, Err}
 use Rattle.run_faults.specs.declared.fault.PoolFault.TheVariants.{BadOptions}
 use Rattle.answers.specs.Answers.{IsFaultOfText, IsForestsAnswer, IsPlainAnswer}
 use Rattle.colour_rules.specs.Program.{colouring}
@@ -25,11 +25,11 @@ IsGoodAnswer (Play program play) input answer = MayPlayNamed program play input 
 
 -- the fault of an input for each command, a line for each; the options of a command line are never out of range
 abbrev pub IsFaultAnswer : Request → List ℕ → PlanFault → Type 0
-IsFaultAnswer Forests input fault = IsFaultOfText input fault
-IsFaultAnswer Plain input fault = IsFaultOfText input fault
-IsFaultAnswer (Plan options) input fault = IsFaultOfWorkers options input fault × (fault ≢ Pool BadOptions)
+IsFaultAnswer Forests input fault = IsFaultOfText None input fault
+IsFaultAnswer Plain input fault = IsFaultOfText None input fault
+IsFaultAnswer (Plan options) input fault = IsFaultOfWorkers None options input fault × (fault ≢ Pool BadOptions)
 IsFaultAnswer (Transcript options edition) input fault =
-    IsFaultOfWorkers options input fault × (fault ≢ Pool BadOptions)
+    IsFaultOfWorkers None options input fault × (fault ≢ Pool BadOptions)
 IsFaultAnswer Check input fault = IsFaultOfCheck input fault
 IsFaultAnswer (Play program play) input fault = MayPlayNamed program play input (Err fault)
 

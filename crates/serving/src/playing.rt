@@ -1,15 +1,19 @@
 //! What nodes of a program do with the bytes of an input.
 
-ghost use Rattle.std.specs.Prelude.{IfOk, IfErr, Ok, Err};
+ghost use Rattle.std.specs.Prelude.{IfOk, IfErr, Ok, Err, Some, codes};
 ghost use Rattle.command_line.specs.Asked.{IsPlayInRange};
-ghost use Rattle.serving.specs.Plays.{MayPlay, MayPlayNamed};
+ghost use Rattle.layers.specs.Layering.{layering};
+ghost use Rattle.layers.specs.Texts.{layers_texts_from};
+ghost use Rattle.layers.specs.Words.{hops_from};
+ghost use Rattle.serving.specs.Plays.{MayPlay, MayPlayNamed, layers_root};
 
 use actor::OpenGate;
-use answers::{PlanFault, events_bytes, replay_bytes, rounds_bytes};
+use answers::{PlanFault, Root, events_bytes, replay_bytes, rounds_bytes};
 use byte_functions::{run_bytes, run_transcript_bytes};
 use colour_program::Colouring;
 use command_line::{NodeProgramName, Play, Shown};
-use layers::Layers;
+use layers::laws::rounds_end_with_the_distances_from_a_root;
+use layers::{Layers, ROOT_ID};
 use leader::Leader;
 use program_texts::ProgramText;
 use run_options::Edition;
@@ -17,35 +21,60 @@ use std::alloc::Global;
 use std::sync::Wait;
 use std::thread::Threads;
 
-// What nodes of a program answer to an input; each that they may be asked for is a line. `Run` starts threads.
+// What nodes of a program answer to an input, with the root that is given, if there is one; each that they may be asked
+// for is a line. `Run` starts threads.
 fn play_bytes<P: ProgramText, T: Threads + Wait + Sync>(
     rt: &T,
     alloc: Global,
+    root: Option<Root>,
     play: Play,
     input: &[u8],
 ) -> Result<Vec<u8>, PlanFault>
     requires in_range { IsPlayInRange play }
     ensures ok { IfOk result (λ bytes. MayPlay P.program P.texts P.Payload.word_of P.Payload.number_of
-        P.Payload.payload_of play input.now (Ok bytes.items)) }
+        P.Payload.payload_of root play input.now (Ok bytes.items)) }
     ensures fault { IfErr result (λ fault. MayPlay P.program P.texts P.Payload.word_of P.Payload.number_of
-        P.Payload.payload_of play input.now (Err fault)) }
+        P.Payload.payload_of root play input.now (Err fault)) }
 {
     match play {
-        Play::Events => events_bytes::<P>(alloc, input),
-        Play::Replay => replay_bytes::<P>(alloc, input),
-        Play::Rounds => rounds_bytes::<P>(alloc, input),
+        Play::Events => events_bytes::<P>(alloc, input, root),
+        Play::Replay => replay_bytes::<P>(alloc, input, root),
+        Play::Rounds => rounds_bytes::<P>(alloc, input, root),
         Play::Run(options, Shown::States) => {
-            run_bytes::<P, OpenGate, T>(rt, alloc, input, options, &OpenGate)
+            run_bytes::<P, OpenGate, T>(rt, alloc, input, root, options, &OpenGate)
         }
         Play::Run(options, Shown::Transcript) => run_transcript_bytes::<P, OpenGate, T>(
             rt,
             alloc,
             input,
+            root,
             options,
             Edition::Two,
             &OpenGate,
         ),
     }
+}
+
+// What the layers answer to an input, with this vertex as their root.
+fn layers_bytes<T: Threads + Wait + Sync>(
+    rt: &T,
+    alloc: Global,
+    vertex: u32,
+    play: Play,
+    input: &[u8],
+) -> Result<Vec<u8>, PlanFault>
+    requires in_range { IsPlayInRange play }
+    ensures ok { IfOk result (λ bytes. MayPlay layering (layers_texts_from vertex) (λ x. codes "hops") (λ x. x.0)
+        hops_from (Some (layers_root vertex)) play input.now (Ok bytes.items)) }
+    ensures fault { IfErr result (λ fault. MayPlay layering (layers_texts_from vertex) (λ x. codes "hops") (λ x. x.0)
+        hops_from (Some (layers_root vertex)) play input.now (Err fault)) }
+{
+    rounds_end_with_the_distances_from_a_root();
+    let root = Root {
+        vertex,
+        id: ROOT_ID,
+    };
+    play_bytes::<Layers, T>(rt, alloc, Some(root), play, input)
 }
 
 /// What nodes of the program of a name answer to an input; each program is a line. `Play::Run` starts threads, and
@@ -65,8 +94,9 @@ pub fn named_bytes<T: Threads + Wait + Sync>(
     ensures fault { IfErr result (λ fault. MayPlayNamed program play input.now (Err fault)) }
 {
     match program {
-        NodeProgramName::Colouring => play_bytes::<Colouring, T>(rt, alloc, play, input),
-        NodeProgramName::Leader => play_bytes::<Leader, T>(rt, alloc, play, input),
-        NodeProgramName::Layers => play_bytes::<Layers, T>(rt, alloc, play, input),
+        NodeProgramName::Colouring => play_bytes::<Colouring, T>(rt, alloc, None, play, input),
+        NodeProgramName::Leader => play_bytes::<Leader, T>(rt, alloc, None, play, input),
+        NodeProgramName::Layers(None) => play_bytes::<Layers, T>(rt, alloc, None, play, input),
+        NodeProgramName::Layers(Some(v)) => layers_bytes(rt, alloc, v, play, input),
     }
 }

@@ -17,7 +17,7 @@ const TRIANGLE_PLAN: &[u8] = b"plan\n1 2\n2 3\n3 1\n";
 
 // Whether two workers make the plan through a gate.
 fn make_the_plan<R: Threads + Wait + Sync>(rt: &R, alloc: Global, gate: &Meeting) -> bool {
-    match plan_bytes(rt, alloc, TRIANGLE, BY_TWO, gate) {
+    match plan_bytes(rt, alloc, TRIANGLE, None, BY_TWO, gate) {
         Ok(plan) => plan.as_slice() == TRIANGLE_PLAN,
         Err(_) => false,
     }
@@ -35,7 +35,7 @@ const TRIANGLE_ENDS: &[u8] =
 
 // Whether two workers make the last states through a gate.
 fn make_the_ends<R: Threads + Wait + Sync>(rt: &R, alloc: Global, gate: &Meeting) -> bool {
-    match run_bytes::<Colouring, Meeting, R>(rt, alloc, TRIANGLE, BY_TWO, gate) {
+    match run_bytes::<Colouring, Meeting, R>(rt, alloc, TRIANGLE, None, BY_TWO, gate) {
         Ok(ends) => ends.as_slice() == TRIANGLE_ENDS,
         Err(_) => false,
     }
@@ -54,7 +54,7 @@ fn is_replayed(alloc: Global, transcript: &[u8]) -> bool {
     text.extend_from_slice(TRIANGLE).is_ok()
         && text.extend_from_slice(transcript).is_ok()
         && transcript.starts_with(b"transcript 2 3\n")
-        && replay_bytes::<Colouring>(alloc, &text).is_ok()
+        && replay_bytes::<Colouring>(alloc, &text, None).is_ok()
 }
 
 // Whether two workers make a transcript through a gate that is replayed.

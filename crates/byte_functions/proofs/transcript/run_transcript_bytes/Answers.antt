@@ -1,10 +1,12 @@
 use Rattle.std.proofs.Common.{◌∙◌, All, ap, length, map, subst, sym, true}
+use Rattle.std.proofs.lemmas.Result.{err_from_is_err_and}
 use Rattle.std.proofs.lemmas.List.{length-map}
 use Rattle.outcomes.specs.Gathers.{gathered_of}
 use Rattle.stamps.specs.Stamps.{Rises}
 use Rattle.gather_laws.specs.Merged.{WholeOutcomesReplay}
 use Rattle.byte_functions.specs.Transcripts.{IsTextIn, stamped_edition}
 use Rattle.byte_functions.proofs.Recording.{all-rise, answered, nodes-count}
+use Rattle.byte_functions.proofs.Working.{workers-fault}
 use Rattle.byte_functions.proofs.transcript.run_transcript_bytes.Goals as goal
 
 -- The plan: the nodes of a whole outcome are as many as vertices, and their stamps rise; the text of its nodes in the
@@ -33,7 +35,13 @@ returns-clause-ok g c =
     let word_of = g.P.Payload.PayloadText.word_of in
     let number_of = g.P.Payload.PayloadText.number_of in
     let words = stamped_edition g.P.ProgramText.texts in
-    answered g.P.NodeProgram.program word_of number_of words c.args.input.now text net c.args.options.capacity outcome c.in_ok-network.ensures.ok
+    answered g.P.NodeProgram.program word_of number_of words c.args.root c.args.input.now text net c.args.options.capacity outcome c.in_ok-network.ensures.ok
     c.in_ok-outcome.ensures.outcome c.in_ok-outcome.ensures.whole c.args.edition law
     (subst (λ n. IsTextIn word_of number_of words c.args.edition n outcome.nodes text) c.nodes-count.ensures.count
     (subst (λ nodes. IsTextIn word_of number_of words c.args.edition c.nodes-count.result nodes text) c.into_actors.ensures.nodes c.in_ok-text_in.ensures))
+
+pub returns-in_err-outcome-clause-fault : goal.returns-in_err-outcome-clause-fault
+returns-in_err-outcome-clause-fault g c =
+    let p = err_from_is_err_and c.from_residual-in_err-outcome.result c.from_residual-in_err-outcome.ensures.1 in
+    rw (p.1, p.2) (workers-fault c.args.root c.args.input.now c.in_ok-network.network c.args.options c.in_err-outcome.field-0.0
+    c.in_ok-network.ensures.ok c.in_err-outcome.ensures.fault)

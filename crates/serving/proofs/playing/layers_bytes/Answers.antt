@@ -1,0 +1,41 @@
+use Rattle.std.proofs.Common.{ℕ, Err, List, Ok, codes}
+use Rattle.std.proofs.lemmas.Result.{IfErr-weaker, IfOk-weaker}
+use Rattle.interference.specs.Net.{Net, IsNetwork, IsVertex}
+use Rattle.node_api.specs.Run.{last_state}
+use Rattle.answers.specs.Roots.{rooted}
+use Rattle.answers.proofs.Rooted.{root-has-id, rooted-vertex}
+use Rattle.layers.specs.Layering.{layering}
+use Rattle.layers.specs.Texts.{KnowTheirLayersFrom, layers_texts}
+use Rattle.layers.specs.Words.{hops_from}
+use Rattle.layers.specs.declared.hops.Hops.{Hops}
+use Rattle.serving.specs.Plays.{layers_root}
+use Rattle.serving.proofs.Rooted.{plays}
+use Rattle.serving.proofs.playing.layers_bytes.Given.{Over}
+use Rattle.serving.proofs.playing.layers_bytes.Goals.{After-play_bytes}
+use Rattle.serving.proofs.playing.layers_bytes.Goals as goal
+
+-- the nodes know their distances from this vertex, which is the root
+solved : (g : Over) (c : After-play_bytes g) (net : Net) → IsVertex net c.args.vertex → IsNetwork (rooted (layers_root c.args.vertex) net)
+    → KnowTheirLayersFrom c.args.vertex (rooted (layers_root c.args.vertex) net) (last_state layering (rooted (layers_root c.args.vertex) net))
+solved g c net vertex ok =
+    let root = layers_root c.args.vertex in
+    λ u is_u. c.rounds_end_with_the_distances_from_a_root.ensures.layers (rooted root net) ok c.args.vertex
+    (rooted-vertex root net c.args.vertex vertex, root-has-id root net vertex) u is_u
+
+abbrev word_in : Hops → List ℕ
+word_in x = codes "hops"
+
+abbrev number_in : Hops → ℕ
+number_in x = x.0
+
+pub returns-clause-ok : goal.returns-clause-ok
+returns-clause-ok g c =
+    IfOk-weaker c.play_bytes.result _ _
+    (λ bytes may. plays layering layers_texts word_in number_in hops_from (layers_root c.args.vertex) (KnowTheirLayersFrom c.args.vertex) (solved g c)
+    c.args.play c.args.input.now (Ok bytes.items) may) c.play_bytes.ensures.ok
+
+pub returns-clause-fault : goal.returns-clause-fault
+returns-clause-fault g c =
+    IfErr-weaker c.play_bytes.result _ _
+    (λ fault may. plays layering layers_texts word_in number_in hops_from (layers_root c.args.vertex) (KnowTheirLayersFrom c.args.vertex) (solved g c)
+    c.args.play c.args.input.now (Err fault) may) c.play_bytes.ensures.fault
