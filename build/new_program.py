@@ -1,4 +1,5 @@
-"""Makes a crate with a node program, from the crate `silent`."""
+"""Makes a crate with a node program, from the crate `silent`; or with one that goes on after the colouring, from
+`independent_set`."""
 import argparse
 import os
 import re
@@ -7,7 +8,8 @@ import sys
 
 from build.crate_lists import TOP
 
-MODEL, MODEL_TYPE, GROUP = "silent", "Silent", "# programs beside the colouring"
+# The crates that are copied: what each is called as a crate, as a type, and as a name in texts.
+MODEL, SEQUEL = ("silent", "Silent", "silent"), ("independent_set", "IndependentSet", "independent-set")
 PARTS = ("src", "specs", "proofs")
 LONGEST = 20
 # Words that can't name a crate: those of the language, and those that its modules use.
@@ -17,9 +19,12 @@ payload known""".split())
 
 HELP = f"""\
 Makes the crate crates/NAME with a node program, all of it proved already: a copy of
-the crate `{MODEL}`, whose nodes send nothing, with every law, the program's words in
+the crate `{MODEL[0]}`, whose nodes send nothing, with every law, the program's words in
 texts, a law about its last states, and a test. NAME is a word of small letters, as
-`{MODEL}`; it is the program's name in texts and in `forestplay run --program NAME`, too.
+`{MODEL[0]}`; it is the program's name in texts and in `forestplay run --program NAME`, too.
+
+With --sequel it is a copy of the crate `{SEQUEL[0]}`, which goes on after the
+colouring: its payloads beside the colouring's, its laws, its theorem, and a test.
 """
 
 MORE_HELP = """\
@@ -47,6 +52,7 @@ class Refused(Exception):
 
 
 def check_name(name, top):
+    """Refuses a name that no new crate can have."""
     if not re.fullmatch("[a-z]+", name):
         raise Refused(f"{name}: a program's name is one word of small letters, a to z")
     if len(name) > LONGEST:
@@ -57,9 +63,10 @@ def check_name(name, top):
         raise Refused(f"{name}: there is a crate or a program of this name")
 
 
-def renamed(text, name):
-    """The text of the model with this name in the place of its own."""
-    return text.replace(MODEL_TYPE, name.title()).replace(MODEL, name)
+def renamed(text, model, name):
+    """The text of a model with this name in the place of its own."""
+    crate, title, words = model
+    return text.replace(title, name.title()).replace(crate, name).replace(words, name)
 
 
 def head_of(name):
@@ -68,17 +75,17 @@ def head_of(name):
             "//! algorithm is published.\n")
 
 
-def copy(name, top):
+def copy(name, top, model=MODEL):
     """Writes the crate; nothing of it is there before, and nothing is left if that fails."""
-    to, source = os.path.join(top, "crates", name), os.path.join(TOP, "crates", MODEL)
+    to, source = os.path.join(top, "crates", name), os.path.join(TOP, "crates", model[0])
     try:
         for part in PARTS:
             for folder, _, files in os.walk(os.path.join(source, part)):
-                there = os.path.join(to, renamed(os.path.relpath(folder, source), name))
+                there = os.path.join(to, renamed(os.path.relpath(folder, source), model, name))
                 os.makedirs(there)
                 for file in files:
                     with open(os.path.join(folder, file), encoding="utf-8") as text:
-                        made = renamed(text.read(), name)
+                        made = renamed(text.read(), model, name)
                     if (part, file) == ("src", "lib.rt"):
                         made = head_of(name) + made[made.index("//!\n"):]
                     with open(os.path.join(there, file), "w", encoding="utf-8") as text:
@@ -88,27 +95,29 @@ def copy(name, top):
         raise
 
 
-def add_line(name, top):
+def add_line(name, top, model=MODEL):
     """Adds the line of crates.txt, after the model's."""
     path = os.path.join(top, "crates.txt")
     with open(path, encoding="utf-8") as file:
         lines = file.read().split("\n")
-    at = next(k for k, line in enumerate(lines) if line.startswith(MODEL + ":"))
-    lines.insert(at + 1, renamed(lines[at], name))
+    at = next(k for k, line in enumerate(lines) if line.startswith(model[0] + ":"))
+    lines.insert(at + 1, renamed(lines[at], model, name))
     with open(path, "w", encoding="utf-8") as file:
         file.write("\n".join(lines))
 
 
 def main():
-    words = argparse.ArgumentParser(prog="python3 build new-program", usage="python3 build new-program NAME",
+    words = argparse.ArgumentParser(prog="python3 build new-program", usage="python3 build new-program [--sequel] NAME",
                                     description=HELP, epilog=MORE_HELP,
                                     formatter_class=argparse.RawDescriptionHelpFormatter)
     words.add_argument("name", metavar="NAME", help="the program's name, a word of small letters")
-    name = words.parse_args().name
+    words.add_argument("--sequel", action="store_true", help="a program that goes on after the colouring")
+    given = words.parse_args()
+    name, model = given.name, SEQUEL if given.sequel else MODEL
     try:
         check_name(name, TOP)
-        copy(name, TOP)
-        add_line(name, TOP)
+        copy(name, TOP, model)
+        add_line(name, TOP, model)
     except (OSError, Refused) as why:
         print(f"new-program: {why}", file=sys.stderr)
         return 1

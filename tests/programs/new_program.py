@@ -1,0 +1,50 @@
+"""What `python3 build new-program` makes: the model's files under another name, and its line in crates.txt."""
+import os
+import shutil
+import tempfile
+
+from build.new_program import MODEL, PARTS, SEQUEL, Refused, add_line, check_name, copy
+from tests import TOP
+from tests.cases import Case
+
+
+def files_in(folder):
+    return [os.path.relpath(os.path.join(at, name), folder) for at, _, names in os.walk(folder) for name in names]
+
+
+class NewProgram(Case):
+    needs_programs = False
+
+    def setUp(self):
+        self.top = self.enterContext(tempfile.TemporaryDirectory())
+        shutil.copy(os.path.join(TOP, "crates.txt"), self.top)
+
+    def lines(self):
+        with open(os.path.join(self.top, "crates.txt"), encoding="utf-8") as file:
+            return file.read().split("\n")
+
+    def test_models(self):
+        for model, name, needs in ((MODEL, "echoes", "sync_rounds"), (SEQUEL, "dominating", "followed")):
+            before = self.lines()
+            copy(name, self.top, model)
+            add_line(name, self.top, model)
+            made, source = (os.path.join(top, "crates", crate) for top, crate in ((self.top, name), (TOP, model[0])))
+            self.note(f"{name}: files", len(files_in(made)) == sum(
+                len(files_in(os.path.join(source, part))) for part in PARTS), files_in(made))
+            left = []
+            for path in files_in(made):
+                with open(os.path.join(made, path), encoding="utf-8") as file:
+                    text = path + file.read()
+                left += [path for word in model if word in text]
+            self.note(f"{name}: the model's names are gone", not left, left)
+            added = [line for line in self.lines() if line not in before]
+            good = len(added) == 1 and added[0].startswith(f"{name}: ") and needs in added[0]
+            self.note(f"{name}: its line", good, added)
+
+    def test_names(self):
+        for name in ("Echoes", "a-b", "match", "laws", "colouring", "x" * 21, ""):
+            try:
+                check_name(name, self.top)
+                self.note(f"{name} is refused", False)
+            except Refused as why:
+                self.note(f"{name} is refused", name in str(why))
