@@ -169,6 +169,21 @@ class OwnAlgorithms(Case):
                 done = script("transcript check", example("chain6.col"), path, "--program", program)
                 self.note(f"a wrong run of {program}", done[0] == 1 and b"WrongWire" in done[2], done)
 
+    def test_what_me_knows(self):
+        """By hand: a row of three whose middle is the greatest has one forest, and two channels are barred at node 1."""
+        text = GOOD.replace("'x'", "f'{me.id} {me.degree} {me.nodes} {me.greatest_degree} {me.forests} "
+                                   "{me.greatest_bars} {me.barred} {last(me)}'")
+        text += "def last_pulse(nodes, degree, forests, bars):\n    return 10 * nodes + degree + forests + bars\n" \
+                "def last(me):\n    return last_pulse(me.nodes, me.greatest_degree, me.forests, me.greatest_bars)\n"
+        with tempfile.TemporaryDirectory() as folder:
+            path = os.path.join(folder, "knows.py")
+            with open(path, "w", encoding="utf-8") as file:
+                file.write(text)
+            net = Network({1: 4, 2: 9, 3: 5}, [(1, 2), (2, 3)], {1: [0, 6]})
+            found = [node.result() for node in synchronous_run(net, program_at(path)).values()]
+        wanted = ["4 1 3 2 1 2 (1, 7) 35", "9 2 3 2 1 2 () 35", "5 1 3 2 1 2 () 35"]
+        self.note("what `me` knows", found == wanted, found)
+
     def test_what_me_may_keep(self):
         """Nodes are compared by value: an object, chance or an iterator in `me` makes no more states than plain numbers
         do. By hand: of two nodes the greater identifier is the leader, in every order."""
