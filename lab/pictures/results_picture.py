@@ -1,5 +1,7 @@
 """What the nodes of a program have found at their last pulse, on the map: a chosen edge is thick, a colour fills the
 circle, and words are beside it."""
+from lab.definitions.independent_set import IndependentSet
+from lab.definitions.matching import Matching
 from lab.definitions.nodes import Colouring
 from lab.definitions.recolouring import Recolouring
 from lab.pictures.marks import bar_row, bars_width, channel_circle, draw_edge, short_name
@@ -9,8 +11,9 @@ from lab.pictures.svg import Svg, counted, text_width
 
 SMALL, LARGE, MARGIN, TOP = 12, 40, 48, 84
 BAR, SIZE = 9, 11.5
-# Programs whose colours are channels: in the circle is the channel, and the node's number beside it.
-OF_CHANNELS = (Colouring, Recolouring)
+# Programs whose colours are channels: in the circle is the channel, and the node's number beside it; and those of which
+# the marks show all.
+OF_CHANNELS, SHOWN = (Colouring, Recolouring), (Matching, IndependentSet)
 
 
 class Found:
@@ -20,7 +23,7 @@ class Found:
     def __init__(self, rounds, v):
         self.rounds, self.v, self.network, node = rounds, v, rounds.network, rounds.nodes[v]
         self.result, (self.colour, self.other) = node.result(), rounds.pulses[-1].drawn.get(v, (None, None))
-        self.has_channel = isinstance(node, OF_CHANNELS)
+        self.has_channel, self.is_shown = isinstance(node, OF_CHANNELS), isinstance(node, SHOWN)
         self.before = node.first.merged if isinstance(node, Recolouring) else self.colour
         self.bars = self.network.barred(v)
         self.words = " ".join(filter(None, [str(v) * self.has_channel, short_name(self.network, v), self.said()]))
@@ -29,7 +32,7 @@ class Found:
         """The words of its result, as far as the marks don't show them."""
         if self.has_channel:
             return f"was {self.before + 1}" if self.before != self.colour else ""
-        return "" if (self.colour, self.other) != (None, None) else self.result
+        return "" if self.is_shown and (self.colour, self.other) != (None, None) else self.result
 
     def title(self):
         was = f", was channel {self.before + 1}" if self.has_channel and self.before != self.colour else ""

@@ -74,6 +74,7 @@ class Results(PictureCase):
         heads = [mark for mark in root.iter(f"{SVG}path") if mark.get("fill") == "#1B1B1B"]
         self.note("one is an arrow", len(heads) == 1, len(heads))
         self.note("all are filled", len(marks(root, "filled")) == 3, found)
+        self.note("words", [mark.text for mark in marks(root, "found")] == ["points"] * 3, found)
 
     def test_the_player_draws_the_same(self):
         status, page, fault = self.painter(["player", self.draw.file("net.col", ROW), "--program", "matching"])
