@@ -180,7 +180,7 @@ class Drawn(Page):
         self.go_to("example=triangle&tab=adversary&node=1")
         self.sees("all of it again", "!studio.steps.made.length && document.querySelector('#possible button')")
         self.page.value("window.often = setInterval(() => document.getElementById('chance').click(), 2)")
-        self.sees("a key that is held makes steps", "studio.steps.made.length > 3", 10)
+        self.sees("a key that is held makes steps", "studio.steps.made.length > 3")
         self.page.value("clearInterval(often)")
         self.go_to("example=two&tab=adversary&without=acks&steps=1-2")
         self.sees("a rule left out", "document.getElementById('rule').textContent.includes('says safe at once')")
@@ -205,9 +205,8 @@ class Drawn(Page):
                 (two + "&tab=adversary&without=toString", ""), (two + "&tab=pictures&kind=toString", "")):
             self.go_to(words)
             time.sleep(1)
-            self.page.until(f"document.getElementById('wrong').textContent.includes({json.dumps(said)})")
-            got = self.page.text("wrong")
-            self.note(f"the address {words}", said in got and bool(said) == bool(got), got)
+            got = f"document.getElementById('wrong').textContent.includes({json.dumps(said)})"
+            self.sees(f"the address {words}", got if said else "!document.getElementById('wrong').textContent")
 
     def test_names(self):
         """Names are texts, in each tab."""
