@@ -66,7 +66,7 @@ function ask() {
   all(".other").forEach(one => { one.hidden = !run.other; });
   time.stop();
   // What is said of another run isn't left on the page while this one is worked out.
-  if (JSON.stringify(asked()) !== run.key) SAID.forEach(id => by(id).replaceChildren());
+  if (JSON.stringify(asked()) !== run.key) SAID.forEach(id => { by(id).replaceChildren(); by(id).key = null; });
   return tried("run", "playing the run", async () => {
     if (!await load() || seen.tab !== "run") return;
     if (by("beside").checked) await tabs.rounds.load();

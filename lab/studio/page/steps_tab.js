@@ -69,18 +69,20 @@ function sayWhere(is) {
 }
 // What can happen now, node by node, as buttons; of a large network the chosen node's, or the first ones.
 function listSteps(is) {
-  const place = by("possible"), on = document.activeElement, focus = place.contains(on) ? on.dataset.step : null;
+  const place = by("possible"), on = document.activeElement, focus = place.contains(on) ? on.dataset.key : null;
   const few = net.nodes.length <= 12, byNode = new Map();
   is.steps.forEach(step => { const v = parseInt(step, 10); byNode.set(v, (byNode.get(v) || []).concat(step)); });
   let keyed = 0;
   const rows = net.nodes.map((_, k) => k + 1).filter(v => few || (seen.node ? v === seen.node : byNode.has(v)));
   place.replaceChildren(...rows.slice(0, 14).map(v => {
     const line = html("div", null, {class: "possible"}), look = is.looks[v - 1], hold = html("button",
-      seen.lazy.includes(v) ? "let go" : "hold its pulse", {class: "quiet", "aria-label": `hold the pulse of node ${v}`});
+      seen.lazy.includes(v) ? "let go" : "hold its pulse", {class: "quiet", "data-key": "hold " + v,
+        "aria-label": `hold the pulse of node ${v}`, "aria-pressed": seen.lazy.includes(v)});
     hold.onclick = () => { toggle("lazy", v); show(); };
     line.append(html("b", `node ${v} `), html("span", `pulse ${look.p}: ${waitsWords(look)} `, {class: "soft"}), hold);
     (byNode.get(v) || []).forEach(step => {
-      const free = isFree(step), button = html("button", null, {"data-step": step, class: kindOf(is, step)});
+      const free = isFree(step), button = html("button", null, {"data-step": step, "data-key": step,
+        class: kindOf(is, step)});
       if (free && keyed < KEYED) button.append(html("kbd", ++keyed), " ");
       button.append(saidOf(is, step));
       button.disabled = !free;
@@ -90,7 +92,7 @@ function listSteps(is) {
     return line;
   }));
   if (rows.length > 14) place.append(html("p", `and ${rows.length - 14} more nodes: click one`, {class: "soft"}));
-  const again = focus && (place.querySelector(`[data-step="${focus}"]`) || place.querySelector("[data-step]"));
+  const again = focus && (place.querySelector(`[data-key="${focus}"]`) || place.querySelector("[data-step]"));
   if (again) again.focus();
 }
 function wireOf(is, step) {
