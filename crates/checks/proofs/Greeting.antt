@@ -7,8 +7,8 @@ use Rattle.alpha_core.specs.Program.{sends}
 use Rattle.link_rule.specs.Legal.{IsLegalOn, name_of}
 use Rattle.colour_rules.specs.Program.{colouring}
 use Rattle.colour_rules.specs.declared.payload.Payload.TheVariants.{Hello}
-use Rattle.checks.specs.LinkRows.{pair_net}
-use Rattle.checks.proofs.LinkRows.{first_round}
+use Rattle.checks.specs.SmallNets.{pair_net}
+use Rattle.checks.proofs.SmallNets.{first_round}
 
 greets : sends colouring pair_net 1 2 0 ≡ Some (Hello 1)
 unfolding node_at

@@ -1,4 +1,4 @@
 pub mod Greeting
-pub mod LinkRows
+pub mod SmallNets
 pub mod OnePort
 pub mod Rising

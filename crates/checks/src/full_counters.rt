@@ -1,7 +1,7 @@
 //! A node by itself, whose counter is near the greatest number.
 
 ghost use Rattle.std.specs.Prelude.{◌≡◌, [], ◌∷◌, IfOk, map};
-ghost use Rattle.checks.specs.LinkRows.{lone_net};
+ghost use Rattle.checks.specs.SmallNets.{lone_net};
 
 use actor::{Links, Node, OpenGate, TurnRefused, Wiring};
 use interference::{Memory, Network};
@@ -16,7 +16,7 @@ pub struct Alone;
 
 impl Wiring for Alone {
     ghost use Rattle.std.specs.Prelude.{[], ◌∷◌, false};
-    ghost use Rattle.checks.specs.LinkRows.{lone_net};
+    ghost use Rattle.checks.specs.SmallNets.{lone_net};
 
     ghost net = { lone_net };
 

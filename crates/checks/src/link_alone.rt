@@ -6,7 +6,7 @@ ghost use Rattle.alpha_core.specs.declared.wire.Wire.{Wire};
 ghost use Rattle.link_rule.specs.Legal.{IsLegalOn, name_of};
 ghost use Rattle.link_queue.specs.Ends.{IsNewPutEnd, IsPutEndOf, IsTakeEndOf, StaysPutEnd, StaysTakeEnd, put_name};
 ghost use Rattle.link_queue.specs.Ends.{take_name};
-ghost use Rattle.checks.specs.LinkRows.{pair_net};
+ghost use Rattle.checks.specs.SmallNets.{pair_net};
 
 use alpha_core::{Stamped, Wire};
 use interference::{Memory, Network};

@@ -1,22 +1,18 @@
-//! A link between two threads, at `Greatest<D>`: one puts the whole legal list, the other takes it. Each try is
-//! bounded by a count, so a run ends on every schedule.
+//! Two nodes of `Greatest` on two threads, over a link each way. What a node puts is legal, since a node puts it.
+//! All that waits is bounded by a count, so a run ends on every schedule.
 
-ghost use Rattle.std.specs.Prelude.{◌≡◌, ◌≤◌, ◌<◌, ◌+◌, ◌*◌, [], ◌∷◌, ◌++◌, Some, IsTrue, MatchBool, length, suc};
-ghost use Rattle.std.specs.Prelude.{vec_capacity};
-ghost use Rattle.alpha_core.specs.declared.wire.Wire.{Wire};
-ghost use Rattle.alpha_core.specs.StampedWires.{last_stamp};
-ghost use Rattle.sync_rounds.specs.Spread.{spread};
-ghost use Rattle.link_rule.specs.Legal.{IsLegalOn, LegalFor, name_of};
-ghost use Rattle.link_queue.specs.Ends.{IsPutEndOf, IsTakeEndOf, StaysPutEnd, StaysTakeEnd, put_list, put_name};
-ghost use Rattle.link_queue.specs.Ends.{put_stamped, take_name};
-ghost use Rattle.checks.specs.LinkRows.{echoes};
+ghost use Rattle.std.specs.Prelude.{◌≡◌, ◌<◌, ◌≤◌, [], Some, false, map, slice_get};
+ghost use Rattle.link_queue.specs.Ends.{put_list, put_name, take_name, taken_list};
+ghost use Rattle.actor.specs.Tables.{IsEndAt, table_of};
+ghost use Rattle.checks.specs.SmallNets.{pair_net};
 
-use crate::link_alone::held_at_the_end;
-use alpha_core::{Stamped, Wire};
+use crate::linked_counters::node_of;
+use actor::{Links, Node, OpenGate, WiredPut, WiredTake, Wiring};
 use interference::{Memory, Network};
 use link_queue::{Link, PutEnd, TakeEnd};
 use run_options::MAX_CAPACITY;
 use std::alloc::Global;
+use std::marker::Brand;
 use std::sync::Wait;
 use std::thread;
 use std::thread::Threads;
@@ -24,145 +20,121 @@ use sync_rounds::{Best, Greatest};
 
 const TRIES: u32 = 1_000_000;
 
-// Tries to put a wire with its stamp; whether it was put.
-fn put_one<const D: u32, R: Wait>(
+// How many pulses the nodes make.
+const PULSES: u32 = 3_333;
+
+// The ends of a link.
+#[derive(Drop)]
+struct Ends {
+    put: PutEnd<Greatest<PULSES>>,
+    take: TakeEnd<Greatest<PULSES>>,
+}
+
+// Tries turns of a node until one does something; whether one did.
+fn moves<J: Wiring, R: Wait>(
     rt: &R,
-    link: &Link<Greatest<D>>,
-    end: &mut PutEnd<Greatest<D>>,
-    stamp: u64,
-    wire: Wire<Best>,
-) -> bool
-    requires end { IsPutEndOf link.now end.old }
-    requires legal { LegalFor (IsLegalOn (spread D)) (put_name end.old) (put_list end.old ++ wire ∷ []) }
-    requires above { last_stamp (put_stamped end.old) < stamp }
-    ensures end { StaysPutEnd link.now end.old end.new }
-    ensures put { IsTrue result → put_list end.new ≡ put_list end.old ++ wire ∷ [] }
-    ensures stamp { IsTrue result → last_stamp (put_stamped end.new) ≡ stamp }
-{
+    links: &Links<J, Greatest<PULSES>>,
+    node: &mut Node<J, Greatest<PULSES>>,
+) -> bool {
     for _ in 0..TRIES {
-        match link.put(rt, end, Stamped { stamp, wire }) {
-            Ok(()) => return true,
-            Err(_) => thread::yield_now(),
+        match node.turn(rt, links, &OpenGate, 0) {
+            Ok(true) => return true,
+            Ok(false) => thread::yield_now(),
+            Err(_) => return false,
         }
     }
     false
 }
 
-// Puts the payload of a pulse, an acknowledgement and the safe, with the next three stamps; whether all were put.
-fn put_round<const D: u32, R: Wait>(
+// Whether a node with one link each way is drained after as many turns as it can have events: it puts and takes
+// 3 wires a pulse and a close, and makes the pulses.
+fn drains<J: Wiring, R: Wait>(
     rt: &R,
-    link: &Link<Greatest<D>>,
-    end: &mut PutEnd<Greatest<D>>,
-    best: u128,
-    pulse: u32,
-) -> bool
-    requires end { IsPutEndOf link.now end.old }
-    requires pulse { pulse < D }
-    requires so_far { put_list end.old ≡ echoes best pulse }
-    requires stamp { last_stamp (put_stamped end.old) ≡ 3 * pulse }
-    requires legal { LegalFor (IsLegalOn (spread D)) (put_name end.old) (echoes best D ++ Wire.Close ∷ []) }
-    ensures end { StaysPutEnd link.now end.old end.new }
-    ensures put { IsTrue result → put_list end.new ≡ echoes best (suc pulse) }
-    ensures stamp { IsTrue result → last_stamp (put_stamped end.new) ≡ 3 * suc pulse }
-{
-    let stamp = 3 * u64::from(pulse);
-    if !put_one(rt, link, end, stamp + 1, Wire::Payload(pulse, Best(best))) {
-        return false;
-    }
-    if !put_one(rt, link, end, stamp + 2, Wire::Ack(pulse)) {
-        return false;
-    }
-    put_one(rt, link, end, stamp + 3, Wire::Safe(pulse))
-}
-
-// Puts the whole list, with the stamps from 1 on; whether all of it was put, and its last wire closed the link.
-fn put_all<const D: u32, R: Wait>(
-    rt: &R,
-    link: &Link<Greatest<D>>,
-    mut end: PutEnd<Greatest<D>>,
-    best: u128,
-) -> (PutEnd<Greatest<D>>, bool)
-    requires end { IsPutEndOf link.now end }
-    requires fresh { put_list end ≡ [] }
-    requires legal { LegalFor (IsLegalOn (spread D)) (put_name end) (echoes best D ++ Wire.Close ∷ []) }
-    ensures end { StaysPutEnd link.now end result.0 }
-{
-    for pulse in 0..D {
-        if !put_round(rt, link, &mut end, best, pulse) {
-            return (end, false);
+    links: &Links<J, Greatest<PULSES>>,
+    node: &mut Node<J, Greatest<PULSES>>,
+) -> bool {
+    for _ in 0..7 * u64::from(PULSES) + 2 {
+        if node.alpha.drained() {
+            return true;
+        }
+        if !moves(rt, links, node) {
+            return false;
         }
     }
-    let was_open = !end.is_closed();
-    let done = put_one(rt, link, &mut end, 3 * u64::from(D) + 1, Wire::Close);
-    let is_closed = end.is_closed();
-    (end, was_open && done && is_closed)
+    node.alpha.drained()
 }
 
-// Tries to take a wire.
-fn take_one<const D: u32, R: Wait>(
+// Whether a node is drained at its end, and knows the greatest identifier.
+fn reaches_the_end<J: Wiring, R: Wait>(
     rt: &R,
-    link: &Link<Greatest<D>>,
-    end: &mut TakeEnd<Greatest<D>>,
-) -> Option<Stamped<Best>>
-    requires end { IsTakeEndOf link.now end.old }
-    ensures end { StaysTakeEnd link.now end.old end.new }
-{
-    for _ in 0..TRIES {
-        if let Some(item) = link.take(rt, end) {
-            return Some(item);
-        }
-        thread::yield_now();
-    }
-    None
+    links: &Links<J, Greatest<PULSES>>,
+    mut node: Box<Node<J, Greatest<PULSES>>>,
+) -> bool {
+    let is_drained = drains(rt, links, &mut node);
+    is_drained && node.alpha.program().best() == 2
 }
 
-// Takes as many wires as `got` has places.
-fn take_all<const D: u32, R: Wait>(
+// The same of both nodes, each on a thread.
+fn both_reach_the_end<J: Wiring + Send + Sync, R: Threads + Wait + Sync>(
     rt: &R,
-    link: &Link<Greatest<D>>,
-    mut end: TakeEnd<Greatest<D>>,
-    got: &mut [Option<Stamped<Best>>],
-) -> TakeEnd<Greatest<D>>
-    requires end { IsTakeEndOf link.now end }
-    ensures end { StaysTakeEnd link.now end result }
-{
-    for place in got.iter_mut() {
-        *place = take_one(rt, link, &mut end);
-        if place.is_none() {
-            return end;
-        }
-    }
-    end
+    links: &Links<J, Greatest<PULSES>>,
+    one: Box<Node<J, Greatest<PULSES>>>,
+    two: Box<Node<J, Greatest<PULSES>>>,
+) -> bool {
+    let (first, second) = thread::join(
+        rt,
+        move || -> bool { reaches_the_end(rt, links, one) },
+        move || -> bool { reaches_the_end(rt, links, two) },
+    );
+    first && second
 }
 
-/// One thread puts the whole list of the link out of a vertex, another takes as many wires as `got` has places. Whether
-/// all was put, and how many wires the link holds then.
-pub fn hand_over<const D: u32, R: Threads + Wait + Sync>(
+// The nodes of these ends: `out` is of the link from vertex 1 to vertex 2, `back` of the other.
+fn over<J: Wiring + Send + Sync, R: Threads + Wait + Sync>(
     rt: &R,
     alloc: Global,
     network: &Network,
-    vertex: u32,
-    best: u128,
-    capacity: usize,
-    got: &mut [Option<Stamped<Best>>],
-) -> Result<(bool, usize), Memory>
-    requires capacity { (0 < capacity) × (capacity ≤ MAX_CAPACITY) }
-    requires legal { IsLegalOn (spread D) (name_of network.now vertex 0) (echoes best D ++ Wire.Close ∷ []) }
+    links: Vec<Link<Greatest<PULSES>>>,
+    out: Ends,
+    back: Ends,
+) -> Result<bool, Memory>
+    requires network { (network.now ≡ pair_net) × (J.net ≡ pair_net) }
+    requires put { IsEndAt J.net J.tables 1 0 out.put.pass.table_id (put_name out.put)
+        × (slice_get J.links 0 ≡ Some out.put.pass.table_id) × (put_list out.put ≡ []) }
+    requires take { IsEndAt J.net J.tables 1 0 out.take.pass.table_id (take_name out.take)
+        × (slice_get J.links 0 ≡ Some out.take.pass.table_id) × (taken_list out.take ≡ []) }
+    requires put_back { IsEndAt J.net J.tables 2 0 back.put.pass.table_id (put_name back.put)
+        × (slice_get J.links 1 ≡ Some back.put.pass.table_id) × (put_list back.put ≡ []) }
+    requires take_back { IsEndAt J.net J.tables 2 0 back.take.pass.table_id (take_name back.take)
+        × (slice_get J.links 1 ≡ Some back.take.pass.table_id) × (taken_list back.take ≡ []) }
+    requires links { J.links ≡ map table_of links.items }
+    requires transcript { J.transcript ≡ false }
 {
-    let (queue, put_end, take_end) = Link::<Greatest<D>>::new(alloc, network, vertex, 0, capacity)?;
-    let link = &queue;
-    let ((put_end, done), take_end) = thread::join(
-        rt,
-        move || -> (PutEnd<Greatest<D>>, bool)
-            requires { IsPutEndOf link.now put_end × (put_list put_end ≡ [])
-                × LegalFor (IsLegalOn (spread D)) (put_name put_end) (echoes best D ++ Wire.Close ∷ []) }
-            ensures { StaysPutEnd link.entry.now put_end result.0 }
-        { put_all(rt, link, put_end, best) },
-        || -> TakeEnd<Greatest<D>>
-            requires { IsTakeEndOf link.now take_end }
-            ensures { StaysTakeEnd link.entry.now take_end result }
-        { take_all(rt, link, take_end, got) },
-    );
-    let held = held_at_the_end(rt, alloc, queue, put_end, take_end)?;
-    Ok((done, held))
+    let links = Links::<J, Greatest<PULSES>>::new(links);
+    let put = WiredPut::<J, Best>::new(1, 0, 0, out.put);
+    let take = WiredTake::<J, Best>::new(2, 0, 1, back.take);
+    let one = node_of::<J, PULSES>(alloc, network, 1, put, take)?;
+    let put = WiredPut::<J, Best>::new(2, 0, 1, back.put);
+    let take = WiredTake::<J, Best>::new(1, 0, 0, out.take);
+    let two = node_of::<J, PULSES>(alloc, network, 2, put, take)?;
+    Ok(both_reach_the_end(rt, &links, one, two))
+}
+
+/// Whether two nodes that make 3,333 pulses, each on a thread, hand over all wires over links of a capacity: ten thousand
+/// each way.
+pub fn hand_over<R: Threads + Wait + Sync>(
+    rt: &R,
+    alloc: Global,
+    network: &Network,
+    capacity: usize,
+) -> Result<bool, Memory>
+    requires capacity { (0 < capacity) × (capacity ≤ MAX_CAPACITY) }
+    requires network { network.now ≡ pair_net }
+{
+    let (first, put, take) = Link::<Greatest<PULSES>>::new(alloc, network, 1, 0, capacity)?;
+    let out = Ends { put, take };
+    let (second, put, take) = Link::<Greatest<PULSES>>::new(alloc, network, 2, 0, capacity)?;
+    let back = Ends { put, take };
+    let links = vec![in alloc; first, second]?;
+    over::<Brand, R>(rt, alloc, network, links, out, back)
 }

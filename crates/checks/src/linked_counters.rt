@@ -1,9 +1,11 @@
 //! A node with one neighbour, whose counter is near the greatest number.
 
-ghost use Rattle.std.specs.Prelude.{◌≡◌, [], Some, false, map, slice_get};
+ghost use Rattle.std.specs.Prelude.{◌≡◌, [], ◌∷◌, Some, false, map, slice_get};
+ghost use Rattle.interference.specs.Net.{IsVertex};
 ghost use Rattle.link_queue.specs.Ends.{put_list, put_name, take_name, taken_list};
+ghost use Rattle.actor.specs.Node.{links_in, links_out};
 ghost use Rattle.actor.specs.Tables.{IsEndAt, table_of};
-ghost use Rattle.checks.specs.LinkRows.{pair_net};
+ghost use Rattle.checks.specs.SmallNets.{pair_net};
 
 use actor::{Links, Node, OpenGate, TurnRefused, WiredPut, WiredTake, Wiring};
 use interference::{Memory, Network};
@@ -35,25 +37,28 @@ fn turned<J: Wiring, R: Wait>(
     (result, node.counter.value(), came)
 }
 
-// The node of vertex 1, in a box: to own a box costs less proof than to own what is in it.
-fn one_of_two<J: Wiring>(
+/// A node of `Greatest<D>` with one neighbour, in a box: to own a box costs less proof than to own what is in it.
+pub fn node_of<J: Wiring, const D: u32>(
     alloc: Global,
     network: &Network,
+    vertex: u32,
     put: WiredPut<J, Best>,
     take: WiredTake<J, Best>,
-) -> Result<Box<Node<J, Greatest<1>>>, Memory>
-    requires network { (network.now ≡ pair_net) × (J.net ≡ pair_net) }
-    requires put { (put.vertex ≡ 1) × (put.port ≡ 0) × (put_list put.end ≡ []) }
-    requires take { (take.vertex ≡ 2) × (take.port ≡ 0) × (taken_list take.end ≡ []) }
+) -> Result<Box<Node<J, Greatest<D>>>, Memory>
+    requires network { J.net ≡ network.now }
+    requires vertex { IsVertex network.now vertex }
+    requires outs { (put.vertex, put.port) ∷ [] ≡ links_out network.now vertex }
+    requires ins { (take.vertex, take.port) ∷ [] ≡ links_in network.now vertex }
+    requires fresh { (put_list put.end ≡ []) × (taken_list take.end ≡ []) }
     requires transcript { J.transcript ≡ false }
 {
     let puts = vec![in alloc; put]?;
     let takes = vec![in alloc; take]?;
-    let node = Node::<J, Greatest<1>>::start(alloc, network, 1, puts, takes, false)?;
+    let node = Node::<J, Greatest<D>>::start(alloc, network, vertex, puts, takes, false)?;
     Ok(Box::new(alloc, node)?)
 }
 
-// A turn of that node over two links. `far` takes what the node puts.
+// A turn of the node of vertex 1 over two links. `far` takes what the node puts.
 fn turned_over<J: Wiring, R: Wait>(
     rt: &R,
     alloc: Global,
@@ -78,7 +83,7 @@ fn turned_over<J: Wiring, R: Wait>(
     let mut far = WiredTake::<J, Best>::new(1, 0, 0, far);
     let put = WiredPut::<J, Best>::new(1, 0, 0, put);
     let take = WiredTake::<J, Best>::new(2, 0, 1, take);
-    let mut node = one_of_two::<J>(alloc, network, put, take)?;
+    let mut node = node_of::<J, 1>(alloc, network, 1, put, take)?;
     Ok(turned(rt, &links, &mut node, &mut far, stamp))
 }
 

@@ -1,7 +1,7 @@
 //! Nodes that have no stamp left for their next event.
 
 ghost use Rattle.std.specs.Prelude.{◌≡◌, IfOk};
-ghost use Rattle.checks.specs.LinkRows.{lone_net, pair_net};
+ghost use Rattle.checks.specs.SmallNets.{lone_net, pair_net};
 
 use crate::full_counters::{run_from, stays_as_it_was};
 use crate::link_queue_checks::pair;

@@ -142,39 +142,33 @@ fn unlabelled_put() -> [Wire<Payload>; 4] {
     ]
 }
 
-// Whether a node returns this to these acts, puts these wires, and is at this pulse then.
-fn plays_so(
-    alloc: Global,
-    node: &mut AlphaNode<Colouring>,
-    acts: &[Act<Payload>],
-    answers: &[Option<Result<(), AlphaRefused>>],
-    put: &[Wire<Payload>],
+// What a node is given, and what it returns, puts and comes to.
+#[derive(Clone, Copy)]
+struct Play<'a> {
+    acts: &'a [Act<Payload>],
+    answers: &'a [Option<Result<(), AlphaRefused>>],
+    put: &'a [Wire<Payload>],
     pulse: u32,
-) -> bool
+}
+
+// Whether a node plays so.
+fn plays_so(alloc: Global, node: &mut AlphaNode<Colouring>, play_of: &Play) -> bool
     requires one { length node.old.node.view.ports ≡ 1 }
 {
     let mut played = Played::new(alloc);
-    play(node, acts, &mut played).is_ok()
-        && played.answers.as_slice() == answers
-        && played.put.as_slice() == put
-        && node.pulse_number() == pulse
+    play(node, play_of.acts, &mut played).is_ok()
+        && played.answers.as_slice() == play_of.answers
+        && played.put.as_slice() == play_of.put
+        && node.pulse_number() == play_of.pulse
 }
 
 // The same of the node of a vertex, made anew.
-fn plays(
-    alloc: Global,
-    net: &Network,
-    v: u32,
-    acts: &[Act<Payload>],
-    answers: &[Option<Result<(), AlphaRefused>>],
-    put: &[Wire<Payload>],
-    pulse: u32,
-) -> bool
+fn plays(alloc: Global, net: &Network, v: u32, play_of: &Play) -> bool
     requires vertex { IsVertex net.now v }
     requires one { degree_of net.now v ≡ 1 }
 {
     match leaf(alloc, net, v) {
-        Ok(mut node) => plays_so(alloc, &mut node, acts, answers, put, pulse),
+        Ok(mut node) => plays_so(alloc, &mut node, play_of),
         Err(_) => false,
     }
 }
@@ -184,40 +178,40 @@ fn first_plays(alloc: Global, net: &Network) -> bool
     requires vertex { IsVertex net.now 1 }
     requires one { degree_of net.now 1 ≡ 1 }
 {
-    plays(alloc, net, 1, &hostile(), &ANSWERS, &both_put(), 0)
-        && plays(
-            alloc,
-            net,
-            1,
-            &only_taken(),
-            &ONLY_TAKEN_ANSWERS,
-            &both_put(),
-            0,
-        )
-        && plays(
-            alloc,
-            net,
-            1,
-            &two_pulses(),
-            &ALL_TAKEN,
-            &two_pulses_put(),
-            2,
-        )
+    let hostile = Play {
+        acts: &hostile(),
+        answers: &ANSWERS,
+        put: &both_put(),
+        pulse: 0,
+    };
+    let only_taken = Play {
+        acts: &only_taken(),
+        answers: &ONLY_TAKEN_ANSWERS,
+        put: &both_put(),
+        pulse: 0,
+    };
+    let two_pulses = Play {
+        acts: &two_pulses(),
+        answers: &ALL_TAKEN,
+        put: &two_pulses_put(),
+        pulse: 2,
+    };
+    plays(alloc, net, 1, &hostile)
+        && plays(alloc, net, 1, &only_taken)
+        && plays(alloc, net, 1, &two_pulses)
 }
 
 fn second_plays(alloc: Global, net: &Network) -> bool
     requires vertex { IsVertex net.now 2 }
     requires one { degree_of net.now 2 ≡ 1 }
 {
-    plays(
-        alloc,
-        net,
-        2,
-        &unlabelled(),
-        &UNLABELLED_ANSWERS,
-        &unlabelled_put(),
-        1,
-    )
+    let unlabelled = Play {
+        acts: &unlabelled(),
+        answers: &UNLABELLED_ANSWERS,
+        put: &unlabelled_put(),
+        pulse: 1,
+    };
+    plays(alloc, net, 2, &unlabelled)
 }
 
 #[test]

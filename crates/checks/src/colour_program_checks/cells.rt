@@ -139,31 +139,28 @@ fn told(broken: Option<u16>) -> Result<(), Refused> {
     }
 }
 
-// Whether new nodes of a vertex return this on a payload, once others came.
-fn returns(
-    alloc: Global,
-    net: &Network,
-    v: u32,
-    earlier: &[Told],
-    pulse: u32,
-    payload: Told,
-    broken: Option<u16>,
-) -> bool {
-    let cell = Cell {
-        earlier,
-        pulse,
-        payload,
-        due: told(broken),
-    };
-    holds_at(alloc, net, v, Asked::Cell(cell))
-}
-
-// Whether nodes with a port of each kind return what a row says.
+// Whether new nodes with a port of each kind return what a row says.
 fn walk(alloc: Global, net: &Network, row: &Row) -> bool {
     let (pulse, payload, unknown, up, down) = *row;
-    returns(alloc, net, 1, &[], pulse, payload, unknown)
-        && returns(alloc, net, 1, &[HELLO], pulse, payload, up)
-        && returns(alloc, net, 2, &[LOWER_HELLO, LABEL], pulse, payload, down)
+    let of_unknown = Cell {
+        earlier: &[],
+        pulse,
+        payload,
+        due: told(unknown),
+    };
+    let of_up = Cell {
+        earlier: &[HELLO],
+        due: told(up),
+        ..of_unknown
+    };
+    let of_down = Cell {
+        earlier: &[LOWER_HELLO, LABEL],
+        due: told(down),
+        ..of_unknown
+    };
+    holds_at(alloc, net, 1, Asked::Cell(of_unknown))
+        && holds_at(alloc, net, 1, Asked::Cell(of_up))
+        && holds_at(alloc, net, 2, Asked::Cell(of_down))
 }
 
 fn walk_all(rt: &impl Abort, alloc: Global, net: &Network, rows: &[Row]) {

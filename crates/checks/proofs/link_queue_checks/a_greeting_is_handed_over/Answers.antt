@@ -3,7 +3,7 @@ use Rattle.alpha_core.specs.declared.wire.Wire.TheVariants.{Payload, Safe}
 use Rattle.link_rule.specs.Legal.{IsLegalOn, name_of}
 use Rattle.colour_rules.specs.Program.{colouring}
 use Rattle.colour_rules.specs.declared.payload.Payload.TheVariants.{Hello}
-use Rattle.checks.specs.LinkRows.{pair_net}
+use Rattle.checks.specs.SmallNets.{pair_net}
 use Rattle.checks.proofs.Greeting.{hello_legal}
 use Rattle.checks.proofs.link_queue_checks.a_greeting_is_handed_over.Goals as goal
 

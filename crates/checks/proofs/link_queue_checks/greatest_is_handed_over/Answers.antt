@@ -1,4 +1,4 @@
-use Rattle.checks.proofs.LinkRows.{first_legal}
+use Rattle.checks.proofs.SmallNets.{first_legal}
 use Rattle.checks.proofs.link_queue_checks.greatest_is_handed_over.Goals as goal
 
 pub one_after_another-requires-clause-legal : goal.one_after_another-requires-clause-legal

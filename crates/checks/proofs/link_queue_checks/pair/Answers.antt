@@ -1,4 +1,4 @@
-use Rattle.checks.proofs.LinkRows.{pair_is}
+use Rattle.checks.proofs.SmallNets.{pair_is}
 use Rattle.checks.proofs.link_queue_checks.pair.Goals as goal
 
 pub returns : goal.returns

@@ -1,4 +1,4 @@
-use Rattle.checks.proofs.LinkRows.{lone_is}
+use Rattle.checks.proofs.SmallNets.{lone_is}
 use Rattle.checks.proofs.pool_checks.alone.Goals as goal
 
 pub returns : goal.returns
