@@ -153,6 +153,16 @@ class Programs(Case):
             done = play(["rounds", "--program", program], net)
             self.expect(f"rounds of {program} on {net}", done, 0, text(wanted), b"")
 
+    def test_payloads_put(self):
+        """The puts of payloads of a run, by one worker and by three, are those of the rounds, in another order."""
+        for program, net, wanted in ROUNDS:
+            sent = sorted(line for line in wanted.split("|") if " put " in line)
+            for workers in ("1", "3"):
+                done = play(["run", "--program", program, "--transcript", "--workers", workers], net)
+                entries = (line.split(" ", 1)[1] for line in done.stdout.decode("ascii").splitlines()[1:])
+                put = sorted(entry for entry in entries if " put " in entry and " payload " in entry)
+                self.note(f"puts of {program} on {net} by {workers}", done.returncode == 0 and put == sent, done)
+
     def test_events(self):
         """Node 2 sends nothing in pulse 0, so it said safe 0 before node 1's payload came: that is put first."""
         done = play(["events", "--program", "layers"], EDGE + "put 1 0|take 2 0|put 2 0|")
