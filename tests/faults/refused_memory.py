@@ -83,7 +83,8 @@ def count_and_bytes(front, folder, words, data=b"", refused=0, status=0):
 def sweep(program, front, words, data, wanted, own_name="forestplan", or_else=None):
     """Refuses growth 1, 2, .. until a run is as one without refusal. `wanted` is None if clap's text is the answer;
     `or_else` is the answer in place of the one for memory if the one growth by which the C library starts a thread, for
-    its table of the thread's own variables, is refused."""
+    its table of the thread's own variables, is refused. Of a run with a thread one growth is refused without a trace,
+    that of the list of words, which then grows by less: so no part of a run passes a refusal by, or is made anew."""
     name = f"each growth refused in turn: {' '.join(words)}"
     memory = (4, b"", f"{own_name}: memory\n".encode())
     if wanted is None:
@@ -93,7 +94,9 @@ def sweep(program, front, words, data, wanted, own_name="forestplan", or_else=No
         got = answer_of(program, front, words, data, k)
         if got == wanted and all(answer_of(program, front, words, data, k + more) == wanted for more in range(1, 40)):
             good = memory in ends and ends.count(or_else) == (or_else is not None)
-            return name, good, f"{ends.count(memory)} growths end in memory, {ends.count(or_else)} in {or_else}"
+            good = good and (or_else is None or ends.count(wanted) <= 1)
+            return name, good, (f"{ends.count(memory)} growths end in memory, {ends.count(or_else)} in {or_else}, "
+                                f"{ends.count(wanted)} as without a refusal")
         if got not in (wanted, memory, or_else):
             return name, False, f"growth {k}: {got}"
         ends.append(got)
