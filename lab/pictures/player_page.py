@@ -1,6 +1,7 @@
 """The player: one HTML page without any library, the network at each pulse, with a slider and a play button; of the
 colouring, or of another program. page/player.js draws it."""
 from lab.definitions.pulses import SEED, Rounds
+from lab.definitions.recolouring import Recolouring
 from lab.pictures.pages import net_of, page
 from lab.pictures.program_picture import is_new
 from lab.pictures.svg import counted
@@ -37,6 +38,7 @@ def film_of(rounds):
         pulses.append(row)
     parents = sorted(rounds.parents.items()) if is_colouring else []
     return {"last": rounds.last, "forests": rounds.forests, "pulses": pulses, "first": list(rounds.first.values()),
+            "channels": not is_colouring and rounds.program is Recolouring,
             "parents": [[v, f, w] for (v, f), w in parents]}
 
 

@@ -76,12 +76,19 @@ class Results(PictureCase):
         self.note("all are filled", len(marks(root, "filled")) == 3, found)
         self.note("words", [mark.text for mark in marks(root, "found")] == ["points"] * 3, found)
 
-    def test_the_player_draws_the_same(self):
-        status, page, fault = self.painter(["player", self.draw.file("net.col", ROW), "--program", "matching"])
+    def film_of(self, program, network):
+        status, page, fault = self.painter(["player", self.draw.file("net.col", network), "--program", program])
         self.note("the page", status == 0, fault)
-        film = json.loads(re.search(r"(?m)^var D = (.*);$", page.decode())[1])["film"]
+        return json.loads(re.search(r"(?m)^var D = (.*);$", page.decode())[1])["film"]
+
+    def test_the_player_draws_the_same(self):
+        """Partners; and channels in the circles, of a program whose nodes have some."""
+        film = self.film_of("matching", ROW)
         drawn = film["pulses"][-1]["drawn"]
-        self.note("partners", drawn == {"1": [None, None], "2": [None, 3], "3": [None, 2]}, drawn)
+        self.note("partners", drawn == {"1": [None, None], "2": [None, 3], "3": [None, 2]} and not film["channels"], drawn)
+        film = self.film_of("recolouring", TRIANGLE)
+        drawn = [film["pulses"][p]["drawn"][v][0] for p in (30, 33) for v in "123"]
+        self.note("colours before and after", drawn == [1, 2, 0, 1, 0, 2] and film["channels"], drawn)
 
     def test_refused(self):
         for network, words, said in ((b"p edge 0 0\n", [], b"no node"), (b"p edge 401 0\n", [], b"at most 400 nodes"),

@@ -11,12 +11,14 @@ export function roundsLegend(place, film) {
       + " circle is its channel, a colour plus one. Arrows go to parents. A number in a pill is a message, in a merge a"
       + " channel; dotted: it didn’t decide what the chosen node found. Below a node whose turn is to come is its pair:"
       + " its colour in the forest, and its old colour. Yellow: it chooses now."
+    : film.channels ? "A circle is a node’s channel; yellow: another one than before. A number in a pill is a message, of"
+      + " colours chosen anew a channel."
     : "A number in a pill is a message on its way. Below a node is what it has found; yellow: something new.";
 }
 
 export class RoundsFilm {
   constructor(found, net) {
-    Object.assign(this, {found, net, last: found.last, forests: found.forests, merged: []});
+    Object.assign(this, {found, net, last: found.last, forests: found.forests, channels: found.channels, merged: []});
     this.parent = new Map(found.parents.map(([v, f, w]) => [v + " " + f, w]));
     let now = {};
     found.pulses.forEach((pulse, p) => {
@@ -48,9 +50,10 @@ export class RoundsFilm {
     if (pulse.step && !this.hasChosen(v, p)) parts.push(...this.turnMark(p, forest, v, x, y, r));
     return parts;
   }
-  // What a node of another program has found: in words, and by its colour.
+  // What a node of another program has found: in words, and by its colour; or its channel.
   resultMarks(stage, pulse, v, x, y, r) {
     const [colour] = pulse.drawn[v] || [null];
+    if (this.channels) return channelCircle(x, y, r, colour + 1);
     const disc = colour === null ? blank(x, y, r, v) : [mark("circle", {cx: x, cy: y, r, fill: hue(colour + 1),
       stroke: "var(--ink)", class: "found-colour"}), words(x, y, r * 0.9, inkOn(hue(colour + 1)), v)];
     return [...disc, ...resultWords(x, y + r + 12, Math.min(11.5, r), pulse.results[v - 1], stage.least)];
@@ -82,7 +85,7 @@ export class RoundsFilm {
     const size = Math.max(9, Math.min(12, stage.radius * 0.6));
     for (const [v, w, word, sent] of this.found.pulses[p].puts) {
       if (word === "colour" && this.parent.get(w + " " + chosen) !== v) continue;
-      const said = short(word === "chosen" ? sent + 1 : sent);
+      const said = short(word === "chosen" || word === "anew" ? sent + 1 : sent);
       const whole = Math.hypot(stage.X(v) - stage.X(w), stage.Y(v) - stage.Y(w)), start = Math.min(0.12, 12 / whole);
       const [x, y] = stage.beside(v, w, start + (1 - start) * part, pillWidth(said, size), size + 6);
       const look = why && !heard.has([p, v, w].join(" ")) ? FADED : {};
@@ -96,8 +99,8 @@ export class RoundsFilm {
     const names = new Set(why ? why.identifiers : []);
     stage.draw({node: (v, x, y, r) => this.node(stage, p, shown, v, x, y, r), links: () => this.arrows(stage, p, shown),
       above: () => quiet ? [] : this.messages(stage, p, at - p, forest, why),
-      below: Boolean(pulse.results || pulse.step),
-      label: pulse.results ? v => nameOf(this.net, v).slice(String(v).length).trim()
+      below: Boolean(pulse.results && !this.channels || pulse.step),
+      label: pulse.results && !this.channels ? v => nameOf(this.net, v).slice(String(v).length).trim()
         : quiet ? v => stage.radius < 9 ? "" : String(v) : null,
       ring: v => v === node ? "var(--glow)" : names.has(v) ? "var(--edge)" : null,
       edge: () => ({"stroke-width": p === 0 ? 1.6 : 0.8}), still: [this, p, forest, node, why, quiet]});
