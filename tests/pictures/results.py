@@ -84,8 +84,8 @@ class Results(PictureCase):
     def test_the_player_draws_the_same(self):
         """Partners; and channels in the circles, of a program whose nodes have some."""
         film = self.film_of("matching", ROW)
-        drawn = film["pulses"][-1]["drawn"]
-        self.note("partners", drawn == {"1": [None, None], "2": [None, 3], "3": [None, 2]} and not film["channels"], drawn)
+        drawn, wanted = film["pulses"][-1]["drawn"], {"1": [None, None], "2": [None, 3], "3": [None, 2]}
+        self.note("partners", drawn == wanted and not film["channels"], drawn)
         film = self.film_of("recolouring", TRIANGLE)
         drawn = [film["pulses"][p]["drawn"][v][0] for p in (30, 33) for v in "123"]
         self.note("colours before and after", drawn == [1, 2, 0, 1, 0, 2] and film["channels"], drawn)
