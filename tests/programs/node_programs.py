@@ -84,11 +84,24 @@ REFUSED = [
     ("layers", "transcript 3 leader x|", "WrongProgram line 3: leader"), ("leader", "transcript 3 leader x|", "X1 line 3"),
     ("leader", "transcript 3 leader|", "X1 line 3"), ("leader", "transcript 3 2|", "X1 line 3"),
     ("leader", "transcript 3 leader 2 2|", "X1 line 3"), ("leader", "transcript 2 leader 2|", "X1 line 3"),
+    # Hyphens are inside a name; and the payloads of a sequel are its own and the colouring's, each within its bound.
+    ("leader", "transcript 3 independent-set 2|", "WrongProgram line 3: independent-set"),
+    ("leader", "transcript 3 -set 2|", "X1 line 3"), ("leader", "transcript 3 set- 2|", "X1 line 3"),
+    ("leader", "transcript 3 - 2|", "X1 line 3"), ("leader", "transcript 3 independent_set 2|", "X1 line 3"),
+    ("independent-set", "transcript 3 independent-set 2|", "NotWhole line 3"),
+    ("independent-set", FIRST + "joined 0|", "WrongWire line 4: expected payload 0 hello 1"),
+    ("matching", FIRST + "free 0|", "WrongWire line 4: expected payload 0 hello 1"),
+    ("recolouring", FIRST + "anew 0|", "WrongWire line 4: expected payload 0 hello 1"),
+    ("matching", FIRST + "joined 0|", "X1 line 4"), ("independent-set", FIRST + "take 0|", "X1 line 4"),
+    ("recolouring", FIRST + "free 0|", "X1 line 4"), ("colouring", FIRST + "anew 0|", "X1 line 4"),
+    ("matching", FIRST + f"take {2**16}|", "X1 line 4"), ("recolouring", FIRST + f"anew {2**16}|", "X1 line 4"),
+    ("independent-set", FIRST + f"joined {2**16}|", "X1 line 4"),
     ("leader", "transcript 3 Leader 2|", "X1 line 3"), ("leader", "transcript 3 lead\x1ber 2|", "X1 line 3"),
     ("leader", "transcript 4 leader 2|", "X1 line 3"),
 ]
 STOPPED = b"forestplay: stopped\n"
-UNKNOWN = "error: invalid value '{}' for '--program <NAME>'|  [possible values: colouring, leader, layers]||" \
+UNKNOWN = "error: invalid value '{}' for '--program <NAME>'|" \
+          "  [possible values: colouring, leader, layers, matching, independent-set, recolouring]||" \
           "For more information, try '--help'.|"
 
 
@@ -175,7 +188,7 @@ class Programs(Case):
             self.expect(f"{program} {lines}", done, 1, b"", f"forestplay: {fault}\n".encode())
 
     def test_words(self):
-        for word in ("colour", "", "Leader", "layers2"):
+        for word in ("colour", "", "Leader", "layers2", "independent", "independent_set"):
             for command in ("events", "replay", "rounds", "run"):
                 done = play([command, f"--program={word}"], EDGE)
                 self.expect(f"{command} {word!r}", done, 2, b"", text(UNKNOWN.format(word)))

@@ -8,7 +8,8 @@ use Rattle.clap.specs.declared.builder.value_parser.ValueParser.TheVariants.{Uns
 use Rattle.graph_limits.specs.declared.limits.TheConstants.{MAX_NODES}
 use Rattle.command_line.specs.RunOptions.{number_of}
 use Rattle.command_line.specs.declared.programs.NodeProgramName.{NodeProgramName}
-use Rattle.command_line.specs.declared.programs.NodeProgramName.TheVariants.{Colouring, Layers, Leader}
+use Rattle.command_line.specs.declared.programs.NodeProgramName.TheVariants.{Colouring, IndependentSet, Layers, Leader}
+use Rattle.command_line.specs.declared.programs.NodeProgramName.TheVariants.{Matching, Recolouring}
 use Rattle.command_line.specs.declared.programs.Shown.{Shown}
 use Rattle.command_line.specs.declared.programs.Shown.TheVariants as shown
 
@@ -53,6 +54,9 @@ program_with word =
     if bytes_eq word (codes "colouring") then Some Colouring
     else if bytes_eq word (codes "leader") then Some Leader
     else if bytes_eq word (codes "layers") then Some (Layers None)
+    else if bytes_eq word (codes "matching") then Some Matching
+    else if bytes_eq word (codes "independent-set") then Some IndependentSet
+    else if bytes_eq word (codes "recolouring") then Some Recolouring
     else None
 
 -- the root that a command is given, if it is given one

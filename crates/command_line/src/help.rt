@@ -239,7 +239,7 @@ pub const TURNS: &'static str = "How often a worker looks for a node";
 
 pub const EDITION: &'static str = "The form: 2 with stamps, 1 without";
 
-pub const PROGRAM: &'static str = "colouring, leader or layers";
+pub const PROGRAM: &'static str = "The nodes' program: see `forestplay --help`";
 
 pub const ROOT: &'static str = "The node that is the root of layers";
 
@@ -293,12 +293,19 @@ several, and standard output then stays empty. If a write fails, standard output
 holds a beginning of the answer.
 
 With --program NAME the nodes of any command run another program:
-  colouring  finds the channel of each node, as `forestplan plain` prints it;
-             without --program it is this one
-  leader     finds the greatest identifier among the nodes that paths lead to
-  layers     finds how many edges lead to the root, and the port of the first of
-             them; the root is the node V of --root V, and without --root the
-             node of identifier 1",
+  colouring        finds the channel of each node, as `forestplan plain` prints
+                   it; without --program it is this one
+  leader           finds the greatest identifier among the nodes that paths lead
+                   to
+  layers           finds how many edges lead to the root, and the port of the
+                   first of them; the root is the node V of --root V, and
+                   without --root the node of identifier 1
+  matching         finds partners: two neighbours that have each other; no two
+                   neighbours are left without one
+  independent-set  finds nodes of which no two are neighbours, so that each other
+                   node has a neighbour among them
+  recolouring      finds the channels of colouring; then they choose anew, the
+                   greatest first, and mostly fewer are left",
     format: "The graph is read as forestplan reads it, with the same faults, reported as
 `forestplay: F6 line 2`: see `forestplan --help`. If --root V is given and the graph
 has fewer nodes, it is reported as `forestplay: NoRoot vertex V`.
@@ -336,7 +343,8 @@ Output, for each node V, ascending, a line each:
                            `channel C`; `leader ID`, and `elected` after it of
                            the node that has it; `layer N by PORT to W`, or for
                            the root `layer 0`, and for one that no path leads
-                           to `layer none`
+                           to `layer none`; `partner PORT to W` or `partner
+                           none`; `in` or `out`
   link V W taken N WIRES   for each neighbour W, ascending: the number of wires
                            that W has taken from this link, and the wires that
                            wait on it, the oldest first, as
@@ -451,9 +459,9 @@ and after the line of a pulse, for each vertex V, ascending:
   V chose C              V has chosen colour C, which is channel C + 1
   V put W payload P WORD NUMBER
                          for each neighbour W to which V sends: what it sends
-With --program leader or layers the first line is `rounds 3 NAME N DELTA R`, the
-lines of pulses are `pulse P`, and after pulse R comes the result of each vertex,
-as `V leader ID` or `V layer N by PORT`.
+With another --program the first line is `rounds 3 NAME N DELTA R`, the lines of
+pulses are `pulse P`, and after pulse R comes the result of each vertex, as
+`V leader ID` or `V layer N by PORT`.
 
 Example: two nodes
   printf 'p edge 2 1\\ne 1 2\\n' | forestplay rounds",

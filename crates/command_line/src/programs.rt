@@ -22,6 +22,12 @@ pub enum NodeProgramName {
     Leader,
     /// Each node finds how far it is from a vertex that is given; if none is, from the node with identifier 1.
     Layers(Option<u32>),
+    /// Each node finds a partner among its neighbours, as far as there is one.
+    Matching,
+    /// Each node finds whether it is in a maximal independent set.
+    IndependentSet,
+    /// Each node finds its channel, and then chooses anew.
+    Recolouring,
 }
 
 /// What a run of nodes prints.
@@ -119,6 +125,9 @@ fn program_with(word: &str) -> Option<NodeProgramName>
         "colouring" => Some(NodeProgramName::Colouring),
         "leader" => Some(NodeProgramName::Leader),
         "layers" => Some(NodeProgramName::Layers(None)),
+        "matching" => Some(NodeProgramName::Matching),
+        "independent-set" => Some(NodeProgramName::IndependentSet),
+        "recolouring" => Some(NodeProgramName::Recolouring),
         _ => None,
     }
 }

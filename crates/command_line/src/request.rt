@@ -15,7 +15,8 @@ use run_options::{Edition, Options};
 use std::alloc::{AllocError, Global};
 
 // The last lines of a refusal, as clap writes them.
-const PROGRAM_NAMES: &'static str = "[possible values: colouring, leader, layers]";
+const PROGRAM_NAMES: &'static str =
+    "[possible values: colouring, leader, layers, matching, independent-set, recolouring]";
 
 const ROOT_TAKER: &'static str = "[only with: --program layers]";
 

@@ -5,14 +5,18 @@ use Rattle.command_line.specs.declared.program.Program.{Program}
 use Rattle.command_line.specs.declared.request.Request.{Request}
 use Rattle.command_line.specs.declared.request.Request.TheVariants.{Check, Forests, Plain, Plan, Play, Transcript}
 use Rattle.command_line.specs.declared.programs.NodeProgramName.{NodeProgramName}
-use Rattle.command_line.specs.declared.programs.NodeProgramName.TheVariants.{Colouring, Layers, Leader}
+use Rattle.command_line.specs.declared.programs.NodeProgramName.TheVariants.{Colouring, IndependentSet, Layers, Leader}
+use Rattle.command_line.specs.declared.programs.NodeProgramName.TheVariants.{Matching, Recolouring}
 use Rattle.command_line.specs.declared.request.Play.{Play as Played}
 use Rattle.command_line.specs.declared.request.Play.TheVariants.{Events, Replay, Rounds, Run}
 use Rattle.serving.specs.Answers.{MayAnswer}
 use Rattle.serving.specs.Plays.{MayPlay, MayPlayNamed, layers_root}
 use Rattle.colour_program.specs.ColoursText.{colouring_texts}
+use Rattle.independent_set.specs.Texts.{independent_set_texts}
 use Rattle.layers.specs.Texts.{layers_texts, layers_texts_from}
 use Rattle.leader.specs.Texts.{leader_texts}
+use Rattle.matching.specs.Texts.{matching_texts}
+use Rattle.recolouring.specs.Texts.{recolouring_texts}
 use Rattle.program_texts.specs.Texts.{ProgramTexts}
 use Rattle.node_api.specs.Program.{Program as NodeProgram}
 use Rattle.answers.specs.Faults.{fault_line, fault_status}
@@ -43,6 +47,9 @@ named-memory Colouring play input = play-memory _ colouring_texts _ _ _ None pla
 named-memory Leader play input = play-memory _ leader_texts _ _ _ None play input
 named-memory (Layers None) play input = play-memory _ layers_texts _ _ _ None play input
 named-memory (Layers (Some v)) play input = play-memory _ (layers_texts_from v) _ _ _ (Some (layers_root v)) play input
+named-memory Matching play input = play-memory _ matching_texts _ _ _ None play input
+named-memory IndependentSet play input = play-memory _ independent_set_texts _ _ _ None play input
+named-memory Recolouring play input = play-memory _ recolouring_texts _ _ _ None play input
 
 memory-may : (request : Request) (input : List ℕ) → MayAnswer request input (Err Memory)
 memory-may Forests input = tt

@@ -18,10 +18,15 @@ use Rattle.colour_rules.specs.Program.{colouring}
 use Rattle.colour_rules.specs.Words.{number_in, payload_from, word_in}
 use Rattle.run_faults.specs.declared.fault.PoolFault.TheVariants.{BadOptions}
 use Rattle.command_line.specs.declared.programs.NodeProgramName.{NodeProgramName}
-use Rattle.command_line.specs.declared.programs.NodeProgramName.TheVariants.{Colouring, Layers, Leader}
+use Rattle.command_line.specs.declared.programs.NodeProgramName.TheVariants.{Colouring, IndependentSet, Layers, Leader}
+use Rattle.command_line.specs.declared.programs.NodeProgramName.TheVariants.{Matching, Recolouring}
 use Rattle.command_line.specs.declared.programs.Shown.TheVariants as shown
 use Rattle.command_line.specs.declared.request.Play.{Play}
 use Rattle.command_line.specs.declared.request.Play.TheVariants.{Events, Replay, Rounds, Run}
+use Rattle.followed.specs.Said.{of_either, read_first}
+use Rattle.independent_set.specs.Knowing.{independent_set}
+use Rattle.independent_set.specs.Texts.{independent_set_texts}
+use Rattle.independent_set.specs.Words.{joined_from}
 use Rattle.layers.specs.Layering.{layering}
 use Rattle.layers.specs.Texts.{layers_texts, layers_texts_from}
 use Rattle.layers.specs.Words.{hops_from}
@@ -29,6 +34,12 @@ use Rattle.layers.specs.declared.layer.TheConstants.{ROOT_ID}
 use Rattle.leader.specs.Election.{election}
 use Rattle.leader.specs.Texts.{leader_texts}
 use Rattle.leader.specs.Words.{candidate_from}
+use Rattle.matching.specs.Knowing.{matching}
+use Rattle.matching.specs.Texts.{matching_texts}
+use Rattle.matching.specs.Words as proposal
+use Rattle.recolouring.specs.Knowing.{recolouring}
+use Rattle.recolouring.specs.Texts.{recolouring_texts}
+use Rattle.recolouring.specs.Words.{anew_from}
 
 -- A program, its texts, the words of its payloads, and the root that it is given, if it is given one.
 module _ {S M E : Type 0} (program : Program S M E) (texts : ProgramTexts S) (word_of : M → List ℕ)
@@ -65,3 +76,9 @@ MayPlayNamed Leader = MayPlay election leader_texts (λ x. codes "leader") (λ x
 MayPlayNamed (Layers None) = MayPlay layering layers_texts (λ x. codes "hops") (λ x. x.0) hops_from None
 MayPlayNamed (Layers (Some v)) =
     MayPlay layering (layers_texts_from v) (λ x. codes "hops") (λ x. x.0) hops_from (Some (layers_root v))
+MayPlayNamed Matching = MayPlay matching matching_texts (of_either word_in proposal.word_in)
+    (of_either number_in proposal.number_in) (read_first payload_from proposal.proposal_from) None
+MayPlayNamed IndependentSet = MayPlay independent_set independent_set_texts (of_either word_in (λ x. codes "joined"))
+    (of_either number_in (λ x. x.0)) (read_first payload_from joined_from) None
+MayPlayNamed Recolouring = MayPlay recolouring recolouring_texts (of_either word_in (λ x. codes "anew"))
+    (of_either number_in (λ x. x.0)) (read_first payload_from anew_from) None

@@ -12,10 +12,13 @@ use answers::{PlanFault, Root, events_bytes, replay_bytes, rounds_bytes};
 use byte_functions::{run_bytes, run_transcript_bytes};
 use colour_program::Colouring;
 use command_line::{NodeProgramName, Play, Shown};
+use independent_set::IndependentSet;
 use layers::laws::rounds_end_with_the_distances_from_a_root;
 use layers::{Layers, ROOT_ID};
 use leader::Leader;
+use matching::Matching;
 use program_texts::ProgramText;
+use recolouring::Recolouring;
 use run_options::Edition;
 use std::alloc::Global;
 use std::sync::Wait;
@@ -98,5 +101,10 @@ pub fn named_bytes<T: Threads + Wait + Sync>(
         NodeProgramName::Leader => play_bytes::<Leader, T>(rt, alloc, None, play, input),
         NodeProgramName::Layers(None) => play_bytes::<Layers, T>(rt, alloc, None, play, input),
         NodeProgramName::Layers(Some(v)) => layers_bytes(rt, alloc, v, play, input),
+        NodeProgramName::Matching => play_bytes::<Matching, T>(rt, alloc, None, play, input),
+        NodeProgramName::IndependentSet => play_bytes::<IndependentSet, T>(
+            rt, alloc, None, play, input,
+        ),
+        NodeProgramName::Recolouring => play_bytes::<Recolouring, T>(rt, alloc, None, play, input),
     }
 }
