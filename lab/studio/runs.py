@@ -58,13 +58,9 @@ def played(asked, network, program, tell):
 def first_steps(asked, net, program):
     """(kind, vertex, port) of the events that steps of somebody's come to."""
     stepwise = Stepwise(net, program)
-    stepwise.follow(listed(asked.get("steps")))
+    stepwise.follow(str(asked.get("steps") or "").split("_"))
     for _, kind, v, port, _ in events_of("\n".join(stepwise.lines), "the steps"):
         yield kind, v, port
-
-
-def listed(words):
-    return [word for word in str(words or "").split("_") if word]
 
 
 def shown(found):
@@ -152,7 +148,7 @@ def steps(asked, _tell):
     if "list" in asked:
         player.follow_list(str(asked["list"]))
     else:
-        player.follow(listed(asked.get("steps")))
+        player.follow(str(asked.get("steps") or "").split("_"))
     if len(player.made) > MOST_STEPS:
         raise Wrong(f"at most {MOST_STEPS:,} steps are made by hand; No clock plays the rest")
     held = Held(None, *held_of(asked, net))

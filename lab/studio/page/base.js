@@ -46,12 +46,10 @@ export function wrong(said, key = null) {
 }
 export function busy(said, key, onCancel) {
   const box = by("busy");
-  if (!said) {
-    if (busyWith === key) { box.hidden = true; busyWith = null; }
-    return;
-  }
-  box.hidden = false;
-  busyWith = key;
+  if (!said && busyWith !== key) return;
+  box.hidden = !said;
+  busyWith = said && key;
+  if (!said) return;
   box.querySelector("span").textContent = said;
   box.querySelector("progress").removeAttribute("value");
   box.querySelector("button").onclick = () => {
@@ -59,11 +57,7 @@ export function busy(said, key, onCancel) {
     busy(null, key);
   };
 }
-export function progress(done, of) {
-  const bar = by("busy").querySelector("progress");
-  bar.max = of;
-  bar.value = done;
-}
+export function progress(done, of) { Object.assign(by("busy").querySelector("progress"), {max: of, value: done}); }
 // Does it, and says what is wrong; what takes longer than a moment is said to be under way.
 export async function tried(key, said, does) {
   const later = setTimeout(() => busy(said, key), 250);
