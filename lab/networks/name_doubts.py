@@ -25,6 +25,7 @@ JOINED = re.compile(r"([^\s:/\u2010-\u2015-][^:/\u2010-\u2015-]*?)\s?[:/\u2010-\
                     r"(\S+) (\S+)")
 # A number of the line in front, and a measure after a name, as weights with their unit are.
 IN_ORDER = re.compile(r"\d+[.:)\s-]+\S.*")
+PADDED = re.compile(r"0\d+")
 MEASURE = re.compile(r".*\S(\s+\d[\d.,]*\s?[^\W\d]{1,3}|\s*[:@(\[]\s*\d[\d.,]*\s?[^\W\d]{0,3}[)\]]?)")
 # What the last row of a table may be, other than a name, and words that begin it.
 SUMS = re.compile(r"(grand |sub)?total|sum|summe|zwischensumme|gesamt|insgesamt|count|anzahl|average|mean|mittelwert|"
@@ -66,13 +67,24 @@ def marks_of(names: set[str]) -> set[str]:
             for mark in (*WORDS.split(name)[1::2], name[-1])}
 
 
+def is_row_of(end: str, lines: dict[str, int]) -> bool:
+    """Whether a name is several others with blanks between them, each of which may have blanks."""
+    words = end.split(" ")
+    begun = {0}
+    for to in range(1, len(words) + 1):
+        if any(to - at < len(words) and " ".join(words[at:to]) in lines for at in begun):
+            begun.add(to)
+    return len(words) in begun
+
+
 def refuse_name(end: str, line: int, lines: dict[str, int], usual: set[str], name: str) -> None:
     """Refuses a name that may be several, or have a comment after it, beside the `lines` of all names; or none. Marks
     that first ends and second ones have are `usual` in names."""
     parts = list(filter(None, LIST.split(end)))
     marks, of_list = WORDS.split(end)[1::2], [part for part in WORDS.split(end)[::2] if part]
     is_list = len(of_list) > 1 and (not usual.issuperset(marks) or any(part in lines for part in of_list))
-    if "|" in end or is_list or len(parts) > 1 and (all(map(is_number, parts)) or all(part in lines for part in parts)):
+    if "|" in end or is_list or len(parts) > 1 and (
+            all(map(is_number, parts)) or all(part in lines for part in parts) or is_row_of(end, lines)):
         raise wrong_line(name, line, f"`{shown(end)}` may name more than one node: write a line for each pair{IF_NAME}")
     after = AFTER.match(end)
     if COMMENT.match(end) or after and after[1] in lines:
@@ -130,7 +142,7 @@ def has_more(names: set[str], against: set[str]) -> bool:
     marks = BETWEEN + (BRACKETS if len(names) > 2 else ())
     if any(all(mark in one[1:] for one in names) and not any(mark in one for one in against) for mark in marks):
         return True
-    for kind in (IN_ORDER, MEASURE):
+    for kind in (IN_ORDER, MEASURE, PADDED):
         if all(map(kind.fullmatch, names)) and not any(map(kind.fullmatch, against)):
             return True
     last = next(iter(names))[-1]

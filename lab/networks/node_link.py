@@ -99,10 +99,10 @@ def id_of(name: str, at: int, node):
 
 
 def read_node(found: Listed, node: dict, one: str, labels: dict) -> None:
-    """The label of a node, and its place."""
-    label = next((node[key] for key in ("label", "name") if isinstance(node.get(key), str)), None)
-    if label:
-        labels[one] = label
+    """The label of a node, a text or a whole number, and its place."""
+    label = next((node[key] for key in ("label", "name") if type(node.get(key)) in (str, int)), "")
+    if label != "":
+        labels[one] = word_of(label)
     place = node.get("x"), node.get("y")
     if all(isinstance(number, (int, float)) for number in place):
         found.places[one] = place
@@ -124,14 +124,14 @@ def refuse_other_ends(found: Listed, ids: list, links: list, labels: dict, by_ne
     if used and ids == [None] * len(ids) and "0" not in used:
         raise Wrong(f"{name}: no link names 0, the first node of the list: do they count from 1? Give each node an "
                     "`id`")
-    if used and not by_networkx and ids == list(range(1, len(ids) + 1)) and str(len(ids)) not in used:
-        raise Wrong(f"{name}: the links may name nodes by their `id` or by their places from 0, since none names "
-                    f"{len(ids)}: give the nodes other ids, as names")
     texts = {one for one in ids if isinstance(one, str)}
-    whole_ends = {end for link in links for words in ENDS for word in words if type(end := link.get(word)) is int}
-    if whole_ends and len(texts) == len(ids) and all(0 <= end < len(ids) for end in whole_ends) and any(
-            ids[end] != str(end) for end in whole_ends):
-        raise Wrong(f"{name}: the links have numbers, and the ids are texts, so they may name places from 0: write ids")
+    places = {end for link in links for words in ENDS for word in words if type(end := link.get(word)) is int}
+    names = [labels.get(str(at)) for at in range(len(ids))] if ids == [None] * len(ids) else list(map(word_of, ids))
+    are_names = len(texts) == len(ids) or {str(place) for place in places} <= set(names)
+    if places and not by_networkx and are_names and all(0 <= place < len(ids) for place in places) and any(
+            names[place] != str(place) for place in places):
+        raise Wrong(f"{name}: the links have numbers that may be nodes' names or their places from 0: give each node "
+                    "an `id` that is a name, and name it in the links")
     for link in links:
         ends = [end for words in ENDS for word in words if isinstance(end := link.get(word), str)]
         by_label = next((end for end in ends if end not in texts and end in labels.values()), None)

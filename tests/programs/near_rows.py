@@ -151,6 +151,9 @@ REFUSED = (
     "Ulm,Aue\nGera,Hof;Bonn\n", "Gera;Hof, Bonn\nUlm;K\u00f6ln\n", "Gera,Hof/Bonn\nUlm,Aue\n", "9-1 1-10\n2-3 3-4\n",
     "7:10, 6:1\n1:2, 3:4\n", "4\n5\n6 7\n4 7\n4 6\n3 2\n", "T&ouml;lz,Hof\nHof,Ulm\nHof,K&ouml;ln\n",
     '{"nodes": [{"id": 1}, {"id": 2}, {"id": 3}], "links": [{"source": 1, "target": 2}]}',
+    '{"nodes": [{"id": 2}, {"id": 0}, {"id": 1}], "links": [{"source": 0, "target": 1}]}',
+    '{"nodes": [{"name": 2}, {"name": 0}, {"name": 1}], "links": [{"source": 0, "target": 1}]}',
+    'Bad T\u00f6lz,"Ulm New York"\nUlm,Bad T\u00f6lz\nNew York,Bad T\u00f6lz\n', "8,0004\n8,0005\n1,0005\n",
     '{"nodes": [{"name": "a"}, {"name": "b"}, {"name": "c"}], "links": [{"source": 1, "target": 2}]}',
     '*Vertices 4\n1 "2"\n2 "6"\n3 "3"\n4 "4"\n*Edges\n2 3\n4 2\n6 4\n',
     "source,target\nUlm,Aue\nHof,\nBonn,Aue\n", "1 2\n2 3\n3 4\n2\n1 4\n", "origen,destino\nUlm,Aue\n")
@@ -166,6 +169,11 @@ class NearRows(Case):
         for text in REFUSED:
             found, left_out = found_in(text.encode())
             self.note(f"refused: {text!r}", found is None, (found, left_out))
+
+    def test_numbers_as_names(self):
+        """A node's name in JSON may be a number."""
+        text = b'{"nodes": [{"name": 10}, {"name": 13}, {"name": 17}], "links": [{"source": 0, "target": 2}]}'
+        self.note("numbers as names", found_in(text)[0] == ({frozenset(("10", "17"))}, {"13"}), found_in(text))
 
     def test_quotes(self):
         read = judge(self, QUOTES, TEXTS, SEED)
