@@ -3,15 +3,29 @@ commands."""
 import argparse
 import contextlib
 import os
+import re
 import stat
 import sys
 
 from lab.wrong import Wrong
 
 
+class Parser(argparse.ArgumentParser):
+    """A parser that refuses in one short line, whatever word it repeats."""
+
+    def error(self, message):
+        super().error(re.sub(r"\S{200,}", lambda word: f"{word[0][:80]}..", one_line(message)))
+
+
+def one_line(words: str) -> str:
+    """Words as they may be printed in one line: what is no letter of a line is escaped."""
+    return words if words.isprintable() else "".join(
+        letter if letter.isprintable() else letter.encode("unicode_escape").decode() for letter in words)
+
+
 def parser_of(name: str, words: str, what: str, more: str) -> argparse.ArgumentParser:
     """The parser of `forestlab NAME WORDS`, whose help begins with `what` and ends with `more`, as they stand."""
-    return argparse.ArgumentParser(prog=f"forestlab {name}", usage=f"forestlab {name} {words}", description=what,
+    return Parser(prog=f"forestlab {name}", usage=f"forestlab {name} {words}", description=what,
                                    epilog=more, formatter_class=argparse.RawDescriptionHelpFormatter)
 
 
@@ -32,7 +46,7 @@ def text_at(path: str) -> str:
 
 def called(path: str) -> str:
     """What a fault of a text calls it."""
-    return "standard input" if path == "-" else path
+    return "standard input" if path == "-" else one_line(path)
 
 
 def add_output(words) -> None:

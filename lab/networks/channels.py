@@ -7,7 +7,7 @@ import sys
 from lab.networks import sites
 from lab.networks.listed import clean
 from lab.networks.network_text import MAX_CHANNEL, shown, whole
-from lab.words import add_output, text_at, write
+from lab.words import Parser, add_output, text_at, write
 from lab.wrong import Wrong, wrong_line
 
 # Headings of the column of channels in a file, in small letters without blanks.
@@ -144,8 +144,8 @@ def numbers_for(rows: list, table: list[int] | None, given) -> dict[int, int]:
 
 
 def main(words: list[str]) -> int:
-    asked = argparse.ArgumentParser(prog="forestlab channels", usage=USAGE, description=HELP, epilog=MORE_HELP,
-                                    formatter_class=argparse.RawDescriptionHelpFormatter)
+    asked = Parser(prog="forestlab channels", usage=USAGE, description=HELP, epilog=MORE_HELP,
+                   formatter_class=argparse.RawDescriptionHelpFormatter)
     asked.add_argument("--back", action="store_true", help="from real numbers to those that count from 1")
     asked.add_argument("--run", action="store_true", help="from the channels of a run, as `forestplay run` writes them")
     asked.add_argument("table", nargs="*", metavar="TABLE", help="the real numbers, in order, or a file that has them")

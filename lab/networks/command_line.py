@@ -3,7 +3,7 @@ import argparse
 
 from lab.networks.forms import FORMS
 from lab.networks.numbering import WAYS
-from lab.words import add_output, add_seed
+from lab.words import Parser, add_output, add_seed
 
 HELP = """\
 Makes networks, reads them in other forms, and says what they are.
@@ -146,7 +146,7 @@ COMMANDS = {
 
 
 def command_line():
-    words = argparse.ArgumentParser(
+    words = Parser(
         prog="forestlab network",
         usage="forestlab network COMMAND WORDS.. [options]",
         description=HELP,

@@ -19,7 +19,7 @@ from lab.networks.plan_text import clashes, read_plan
 from lab.networks.reading import listed_of, made_of, other_form
 from lab.networks.telling import tell
 from lab.networks.texts import text_of
-from lab.words import source_of, text_at, write
+from lab.words import one_line, source_of, text_at, write
 from lab.wrong import Wrong
 
 # Kilometres: less than that no two sites are apart, and numbers of places have no such digits.
@@ -33,9 +33,9 @@ def bytes_of_file(path):
         if path == "-":
             return listed.bytes_of(sys.stdin.buffer, "-")
         with open(path, "rb") as file:
-            return listed.bytes_of(file, path)
+            return listed.bytes_of(file, one_line(path))
     except OSError as why:
-        raise Wrong(f"{path}: {why.strerror}") from None
+        raise Wrong(f"{one_line(path)}: {why.strerror}") from None
 
 
 def say(what):
@@ -93,13 +93,14 @@ def was_read(given):
     if given.file is None:
         found = Listed("sites")
     else:
-        found = listed_of(bytes_of_file(given.file), given.file, given.form, heading)
-    name = given.file or given.sites
+        found = listed_of(bytes_of_file(given.file), one_line(given.file), given.form, heading)
+    name = one_line(given.file or given.sites)
     if given.sites:
         sites.by_names(found, name)
-        sites.with_sites(found, sites.read_sites(bytes_of_file(given.sites), given.sites), given.sites, given.reach)
+        table = one_line(given.sites)
+        sites.with_sites(found, sites.read_sites(bytes_of_file(given.sites), table), table, given.reach)
     if given.bars:
-        sites.with_bars(found, bytes_of_file(given.bars), given.bars, licence)
+        sites.with_bars(found, bytes_of_file(given.bars), one_line(given.bars), licence)
     network, said, left_out = made_of(found, name)
     if given.strict and left_out:
         raise Wrong(f"{name}: refused, since --strict is asked for: {'; '.join(left_out)}")
@@ -127,6 +128,7 @@ def was_told(given):
 
 def network_told(path, is_counted):
     data = network_bytes(path) if path_of(path) != path else bytes_of_file(path)
+    path = one_line(path)
     if is_counted and sys.stderr.isatty():
         say("the payloads of a large network take some minutes to count")
     try:
@@ -145,14 +147,14 @@ def network_told(path, is_counted):
 
 
 def was_numbered(given):
-    network = read_network(network_text(given.file), given.file)
+    network = read_network(network_text(given.file), one_line(given.file))
     return text_of(renumbered(network, given.by, source_of(given.seed), given.reverse))
 
 
 def was_named(given):
     if given.file == "-":
         raise Wrong("names: standard input has the plan, so the network has to be a file")
-    network = read_network(network_text(given.file), given.file)
+    network = read_network(network_text(given.file), one_line(given.file))
     table = channels_asked(given, given.channels)
     plan = read_plan(text_at("-"), "the plan", network)
     for v, w in clashes(network, plan)[:1]:

@@ -29,7 +29,7 @@ from lab.pictures.watch_page import steps_of_text
 from lab.schedules.reading import network_of
 from lab.schedules.rules import OF_ROUNDS as RULES_OF_ROUNDS, OF_SCHEDULES
 from lab.schedules.simulate import played, text_of_rows
-from lab.words import add_output, called, text_at, write
+from lab.words import Parser, add_output, called, text_at, write
 from lab.wrong import Wrong
 
 HELP = """\
@@ -236,7 +236,7 @@ def rules_of_rounds(text):
 
 def command_line():
     """The parser, and the one of each kind."""
-    words = argparse.ArgumentParser(
+    words = Parser(
         prog="forestlab picture",
         usage="forestlab picture KIND NETWORK [options]",
         description=HELP,

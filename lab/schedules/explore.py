@@ -218,8 +218,15 @@ def whole_text(given, name, space):
             f"neighbours at most {space.farthest} pulse{'s' * (space.farthest != 1)} apart, "
             f"at most {space.most_wires} wires of a link under way",
             f"{'one end' if len(found) == 1 else f'{len(found)} ends'}: {' or '.join(dict.fromkeys(found))}",
+            *([f"all this of the draws of --lots {given.lots} alone"] if has_drawn(space) else []),
         ]
     ) + refused_words(given.without)
+
+
+def has_drawn(space):
+    """Whether a node of a file has asked for chance."""
+    programs = [own[at].program for own, at in zip(space.locals, space.states[space.ends[0]])]
+    return any("random" in vars(program.me) for program in programs if hasattr(program, "me"))
 
 
 def results_words(nodes):

@@ -14,7 +14,7 @@ from lab.studio.asked import OPENED
 from lab.studio.building import are_built
 from lab.studio.networks import shown
 from lab.studio.serving import Server
-from lab.words import called
+from lab.words import Parser, called
 from lab.wrong import Wrong
 
 PORT, NEXT_PORTS = 8321, 20
@@ -49,9 +49,9 @@ Example:
 
 
 def command_line():
-    words = argparse.ArgumentParser(prog="forestlab studio", usage="forestlab studio [NETWORK] [options]",
-                                    description=HELP, epilog=MORE_HELP,
-                                    formatter_class=argparse.RawDescriptionHelpFormatter)
+    words = Parser(prog="forestlab studio", usage="forestlab studio [NETWORK] [options]",
+                   description=HELP, epilog=MORE_HELP,
+                   formatter_class=argparse.RawDescriptionHelpFormatter)
     words.add_argument("network", metavar="NETWORK", nargs="?", help="the network to begin with")
     words.add_argument("--port", type=int, metavar="N", help=f"the port, and no other; else {PORT} or one of the next")
     words.add_argument("--no-browser", action="store_true", help="only print the address")

@@ -9,6 +9,7 @@ from typing import Iterator
 
 from lab import checksums, version
 from lab.programs import FIRST, SCRIPT, TOP, program_file
+from lab.words import Parser
 from lab.wrong import Wrong
 
 # Files and whole folders, each at the path that it has here; a folder means all files below it.
@@ -59,17 +60,19 @@ def class_files(top: str) -> Iterator[str]:
                     yield found
 
 
+# What is said in brackets besides, with a link to a page.
+BESIDE = re.compile(r"; [^();]*\[[^]]+\]\(([^)#\s]+)\)(?=\))")
 LINK = re.compile(r"(?<!!)\[([^]]+)\]\(([^)#\s]+)(?:#[^)\s]*)?\)")
 
 
 def page_for_a_class(text: str, path: str, paths: set[str]) -> str:
-    """A page without its links to what isn't copied; their words stay."""
-    def kept(link):
-        words, target = link.groups()
+    """A page without its links to what isn't copied; their words stay, but for what is in brackets beside others."""
+    def is_there(target):
         found = os.path.normpath(os.path.join(os.path.dirname(path), target))
-        is_there = ":" in target or found in paths or any(other.startswith(found + "/") for other in paths)
-        return link[0] if is_there else words
-    return LINK.sub(kept, text)
+        return ":" in target or found in paths or any(other.startswith(found + "/") for other in paths)
+
+    text = BESIDE.sub(lambda beside: beside[0] if is_there(beside[1]) else "", text)
+    return LINK.sub(lambda link: link[0] if is_there(link[2]) else link[1], text)
 
 
 def finish_class(room: str, top: str = TOP) -> None:
@@ -106,8 +109,8 @@ tar czf class.tar.gz DIR.
 
 
 def main(words: list[str]) -> int:
-    line = argparse.ArgumentParser(prog="forestlab workshop class", usage="forestlab workshop class DIR",
-                                   description=HELP, formatter_class=argparse.RawDescriptionHelpFormatter)
+    line = Parser(prog="forestlab workshop class", usage="forestlab workshop class DIR",
+                  description=HELP, formatter_class=argparse.RawDescriptionHelpFormatter)
     line.add_argument("dir", metavar="DIR", help="the folder that is made")
     folder = os.path.abspath(line.parse_args(words).dir)
     if os.path.exists(folder) and not (os.path.isdir(folder) and not os.listdir(folder)):

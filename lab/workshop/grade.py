@@ -25,6 +25,7 @@ from lab.workshop.options import count, parsed, seconds
 from lab.workshop.playing import played
 from lab.workshop.protocol import shown
 from lab.workshop.report import aligned, as_json, report
+from lab.words import Parser
 from lab.wrong import Wrong
 
 # Of each assignment how many runs are played, and the most points. For another scale change these lines.
@@ -36,6 +37,8 @@ STEMS = {"rounds": ("rounds_node", "RoundsNode"), "alpha": ("alpha_node", "Alpha
          "open": ("open_node", "OpenNode", "own_node", "OwnNode")}
 RUNNERS = {".py": "python3", ".js": "node", ".java": "java", ".pl": "perl", ".rb": "ruby"}
 SECONDS, GRACE = 600, 60
+# All second plays together take at most so many times the seconds of one part.
+AGAIN = 3
 MOST_COPIED = 16 << 20
 EDITION = 1
 
@@ -48,7 +51,8 @@ executed is run as it is. Or a file `commands` says how, in lines as `alpha: ./m
 rounds has {POINTS['rounds']} points times the share of its {RUNS['rounds']} runs that are right,
 rounded down; alpha {EACH} for each of the {len(POLICIES)} policies of which all {RUNS_EACH} runs
 are right; open {POINTS['open']} if all its {RUNS['open']} plans are right. What wasn't answered in time,
-or has no result, is played once more, alone, and that counts.
+or has no result, is played once more, alone, and the better of both counts; these
+second plays share {AGAIN} times the seconds of --seconds.
 
 A submission is played in copies of its folder, one for each node, which can write there
 alone, so that nodes don't meet.
@@ -321,6 +325,18 @@ def play_all(parts: list[Part], given: argparse.Namespace, jobs: int, room: str)
             end_all([] if not running else wait_for(running))
 
 
+def play_again(parts: list[Part], given: argparse.Namespace, room: str) -> None:
+    """Plays parts once more, one after the other: each has an equal share of the time that is left, and the better of
+    both results counts."""
+    until = time.monotonic() + AGAIN * given.seconds
+    for at, part in enumerate(parts):
+        first = part.result, part.why, part.report, part.was_ended
+        share = (until - time.monotonic()) / (len(parts) - at)
+        play_all([part], argparse.Namespace(**vars(given) | {"seconds": max(1.0, min(given.seconds, share))}), 1, room)
+        if first[0] and (not part.result or part.result["right"] < first[0]["right"]):
+            part.result, part.why, part.report, part.was_ended = first
+
+
 def wait_for(running: dict) -> list[int]:
     """Gives processes a moment to end their programs."""
     until = time.monotonic() + 3
@@ -394,10 +410,10 @@ def remove(room: str) -> None:
 
 
 def command_line() -> argparse.ArgumentParser:
-    words = argparse.ArgumentParser(prog="forestlab workshop grade",
-                                    usage="forestlab workshop grade FOLDER [options] [-- WORDS ..]",
-                                    description=HELP, epilog=MORE_HELP,
-                                    formatter_class=argparse.RawDescriptionHelpFormatter)
+    words = Parser(prog="forestlab workshop grade",
+                   usage="forestlab workshop grade FOLDER [options] [-- WORDS ..]",
+                   description=HELP, epilog=MORE_HELP,
+                   formatter_class=argparse.RawDescriptionHelpFormatter)
     words.add_argument("folder", metavar="FOLDER", help="has a folder for each student")
     words.add_argument("--seed", metavar="S", help="of the runs; without it one by chance, which is printed")
     words.add_argument("--runs", type=count, metavar="N", help="of each assignment, to try it; default: as above")
@@ -435,10 +451,10 @@ def main(words: list[str]) -> int:
         play_all([part for part in parts if part.command], given, given.jobs, room)
         again = [part for part in parts if part.is_in_doubt()]
         if again:
-            most = f"{len(again) * given.seconds / 60:.0f}"
+            most = f"{min(len(again), AGAIN) * given.seconds / 60:.0f}"
             print(f"grade: {len(again)} of {len(parts)} are played once more, alone: {most} minutes at most",
                   file=sys.stderr, flush=True)
-        play_all(again, given, 1, room)
+        play_again(again, given, room)
         print(json.dumps(as_one(parts, given.seed)) if given.json else
               "\n".join([*table(parts), "", f"seed {given.seed}"]), flush=True)
         if given.reports:

@@ -5,7 +5,7 @@ from lab.schedules.policies import POLICIES
 from lab.transcripts.fields import PAYLOADS
 from lab.workshop.cases import NETWORKS
 from lab.workshop.protocol import COLOURING, program_of
-from lab.words import add_seed
+from lab.words import Parser, add_seed
 from lab.wrong import Wrong
 
 HELP = """\
@@ -43,7 +43,7 @@ Examples:
 
 
 def command_line() -> argparse.ArgumentParser:
-    words = argparse.ArgumentParser(
+    words = Parser(
         prog="forestlab workshop",
         usage="forestlab workshop {rounds,alpha,open} [NETWORK ..] [options] -- COMMAND .. [-- COMMAND ..]",
         description=HELP, epilog=MORE_HELP, formatter_class=argparse.RawDescriptionHelpFormatter)

@@ -115,7 +115,7 @@ class Player:
                 case.finding = finding
         return cases
 
-    def shrunk(self, case: Case) -> Case:
+    def shrunk(self, case: Case, progress: Callable[[int], None]) -> Case:
         """A smaller case that is wrong in the same way, as long as one is found, and as few runs allow. What took all
         the time that it may take isn't tried again."""
         left = MOST_SHRINKS * (case.finding.kind not in ("silent", "late"))
@@ -123,6 +123,7 @@ class Player:
             found = None
             for network, vertices in smaller(case.network):
                 left -= 1
+                progress(MOST_SHRINKS - left)
                 other = Case(case.number, network, case.policy, case.seed, [case.owners[v - 1] for v in vertices])
                 if not self.play(other) and other.finding.is_like(case.finding):
                     found = other
@@ -135,7 +136,8 @@ class Player:
 
 
 def played(options: Namespace, guard: Guard, over: float = float("inf"),
-           progress: Callable[[int, int], None] = lambda *_: None) -> tuple[list[Case], Case | None, float]:
+           progress: Callable[[int, int], None] = lambda *_: None,
+           smaller_ones: Callable[[int], None] = lambda _: None) -> tuple[list[Case], Case | None, float]:
     """What the options of the command line ask for: all cases, the smallest that is wrong, and the seconds it took."""
     start = time.monotonic()
     player = Player(options.assignment, options.commands, options.timeout, options.memory, options.one_process,
@@ -144,5 +146,5 @@ def played(options: Namespace, guard: Guard, over: float = float("inf"),
     cases = player.play_all(cases, options.first, progress)
     shown = min((case for case in cases if case.finding), key=Case.size, default=None)
     if shown and len(cases) > 1:
-        shown = player.shrunk(shown)
+        shown = player.shrunk(shown, smaller_ones)
     return cases, shown, time.monotonic() - start

@@ -25,6 +25,11 @@ class Progress:
             self.said = time.monotonic()
             print(f"workshop: run {count} of {of}", file=self.stream, flush=True)
 
+    def smaller(self, count: int) -> None:
+        if time.monotonic() - self.said > PROGRESS_SECONDS:
+            self.said = time.monotonic()
+            print(f"workshop: looking for a smaller case that is wrong, {count} tried", file=self.stream, flush=True)
+
 
 def table(cases: list[Case]) -> list[str]:
     """Right runs of all, by policy and network."""

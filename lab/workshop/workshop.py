@@ -43,7 +43,9 @@ def failed(why, status: int) -> int:
 
 
 def run(options) -> int:
-    cases, shown, seconds = played(options, Guard(is_open=options.no_guard), progress=Progress())
+    progress = Progress()
+    cases, shown, seconds = played(options, Guard(is_open=options.no_guard), progress=progress,
+                                   smaller_ones=progress.smaller)
     if options.keep:
         keep(shown or cases[-1], options.keep)
     write(json.dumps(as_json(options, cases, shown, seconds)) if options.json else

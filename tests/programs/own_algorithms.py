@@ -211,6 +211,8 @@ class OwnAlgorithms(Case):
         first, again, other = self.told(draws), self.told(draws), self.told(draws, "--lots", "other")
         good = first == again and first[0] == other[0] == 0 and first[1] != other[1] and "one end" in other[1]
         self.note("me.random", good, (first, again, other))
+        says = [f"of the draws of --lots {seed} alone\n" in text[1] for seed, text in (("1", first), ("other", other))]
+        self.note("whose draws", says == [True, True] and "draws" not in self.told(FLOOD)[1], (first, other))
         for name, text, where in (
             ("chance", "import random\n" + draws.replace("me.random", "random"), "`greet` at pulse 0 of the node of "),
             ("a variable", SHARED, "`next` at pulse 1 of the node of identifier 1 "),

@@ -393,6 +393,10 @@ class OwnNetworks(Case):
             status, text, fault = call(*words.split())
             self.note(f"refused words: {words}",
                       (status, text) == (2, b"") and re.search(rb"^forestlab network[^\n]*: error: ", fault, re.M), fault)
+        for words in (("path", "9" * 100_000), ("read", "x", "--as", "x" * 100_000), ("path", "3", "a\nb" * 20_000)):
+            status, text, fault = call(*words)
+            good = (status, text) == (2, b"") and len(fault) < 1000 and fault.count(b"error: ") == 1
+            self.note(f"a long word: {words[0]}", good and fault.rsplit(b"error: ")[1].count(b"\n") == 1, fault[:300])
         status, told, fault = by_script("--help")
         commands = re.findall(r"^  ([a-z]+) [A-Z]+", told.decode().split("positional")[0], re.M)
         self.note("help", (status, fault, len(commands)) == (0, b"", 13), commands)

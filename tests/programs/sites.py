@@ -184,6 +184,9 @@ class Sites(Case):
                       ["--channels", "x", sites], ["-", "--sites", "-"], ["-", "--channels", "6 6"]):
             status, wrote, told = call("read", *words)
             self.note(f"refused words: {words}", (status, wrote) == (2, b"") and b"error: " in told, (status, told))
+        odd = self.file("a\nb.csv", "Ulm,NA\n")
+        self.refused("a name of two lines", "a\\nb.csv line 1: `NA` may mean", odd)
+        self.refused("no file of two lines", "n\\no: No such file", "n\no")
         self.note("no such table", call("read", "-", "--sites", "/nowhere.csv", data=b"1 2\n")[0] == 1)
 
 

@@ -1,5 +1,6 @@
 """Grading: a folder of right and wrong submissions gets the table that is worked by hand, and those that attack get
 nothing."""
+import argparse
 import contextlib
 import io
 import json
@@ -144,6 +145,20 @@ class Grades(unittest.TestCase):
         self.assertFalse(part.is_in_doubt())
         part.was_ended = True
         self.assertTrue(part.is_in_doubt())
+
+    def test_second_plays(self):
+        """They share a time, whatever their number, and the better of both results counts."""
+        parts = [grade.Part(f"s{at}", "", "rounds", ["x"], result={"right": 5}) for at in range(9)]
+        given, seen = argparse.Namespace(seconds=600.0), []
+
+        def play(some, limits, jobs, room):
+            seen.append(limits.seconds)
+            some[0].result, some[0].why = ({"right": 9}, "") if some[0].student == "s1" else (None, "over")
+        with mock.patch.object(grade, "play_all", play):
+            grade.play_again(parts, given, "room")
+        self.assertTrue(all(199 < seconds <= 600 for seconds in seen), seen)
+        self.assertLess(max(seen[:1]), 201)
+        self.assertEqual([part.result["right"] for part in parts], [5, 9] + [5] * 7)
 
     def test_strange_folders(self):
         """What is no file is no program, and a name that is no text, or is too long for a report, is its student's

@@ -117,7 +117,8 @@ class ClassFolder(unittest.TestCase):
         paths = {"docs/learn/A.md", "docs/learn/B.md", "docs/pictures/c.svg"}
         for text, right in (("[B](B.md#part)", "[B](B.md#part)"), ("[the c](../pictures/c.svg)",) * 2,
                             ("[all](../pictures)",) * 2, ("[x](https://x.org/a)",) * 2, ("[part](#part)",) * 2,
-                            ("![C](../pictures/d.svg)",) * 2, ("see [D](../claim/D.md#part).", "see D.")):
+                            ("![C](../pictures/d.svg)",) * 2, ("see [D](../claim/D.md#part).", "see D."),
+                            ("(run it; as\ncode: [D](D.md))", "(run it)"), ("(run it; as [B](B.md))",) * 2):
             with self.subTest(text):
                 self.assertEqual(class_files.page_for_a_class(text, "docs/learn/A.md", paths), right)
 

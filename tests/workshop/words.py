@@ -1,10 +1,13 @@
 """What the workshop says, against numbers that are worked by hand."""
+import io
 import unittest
+from unittest import mock
 
 from lab.networks.network_text import Network
 from lab.transcripts.rules import rule_of, rules_of_dues
 from lab.workshop.judge import Entry
 from lab.workshop.processes import last_errors
+from lab.workshop.report import PROGRESS_SECONDS, Progress
 from lab.workshop.right_rounds import RightRounds
 from lab.workshop.why_alpha import At, early
 from lab.workshop.why_rounds import Why
@@ -219,3 +222,18 @@ class LastErrors(unittest.TestCase):
         ):
             with self.subTest(text[:20]):
                 self.assertEqual(last_errors(text.encode()), words)
+
+
+class Smaller(unittest.TestCase):
+    def test_a_smaller_case_is_looked_for(self):
+        """It is said every ten seconds."""
+        stream = io.StringIO()
+        with mock.patch("time.monotonic") as now:
+            now.return_value = 0
+            progress = Progress(stream)
+            for count in range(1, 23):
+                now.return_value = count
+                progress.smaller(count)
+        self.assertEqual(PROGRESS_SECONDS, 10)
+        self.assertEqual(stream.getvalue(), "".join(
+            f"workshop: looking for a smaller case that is wrong, {count} tried\n" for count in (11, 22)))
