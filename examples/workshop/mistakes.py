@@ -177,8 +177,48 @@ LAYERS = {
         "        self.layer = inbox[min(inbox)][1] + 1"),
 }
 
-FILES = {"colouring.py": COLOURING, "alpha_node.py": ALPHA, "layers.py": LAYERS}
-MISTAKES = COLOURING | ALPHA | LAYERS
+# Of the programs that go on after the colouring: for a node of either kind.
+MATCHING = {
+    "matching_again": Mistake(
+        "a node that has a partner takes a child, too",
+        "if self.partner is not None or self.colours", "if self.colours"),
+    "matching_all": Mistake(
+        "it says to all parents that it is free, and not to that in this forest alone",
+        "self.up.items() if up == forest}", "self.up.items()}"),
+    "matching_turn": Mistake(
+        "it takes a child in the turn of any colour",
+        "if self.partner is not None or self.colours[forest] != colour or not inbox:",
+        "if self.partner is not None or not inbox:"),
+    "matching_untold": Mistake(
+        "it doesn't tell the child that it takes it", 'return {self.partner: ("take", forest)}', "return {}"),
+}
+INDEPENDENT_SET = {
+    "set_beside": Mistake(
+        "a node joins though a neighbour has",
+        "if p - self.start != self.merged or self.is_beside:", "if p - self.start != self.merged:"),
+    "set_forgets": Mistake(
+        "it forgets that a neighbour has joined", "self.is_beside or bool(inbox)", "bool(inbox)"),
+    "set_channel": Mistake(
+        "it joins in the turn of its channel, and not of its colour",
+        "if p - self.start != self.merged or", "if p - self.start != self.merged + 1 or"),
+}
+RECOLOURING = {
+    "anew_least": Mistake(
+        "the least channel chooses first",
+        "if p - self.start != self.width - 1 - self.merged:", "if p - self.start != self.merged:"),
+    "anew_bars": Mistake(
+        "barred channels are forgotten in the second choice",
+        "self.anew = self.least_free(self.heard)", "self.anew = min(set(range(self.width)) - self.heard)"),
+    "anew_last": Mistake(
+        "only what came last counts", "self.heard |= {colour", "self.heard = {colour"),
+    "anew_old": Mistake(
+        "it sends its old colour", 'return {port: ("anew", self.anew)', 'return {port: ("anew", self.merged)'),
+}
+SEQUELS = MATCHING | INDEPENDENT_SET | RECOLOURING
+
+FILES = {"colouring.py": COLOURING, "alpha_node.py": ALPHA, "layers.py": LAYERS, "matching.py": MATCHING,
+         "independent_set.py": INDEPENDENT_SET, "recolouring.py": RECOLOURING}
+MISTAKES = COLOURING | ALPHA | LAYERS | SEQUELS
 
 
 def write(folder, names=MISTAKES):

@@ -1,10 +1,12 @@
 """The fields of an entry of a transcript, and which of them is wrong if a line isn't one."""
 import functools
 
-# The words of the payloads of each proved program, and the bound of each one's number. Another program's payloads have
-# any word of small letters.
-PAYLOADS = {"colouring": {b"hello": 2**128, b"label": 2**16, b"colour": 2**128, b"chosen": 2**16},
-            "leader": {b"leader": 2**128}, "layers": {b"hops": 2**32}}
+# The words of the payloads of each proved program, and the bound of each one's number; those that go on after the
+# colouring have its words, too. Another program's payloads have any word of small letters.
+OF_COLOURING = {b"hello": 2**128, b"label": 2**16, b"colour": 2**128, b"chosen": 2**16}
+PAYLOADS = {"colouring": OF_COLOURING, "leader": {b"leader": 2**128}, "layers": {b"hops": 2**32},
+            "matching": OF_COLOURING | {b"free": 2**16, b"take": 2**16},
+            "independent-set": OF_COLOURING | {b"joined": 2**16}, "recolouring": OF_COLOURING | {b"anew": 2**16}}
 KINDS = (b"pulse", b"put", b"take")
 COLOURING = "colouring"
 WIRES = {b"payload": 4, b"ack": 2, b"safe": 2, b"close": 1}
@@ -88,8 +90,9 @@ def why_no_wire(fields, program):
 
 def forgotten(word, program):
     """Whose payload this may be in place of the program's."""
-    others = [name for name, words in PAYLOADS.items() if word in words and name != program]
-    return "".join(f"; --program {name} has it: is that option forgotten?" for name in others)
+    *others, last = [name for name, words in PAYLOADS.items() if word in words and name != program] or [None]
+    names = f"{', '.join(others)} or {last}" if others else last
+    return f"; --program {names} has it: is that option forgotten?" if last else ""
 
 
 def payloads_words(program):

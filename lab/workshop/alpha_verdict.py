@@ -5,8 +5,8 @@ from lab.workshop.alpha_run import OWN_DATA, AlphaRun
 from lab.workshop.findings import Finding
 from lab.workshop.judge import Entry, Verdict, verdict_on
 from lab.workshop.protocol import FORMS
+from lab.workshop.reasons import why_of
 from lab.workshop.why_alpha import At, at_node, hints, right_words, with_port
-from lab.workshop.why_rounds import why_of
 
 MOST_STUCK, MOST_WAITING = 4, 6
 

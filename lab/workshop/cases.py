@@ -16,6 +16,8 @@ from lab.wrong import Wrong
 # Each mistake of the colouring that can be caught shows on most4 or rest3, and each of the synchroniser on alone4.
 NETWORKS = "path1,two,path3,triangle,rest3,alone4,most4,star4,ring5,complete4,random6,drops"
 EXAMPLES = [os.path.join(TOP, "examples", "workshop"), os.path.join(TOP, "examples")]
+# The programs whose nodes heed bars.
+WITH_BARS = (COLOURING, "independent-set", "recolouring")
 KINDS = {"path": kinds.path, "ring": kinds.ring, "star": kinds.star, "complete": kinds.complete}
 
 
@@ -96,8 +98,8 @@ def random_network(name: str, nodes: int, chance: Chance) -> Network:
 
 
 def varied(network: Network, chance: Chance, program: str) -> Network:
-    """The same edges with other identifiers; for the colouring also sometimes with other bars, and for the layers with
-    identifier 1, their root, at one node in most networks."""
+    """The same edges with other identifiers; for programs that heed bars also sometimes with other bars, and for the
+    layers with identifier 1, their root, at one node in most networks."""
     vertices, how = list(network.vertices), chance.one_of(["own", "mixed", "sparse", "long"])
     names = {"own": lambda: [network.identifiers[v] for v in vertices],
              "mixed": lambda: chance.some_of(vertices, len(vertices)),
@@ -106,7 +108,7 @@ def varied(network: Network, chance: Chance, program: str) -> Network:
     if program == "layers" and 1 not in names and chance.happens(0.8):
         names[chance.below(len(names))] = 1
     bars = network.bars
-    if program == COLOURING and network.degree and chance.happens(0.4):
+    if program in WITH_BARS and network.degree and chance.happens(0.4):
         channels = range(1, network.degree + 2)
         bars = {v: chance.some_of(channels, 1 + chance.below(2)) for v in vertices if chance.happens(0.3)}
     return Network(network.name, network.nodes, network.edges, {}, {}, dict(zip(vertices, names)), bars)

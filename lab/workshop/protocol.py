@@ -11,7 +11,11 @@ EDITION = 1
 COLOURING = "colouring"
 # Of each program the lines in which a node says what it has found.
 FORMS = {COLOURING: ["`channel C`"], "leader": ["`leader IDENTIFIER`"],
-         "layers": ["`layer N by PORT`", "`layer 0`", "`layer none`"]}
+         "layers": ["`layer N by PORT`", "`layer 0`", "`layer none`"],
+         "matching": ["`partner PORT`", "`partner none`"], "independent-set": ["`in`", "`out`"],
+         "recolouring": ["`channel C`"]}
+# Those that go on after the colouring, by forests and colours.
+SEQUELS = ("matching", "independent-set", "recolouring")
 WIRES = "`payload P WORD NUMBER`, `ack P`, `safe P` and `close`"
 PULSES = 1 << 32
 MOST_BYTES = 1 << 20
@@ -22,7 +26,8 @@ END = re.compile(rb"(?m)^[ \t\r]*end[ \t\r]*\n")
 
 def own_data(network: Network, v: int, assignment: str,
              forests: int | None = None, last: int | None = None) -> list[str]:
-    """The lines before `end`. `forests` belongs to the colouring alone, and `last` is left out for an own algorithm."""
+    """The lines before `end`. `forests` belongs to the colouring and to what goes on after it, and `last` is left out
+    for an own algorithm."""
     barred = network.barred(v)
     lines = [f"workshop {EDITION} {assignment}", f"identifier {network.identifiers[v]}",
              f"degree {len(network.neighbours[v])}", f"nodes {network.nodes}", f"delta {network.degree}",
@@ -83,13 +88,13 @@ def program_of(name: str) -> str:
 def result_of(program: str, fields: list[str]) -> str | None:
     """The words of a result, without zeros before its numbers; None if the fields are none of the program."""
     match program, fields:
-        case ("colouring", ["channel", number]) | ("leader", ["leader", number]) | ("layers", ["layer", number]) \
-                if is_number(number):
+        case ("colouring" | "recolouring", ["channel", number]) | ("leader", ["leader", number]) \
+                | ("layers", ["layer", number]) | ("matching", ["partner", number]) if is_number(number):
             return f"{fields[0]} {int(number)}"
         case "layers", ["layer", number, "by", port] if is_number(number) and is_number(port):
             return f"layer {int(number)} by {int(port)}"
-        case "layers", ["layer", "none"]:
-            return "layer none"
+        case ("layers", ["layer", "none"]) | ("matching", ["partner", "none"]) | ("independent-set", ["in"] | ["out"]):
+            return " ".join(fields)
     return None
 
 

@@ -4,22 +4,27 @@ from lab.networks.network_text import Network
 from lab.networks.texts import plain_text
 from lab.workshop.findings import NoVerdict
 from lab.workshop.judge import ask
-from lab.workshop.protocol import COLOURING
+from lab.workshop.protocol import COLOURING, SEQUELS
+
+
+def forests_of(network: Network) -> int:
+    """U, the greatest number of neighbours of one node that have a higher identifier."""
+    names = network.identifiers
+    return max((sum(names[w] > names[v] for w in network.neighbours[v]) for v in network.vertices), default=0)
 
 
 class RightRounds:
     """Of each pulse p: `phase[p]`, its words, which the colouring alone has; `puts[p][v][w]`, the word and number that
     v sends to w; `heard[p][v]`, v's inbox by port; `colours[p][v]`, v's colour in each forest after it, and
     `chose[p][v]`, where there are any. `results[v]` is what v has found, in words, `ports[v][w]` v's port to w.
-    `forests` is None if the program isn't the colouring. A whole run without a clock has `events` entries."""
+    `forests` is None if the program doesn't use them. A whole run without a clock has `events` entries."""
 
     def __init__(self, network: Network, program: str = COLOURING):
         self.network, self.program = network, program
         self.ports = {v: {w: port for port, w in enumerate(network.neighbours[v])} for v in network.vertices}
         self.phase, self.puts, self.colours, self.chose, self.results = [], [], [], [], {}
         head, *lines = self.asked("forestplay", "rounds", program).splitlines()
-        forests, last = map(int, head.split()[-2:])
-        self.forests, self.last = forests if program == COLOURING else None, last
+        self.forests, self.last = forests_of(network) if program in (COLOURING, *SEQUELS) else None, int(head.split()[-1])
         for line in lines:
             self.read(line.split(" "))
         self.heard = self.inboxes()

@@ -5,8 +5,9 @@ from typing import Callable
 from lab.workshop.findings import Fault, Finding, listed
 from lab.workshop.nodes import Nodes
 from lab.workshop.protocol import COLOURING, FORMS, is_number, no_such_line, own_data, port_of, result_of, shown
+from lab.workshop.reasons import After, Rule, why_of
 from lab.workshop.right_rounds import RightRounds
-from lab.workshop.why_rounds import Rule, Why, why_of
+from lab.workshop.why_rounds import Why
 
 PUT, COLOURS = "`put PORT WORD NUMBER`", ["`colour FOREST COLOUR`", "`chose COLOUR`"]
 PATIENCE = 1.0              # seconds that programs have to end at the end of their input
@@ -97,7 +98,7 @@ class RoundsRun:
         return "; ".join(said[:MOST_NAMED]) + "; .." * (len(said) > MOST_NAMED) if said else \
             "nothing is sent in this pulse"
 
-    def difference(self, p: int, v: int, said: Said) -> tuple[str, str, Callable[[Why | Rule], str]] | None:
+    def difference(self, p: int, v: int, said: Said) -> tuple[str, str, Callable[[Why | Rule | After], str]] | None:
         """(what it said, what is right, why), the last as a question."""
         for forest, colour in enumerate(self.rounds.colours[p].get(v, [])):
             if said.colours.get(forest, colour) != colour:

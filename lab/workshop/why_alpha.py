@@ -5,8 +5,8 @@ from dataclasses import dataclass
 from lab.transcripts.rules import Standing
 from lab.workshop.findings import listed
 from lab.workshop.judge import Entry, due_at
+from lab.workshop.reasons import why_of
 from lab.workshop.right_rounds import RightRounds
-from lab.workshop.why_rounds import why_of
 
 SO_FAR = 8
 MOST_EARLY, MOST_PULSES = 3, 8

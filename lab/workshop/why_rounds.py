@@ -1,42 +1,10 @@
-"""Why a node has to do something in a pulse: of the colouring the definition of the pulse's phase, with this node's
-numbers; every number is from the text of `forestplay rounds`, or the node knows it. Of another program a rule."""
+"""Why a node of the colouring has to do something in a pulse: the definition of the pulse's phase, with this node's
+numbers; every number is from the text of `forestplay rounds`, or the node knows it."""
 from lab.workshop.findings import listed
-from lab.workshop.protocol import COLOURING
 from lab.workshop.right_rounds import RightRounds
 
 DROPPED = {8: 5, 10: 4, 12: 3}
 SHORT = 1 << 16             # numbers below it are shown in binary digits too
-
-
-# Of each other program, why a node sends what it sends, and why it finds what it finds.
-SENT = {
-    "leader": "a node sends its own identifier in pulse 0, and later an identifier that is greater than all that it "
-              "knew, as soon as it has heard it",
-    "layers": "a node sends `hops N` by each port as soon as it knows that it is in layer N, the node of identifier 1 "
-              "in pulse 0, and nothing in any other pulse",
-}
-FOUND = {
-    "leader": "the leader is the greatest identifier that a node knows, its own or one that came",
-    "layers": "the node of identifier 1 is in layer 0, any other in layer N + 1 where N is the number of the first "
-              "`hops N` that comes, by the least port by which it comes; if none comes, in none",
-}
-
-
-class Rule:
-    """The same sentences of each node."""
-
-    def __init__(self, program: str):
-        self.program = program
-
-    def of_port(self, _p: int, _w: int) -> str:
-        return SENT[self.program]
-
-    def of_result(self) -> str:
-        return FOUND[self.program]
-
-
-def why_of(rounds: RightRounds, v: int) -> "Why | Rule":
-    return Why(rounds, v) if rounds.program == COLOURING else Rule(rounds.program)
 
 
 class Why:

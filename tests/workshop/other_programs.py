@@ -208,7 +208,8 @@ class OtherPrograms(unittest.TestCase):
             (["rounds", "two", "--program", "my.py", "--", "x"],
              "workshop: my.py: no program of your own is taken here, since no proved program judges it\n"),
             (["alpha", "two", "--program", "layer", "--", "x"],
-             "workshop: there is no program layer, which are colouring, leader, layers\n"),
+             "workshop: there is no program layer, which are colouring, leader, layers, matching, independent-set, "
+             "recolouring\n"),
             (["open", "two", "--program", "layers", "--", "x"], "forestlab workshop: error: --program is of rounds and alpha\n"),
         ):
             with self.subTest(words[:4]):
