@@ -11,9 +11,9 @@ from lab.definitions.own_program import own_program
 from lab.definitions.recolouring import Recolouring
 from lab.wrong import Wrong
 
-# Those that `forestplay` runs, and those that are drawn and explored from their definitions alone.
-PLAYED = (Colouring, Leader, Layers)
-PROGRAMS = {program.name: program for program in (*PLAYED, Matching, IndependentSet, Recolouring)}
+# Those that `forestplay` runs, and all. One that is in the second list alone is drawn and explored by its definition.
+PLAYED = (Colouring, Leader, Layers, Matching, IndependentSet, Recolouring)
+PROGRAMS = {program.name: program for program in (*PLAYED,)}
 # Those whose nodes don't look at their bars; a file may.
 WITHOUT_BARS = (Leader, Layers, Matching)
 HELP = f"what the nodes run: {', '.join(PROGRAMS)}, or a file of your own, as NAME.py; default: colouring"

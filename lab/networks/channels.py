@@ -43,7 +43,7 @@ command line is refused.
 Examples:
   forestplan plain < net.col | forestlab channels 1 6 11
   (cat net.col; forestlab channels --back 1 6 11 < real.plan) | forestplan check
-  forestplay run < net.col | forestlab channels --run 1 6 11
+  forestplay run --program recolouring < net.col | forestlab channels --run
 """
 
 

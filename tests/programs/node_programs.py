@@ -26,6 +26,17 @@ ENDS = [
     ("leader", APART, 3, ["leader 9", "leader 3", "leader 3"], {1: "elected", 3: "elected"}),
     ("layers", ROW, 2, ["layer 0", "layer 1 by 0", "layer 2 by 0"], {2: "to 1", 3: "to 2"}),
     ("layers", APART, 2, ["layer none"] * 3, {}),
+    # Of an edge node 2 is the parent, in whose turn it takes node 1. 19 is 13 + 6 U, and 20 is R + D + B + 1.
+    ("matching", EDGE, 19, ["partner 0", "partner 0"], {1: "to 2", 2: "to 1"}),
+    ("independent-set", EDGE, 20, ["in", "out"], {}),
+    ("recolouring", EDGE, 20, ["channel 2", "channel 1"], {}),
+    # Node 1 of a row is left over, and its neighbour isn't.
+    ("matching", ROW, 19, ["partner none", "partner 1", "partner 0"], {2: "to 3", 3: "to 2"}),
+    ("independent-set", ROW, 24, ["in", "out", "in"], {}),
+    ("recolouring", ROW, 24, ["channel 2", "channel 1", "channel 2"], {}),
+    # Channel 1 is barred at node 1 of an edge: the plan is 2 1, and nobody can lower its channel.
+    ("recolouring", EDGE + "b 1 1|", 24, ["channel 2", "channel 1"], {}),
+    ("matching", "p edge 0 0|", 13, [], {}),
     ("leader", "p edge 0 0|", 0, [], {}),
     ("layers", "p edge 0 0|", 0, [], {}),
     # A node alone has no pulse to make before it knows its layer.
@@ -66,6 +77,10 @@ ROUNDS = [
      "2 put 3 payload 1 hops 1|pulse 2|3 put 2 payload 2 hops 2|pulse 3|"
      "1 layer 0|2 layer 1 by 0|3 layer 2 by 0|4 layer none|"),
 ]
+# A node alone hears and sends nothing: 13 is 13 + 6 U of the matching, and R + D + B + 1 of the others.
+ROUNDS += [(program, "p edge 1 0|",
+            f"rounds 3 {program} 1 0 13|" + "".join(f"pulse {p}|" for p in range(14)) + f"1 {result}|")
+           for program, result in (("matching", "partner none"), ("independent-set", "in"), ("recolouring", "channel 1"))]
 FIRST, FIRST_STAMPED = "transcript 1 2|1 put 2 payload 0 ", "transcript 2 2|"
 NAMED = "transcript 3 leader 2||1 1 put 2 payload 0 "
 # Entries of a transcript of an edge, and what is said of them: words of another program, and numbers out of range.
@@ -98,6 +113,10 @@ REFUSED = [
     ("independent-set", FIRST + f"joined {2**16}|", "X1 line 4"),
     ("leader", "transcript 3 Leader 2|", "X1 line 3"), ("leader", "transcript 3 lead\x1ber 2|", "X1 line 3"),
     ("leader", "transcript 4 leader 2|", "X1 line 3"),
+    ("matching", FIRST + "hops 0|", "X1 line 4"), ("recolouring", FIRST + "anew|", "X1 line 4"),
+    ("independent-set", FIRST + "hello 2|", "WrongWire line 4: expected payload 0 hello 1"),
+    ("recolouring", "transcript 3 independent-set 2|", "WrongProgram line 3: independent-set"),
+    ("independent-set", "transcript 3 independentset 2|", "WrongProgram line 3: independentset"),
 ]
 STOPPED = b"forestplay: stopped\n"
 UNKNOWN = "error: invalid value '{}' for '--program <NAME>'|" \
@@ -142,6 +161,21 @@ class Programs(Case):
                 self.judged(f"{program} replayed as {other}", again, other == program, by_name)
                 again = run_program(PLAY, ["replay", "--program", other], text(EDGE) + unnamed)
                 self.judged(f"{program} without its name as {other}", again, other == program, "X1 line 4")
+
+    def test_transcripts_of_sequels(self):
+        """The same of those that begin with the colouring's payloads: without its name such a text is refused where the
+        first word of the sequel is, or where the colouring ends."""
+        sequels = ("matching", "independent-set", "recolouring")
+        for program in sequels:
+            done = play(["run", "--program", program, "--transcript", "--workers", "1"], EDGE)
+            begins = text(f"transcript 3 {program} 2|1 1 put 2 payload 0 hello 1|")
+            self.note(f"transcript of {program}", done.returncode == 0 and done.stdout.startswith(begins), done)
+            unnamed = text(FIRST_STAMPED) + done.stdout.split(b"\n", 1)[1]
+            for other in ("colouring", "leader", *sequels):
+                again = run_program(PLAY, ["replay", "--program", other], text(EDGE) + done.stdout)
+                self.judged(f"{program} replayed as {other}", again, other == program, f"WrongProgram line 3: {program}")
+                again = run_program(PLAY, ["replay", "--program", other], text(EDGE) + unnamed)
+                self.note(f"{program} without its name as {other}", again.returncode == (other != program), again)
 
     def judged(self, what, done, good, fault):
         wanted = (0, b"") if good else (1, text(f"forestplay: {fault}|"))
