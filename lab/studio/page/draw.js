@@ -40,7 +40,8 @@ export function askPlan() {
   timer = setTimeout(() => asks("plan", {network: text()}, "looking for the plan", plan => {
     Object.assign(drawn, {plan, fresh: true});
     by("plan").classList.remove("old");
-    if (seen.tab === "draw") { facts(); if (!by("chosen").contains(document.activeElement)) inspect(); show(); }
+    const on = document.activeElement, isTyped = by("chosen").contains(on) && on.value !== on.defaultValue;
+    if (seen.tab === "draw") { facts(); if (!isTyped) inspect(); show(); }
   }), 40);
 }
 
@@ -56,8 +57,7 @@ export function inspect() {
   const node = net.nodes[v - 1], box = html("div", null, {class: "grid"}), fields = box.getElementsByTagName("input");
   const on = Array.from(place.querySelectorAll("input")).indexOf(document.activeElement);
   const field = (said, value, use, more = {}, parse = text_ => text_, refusal = "") => {
-    const label = html("label", said), input = html("input", null, {type: "text", ...more});
-    input.value = value;
+    const label = html("label", said), input = html("input", null, {type: "text", value, ...more});
     // After the focus has gone on: what has it then gets it again.
     input.onchange = () => setTimeout(() => {
       const given = parse(input.value.trim());

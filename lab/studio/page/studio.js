@@ -25,7 +25,7 @@ hooks.show = () => {
   if (!isThere) { stage.draw({node: (v, x, y, r) => blank(x, y, r)}); say("when", ""); }
   ["back", "play", "next", "slider"].forEach(id => { by(id).disabled = !isThere; });
   by("empty").hidden = net.nodes.length > 0;
-  say("hint", (isReplaced ? "Undo (Ctrl-Z, or in Draw) brings your drawing back. " : "") + tab.hint());
+  say("hint", isReplaced ? "Undo (Ctrl-Z, or in Draw) brings your drawing back." : tab.hint());
   say("name", [net.name, seen.program].filter(one => one && one !== "colouring").map(one => "· " + one).join(" "));
   hooks.link();
 };
