@@ -104,7 +104,7 @@ class Roots(Case):
     def test_words(self):
         """Only the layers take a root, and it is a number from 1 to 20,000."""
         for command in ("events", "replay", "rounds", "run"):
-            for program in ("colouring", "leader"):
+            for program in ("colouring", "leader", "matching", "independent-set", "recolouring"):
                 done = play([command, "--root", "1", "--program", program], EDGE)
                 self.expect(f"{command} of {program}", done, 2, b"", text(NO_ROOT.format(program)))
             done = play([command, "--root=2"], EDGE)
