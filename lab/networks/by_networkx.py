@@ -9,7 +9,7 @@ import warnings
 from xml.etree import ElementTree
 
 from lab.networks.fields import is_number, refuse_zero, shown, whole
-from lab.networks.listed import Listed
+from lab.networks.listed import Listed, refuse_flags
 from lab.networks.network_text import MAX_NODES
 from lab.wrong import Wrong
 
@@ -17,6 +17,8 @@ from lab.wrong import Wrong
 HEADS = {"gexf": (r"<\?xml.*?<gexf\b|<gexf\b", "GEXF"), "pajek": (r"\*(vertices|network)\b", "Pajek"),
          "graph6": (r">>graph6<<", "graph6"), "sparse6": (r">>sparse6<<|:[?-~]+$", "sparse6"),
          "leda": (r"leda\.graph", "LEDA")}
+# A vertex of Pajek: its number, its name, and its place or its shape.
+VERTEX = re.compile(r'\S+\s+("[^"\\]*"|[^\s"\'\\]+)(\s+([-+.\d]|(ellipse|box|diamond|triangle|cross|empty)\b).*)?')
 MISSING = "; it is read where networkx is installed (pip install networkx)"
 
 
@@ -124,7 +126,7 @@ def counts_of_pajek(text: str) -> tuple[int, int]:
         raise ValueError("another number of vertices than it says")
     names = lines[vertices + 1:vertices + 1 + nodes]
     # networkx would drop other quotes, and backslashes.
-    if not all(re.fullmatch(r'\S+\s+("[^"\\]*"|[^\s"\'\\]+)(\s.*)?', line) for line in names):
+    if not all(VERTEX.fullmatch(line) for line in names):
         raise ValueError("a vertex whose name isn't one word, or words in double quotes")
     rows = [line.split() for at, word in zip(heads, words) if word in ("*edges", "*arcs")
             for line in lines[at + 1:sizes[at]]]
@@ -142,9 +144,16 @@ def counts_of_gexf(text: str) -> tuple[int, int]:
     if "<!ENTITY" in text or "<!DOCTYPE" in text:
         raise ValueError("entities of its own")
     root = ElementTree.fromstring(text.lstrip().encode(), ElementTree.XMLParser(encoding="utf-8"))
-    for element in root.iter():
-        if element.tag.endswith("edge"):
-            refuse_zero(element.get("weight"), "an edge")
+    edges = [element for element in root.iter() if element.tag.endswith("edge")]
+    for edge in edges:
+        refuse_zero(edge.get("weight"), "an edge")
+        if {"start", "end", "spells"} & {*edge.attrib, *(part.tag.rpartition("}")[2] for part in edge)}:
+            raise ValueError("edges that come and go: write those of one time")
+    titles = {part.get("id"): part.get("title", "") for part in root.iter() if part.tag.endswith("attribute")}
+    values = [{titles.get(part.get("for"), ""): part.get("value", "").lower() for part in edge.iter()}
+              for edge in edges]
+    keys = {key for said in values for key in said}
+    refuse_flags(Listed("GEXF"), {key: {said.get(key, "") for said in values} for key in keys}, "an edge")
     tags = [element.tag.rpartition("}")[2] for element in root.iter()]
     return tags.count("node"), tags.count("edge")
 

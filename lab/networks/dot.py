@@ -3,7 +3,7 @@ subgraph in braces at an end of an edge means all its nodes."""
 import re
 
 from lab.networks.fields import refuse_zero
-from lab.networks.listed import Listed
+from lab.networks.listed import Listed, refuse_flags
 from lab.networks.network_text import MAX_EDGES, shown
 from lab.wrong import Wrong, wrong_line
 
@@ -96,13 +96,13 @@ def begins(text):
 
 class Reader:
     """A place in the list of tokens, and what was read before it: `edges` as (line, name, name), `nodes` as
-    (line, name), once and again, the attribute `name` of nodes that have one, whether some statement `has_lists`, and
-    how many `ports` there are that are no points of the compass."""
+    (line, name), once and again, the attribute `name` of nodes that have one, whether some statement `has_lists`, how
+    many `ports` there are that are no points of the compass, and what attributes of edges have `said`."""
 
     def __init__(self, text, name):
         self.name, self.at, self.tokens, self.depth = name, 0, list(tokens_of(text, name)), 0
         self.edges, self.nodes, self.labels, self.is_directed = [], [], {}, False
-        self.has_lists, self.ports = False, 0
+        self.has_lists, self.ports, self.said, self.statements_read = False, 0, {}, 0
 
     def next(self):
         """The next token; beyond the last one it is refused."""
@@ -183,13 +183,22 @@ class Reader:
             self.edges += [(line, one, other) for one in left for other in right]
             names, left = names + right, right
         line, said = self.tokens[self.at - 1][0], self.attributes()
-        if not is_node and "invis" in said.get("style", ""):
-            raise wrong_line(self.name, line, "an edge that isn't drawn (style=invis): is it one? Leave it out if not")
         if not is_node:
-            refuse_zero(said.get("weight"), f"{self.name} line {line}")
+            self.see_edge(line, said)
         if is_node and len(names) == 1 and "name" in said:
             self.labels[names[0]] = said["name"]
         return names
+
+    def see_edge(self, line, said):
+        """Refuses an edge that nobody sees; keeps what the attributes of edges say."""
+        if "invis" in said.get("style", "") or said.get("color") in ("transparent", "none"):
+            raise wrong_line(self.name, line, "an edge that isn't drawn: is it one? Leave it out if not")
+        refuse_zero(said.get("weight"), f"{self.name} line {line}")
+        for key in said:
+            self.said.setdefault(key, {""} if self.statements_read else set())
+        self.statements_read += 1
+        for key, words in self.said.items():
+            words.add(said.get(key, "").lower())
 
     def attributes(self):
         """The attributes in brackets, by their names."""
@@ -237,6 +246,7 @@ def read(text: str, name: str) -> Listed:
         raise Wrong(f"{name}: DOT without an edge, in which commas list nodes: an edge is `a -- b`")
     notes = ["directions aren't read"] if reader.is_directed else []
     found = Listed("DOT", reader.edges, reader.nodes, notes, is_exact=True)
+    refuse_flags(found, reader.said, name)
     if reader.ports:
         found.left_out.append(f"ports of nodes aren't read: {reader.ports} (a name with a colon needs quotes)")
     found.names_by(reader.labels, "name")

@@ -8,11 +8,10 @@ from lab.networks.fields import is_number, shown, value_of, whole
 from lab.networks.headings import MISSING
 from lab.networks.lines import Rows, Table
 from lab.networks.listed import FLAGS, NOT
-from lab.networks.name_doubts import SUMS, Pairs, look_of
+from lab.networks.name_doubts import DATE, SUMS, Pairs, look_of
 from lab.wrong import Wrong, wrong_line
 
 PAIRS, NEIGHBOURS = "--as pairs (the first two fields are a pair)", "--as adjacency (a node and its neighbours)"
-DATE = re.compile(r"\d{4}-\d\d-\d\d|\d\d?[./]\d\d?[./]\d{4}")
 PORT = re.compile(r"(.+?)[:/.#@_-]\w*\d+")
 # What the last line of an export may say.
 LAST = ("total", "sum", "summe", "gesamt", "count", "end", "eof", "row", "rows", "records", "zeilen")

@@ -99,7 +99,7 @@ def read(text: str, name: str) -> Listed:
             hidden = next((word for word in HIDDEN if value_of(entries, word) == "1"), None)
             if hidden:
                 raise wrong_line(name, line, f"an edge that is {hidden}: leave it out if it is none")
-    refuse_flags(flags_of(graphs[0]), name)
+    refuse_flags(found, flags_of(graphs[0]), name)
     for line, *ends in found.edges:
         for end in ends:
             if end not in lines:

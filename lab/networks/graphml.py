@@ -41,7 +41,7 @@ def read(text: str, name: str) -> Listed:
     said, flags = {word: {} for word in LABELS + ACROSS + DOWN}, {}
     for at, element in enumerate(graphs[0].iter(), 1):
         read_element(found, name, at, element, words, said, flags)
-    refuse_flags(flags, name)
+    refuse_flags(found, flags, name)
     listed = {node for _, node in found.alone}
     if len(listed) != len(found.alone):
         raise Wrong(f"{name}: two nodes have one id")

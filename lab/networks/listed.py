@@ -30,19 +30,15 @@ OTHER_LETTERS = re.compile(rb"(?i)[a-z][\x80-\x91\x93-\x95\x98-\x9f][a-z]|[a-z][
                            rb"[\x80\x81\x83\x86-\x90\x95\x98-\x9f][a-z]|[\xc0-\xff]{3}")
 # What is said of a text whose last line may be cut.
 NO_END = "its last line has no line end: is the text cut?"
+# Titles that say whether a row or an edge counts.
+STATUS = re.compile("status|state|zustand|activ|aktiv|valid|g\u00fcltig|delet|gel\u00f6scht|enabl|disabl|remov|inuse|"
+                    "betrieb|allow|erlaubt|free|frei|barred|gesperrt|exist|visib|^ok$")
+NO_FLAGS = ("key", "networkx_key", "id", "index", "group", "type", "")
 # Words that say no, and those that say yes or no.
 NOT = {"no", "n", "nein", "false", "f", "falsch", "off", "0"}
 FLAGS = NOT | {"yes", "y", "ja", "j", "true", "t", "wahr", "w", "on", "x", "1", "", "-"}
 # What is said of an edge that is there and doesn't count.
 HIDDEN = ("hidden", "deleted", "removed", "disabled", "ignored")
-
-
-def refuse_flags(said: dict[str, set[str]], name: str) -> None:
-    """Refuses edges of which a key says yes of some and no of others: these may be none."""
-    for key, words in said.items():
-        if len(words) > 1 and words <= FLAGS and words & NOT and key not in ("key", "id", "index", "group", "type"):
-            raise Wrong(f"{name}: the key `{shown(key)}` may say which edges count: leave out those that are none, and "
-                        "the key of the others")
 
 
 class Doubt(str):
@@ -93,6 +89,17 @@ class Listed:
             why = f"{shown(twin_of(cleaned))} comes twice" if len(different) < len(labelled) else "some have none"
             self.notes.append(f"nodes aren't named by their {word}: {why}")
         return is_named
+
+
+def refuse_flags(found: Listed, said: dict[str, set[str]], name: str) -> None:
+    """Refuses edges of which a key says yes of some and no of others: these may be none. A key with another word for
+    it, as a status, is counted."""
+    for key, words in said.items():
+        if len(words) > 1 and words <= FLAGS and words & NOT and key not in NO_FLAGS:
+            raise Wrong(f"{name}: the key `{shown(key)}` may say which edges count: leave out those that are none, and "
+                        "the key of the others")
+        if len(words) > 1 and STATUS.search(key):
+            found.left_out.append(f"the key `{shown(key)}` may say which edges count, and isn't read")
 
 
 def clean(name: str) -> str:

@@ -35,7 +35,9 @@ SUMS = re.compile(r"(grand |sub)?total|sum|summe|zwischensumme|gesamt|insgesamt|
 LETTERED = re.compile(NOUN + "[ _.-]?[ab12]")
 # How spreadsheets and databases write that there is no value, and people that it is the one above.
 NO_VALUE = re.compile(r"#[A-Z/0]+[!?]|#n/a|#nv|<na>|\\n", re.I)
-NOTHING = MISSING | {"nil", "dto", "dto.", "do.", "ditto", "s.o.", "s. o.", "\u3003", "id."}
+DATE = re.compile(r"\d{4}-\d\d-\d\d|\d\d?[./]\d\d?[./]\d{4}")
+NOTHING = MISSING | {"true", "false", "wahr", "falsch", "nil", "dto", "dto.", "do.", "ditto", "s.o.", "s. o.", "\u3003",
+                     "id."}
 
 
 def refuse_names(pairs: Pairs, separator: str | None, name: str) -> None:
@@ -49,7 +51,7 @@ def refuse_names(pairs: Pairs, separator: str | None, name: str) -> None:
     usual = marks_of(ones) & marks_of(others)
     for end, line in lines.items():
         is_bare = BARE.fullmatch(end) and end.isascii() and " " not in end and not TWICE.search(end)
-        if not is_bare or is_number(end) or end.casefold() in NOTHING:
+        if not is_bare or is_number(end) or end.casefold() in NOTHING or DATE.fullmatch(end):
             refuse_name(end, line, lines, usual, name)
         if separator is None and times[end] == 1 and re.match(r"[#%][^\W\d]", end):
             raise wrong_line(name, line, f"`{shown(end)}` may be a comment{IF_NAME}")
@@ -96,7 +98,7 @@ def refuse_name(end: str, line: int, lines: dict[str, int], usual: set[str], nam
     if is_number(end) and whole(end) is None and not is_code:
         raise wrong_line(name, line, f"`{shown(end)}` is a number with a sign or a fraction, and may be no node"
                                      f"{IF_NAME}")
-    if not is_plain(end) or end[-1] not in usual and re.search(r"\.$|[(\[]\d+[)\]]$", end):
+    if DATE.fullmatch(end) or not is_plain(end) or end[-1] not in usual and re.search(r"\.$|[(\[]\d+[)\]]$", end):
         raise wrong_line(name, line, f"`{shown(end)}` may be more than a name, by a mark in it{IF_NAME}")
 
 

@@ -74,7 +74,7 @@ def read(text: str, name: str) -> Listed:
     names = set(known)
     for at, link in enumerate(links, 1 + len(nodes)):
         found.edges.append((at, *ends_of(name, link, names)))
-    refuse_flagged(nodes, links, name)
+    refuse_flagged(found, nodes, links, name)
     refuse_other_ends(found, ids, links, labels, "multigraph" in graph, name)
     found.names_by(labels, "label or name")
     lists = [key for node in nodes for key, value in node.items() if isinstance(value, list) and value and (
@@ -108,10 +108,11 @@ def read_node(found: Listed, node: dict, one: str, labels: dict) -> None:
         found.places[one] = place
 
 
-def refuse_flagged(nodes: list, links: list, name: str) -> None:
+def refuse_flagged(found: Listed, nodes: list, links: list, name: str) -> None:
     """Refuses nodes and links of which some may not count, by a key that says so."""
     keys = {key for link in links for key in link} - {word for words in ENDS for word in words}
-    refuse_flags({key: {json.dumps(link.get(key, False)).strip('"').lower() for link in links} for key in keys}, name)
+    said = {key: {json.dumps(link.get(key, "")).strip('"').lower() for link in links} for key in keys}
+    refuse_flags(found, said, name)
     hidden = next((key for one in (*links, *nodes) for key in HIDDEN if one.get(key) is True), None)
     if hidden:
         raise Wrong(f"{name}: a node or a link is {hidden}: leave it out if it is none")

@@ -3,17 +3,15 @@ that say which rows count."""
 import re
 
 from lab.networks.fields import shown
-from lab.networks.listed import SPOILT
+from lab.networks.listed import SPOILT, STATUS
 from lab.networks.name_doubts import NO_VALUE, NOTHING, SUMS
 from lab.wrong import Wrong, wrong_line
 
 # Marks of lists, comments and spreadsheets before a name, and of footnotes after it.
 BEFORE = re.compile(r"[=;,|/*>~+\u2022\u2013-]|\\")
 AFTER = re.compile(r"[*\u2020\u2021^~\u00b0\u00b9\u00b2\u00b3?!;,]$")
-# How programs write that a place isn't known, and titles of columns that say whether a row counts.
+# How programs write that a place isn't known.
 NO_PLACE = re.compile(r"[-+]?(9{3,}|9{2,}\.9+)(\.0*)?|[-+]?1(\.0*)?e\+?\d{2,3}", re.I)
-STATUS = re.compile("status|state|zustand|activ|aktiv|valid|g\u00fcltig|delet|gel\u00f6scht|enabl|disabl|remov|inuse|"
-                    "betrieb|allow|erlaubt|free|frei|barred|gesperrt|exist|^ok$")
 YES_AND_NO = {*"yntfxj", "", "yes", "no", "ja", "nein", "true", "false", "wahr", "falsch", "on", "off"}
 
 

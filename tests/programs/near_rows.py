@@ -137,6 +137,15 @@ NEAR = (
         '"weight"', '"interferes"').replace(">2<", ">1<"), ">1<", ">0<")),
     ("GML with a flag", WORDS, of_all(lambda *graph: as_gml(*graph).replace("edge [", "edge [ near 1"), "near 1",
                                       "near 0")),
+    ("JSON with a flag of some", WORDS, of_all(as_json, '"weight": 2', '"on": false')),
+    ("JSON with a status", WORDS, of_all(lambda *graph: as_json(*graph).replace('"weight": 2', '"status": "active"'),
+                                         '"active"', '"removed"')),
+    ("DOT with a flag", WORDS, of_all(lambda *graph: as_dot(*graph).replace("[len=2]", "[near=yes]"), "near=yes",
+                                      "near=no")),
+    ("DOT of edges without a colour", WORDS, of_all(as_dot, "[len=2]", "[color=transparent]")),
+    ("dates", (TOWNS,), lambda nodes, pairs, source: "".join(
+        f"0{source.randint(1, 9)}.03.2026,1{source.randint(1, 9)}.04.2026\n" for _ in pairs) + "01.03.2026,12.04.2026\n"
+        "01.03.2026,13.04.2026\n"),
     ("JSON with a flag", WORDS, of_all(lambda *graph: as_json(*graph).replace('"weight": 2', '"near": "yes"'),
                                        '"near": "yes"', '"near": "no"')),
     ("DIMACS of sets", (ONES,), lambda nodes, pairs, source: f"p hs 8 {len(pairs)}\n" + "".join(
@@ -154,6 +163,11 @@ REFUSED = (
     '{"nodes": [{"id": 2}, {"id": 0}, {"id": 1}], "links": [{"source": 0, "target": 1}]}',
     '{"nodes": [{"name": 2}, {"name": 0}, {"name": 1}], "links": [{"source": 0, "target": 1}]}',
     'Bad T\u00f6lz,"Ulm New York"\nUlm,Bad T\u00f6lz\nNew York,Bad T\u00f6lz\n', "8,0004\n8,0005\n1,0005\n",
+    "TRUE,Ulm\nTRUE,Aue\nUlm,Aue\n", "*Vertices 3\n1 Ulm\n2 New Haven\n3 Hof\n*Edges\n1 2\n2 3\n",
+    '<gexf xmlns="http://www.gexf.net/1.2draft" version="1.2"><graph><attributes class="edge"><attribute id="0" '
+    'title="near" type="boolean"/></attributes><nodes><node id="a"/><node id="b"/><node id="c"/></nodes><edges><edge '
+    'id="0" source="a" target="b"><attvalues><attvalue for="0" value="true"/></attvalues></edge><edge id="1" source="b"'
+    ' target="c"><attvalues><attvalue for="0" value="false"/></attvalues></edge></edges></graph></gexf>\n',
     '{"nodes": [{"name": "a"}, {"name": "b"}, {"name": "c"}], "links": [{"source": 1, "target": 2}]}',
     '*Vertices 4\n1 "2"\n2 "6"\n3 "3"\n4 "4"\n*Edges\n2 3\n4 2\n6 4\n',
     "source,target\nUlm,Aue\nHof,\nBonn,Aue\n", "1 2\n2 3\n3 4\n2\n1 4\n", "origen,destino\nUlm,Aue\n")
