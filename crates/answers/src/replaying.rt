@@ -20,7 +20,7 @@ use event_machine::laws::every_run_simulates;
 use event_machine::{NetState, RunRefused};
 use event_texts::{expected_words, missing_words, text_of_state};
 use interference::Network;
-use net_core::{ReplayRefused, StampedState, WholeRefused, event_of, replay, replay_whole};
+use net_core::{ReplayRefused, WholeRefused, event_of, replay, replay_whole};
 use node_api::{NodeProgram, PayloadText, Refused};
 use program_texts::ProgramText;
 use std::alloc::{AllocError, Global};
@@ -263,10 +263,7 @@ fn replayed_whole<P: NodeProgram>(
 {
     network.is_network();
     match replay_whole::<P>(alloc, network, rows) {
-        Ok(stamped) => {
-            let StampedState { state, table: _ } = stamped;
-            Ok(state)
-        }
+        Ok(stamped) => Ok(stamped.into_state()),
         Err(refused) => {
             let lines = entry_lines(alloc, input)?;
             let first = first_line_in(input);

@@ -13,9 +13,9 @@ use stamps::StampTable;
 /// the same stamps.
 #[derive(Drop)]
 pub struct StampedState<P: NodeProgram> {
-    pub state: NetState<P>,
-    /// What the entries that lead to the state say of the next one.
-    pub table: StampTable,
+    pub(crate) state: NetState<P>,
+    // What the entries that lead to the state say of the next one. Only `replay_whole` puts the two together.
+    pub(crate) table: StampTable,
 }
 
 impl<P: NodeProgram> StampedState<P> {
@@ -24,5 +24,20 @@ impl<P: NodeProgram> StampedState<P> {
         ensures stamp { result ≡ counter_at self.now.table v }
     {
         self.table.stamp_of(v)
+    }
+
+    /// The state.
+    pub fn state(&self) -> &NetState<P>
+        ensures { result.now ≡ self.now.state }
+    {
+        &self.state
+    }
+
+    /// The state alone.
+    pub fn into_state(self) -> NetState<P>
+        ensures { result ≡ self.state }
+    {
+        let StampedState { state, table: _ } = self;
+        state
     }
 }
