@@ -55,6 +55,11 @@ module _ {J P T : Type 0} {j : wiring.Ghosts J} {p : program.Ghosts P T} {t : te
     within = omega (arith, events, came, within);
   }
 
+  -- and an event more
+  counts-more : {old new : Node J P T j p t q} (s : ℕ) → events_of new ≡ events_of old + 1 → greatest_taken new ≡ max (greatest_taken old) s
+      → old.counter ≤ new.counter → new.counter ≤ max old.counter s + 1 → CountsOn old new × (events_of old < events_of new)
+  counts-more s events came onward within = (counts-by 1 s events came onward within, omega (arith, events))
+
   -- one part of a turn after the other
   pub counts_both : (old via new : Node J P T j p t q) → CountsOn old via → CountsOn via new → CountsOn old new
   counts_both old via new a b = record {
@@ -77,32 +82,32 @@ module _ {J P T : Type 0} {j : wiring.Ghosts J} {p : program.Ghosts P T} {t : te
   -- a pulse
   pub counts-pulse : {old new : Node J P T j p t q} → new.counter ≡ old.counter + 1
       → new.alpha.node.view.pulse ≡ suc old.alpha.node.view.pulse
-      → new.puts.items ≡ old.puts.items → new.takes.items ≡ old.takes.items → CountsOn old new
+      → new.puts.items ≡ old.puts.items → new.takes.items ≡ old.takes.items → CountsOn old new × (events_of old < events_of new)
   counts-pulse counter pulse puts takes =
       let sent = ap (λ l. wires_in (map (λ e. put_stamped e.end) l)) puts in
       let taken = ap (λ l. wires_in (map (λ e. taken_stamped e.end) l)) takes in
       let greatest = ap (λ l. greatest_in (map (λ e. taken_stamped e.end) l)) takes in
-      counts-by 1 0 (omega (arith, pulse, sent, taken)) (omega (arith, greatest)) (omega (arith, counter)) (omega (arith, counter))
+      counts-more 0 (omega (arith, pulse, sent, taken)) (omega (arith, greatest)) (omega (arith, counter)) (omega (arith, counter))
 
   -- a wire was put by port i
   pub counts-put : {old new : Node J P T j p t q} {i s : ℕ} {x y : WiredPut J T j} {w : Wire T} → i < length old.puts.items
       → Went old.puts.items i x y s w → new.counter ≡ old.counter + 1 → new.alpha.node.view.pulse ≡ old.alpha.node.view.pulse
-      → new.puts.items ≡ set old.puts.items i y → new.takes.items ≡ old.takes.items → CountsOn old new
+      → new.puts.items ≡ set old.puts.items i y → new.takes.items ≡ old.takes.items → CountsOn old new × (events_of old < events_of new)
   counts-put {old} {i = i} {s = s} {x = x} {y = y} {w = w} lt c counter pulse puts takes =
       let f : WiredPut J T j → List (Stamped T) = λ e. put_stamped e.end in
       let sent = ap (λ l. wires_in (map f l)) puts ∙ wires-gained f old.puts.items i x y (stamped s w) lt c.is c.more in
       let taken = ap (λ l. wires_in (map (λ e. taken_stamped e.end) l)) takes in
       let greatest = ap (λ l. greatest_in (map (λ e. taken_stamped e.end) l)) takes in
-      counts-by 1 0 (omega (arith, pulse, sent, taken)) (omega (arith, greatest)) (omega (arith, counter)) (omega (arith, counter))
+      counts-more 0 (omega (arith, pulse, sent, taken)) (omega (arith, greatest)) (omega (arith, counter)) (omega (arith, counter))
 
   -- a wire with stamp s came by port i
   pub counts-take : {old new : Node J P T j p t q} {i s : ℕ} {x y : WiredTake J T j} {w : Wire T} → i < length old.takes.items
       → Came old.takes.items i x y s w → old.counter ≤ new.counter → new.counter ≤ max old.counter s + 1
       → new.alpha.node.view.pulse ≡ old.alpha.node.view.pulse → new.puts.items ≡ old.puts.items → new.takes.items ≡ set old.takes.items i y
-      → CountsOn old new
+      → CountsOn old new × (events_of old < events_of new)
   counts-take {old} {i = i} {s = s} {x = x} {y = y} {w = w} lt c onward within pulse puts takes =
       let f : WiredTake J T j → List (Stamped T) = λ e. taken_stamped e.end in
       let sent = ap (λ l. wires_in (map (λ e. put_stamped e.end) l)) puts in
       let taken = ap (λ l. wires_in (map f l)) takes ∙ wires-gained f old.takes.items i x y (stamped s w) lt c.is c.more in
       let greatest = ap (λ l. greatest_in (map f l)) takes ∙ greatest-gained f old.takes.items i x y (stamped s w) lt c.is c.more in
-      counts-by 1 s (omega (arith, pulse, sent, taken)) (omega (arith, greatest)) onward within
+      counts-more s (omega (arith, pulse, sent, taken)) (omega (arith, greatest)) onward within

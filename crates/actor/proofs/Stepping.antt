@@ -1,5 +1,5 @@
 -- What a part of a turn leaves, exit by exit.
-use Rattle.std.proofs.Common.{◌≡◌, ◌≤◌, ◌+◌, ◌^◌, ℕ, List, true, false, Ok, Err, subst, sym, ◌∙◌, true≢false}
+use Rattle.std.proofs.Common.{◌≡◌, ◌<◌, ◌≤◌, ◌+◌, ◌^◌, ℕ, List, true, false, Ok, Err, subst, sym, ◌∙◌, true≢false}
 use Rattle.std.specs.Prelude.{Bool, Result, IsErrAnd, IsTrue, max}
 use Rattle.std.specs.declared.cmp.PartialEq as equality
 use Rattle.atomic_table.specs.Seated.{TableId}
@@ -7,7 +7,7 @@ use Rattle.alpha_core.specs.declared.wire.Wire.{Wire}
 use Rattle.node_api.specs.declared.program.NodeProgram as program
 use Rattle.node_api.specs.declared.payload.PayloadText as text
 use Rattle.actor.specs.Blocked.{IsUnmoved}
-use Rattle.actor.specs.Counted.{CountsOn}
+use Rattle.actor.specs.Counted.{CountsOn, events_of}
 use Rattle.actor.specs.HasStamps.{aside_stamp}
 use Rattle.actor.specs.Stepped.{Stepped}
 use Rattle.actor.specs.Tables.{LinkWasFull}
@@ -19,13 +19,14 @@ use Rattle.actor.proofs.Refusals.{full-isnt_memory, memory-isnt_full}
 
 module _ {J P T : Type 0} {j : wiring.Ghosts J} {p : program.Ghosts P T} {t : text.Ghosts T} {q : equality.Ghosts T} where
   -- it did something
-  pub stepped-did : {old new : Node J P T j p t q} → new.vertex ≡ old.vertex → new.degree ≡ old.degree → new.refusal ≡ old.refusal → CountsOn old new
-      → Stepped old new (Ok true)
+  pub stepped-did : {old new : Node J P T j p t q} → new.vertex ≡ old.vertex → new.degree ≡ old.degree → new.refusal ≡ old.refusal
+      → CountsOn old new × (events_of old < events_of new) → Stepped old new (Ok true)
   stepped-did vertex degree refusal counts = record {
     vertex = vertex;
     degree = degree;
     refusal = refusal;
-    counts = counts;
+    counts = counts.0;
+    moved = λ did. counts.1;
     unmoved = λ did. absurd (true≢false did);
     refused = tt;
     full = tt;
@@ -39,6 +40,7 @@ module _ {J P T : Type 0} {j : wiring.Ghosts J} {p : program.Ghosts P T} {t : te
     degree = degree;
     refusal = refusal;
     counts = counts;
+    moved = λ did. absurd (true≢false (sym did));
     unmoved = λ did. unmoved;
     refused = tt;
     full = tt;
@@ -54,6 +56,7 @@ module _ {J P T : Type 0} {j : wiring.Ghosts J} {p : program.Ghosts P T} {t : te
     degree = degree;
     refusal = refusal;
     counts = counts;
+    moved = tt;
     unmoved = tt;
     refused = λ e. memory (sym is ∙ e);
     full = λ e. full (sym is ∙ e);

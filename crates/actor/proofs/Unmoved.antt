@@ -21,28 +21,26 @@ module _ {J P T : Type 0} {j : wiring.Ghosts J} {p : program.Ghosts P T} {t : te
     takes = b.takes ∙ a.takes;
     entries = b.entries ∙ a.entries;
     counter = b.counter ∙ a.counter;
+    room = λ has. b.room (a.room has);
   }
 
   -- what blocks the puts of a node is the same before and after it did nothing
-  pub blocked-before : (old new : Node J P T j p t q) (port : ℕ) → new.vertex ≡ old.vertex → IsUnmoved old new → PutBlocked port new → PutBlocked port old
-  blocked-before old new port vertex same blocked =
+  blocked-as : (old new : Node J P T j p t q) (port : ℕ) → new.vertex ≡ old.vertex → new.alpha ≡ old.alpha
+      → map (λ e. put_list e.end) new.puts.items ≡ map (λ e. put_list e.end) old.puts.items → PutBlocked port new → PutBlocked port old
+  blocked-as old new port vertex alpha puts blocked =
       subst
       (λ a. (slice_get (port_at a.node.view port).out 0 ≡ None)
-      ⊎ LinkWasFull P j.tables old.vertex port (by_port (map (λ e. put_list e.end) old.puts.items) port)) same.alpha
+      ⊎ LinkWasFull P j.tables old.vertex port (by_port (map (λ e. put_list e.end) old.puts.items) port)) alpha
       (subst (λ v. (slice_get (port_at new.alpha.node.view port).out 0 ≡ None)
       ⊎ LinkWasFull P j.tables v port (by_port (map (λ e. put_list e.end) old.puts.items) port)) vertex
       (subst (λ lists. (slice_get (port_at new.alpha.node.view port).out 0 ≡ None)
-      ⊎ LinkWasFull P j.tables new.vertex port (by_port lists port)) same.puts blocked))
+      ⊎ LinkWasFull P j.tables new.vertex port (by_port lists port)) puts blocked))
+
+  pub blocked-before : (old new : Node J P T j p t q) (port : ℕ) → new.vertex ≡ old.vertex → IsUnmoved old new → PutBlocked port new → PutBlocked port old
+  blocked-before old new port vertex same = blocked-as old new port vertex same.alpha same.puts
 
   pub blocked-after : (old new : Node J P T j p t q) (port : ℕ) → new.vertex ≡ old.vertex → IsUnmoved old new → PutBlocked port old → PutBlocked port new
-  blocked-after old new port vertex same = blocked-before new old port (sym vertex) record {
-    alpha = sym same.alpha;
-    aside = sym same.aside;
-    puts = sym same.puts;
-    takes = sym same.takes;
-    entries = sym same.entries;
-    counter = sym same.counter;
-  }
+  blocked-after old new port vertex same = blocked-as new old port (sym vertex) (sym same.alpha) (sym same.puts)
 
   -- a port more is blocked
   pub blocked-more : (node : Node J P T j p t q) (port : ℕ) → ((k : ℕ) → k < port → PutBlocked k node) → PutBlocked port node

@@ -4,8 +4,9 @@ ghost use Rattle.std.specs.Prelude.{◌≡◌, ◌<◌, ◌≤◌, ◌+◌, ◌^
 ghost use Rattle.std.specs.Prelude.{false, true};
 ghost use Rattle.alpha_core.specs.View.{can_pulse, can_take};
 ghost use Rattle.link_queue.specs.Queued.{stamped_of};
-ghost use Rattle.actor.specs.Blocked.{IsUnmoved, PutBlocked};
-ghost use Rattle.actor.specs.Counted.{CountsOn, CountsPut, CountsTake};
+ghost use Rattle.actor.specs.Blocked.{HasPutRoom, HasTakeRoom, IsUnmoved, PutBlocked};
+ghost use Rattle.entries.specs.Recorded.{HasRoom};
+ghost use Rattle.actor.specs.Counted.{CountsOn, CountsPut, CountsTake, events_of};
 ghost use Rattle.actor.specs.HasStamps.{aside_stamp};
 ghost use Rattle.actor.specs.Stepped.{Stepped, Turned, refusal_of, remembered};
 
@@ -54,6 +55,7 @@ impl<J: Wiring, P: NodeProgram> Node<J, P> {
         requires room { IsTrue (can_take self.old.alpha.node.view) }
         ensures stepped { Stepped self.old self.new result }
         ensures counted { IfOk result (λ did. did ≡ true → CountsTake port self.old self.new) }
+        ensures room { IfOk result (λ did. did ≡ false → HasRoom self.new.recorder) }
     {
         self.recorder.reserve::<ON>()?;
         let end = &mut self.takes[port as usize];
@@ -93,21 +95,20 @@ impl<J: Wiring, P: NodeProgram> Node<J, P> {
         requires port { port < self.old.degree }
         ensures stepped { Stepped self.old self.new result }
         ensures stopped { IfOk result (λ did. IsSome self.old.aside → did ≡ false) }
+        ensures room { IfOk result (λ did. did ≡ false → self.new.aside ≡ None → HasTakeRoom self.new) }
     {
-        let mut took = false;
-        for _ in 0..TAKES {
-            if self.aside.is_some()
-                || !self.alpha.can_take()
-                || !self.take_one::<ON>(links, port)?
-            {
-                break;
+        for take in 0..TAKES {
+            if self.aside.is_some() || !self.alpha.can_take() {
+                return Ok(take > 0);
             }
-            took = true;
+            if !self.take_one::<ON>(links, port)? {
+                return Ok(take > 0);
+            }
             if !self.alpha.expects(port) {
-                break;
+                return Ok(true);
             }
         }
-        Ok(took)
+        Ok(true)
     }
 
     // Takes by each port, ascending. Returns whether it took a wire.
@@ -115,6 +116,8 @@ impl<J: Wiring, P: NodeProgram> Node<J, P> {
         requires transcript { J.transcript ≡ ON }
         ensures stepped { Stepped self.old self.new result }
         ensures stopped { IfOk result (λ did. IsSome self.old.aside → did ≡ false) }
+        ensures room { IfOk result
+            (λ did. did ≡ false → self.new.aside ≡ None → 0 < self.new.degree → HasTakeRoom self.new) }
     {
         let mut took = false;
         for port in 0..self.degree {
@@ -163,6 +166,7 @@ impl<J: Wiring, P: NodeProgram> Node<J, P> {
         requires going { self.old.aside ≡ None }
         ensures stepped { Stepped self.old self.new result }
         ensures counted { IfOk result (λ did. did ≡ true → CountsPut port self.old self.new) }
+        ensures room { IfOk result (λ did. did ≡ false → HasPutRoom port self.new) }
         ensures going { self.new.aside ≡ None }
     {
         let Some(wire) = self.alpha.front(port) else {
@@ -195,6 +199,7 @@ impl<J: Wiring, P: NodeProgram> Node<J, P> {
         requires port { port < self.old.degree }
         requires going { self.old.aside ≡ None }
         ensures stepped { Stepped self.old self.new result }
+        ensures room { IfOk result (λ did. did ≡ false → HasPutRoom port self.new) }
         ensures going { self.new.aside ≡ None }
     {
         for put in 0..PUTS {
@@ -335,12 +340,15 @@ impl<J: Wiring, P: NodeProgram> Node<J, P> {
         ensures refusal { refusal_of self.new ≡ remembered (refusal_of self.old) result }
         ensures counted { CountsOn self.old self.new }
         ensures aside { IfOk result (λ did. IsSome self.new.aside → did ≡ false) }
+        ensures moved { IfOk result (λ did. did ≡ true → events_of self.old < events_of self.new) }
         ensures unmoved { IfOk result
             (λ did. did ≡ false → self.new.aside ≡ self.old.aside → IsUnmoved self.old self.new) }
         ensures blocked { IfOk result (λ did. did ≡ false → self.new.aside ≡ None
             → can_pulse self.new.alpha.last self.new.alpha.node.view ≡ false) }
         ensures puts_blocked { IfOk result (λ did. did ≡ false → self.new.aside ≡ None
             → (port : ℕ) → port < self.new.degree → PutBlocked port self.new) }
+        ensures room { IfOk result
+            (λ did. did ≡ false → self.new.aside ≡ None → 0 < self.new.degree → HasTakeRoom self.new) }
         ensures refused { IfErr result (λ error. error ≡ TurnRefused.Memory → IsTrue J.transcript) }
         ensures full { IfErr result (λ error. error ≡ TurnRefused.StampFull
             → 2 ^ 64 ≤ max self.new.counter (aside_stamp self.new.aside) + 1) }

@@ -45,6 +45,7 @@ returns g c =
             takes = refl;
             entries = refl;
             counter = refl;
+            room = λ has. has;
           };
       blocked = λ full. inr (full-there g.J.Wiring.tables old.vertex c.args.port place here (c.was_full.ensures.full full));
       going = c.requires.going;

@@ -1,8 +1,8 @@
 -- The plan: a part of the turn that ended early says why, and the turn ends so too.
-use Rattle.std.proofs.Common.{◌<◌, ap, refl, subst, sym, true≢false, ◌∙◌}
-use Rattle.std.specs.Prelude.{IsSome}
+use Rattle.std.proofs.Common.{◌<◌, ap, arith, refl, subst, sym, true≢false, ◌∙◌}
+use Rattle.std.specs.Prelude.{IsSome, IsTrue}
 use Rattle.std.proofs.lemmas.Result.{IfOk-from_err}
-use Rattle.alpha_core.specs.View.{can_pulse}
+use Rattle.alpha_core.specs.View.{can_pulse, can_take}
 use Rattle.actor.specs.declared.refused.TurnRefused.TheVariants.{Memory, StampFull}
 use Rattle.actor.proofs.Counting.{counts_both}
 use Rattle.actor.proofs.Refusals.{same_refusal}
@@ -18,9 +18,11 @@ returns-in_err-took g c =
         refusal = took.refusal;
         counts = took.counts;
         aside = IfOk-from_err c.from_residual.result _ c.from_residual.ensures.0;
+        moved = IfOk-from_err c.from_residual.result _ c.from_residual.ensures.0;
         unmoved = IfOk-from_err c.from_residual.result _ c.from_residual.ensures.0;
         blocked = IfOk-from_err c.from_residual.result _ c.from_residual.ensures.0;
         puts_blocked = IfOk-from_err c.from_residual.result _ c.from_residual.ensures.0;
+        room = IfOk-from_err c.from_residual.result _ c.from_residual.ensures.0;
         refused = same_refusal _ c.from_residual.result _ Memory c.from_residual.ensures.1 took.refused;
         full = same_refusal _ c.from_residual.result _ StampFull c.from_residual.ensures.1 took.full;
       };
@@ -36,9 +38,11 @@ returns-in_err-pulsed g c =
         refusal = pulsed.refusal ∙ took.refusal;
         counts = counts_both c.args.self.now c.take_all.new.self c.pulse.new.self took.counts pulsed.counts;
         aside = IfOk-from_err c.from_residual-in_err-pulsed.result _ c.from_residual-in_err-pulsed.ensures.0;
+        moved = IfOk-from_err c.from_residual-in_err-pulsed.result _ c.from_residual-in_err-pulsed.ensures.0;
         unmoved = IfOk-from_err c.from_residual-in_err-pulsed.result _ c.from_residual-in_err-pulsed.ensures.0;
         blocked = IfOk-from_err c.from_residual-in_err-pulsed.result _ c.from_residual-in_err-pulsed.ensures.0;
         puts_blocked = IfOk-from_err c.from_residual-in_err-pulsed.result _ c.from_residual-in_err-pulsed.ensures.0;
+        room = IfOk-from_err c.from_residual-in_err-pulsed.result _ c.from_residual-in_err-pulsed.ensures.0;
         refused = same_refusal _ c.from_residual-in_err-pulsed.result _ Memory c.from_residual-in_err-pulsed.ensures.1 pulsed.refused;
         full = same_refusal _ c.from_residual-in_err-pulsed.result _ StampFull c.from_residual-in_err-pulsed.ensures.1 pulsed.full;
       };
@@ -56,9 +60,11 @@ returns-in_err-put g c =
         counts = counts_both c.args.self.now c.pulse.new.self c.put_all.new.self
             (counts_both c.args.self.now c.take_all.new.self c.pulse.new.self took.counts pulsed.counts) put.counts;
         aside = IfOk-from_err c.from_residual-in_err-put.result _ c.from_residual-in_err-put.ensures.0;
+        moved = IfOk-from_err c.from_residual-in_err-put.result _ c.from_residual-in_err-put.ensures.0;
         unmoved = IfOk-from_err c.from_residual-in_err-put.result _ c.from_residual-in_err-put.ensures.0;
         blocked = IfOk-from_err c.from_residual-in_err-put.result _ c.from_residual-in_err-put.ensures.0;
         puts_blocked = IfOk-from_err c.from_residual-in_err-put.result _ c.from_residual-in_err-put.ensures.0;
+        room = IfOk-from_err c.from_residual-in_err-put.result _ c.from_residual-in_err-put.ensures.0;
         refused = same_refusal _ c.from_residual-in_err-put.result _ Memory c.from_residual-in_err-put.ensures.1 put.refused;
         full = same_refusal _ c.from_residual-in_err-put.result _ StampFull c.from_residual-in_err-put.ensures.1 put.full;
       };
@@ -75,9 +81,11 @@ returns-then-is_some g c =
         refusal = took.stepped.refusal;
         counts = took.stepped.counts;
         aside = λ some. refl;
+        moved = λ did. absurd (true≢false (sym did));
         unmoved = λ did same. took.stepped.unmoved (took.stopped (subst (λ o. IsSome o) same some));
         blocked = λ did none. absurd (true≢false (sym (subst (λ o. IsSome o) none some)));
         puts_blocked = λ did none. absurd (true≢false (sym (subst (λ o. IsSome o) none some)));
+        room = λ did none. absurd (true≢false (sym (subst (λ o. IsSome o) none some)));
         refused = tt;
         full = tt;
       };
@@ -97,11 +105,16 @@ returns-else-pulsed g c =
         counts = counts_both c.args.self.now c.pulse.new.self c.put_all.new.self
             (counts_both c.args.self.now c.take_all.new.self c.pulse.new.self took.counts pulsed.counts) put.counts;
         aside = λ some. absurd (true≢false (sym (subst (λ o. IsSome o) c.in_ok-put.ensures.going some)));
+        moved = λ did. omega (arith, took.counts.events, pulsed.counts.events, put.moved did);
         unmoved = λ did same. still_unmoved c.args.self.now c.pulse.new.self c.put_all.new.self
             (still_unmoved c.args.self.now c.take_all.new.self c.pulse.new.self (took.unmoved none.0) (pulsed.unmoved none.1)) (put.unmoved did);
         blocked = λ did going. ap (λ a. can_pulse a.last a.node.view) (put.unmoved did).alpha ∙ c.in_ok-pulsed.ensures.blocked none.1;
         puts_blocked = λ did going port lt. blocked-after c.pulse.new.self c.put_all.new.self port put.vertex (put.unmoved did)
             (c.in_ok-put.ensures.blocked did port (subst (λ n. port < n) put.degree lt));
+        room = λ did going some can.
+            let same = still_unmoved c.take_all.new.self c.pulse.new.self c.put_all.new.self (pulsed.unmoved none.1) (put.unmoved did) in
+            same.room (c.in_ok-took.ensures.room none.0 (sym same.aside ∙ going) (subst (λ n. 0 < n) (put.degree ∙ pulsed.degree) some)
+            (subst (λ a. IsTrue (can_take a.node.view)) same.alpha can));
         refused = tt;
         full = tt;
       };

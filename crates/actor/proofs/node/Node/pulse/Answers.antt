@@ -64,7 +64,7 @@ returns-in_err-reserve g c = record {
 pub returns-then-not-can_pulse : goal.returns-then-not-can_pulse
 returns-then-not-can_pulse g c = record {
   stepped = stepped-not refl refl refl (counts-still refl refl refl refl)
-      record { alpha = refl; aside = refl; puts = refl; takes = refl; entries = refl; counter = refl };
+      record { alpha = refl; aside = refl; puts = refl; takes = refl; entries = refl; counter = refl; room = λ has. has };
   counted = λ did. absurd (true≢false (sym did));
   blocked = λ did. sym c.can_pulse.ensures.can ∙ c.if-not-can_pulse.true;
   going = c.requires.going;

@@ -1,5 +1,5 @@
 -- The plan: if nothing was put so far, the node is as it was; so what blocks a port now did so before the first put.
-use Rattle.std.proofs.Common.{◌≡◌, false, refl, sym, true≢false, ◌∙◌}
+use Rattle.std.proofs.Common.{◌≡◌, arith, false, refl, sym, true≢false, ◌∙◌}
 use Rattle.actor.specs.Blocked.{IsUnmoved}
 use Rattle.actor.proofs.Counting.{counts_both}
 use Rattle.actor.proofs.Unmoved.{blocked-before, blocked-more, still_unmoved}
@@ -22,6 +22,7 @@ loop-port-preserved-then-is_blocked g c =
       refusal = asked.stepped.refusal ∙ some.refusal ∙ inv.refusal;
       counts = counts_both old c.put_some.new.self c.is_blocked.new.self (counts_both old c.loop-port.self c.put_some.new.self inv.counts some.counts)
           asked.stepped.counts;
+      moved = λ did. omega (arith, inv.moved did, some.counts.events, asked.stepped.counts.events);
       unmoved = λ none. still_unmoved old c.put_some.new.self c.is_blocked.new.self (tried none) (asked.stepped.unmoved refl);
       blocked = λ none. blocked-more old c.loop-port.port (inv.blocked none)
           (blocked-before old c.put_some.new.self c.loop-port.port (some.vertex ∙ inv.vertex) (tried none) (asked.blocked c.if-is_blocked.true));
@@ -45,6 +46,12 @@ loop-port-preserved g c =
       refusal = again.stepped.refusal ∙ asked.refusal ∙ some.refusal ∙ inv.refusal;
       counts = counts_both old c.is_blocked.new.self c.put_again.new.self (counts_both old c.put_some.new.self c.is_blocked.new.self
           (counts_both old c.loop-port.self c.put_some.new.self inv.counts some.counts) asked.counts) again.stepped.counts;
+      moved = λ did. elim c.if-branch-2.branch [
+        | then-branch-2 w ↦
+            omega (arith, inv.counts.events, some.counts.events, asked.counts.events, again.stepped.moved w.if-branch-2.true)
+        | else-branch-2 w ↦
+            omega (arith, inv.moved (sym w.put-is ∙ did), some.counts.events, asked.counts.events, again.stepped.counts.events)
+      ];
       unmoved = λ none. elim c.if-branch-2.branch [
         | then-branch-2 w ↦ absurd (true≢false (sym w.put-is ∙ none))
         | else-branch-2 w ↦

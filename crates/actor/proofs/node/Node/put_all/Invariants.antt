@@ -1,6 +1,6 @@
-use Rattle.std.proofs.Common.{◌≡◌, ◌<◌, ℕ, None, false}
+use Rattle.std.proofs.Common.{◌≡◌, ◌<◌, ℕ, None, false, true}
 use Rattle.actor.specs.Blocked.{IsUnmoved, PutBlocked}
-use Rattle.actor.specs.Counted.{CountsOn}
+use Rattle.actor.specs.Counted.{CountsOn, events_of}
 use Rattle.actor.proofs.node.Node.put_all.Given as goal
 
 abbrev pub invariant-loop-port : goal.invariant-loop-port
@@ -10,6 +10,7 @@ invariant-loop-port g l = record {
   degree : l.self.degree ≡ l.fn.self.degree;
   refusal : l.self.refusal ≡ l.fn.self.refusal;
   counts : CountsOn l.fn.self l.self;
+  moved : l.put ≡ true → events_of l.fn.self < events_of l.self;
   unmoved : l.put ≡ false → IsUnmoved l.fn.self l.self;
   blocked : l.put ≡ false → (k : ℕ) → k < l.port → PutBlocked k l.fn.self;
 }

@@ -1,5 +1,5 @@
 -- The plan: each exit is an event of the node, and what it keeps after it is a lemma of `Keeping`.
-use Rattle.std.proofs.Common.{[], ◌∷◌, ◌++◌, ◌<◌, ◌^◌, length, refl, sym, ap, ◌∙◌, subst, arith, true≢false}
+use Rattle.std.proofs.Common.{[], ◌∷◌, ◌++◌, ◌<◌, ◌^◌, length, inl, inr, refl, sym, ap, ◌∙◌, subst, arith, true≢false}
 use Rattle.std.specs.Prelude.{IsTrue}
 use Rattle.std.proofs.lemmas.Result.{IfOk-from_err}
 use Rattle.alpha_core.specs.StampedWires.{last_stamp, wires_of}
@@ -97,8 +97,9 @@ write-requires g c = record {
 pub returns-in_default : goal.returns-in_default
 returns-in_default g c = record {
   stepped = stepped-not refl refl refl (counts-still refl refl refl refl)
-      record { alpha = refl; aside = refl; puts = refl; takes = refl; entries = refl; counter = refl };
+      record { alpha = refl; aside = refl; puts = refl; takes = refl; entries = refl; counter = refl; room = λ has. has };
   counted = λ did. absurd (true≢false (sym did));
+  room = λ did. inl (sym c.in_default.ensures.oldest);
   going = c.requires.going;
 }
 
@@ -110,6 +111,7 @@ returns-in_err-stamp g c =
       stepped = stepped-full c.from_residual.ensures.1 refl refl refl (counts-still refl refl refl refl)
           (past_greater (2 ^ 64) old.counter (aside_stamp old.aside) c.in_err-stamp.ensures.full);
       counted = IfOk-from_err c.from_residual.result _ c.from_residual.ensures.0;
+      room = IfOk-from_err c.from_residual.result _ c.from_residual.ensures.0;
       going = c.requires.going;
     }
 
@@ -119,6 +121,7 @@ returns-in_err-reserve g c = record {
   stepped = stepped-memory c.from_residual-in_err-reserve.ensures.1 refl refl refl (counts-still refl refl refl refl)
       (subst IsTrue c.args.self.now.kept.recorded c.in_err-reserve.ensures.refused);
   counted = IfOk-from_err c.from_residual-in_err-reserve.result _ c.from_residual-in_err-reserve.ensures.0;
+  room = IfOk-from_err c.from_residual-in_err-reserve.result _ c.from_residual-in_err-reserve.ensures.0;
   going = c.requires.going;
 }
 
@@ -133,8 +136,10 @@ returns-in-Err g c = record {
         takes = refl;
         entries = c.reserve.ensures.same.entries;
         counter = refl;
+        room = λ has. c.in_ok-reserve.ensures.room;
       };
   counted = λ did. absurd (true≢false (sym did));
+  room = λ did. inr c.in_ok-reserve.ensures.room;
   going = c.requires.going;
 }
 
@@ -153,6 +158,7 @@ returns-in-Ok g c =
         stamp = last_went old.kept c.requires.port record { is = c.index_mut.ensures.value; place = c.in-Ok.ensures.place; more = c.in-Ok.ensures.stamped }
             ∙ sym c.advance.ensures.value;
       };
+      room = λ did. absurd (true≢false did);
       going = c.requires.going;
     }
 

@@ -12,6 +12,9 @@ use Rattle.actor.proofs.Refusals.{past_above}
 use Rattle.actor.proofs.Stepping.{stepped-did, stepped-full, stepped-memory, stepped-not}
 use Rattle.actor.proofs.node.Node.take_one.Goals as goal
 
+first : {A B : Type 0} → A × B → A
+first both = both.0
+
 -- there is an end for each port
 pub index_mut-end-requires : goal.index_mut-end-requires
 index_mut-end-requires g c =
@@ -81,8 +84,10 @@ returns-in-None g c = record {
         takes = same_all (λ e. taken_list e.end) _ _ _ _ c.index_mut-end.ensures.value (ap (λ l. wires_of l) c.in-None.ensures.unchanged);
         entries = c.reserve.ensures.same.entries;
         counter = refl;
+        room = λ has. c.in_ok-reserve.ensures.room;
       };
   counted = λ did. absurd (true≢false (sym did));
+  room = λ did. c.in_ok-reserve.ensures.room;
 }
 
 -- memory was refused
@@ -90,6 +95,7 @@ pub returns-in_err-reserve : goal.returns-in_err-reserve
 returns-in_err-reserve g c = record {
   stepped = stepped-memory c.from_residual.ensures.1 refl refl refl (counts-still refl refl refl refl) (subst IsTrue c.args.self.now.kept.recorded c.in_err-reserve.ensures.refused);
   counted = IfOk-from_err c.from_residual.result _ c.from_residual.ensures.0;
+  room = IfOk-from_err c.from_residual.result _ c.from_residual.ensures.0;
 }
 
 -- the stamp would be too great
@@ -98,10 +104,11 @@ returns-in_default g c =
     let old = c.args.self.now in
     record {
       stepped = stepped-full refl refl refl refl
-          (counts-take (takes_within old.kept c.args.port c.requires.port)
+          (first (counts-take (takes_within old.kept c.args.port c.requires.port)
           (came c.in-Some.item c.index_mut-end.ensures.value c.in-Some.ensures.place c.in-Some.ensures.stamped c.stamp-stamp.ensures
-          c.wire_of-wire.ensures.wire) (omega arith) (omega arith) refl refl refl) c.in_default.ensures.full;
+          c.wire_of-wire.ensures.wire) (omega arith) (omega arith) refl refl refl)) c.in_default.ensures.full;
       counted = tt;
+      room = tt;
     }
 
 -- a wire was taken
@@ -121,6 +128,7 @@ returns-in-Ok-on_wire g c =
         past = λ going. moved ∙ ap (λ s. max old.counter s + 1) (sym last);
         stays = λ aside. absurd (aside c.requires.going);
       };
+      room = λ did. absurd (true≢false did);
     }
 
 -- a wire was set aside
@@ -133,6 +141,7 @@ returns-in-Err g c =
           (came c.in-Some.item c.index_mut-end.ensures.value c.in-Some.ensures.place c.in-Some.ensures.stamped c.stamp-stamp.ensures
           c.wire_of-wire.ensures.wire) (omega arith) (omega arith) (ap (λ a. a.node.view.pulse) c.in-Err.ensures.refused) refl refl);
       counted = λ did. record { past = λ going. absurd cc; stays = λ aside. refl };
+      room = λ did. absurd (true≢false did);
     }
 
 -- the recorder is on as the run says
