@@ -17,7 +17,7 @@ const TRIANGLE_PLAN: &[u8] = b"plan\n1 2\n2 3\n3 1\n";
 
 // Whether two workers make the plan through a gate.
 fn make_the_plan<R: Threads + Wait + Sync>(rt: &R, alloc: Global, gate: &Meeting) -> bool {
-    match plan_bytes(rt, alloc, TRIANGLE, None, BY_TWO, gate) {
+    match plan_bytes(rt, alloc, TRIANGLE, BY_TWO, gate) {
         Ok(plan) => plan.as_slice() == TRIANGLE_PLAN,
         Err(_) => false,
     }
