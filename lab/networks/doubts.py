@@ -153,7 +153,10 @@ def refuse_edges(body: Rows, name: str, is_unknown: bool, is_closed: bool) -> No
         raise unsure(name, f"the first line (`{shown(' '.join(first))}`) may say how many there are", PAIRS)
     mixed = [row for row in rows if len(set(map(is_number, row[1]))) > 1]
     kinds = {is_number(end) for row in rows if row not in mixed for end in row[1]}
-    if mixed and len(kinds) == 1 and all(is_stray(ends, times, kinds == {True}) for _, ends in mixed):
+    numbers = [end for _, ends in mixed for end in ends if is_number(end)]
+    are_strays = all(is_stray(ends, times, kinds == {True}) for _, ends in mixed) or kinds == {False} and (
+        len(mixed) > 1 and all(times[number] == 1 for number in numbers))
+    if mixed and len(kinds) == 1 and are_strays:
         raise wrong_line(name, mixed[0][0], f"`{shown(' '.join(mixed[0][1]))}` may be no pair of nodes, beside "
                          "the other lines (if it is one: --as pairs)")
 

@@ -30,6 +30,10 @@ OTHER_LETTERS = re.compile(rb"(?i)[a-z][\x80-\x91\x93-\x95\x98-\x9f][a-z]|[a-z][
                            rb"[\x80\x81\x83\x86-\x90\x95\x98-\x9f][a-z]|[\xc0-\xff]{3}")
 # What is said of a text whose last line may be cut.
 NO_END = "its last line has no line end: is the text cut?"
+# Letters of Cyrillic and Greek that look like others.
+LOOK_ALIKE = str.maketrans("\u0410\u0412\u0415\u041a\u041c\u041d\u041e\u0420\u0421\u0422\u0425\u0430\u0435\u043e\u0440"
+                           "\u0441\u0443\u0445\u0391\u0392\u0395\u0396\u0397\u0399\u039a\u039c\u039d\u039f\u03a1\u03a4"
+                           "\u03a7", "ABEKMHOPCTXaeopcyxABEZHIKMNOPTX")
 # Titles that say whether a row or an edge counts.
 STATUS = re.compile("status|state|zustand|activ|aktiv|valid|g\u00fcltig|delet|gel\u00f6scht|enabl|disabl|remov|inuse|"
                     "betrieb|allow|erlaubt|free|frei|barred|gesperrt|exist|visib|^ok$")
@@ -161,13 +165,15 @@ def note_alike(found: Listed, names: list[str]) -> None:
 
 def likeness(name: str) -> str:
     """What names have in common that look alike."""
+    name = re.sub(r"O(?=\d)|(?<=\d)O", "0", name)
     if name.isascii() and re.fullmatch(r"[0-9]+(\.0*)?", name):
         return name.partition(".")[0].lstrip("0") or "0"
     letters = name if name.isascii() else "".join(
         letter for letter in unicodedata.normalize("NFKD", name) if not unicodedata.combining(letter))
     letters = re.sub(r"(?<=[^\W\d_])[\s._\u2010-\u2015-]+(?=[^\W\d_])", "", letters)
+    letters = letters.translate(LOOK_ALIKE)
     bare = re.sub("[\"'`\u00b4\u2018-\u201e\u00ab\u00bb]", "", letters)
-    return re.sub(r"[\u2010-\u2015\u2212]", "-", bare or letters).casefold()
+    return re.sub("(?<=[aou])e", "", re.sub(r"[\u2010-\u2015\u2212]", "-", bare or letters).casefold())
 
 
 def bytes_of(stream: io.BufferedIOBase, name: str) -> bytes:

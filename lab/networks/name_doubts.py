@@ -36,6 +36,8 @@ LETTERED = re.compile(NOUN + "[ _.-]?[ab12]")
 # How spreadsheets and databases write that there is no value, and people that it is the one above.
 NO_VALUE = re.compile(r"#[A-Z/0]+[!?]|#n/a|#nv|<na>|\\n", re.I)
 DATE = re.compile(r"\d{4}-\d\d-\d\d|\d\d?[./]\d\d?[./]\d{4}")
+# Words before a name that say that there is no edge, or more than one.
+NEGATED = re.compile("(not|nicht|keine?|ohne|except|without|all|alle|any)( .*)?|no .*", re.I)
 NOTHING = MISSING | {"true", "false", "wahr", "falsch", "nil", "dto", "dto.", "do.", "ditto", "s.o.", "s. o.", "\u3003",
                      "id."}
 
@@ -51,7 +53,7 @@ def refuse_names(pairs: Pairs, separator: str | None, name: str) -> None:
     usual = marks_of(ones) & marks_of(others)
     for end, line in lines.items():
         is_bare = BARE.fullmatch(end) and end.isascii() and " " not in end and not TWICE.search(end)
-        if not is_bare or is_number(end) or end.casefold() in NOTHING or DATE.fullmatch(end):
+        if not is_bare or is_number(end) or end.casefold() in NOTHING or DATE.search(end) or NEGATED.fullmatch(end):
             refuse_name(end, line, lines, usual, name)
         if separator is None and times[end] == 1 and re.match(r"[#%][^\W\d]", end):
             raise wrong_line(name, line, f"`{shown(end)}` may be a comment{IF_NAME}")
@@ -98,7 +100,8 @@ def refuse_name(end: str, line: int, lines: dict[str, int], usual: set[str], nam
     if is_number(end) and whole(end) is None and not is_code:
         raise wrong_line(name, line, f"`{shown(end)}` is a number with a sign or a fraction, and may be no node"
                                      f"{IF_NAME}")
-    if DATE.fullmatch(end) or not is_plain(end) or end[-1] not in usual and re.search(r"\.$|[(\[]\d+[)\]]$", end):
+    is_marked = end[-1] not in usual and re.search(r"\.$|[(\[]\d+[)\]]$", end)
+    if is_marked or DATE.search(end) or NEGATED.fullmatch(end) or not is_plain(end):
         raise wrong_line(name, line, f"`{shown(end)}` may be more than a name, by a mark in it{IF_NAME}")
 
 

@@ -143,6 +143,14 @@ NEAR = (
     ("DOT with a flag", WORDS, of_all(lambda *graph: as_dot(*graph).replace("[len=2]", "[near=yes]"), "near=yes",
                                       "near=no")),
     ("DOT of edges without a colour", WORDS, of_all(as_dot, "[len=2]", "[color=transparent]")),
+    ("numbers of nodes after the pairs", (TOWNS, CELLS), lambda nodes, pairs, source: lines(pairs, " ") + "".join(
+        f"{at} {node}\n" for at, node in enumerate(nodes))),
+    *((f"a line {words!r} after the pairs", (TOWNS, CELLS), lambda nodes, pairs, source, words=words: lines(
+        pairs, ",") + words.format(*nodes)) for words in ("not {0},{1}\n", "{0},no {1}\n", "except,{0}\n")),
+    *((f"letters alike {letter!r}", (("A1", "O2", "B1", "B2"),), lambda nodes, pairs, source, letter=letter: lines(
+        pairs, ",") + lines(pairs, ",").translate(str.maketrans("AO", letter))) for letter in ("\u0410\u041e", "A0")),
+    ("umlauts in two letters", (("K\u00f6ln", "M\u00f6rs", "Bonn", "Ulm", "H\u00f6xter"),),
+     lambda nodes, pairs, source: lines(pairs, ",") + lines(pairs, ",").replace("\u00f6", "oe")),
     ("dates", (TOWNS,), lambda nodes, pairs, source: "".join(
         f"0{source.randint(1, 9)}.03.2026,1{source.randint(1, 9)}.04.2026\n" for _ in pairs) + "01.03.2026,12.04.2026\n"
         "01.03.2026,13.04.2026\n"),
