@@ -11,8 +11,10 @@ def has_counts(fields: list[list[str]]) -> bool:
     ends = [whole(field) for row in body for field in row[:2]]
     if not body or None in ends or None in first:
         return False
-    # METIS that counts each edge twice.
-    if len(body) > 2 and len(body) <= first[0] and max(ends) <= first[0] and first[1:] == [sum(map(len, body))]:
+    # METIS, also from 0 or with each edge counted twice: a line for each node that has neighbours.
+    entries = sum(map(len, body))
+    if len(body) > 2 and len(body) <= first[0] and max(ends) <= first[0] and len(first) == 2 and (
+            entries in (first[1], 2 * first[1])):
         return True
     if any(len(row) < 2 for row in body):
         return False

@@ -62,6 +62,7 @@ def refuse_names(pairs: Pairs, separator: str | None, name: str) -> None:
         refuse_marks(ones, others, pairs[0], name)
     if separator is None:
         refuse_strays(pairs, times, name)
+        refuse_single(pairs, name)
     refuse_headings(pairs, lines, name)
 
 
@@ -186,6 +187,15 @@ def look_of(end: str) -> tuple[bool, bool, bool, bool]:
     """How a name looks: whether it begins with a capital, has digits, has anything else, and has blanks."""
     digits = sum(map(str.isdecimal, end))
     return end[0].isupper(), digits > 0, digits < len(end), " " in end
+
+
+def refuse_single(pairs: Pairs, name: str) -> None:
+    """Refuses rows with blanks between two names, each of which has the same mark once: it may separate them."""
+    rows = [f"{one} {other}" for _, one, other in pairs]
+    mark = next((mark for mark in BETWEEN if all(row.count(mark) == 1 for row in rows)), None)
+    if mark and len(rows) > 2:
+        raise wrong_line(name, pairs[0][0], f"`{shown(rows[0])}` may be two names with `{mark}` between them: write a "
+                                            f"comma there{IF_NAME}")
 
 
 def refuse_headings(pairs: Pairs, lines: dict[str, int], name: str) -> None:

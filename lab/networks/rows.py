@@ -145,6 +145,8 @@ def read_pairs(table: Table, name: str, heading: bool | None, is_sure: bool) -> 
         if words:
             found.left_out.append("a further column of words isn't read, which may say what lines count: "
                                   f"{shown(', '.join(words))}")
+        elif not titles and may_be_ends(head.body, columns):
+            found.left_out.append("a further column of numbers isn't read, which may be nodes (if none is: --as pairs)")
     found.edges = [pair for pair in pairs if pair[2]]
     found.alone = [pair[:2] for pair in pairs if not pair[2]]
     beyond = next((row for row in head.body if not is_sure and len(row[1]) > max(columns) and not row[1][columns[1]]
@@ -157,6 +159,15 @@ def read_pairs(table: Table, name: str, heading: bool | None, is_sure: bool) -> 
         found.notes.append("further columns, as weights are, aren't read" + (f": {shown(', '.join(others))}"
                                                                             if others else ""))
     return found
+
+
+def may_be_ends(body: Rows, columns: tuple[int, int]) -> bool:
+    """Whether all nodes are whole numbers, and a further column has such numbers alone, some of which may be nodes."""
+    numbers = [[whole(field) for at, field in enumerate(fields) if field and at in columns] for _, fields in body]
+    others = [{whole(fields[at]) for _, fields in body if at < len(fields) and fields[at]}
+              for at in range(max(len(fields) for _, fields in body)) if at not in columns]
+    nodes = {number for row in numbers for number in row}
+    return None not in nodes and any(column and None not in column and min(column) <= max(nodes) for column in others)
 
 
 def ends_of(line: int, fields: list[str], columns: tuple[int, int], width: int | None, name: str) -> list[str]:

@@ -156,6 +156,8 @@ NEAR = (
         "01.03.2026,13.04.2026\n"),
     ("JSON with a flag", WORDS, of_all(lambda *graph: as_json(*graph).replace('"weight": 2', '"near": "yes"'),
                                        '"near": "yes"', '"near": "no"')),
+    *((f"numbers and a weight {form!r}", NUMBERS, each(form)) for form in ("{w},{a},{b}", "{a} {w} {b}")),
+    *((f"a mark between names with blanks {mark!r}", (BLANKS,), each("{a}" + mark + "{b}")) for mark in ":@"),
     ("DIMACS of sets", (ONES,), lambda nodes, pairs, source: f"p hs 8 {len(pairs)}\n" + "".join(
         f"{a} {b} {source.choice(nodes)}\n" for a, b in pairs)),
 )
@@ -178,7 +180,8 @@ REFUSED = (
     ' target="c"><attvalues><attvalue for="0" value="false"/></attvalues></edge></edges></graph></gexf>\n',
     '{"nodes": [{"name": "a"}, {"name": "b"}, {"name": "c"}], "links": [{"source": 1, "target": 2}]}',
     '*Vertices 4\n1 "2"\n2 "6"\n3 "3"\n4 "4"\n*Edges\n2 3\n4 2\n6 4\n',
-    "source,target\nUlm,Aue\nHof,\nBonn,Aue\n", "1 2\n2 3\n3 4\n2\n1 4\n", "origen,destino\nUlm,Aue\n")
+    "source,target\nUlm,Aue\nHof,\nBonn,Aue\n", "4 3\n1 2\n0\n3 0\n2\n",
+    "Upper Hill:Ulm\nUlm:Neu Ulm\nUpper Hill:Mill\nHof:Neu Ulm\n", "1 2\n2 3\n3 4\n2\n1 4\n", "origen,destino\nUlm,Aue\n")
 
 
 class NearRows(Case):
