@@ -97,12 +97,13 @@ def begins(text):
 class Reader:
     """A place in the list of tokens, and what was read before it: `edges` as (line, name, name), `nodes` as
     (line, name), once and again, the attribute `name` of nodes that have one, whether some statement `has_lists`, how
-    many `ports` there are that are no points of the compass, and what attributes of edges have `said`."""
+    many `ports` there are that are no points of the compass, what attributes of edges have `said`, and their
+    `defaults`, also behind the subgraph that has them."""
 
     def __init__(self, text, name):
         self.name, self.at, self.tokens, self.depth = name, 0, list(tokens_of(text, name)), 0
         self.edges, self.nodes, self.labels, self.is_directed = [], [], {}, False
-        self.has_lists, self.ports, self.said, self.statements_read = False, 0, {}, 0
+        self.has_lists, self.ports, self.said, self.statements_read, self.defaults = False, 0, {}, 0, {}
 
     def next(self):
         """The next token; beyond the last one it is refused."""
@@ -163,8 +164,11 @@ class Reader:
     def statement(self):
         is_before = self.tokens[self.at + 1: self.at + 2]
         if self.is_word("node", "edge", "graph") and is_before and is_before[0][1:] == ("mark", "["):
+            _, _, word = self.tokens[self.at]
             self.at += 1
-            self.attributes()
+            said = self.attributes()
+            if word.lower() == "edge":
+                self.defaults |= said
             return []
         if is_before and is_before[0][1:] == ("mark", "="):
             self.id()
@@ -191,6 +195,7 @@ class Reader:
 
     def see_edge(self, line, said):
         """Refuses an edge that nobody sees; keeps what the attributes of edges say."""
+        said = self.defaults | said
         if "invis" in said.get("style", "") or said.get("color") in ("transparent", "none"):
             raise wrong_line(self.name, line, "an edge that isn't drawn: is it one? Leave it out if not")
         refuse_zero(said.get("weight"), f"{self.name} line {line}")

@@ -38,10 +38,10 @@ def read(text: str, name: str) -> Listed:
         raise Wrong(f"{name}: a node or an edge is outside of the graph")
     found = Listed("GraphML", is_exact=True)
     words = {key.get("id"): key.get("attr.name", "").lower() for key in root.iter() if plain(key.tag) == "key"}
-    said, flags = {word: {} for word in LABELS + ACROSS + DOWN}, {}
+    said = {word: {} for word in LABELS + ACROSS + DOWN}
     for at, element in enumerate(graphs[0].iter(), 1):
-        read_element(found, name, at, element, words, said, flags)
-    refuse_flags(found, flags, name)
+        read_element(found, name, at, element, words, said)
+    refuse_flags(found, flags_of(root, graphs[0], words), name)
     listed = {node for _, node in found.alone}
     if len(listed) != len(found.alone):
         raise Wrong(f"{name}: two nodes have one id")
@@ -58,9 +58,18 @@ def read(text: str, name: str) -> Listed:
     return found
 
 
-def read_element(found: Listed, name: str, at: int, element: ElementTree.Element, words: dict, said: dict,
-                 flags: dict[str, set[str]]) -> None:
-    """A node with what is said of it, or an edge, with what its keys say."""
+def flags_of(root: ElementTree.Element, graph: ElementTree.Element, words: dict) -> dict[str, set[str]]:
+    """What each key says of the edges, and its default of those of which it says nothing."""
+    defaults = {words[key.get("id")]: (part.text or "").strip().lower() for key in root.iter()
+                if plain(key.tag) == "key" and key.get("for") != "node" for part in key if plain(part.tag) == "default"}
+    edges = [{words.get(data.get("key"), ""): (data.text or "").strip().lower() for data in edge
+              if plain(data.tag) == "data"} for edge in graph.iter() if plain(edge.tag) == "edge"]
+    keys = {key for edge in edges for key in edge}
+    return {key: {edge.get(key, defaults.get(key, "")) for edge in edges} for key in keys - {""}}
+
+
+def read_element(found: Listed, name: str, at: int, element: ElementTree.Element, words: dict, said: dict) -> None:
+    """A node with what is said of it, or an edge."""
     tag = plain(element.tag)
     if tag == "hyperedge":
         raise Wrong(f"{name}: a hyperedge isn't read, since an edge has two ends")
@@ -86,8 +95,6 @@ def read_element(found: Listed, name: str, at: int, element: ElementTree.Element
             word = words.get(data.get("key"))
             if word in WEIGHTS:
                 refuse_zero(data.text, name)
-            if word and data.text:
-                flags.setdefault(word, set()).add(data.text.strip().lower())
 
 
 def read_drawing(node: str, data: ElementTree.Element, said: dict) -> None:

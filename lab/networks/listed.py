@@ -6,7 +6,7 @@ import unicodedata
 from collections.abc import Callable
 from dataclasses import dataclass, field
 
-from lab.networks.fields import shown
+from lab.networks.fields import shown, value_of
 from lab.wrong import Wrong, wrong_line
 
 # More bytes than a network within the limits needs in any form.
@@ -38,6 +38,8 @@ LOOK_ALIKE = str.maketrans("\u0410\u0412\u0415\u041a\u041c\u041d\u041e\u0420\u04
 STATUS = re.compile("status|state|zustand|activ|aktiv|valid|g\u00fcltig|delet|gel\u00f6scht|enabl|disabl|remov|inuse|"
                     "betrieb|allow|erlaubt|free|frei|barred|gesperrt|exist|visib|^ok$")
 NO_FLAGS = ("key", "networkx_key", "id", "index", "group", "type", "")
+# Keys that only name an edge.
+NAMES = ("key", "networkx_key", "id", "index", "label", "name", "")
 # Words that say no, and those that say yes or no.
 NOT = {"no", "n", "nein", "false", "f", "falsch", "off", "0"}
 FLAGS = NOT | {"yes", "y", "ja", "j", "true", "t", "wahr", "w", "on", "x", "1", "", "-"}
@@ -96,13 +98,14 @@ class Listed:
 
 
 def refuse_flags(found: Listed, said: dict[str, set[str]], name: str) -> None:
-    """Refuses edges of which a key says yes of some and no of others: these may be none. A key with another word for
-    it, as a status, is counted."""
+    """Refuses edges of which a key says yes of some and no of others: these may be none. A key that may say it in
+    another way is counted: a status, and one that says different things of edges, not numbers above zero alone."""
     for key, words in said.items():
         if len(words) > 1 and words <= FLAGS and words & NOT and key not in NO_FLAGS:
             raise Wrong(f"{name}: the key `{shown(key)}` may say which edges count: leave out those that are none, and "
                         "the key of the others")
-        if len(words) > 1 and STATUS.search(key):
+        is_measure = all((value_of(word) or 0) > 0 for word in words)
+        if len(words) > 1 and (STATUS.search(key) or key not in NAMES and not is_measure):
             found.left_out.append(f"the key `{shown(key)}` may say which edges count, and isn't read")
 
 

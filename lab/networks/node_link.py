@@ -1,5 +1,6 @@
 """A network in JSON as nodes and links: networkx writes it (`node_link_data`), and D3 reads it."""
 import json
+import re
 
 from lab.networks.fields import refuse_zero, shown
 from lab.networks.listed import HIDDEN, Listed, refuse_flags
@@ -13,6 +14,8 @@ READERS = {"adjacency": (list, "G = nx.adjacency_graph(json.load(open(FILE)))"),
 LINKS = ("links", "edges")
 # How networkx and D3 name the ends of a link, and how vis.js does.
 ENDS = (("source", "target"), ("from", "to"))
+# Keys of a list that is one page of several.
+MORE = re.compile(r"(next|has|total|num)?[ _-]?(next|more|pages?|cursor|offset|page[ _-]?token)|next.*|.*truncated")
 OF_LISTS = "G = nx.from_dict_of_lists(json.load(open(FILE)))"
 
 
@@ -81,6 +84,9 @@ def read(text: str, name: str) -> Listed:
         not links or names.issuperset(word_of(one) for one in value))]
     if lists:
         found.left_out.append(f"lists of nodes aren't read: {shown(lists[0])}")
+    more = next((key for key in graph if MORE.fullmatch(key.casefold())), None)
+    if more:
+        found.left_out.append(f"the key `{shown(more)}` may say that there are more pages of it")
     if graph.get("directed") is True:
         found.notes.append("directions aren't read")
     return found

@@ -61,6 +61,17 @@ def ports(nodes, pairs, source):
     return text
 
 
+def of_default(kind, default, word):
+    """A writer of all pairs in GraphML, those of the network with a word of a key and the others with its default."""
+    def text(nodes, pairs, source):
+        there, all_pairs = set(map(frozenset, pairs)), [(a, b) for at, a in enumerate(nodes) for b in nodes[at + 1:]]
+        return (f'<graphml><key id="k" for="edge" attr.name="weight" {kind}><default>{default}</default></key><graph>'
+                + "".join(f'<node id="{node}"/>' for node in nodes)
+                + "".join(f'<edge source="{a}" target="{b}">' + f'<data key="k">{word}</data>' * ({a, b} in there)
+                          + "</edge>" for a, b in all_pairs) + "</graph></graphml>")
+    return text
+
+
 def queries(nodes, pairs, source):
     return lines(pairs, " ") + f"2\n{nodes[0]} {nodes[1]}\n{nodes[1]} {nodes[2]}\n"
 
@@ -156,6 +167,15 @@ NEAR = (
         "01.03.2026,13.04.2026\n"),
     ("JSON with a flag", WORDS, of_all(lambda *graph: as_json(*graph).replace('"weight": 2', '"near": "yes"'),
                                        '"near": "yes"', '"near": "no"')),
+    ("JSON with a kind", WORDS, of_all(as_json, '"weight": 2', '"kind": "far"')),
+    ("JSON with signs", WORDS, of_all(as_json, '"weight": 2', '"weight": -1')),
+    ("GML with styles", WORDS, of_all(lambda *graph: as_gml(*graph).replace("edge [", 'edge [ style "solid"'),
+                                      'style "solid"', 'style "invis"')),
+    ("GraphML with a default of zero", WORDS, of_default('attr.type="double"', "0", "2.5")),
+    ("GraphML with a default of no", WORDS, of_default('attr.type="boolean"', "false", "true")),
+    ("DOT with a default", WORDS, lambda nodes, pairs, source: as_dot(nodes, pairs).rstrip()[:-1]
+     + "edge [style=invis]\n" + "".join(f'"{nodes[0]}" -- "{other}"\n' for other in nodes[1:]) + "}\n"),
+    ("JSON of the first page", WORDS, lambda nodes, pairs, source: as_json(nodes, pairs[:-1])[:-1] + ', "next": 2}'),
     *((f"numbers and a weight {form!r}", NUMBERS, each(form)) for form in ("{w},{a},{b}", "{a} {w} {b}")),
     *((f"a mark between names with blanks {mark!r}", (BLANKS,), each("{a}" + mark + "{b}")) for mark in ":@"),
     ("DIMACS of sets", (ONES,), lambda nodes, pairs, source: f"p hs 8 {len(pairs)}\n" + "".join(
@@ -181,7 +201,8 @@ REFUSED = (
     '{"nodes": [{"name": "a"}, {"name": "b"}, {"name": "c"}], "links": [{"source": 1, "target": 2}]}',
     '*Vertices 4\n1 "2"\n2 "6"\n3 "3"\n4 "4"\n*Edges\n2 3\n4 2\n6 4\n',
     "source,target\nUlm,Aue\nHof,\nBonn,Aue\n", "4 3\n1 2\n0\n3 0\n2\n",
-    "Upper Hill:Ulm\nUlm:Neu Ulm\nUpper Hill:Mill\nHof:Neu Ulm\n", "1 2\n2 3\n3 4\n2\n1 4\n", "origen,destino\nUlm,Aue\n")
+    "Upper Hill:Ulm\nUlm:Neu Ulm\nUpper Hill:Mill\nHof:Neu Ulm\n", "1 2\n2 3\n3 4\n2\n1 4\n",
+    "origen,destino\nUlm,Aue\n")
 
 
 class NearRows(Case):
