@@ -248,10 +248,10 @@ class Pictures(PictureCase):
                       once == again and once[0] == 0 and said in once[2] and bool(said) == bool(once[2]), once[2])
 
     def test_stored(self):
-        """Each stored picture is what the command of docs/pictures/README.md draws today."""
+        """Each stored picture is what its command in docs/pictures/draw.sh draws today."""
         folder = os.path.join(TOP, "docs", "pictures")
-        with open(os.path.join(folder, "README.md"), encoding="utf-8") as file:
-            commands = re.findall(r"^    forestlab picture (.*) > docs/pictures/(\S+)$", file.read(), re.M)
+        with open(os.path.join(folder, "draw.sh"), encoding="utf-8") as file:
+            commands = re.findall(r"^forestlab picture (.*) -o docs/pictures/(\S+)$", file.read(), re.M)
         stored = sorted(name for name in os.listdir(folder) if name.endswith((".svg", ".html")))
         self.note("each stored picture has its command", stored == sorted(name for _, name in commands), stored)
         for words, name in commands:

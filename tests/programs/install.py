@@ -108,24 +108,32 @@ class Install(Case):
                 count += 1
                 done = self.line(command.removeprefix("./"))
                 wanted = "".join(line + "\n" for line in shown).encode()
-                good = [(int(wanted.startswith(b"broken ")), wanted, b""),
+                is_broken = wanted.startswith(b"broken ") and " | " not in command
+                good = [(int(is_broken), wanted, b""),
                         *((status, b"", wanted) for status in (1, 3) if wanted)]
                 self.note(f"{page}:{number} {command}", (done.returncode, done.stdout, done.stderr) in good, done)
         self.note("commands of the pages", count > 60, count)
 
     def test_listed_commands(self):
-        """Each command in a list ends well, and draws what is stored, if it is the command of a stored picture."""
+        """Each command in a list ends well."""
         count = 0
         for page in PAGES:
             for number, command in listed_commands(lines_of(page)):
                 count += 1
-                words, _, stored = command.partition(" > ")
-                done = self.line(words)
-                is_quiet = re.fullmatch(rb"(picture: [^\n]* takes a while\n)?", done.stderr)
-                good = done.returncode == 0 and done.stdout and is_quiet
-                is_same = not stored.startswith("docs/") or done.stdout == contents(os.path.join(TOP, stored))
-                self.note(f"{page}:{number} {command}", good and is_same, (done.returncode, done.stderr))
-        self.note("commands in lists", count > 40, count)
+                done = self.line(command.partition(" > ")[0])
+                self.note(f"{page}:{number} {command}", done.returncode == 0 and done.stdout and not done.stderr,
+                          (done.returncode, done.stderr))
+        self.note("commands in lists", count > 8, count)
+
+    def test_pictures_drawn_anew(self):
+        """The script of the stored pictures draws all of them, and each as it is stored."""
+        folder = os.path.join(self.target, "docs", "pictures")
+        stored = all_of(folder)
+        for name in stored[folder]:
+            if name.endswith((".svg", ".html")):
+                os.remove(os.path.join(folder, name))
+        done = self.line("sh docs/pictures/draw.sh")
+        self.note("docs/pictures/draw.sh", done.returncode == 0 and all_of(folder) == stored, done)
 
     def test_copy(self):
         """A copy of the folder, called through links, where the folder itself is away."""
