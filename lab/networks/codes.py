@@ -3,6 +3,8 @@ and docs/claim/DEFINITIONS.md defines them."""
 import re
 from dataclasses import dataclass
 
+from lab.networks.network_text import MAX_BARS, MAX_CHANNEL, MAX_DEGREE, MAX_EDGES, MAX_NODES
+
 MEMORY = "free memory, or take a smaller network"
 NETWORK, PLAN, EVENT, ENTRY, RUN = "a network", "a plan", "an event", "a transcript", "a run"
 EITHER, ANY = "an event or an entry of a transcript", "any command"
@@ -38,7 +40,8 @@ CODES = (
          "vertices count from 1 to the NODES of the `p` line; `forestlab network read FILE` takes a text that counts "
          "from 0", LINE),
     Code("F6", NETWORK, "{at} joins a vertex to itself", "take the line out; `forestlab network read FILE` does", LINE),
-    Code("F7", NETWORK, "in {at} NODES is above 20,000, or it names one more than 400,000 different edges",
+    Code("F7", NETWORK,
+         f"in {{at}} NODES is above {MAX_NODES:,}, or it names one more than {MAX_EDGES:,} different edges",
          "take a smaller network: these are the programs' limits", LINE),
     Code("F8", NETWORK, "{at} begins with a word that begins no line of a network",
          "begin a comment with c. A network comes before its plan, events or transcript: has it a `p` line, and "
@@ -47,9 +50,11 @@ CODES = (
     Code("F10", NETWORK, "{at} is an `i` or a `b` line before the `p` line", "put the `p` line first", LINE),
     Code("F11", NETWORK, "in {at} the identifier is 2^128 or more", "take a smaller identifier", LINE),
     Code("F12", NETWORK, "{at} is a second `i` line of its vertex", "leave one of them", LINE),
-    Code("F13", NETWORK, "in {at} the barred channel is 0 or above 2,048", "bar a channel of 1 to 2,048", LINE),
-    Code("F14", NETWORK, "{at} bars one more than 1,024 different channels at its vertex", "bar fewer", LINE),
-    Code("N1", NETWORK, "{at} has more than 1,023 neighbours", "take edges out; no lower vertex has too many", VERTEX),
+    Code("F13", NETWORK, f"in {{at}} the barred channel is 0 or above {MAX_CHANNEL:,}",
+         f"bar a channel of 1 to {MAX_CHANNEL:,}", LINE),
+    Code("F14", NETWORK, f"{{at}} bars one more than {MAX_BARS:,} different channels at its vertex", "bar fewer", LINE),
+    Code("N1", NETWORK, f"{{at}} has more than {MAX_DEGREE:,} neighbours",
+         "take edges out; no lower vertex has too many", VERTEX),
     Code("N2", NETWORK, "{at} have the same identifier",
          "give one of them another by a line `i V NUMBER`; without such a line a vertex has its own number", TWO),
     Code("N3", NETWORK, "memory ran out; the programs write `memory`", MEMORY),
