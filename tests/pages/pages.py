@@ -189,7 +189,7 @@ class Pages(Case):
                 count += 1
                 got = [row[1:1 + len(wanted[0])] for row in rows[:1] + rows[2:]]
                 self.note(f"docs/learn/TUTORIAL.md:{number}", got == wanted, f"wanted {wanted}")
-        self.note("tables of the tutorial", count == 6, count)
+        self.note("tables of the tutorial", count == 5, count)
 
     def check_names(self, page):
         lines = lines_of(page)

@@ -432,7 +432,7 @@ class Schedules(Case):
         with open(os.path.join(TOP, "docs", "learn", "GALLERY.md"), encoding="utf-8") as file:
             gallery = file.read()
         for word, rule in rules.ALL.items():
-            self.note(f"{word} in the gallery", f"\n### `{word}`: " in gallery and f"--without {word}\n" in gallery)
+            self.note(f"{word} in the gallery", f"\n### `{word}`: " in gallery and f"--without {word}" in gallery)
             paths = [os.path.join(TOP, "crates", rule.crate, folder) for folder in ("must-fail", "wrong-bodies")]
             found = [path for path in paths if os.path.exists(os.path.join(path, rule.edit + ".edit"))]
             self.note(f"the wrong body of {word}", len(found) == 1, rule)
