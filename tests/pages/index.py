@@ -66,7 +66,7 @@ class Index(Case):
         """LAYERS says of each crate how many are above it."""
         below = listed()
         wanted = {crate: sum(crate in with_below([other], below) for other in below) - 1 for crate in below}
-        found = dict(re.findall(r"^- `(\w+)` \((\d+) above\):", text_of("docs", "work", "LAYERS.md"), re.M))
+        found = dict(re.findall(r"^\| `(\w+)` \| (\d+) \| ", text_of("docs", "work", "LAYERS.md"), re.M))
         self.assertEqual({crate: int(count) for crate, count in found.items()},
                          {crate: count for crate, count in wanted.items() if crate in found})
         self.assertEqual(wanted.keys() - found.keys(), {"checks", "worker_checks"})
@@ -154,6 +154,9 @@ class Index(Case):
         for name in ("MAX_NODES", "MAX_EDGES", "MAX_DEGREE", "MAX_CHANNEL", "MAX_BARS"):
             with self.subTest(module="lab/networks/network_text.py", limit=name):
                 self.assertEqual(getattr(network_text, name), limits[name])
+        for path, words in (("lab/python/forestplan.py", " <= number <= {} + "), ("lab/studio/page/draw.js", " > {})")):
+            with self.subTest(module=path, limit="MAX_CHANNEL"):
+                self.assertTrue(words.format(limits["MAX_CHANNEL"]) in text_of(path), "has another number")
         readme, definitions = one_line(text_of("README.md")), one_line(text_of("docs", "claim", "DEFINITIONS.md"))
         for name, words in (
             ("MAX_NODES", "nodes"), ("MAX_EDGES", "edges"), ("MAX_DEGREE", "neighbours"), ("MAX_BARS", "barred"),
