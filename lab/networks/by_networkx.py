@@ -9,7 +9,7 @@ import warnings
 from xml.etree import ElementTree
 
 from lab.networks.fields import is_number, refuse_zero, shown, whole
-from lab.networks.listed import Listed, refuse_flags
+from lab.networks.listed import Listed, leave_keys, refuse_flags
 from lab.networks.network_text import MAX_NODES
 from lab.wrong import Wrong
 
@@ -66,6 +66,11 @@ def read(text: str, name: str, form: str) -> Listed:
         raise Wrong(f"{name}: {what} with {counts[0]} nodes and {counts[1]} edges, of which networkx reads "
                     f"{len(graph)} and {len(edges)}: have two nodes one name?")
     found.names_by({str(node): str(label) for node, label in graph.nodes(data="label") if label is not None}, "label")
+    for kind, parts in (("nodes", graph.nodes(data=True)), ("edges", graph.edges(data=True))):
+        keys = {key for *_, data in parts for key, said in data.items() if said not in ("", None)}
+        leave_keys(found, keys - {"label"} if kind == "nodes" else keys, kind)
+    if form in ("pajek", "leda") and edges and not graph.degree(list(graph)[-1]):
+        found.left_out.append("the last node has no edge: do the edges count from 0? The form counts from 1")
     if graph.is_directed():
         found.notes.append("directions aren't read")
     return found
@@ -125,6 +130,8 @@ def counts_of_pajek(text: str) -> tuple[int, int]:
     if nodes is None or sizes[vertices] - vertices - 1 != nodes:
         raise ValueError("another number of vertices than it says")
     names = lines[vertices + 1:vertices + 1 + nodes]
+    if {whole(line.split()[0]) for line in names} != set(range(1, nodes + 1)):
+        raise ValueError("vertices that aren't numbered from 1 on")
     # networkx would drop other quotes, and backslashes.
     if not all(VERTEX.fullmatch(line) for line in names):
         raise ValueError("a vertex whose name isn't one word, or words in double quotes")

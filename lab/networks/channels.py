@@ -4,7 +4,7 @@ import os
 import re
 import sys
 
-from lab.networks import sites
+from lab.networks import site_tables
 from lab.networks.listed import clean
 from lab.networks.network_text import MAX_CHANNEL, shown, whole
 from lab.words import Parser, add_output, text_at, write
@@ -60,7 +60,7 @@ def numbers_in(path: str) -> list[int]:
     """The column of channels of a table."""
     try:
         with open(path, "rb") as file:
-            words, rows, *_ = sites.table(file.read(), path)
+            words, rows, *_ = site_tables.table(file.read(), path)
     except OSError as why:
         raise Wrong(f"{path}: {why.strerror}") from None
     named = [word for word in HEADINGS if word in words]

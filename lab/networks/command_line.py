@@ -84,26 +84,26 @@ COMMANDS = {
     "read": (
         "Reads a network in another form, and writes it in the DIMACS format.",
         "  pairs         two nodes a line, as CSV, with tabs or with blanks; a heading may\n"
-        "                name the columns, and a weight may follow, which isn't read\n"
+        "                name the columns; further ones, as weights, aren't read\n"
         "  adjacency     a node and its neighbours a line, with blanks between\n"
         "  multiline     a node and how many neighbours it has, and then a line for each\n"
         "  graphml, gml  as networkx, yEd, Gephi and igraph write them\n"
         "  json          lists `nodes` and `links`, as networkx writes and D3 reads them\n"
         "  matrixmarket  a sparse matrix of coordinates\n"
-        "  metis         with weights or without, if --as names it\n"
         "  dot           a graph in the language of Graphviz\n"
         "  dimacs        `p` and `e` lines, with mistakes that are mended if that can be\n"
         "The form is guessed unless --as names it. Numbers from 1 on are kept, those from 0\n"
         "on become one more, other names get numbers and stay in lines `c name V NAME`.\n"
-        "Mended, and said: a byte order mark, line ends of a carriage return alone, edges from\n"
-        "a node to itself (left out), and edges that come again or in both directions (once).\n"
+        "Mended, and said: a byte order mark, line ends of a carriage return alone. Left out and\n"
+        "counted: what isn't read, as weights, edges from a node to itself, and edges that come\n"
+        "again. --strict refuses a text of which something is left out.\n"
         "\n"
         "CSV has commas, semicolons or tabs, with decimal points or commas. A table of sites\n"
         "has a heading: site (or name, id), and if there are any lat and lon (degrees), x and\n"
-        "y (km), or easting and northing (m), and identifier. With it the nodes are the sites\n"
-        "of the table, in its order, those without a neighbour too; a pair of another site is\n"
-        "left out, and said with the name that is most alike. A table of bars has the heading\n"
-        "site,channel. Headings may be German, too.",
+        "y (km), or easting and northing (m), and identifier; a unit may follow, as x (m).\n"
+        "With it the nodes are the sites of the table, in its order, those without a neighbour\n"
+        "too; a pair of another site is left out, and said with the name that is most alike. A\n"
+        "table of bars has the heading site,channel. Headings may be German, too.",
         "forestlab network read pairs.csv --sites sites.csv > sites.col\n"
         "  forestlab network read --sites sites.csv --reach 5.5 --bars bars.csv > sites.col",
     ),

@@ -35,6 +35,21 @@ def has_counts(fields: list[list[str]]) -> bool:
     return first[1:] == [len(body)] and max(ends) <= first[0]
 
 
+def is_metis(text: str) -> bool:
+    """Whether it has the numbers of nodes and of edges, perhaps the kind of weights in digits of 0 and 1, and then a
+    line of each node with its neighbours, each edge at both ends."""
+    rows = [line.split() for line in text.split("\n") if not line.lstrip().startswith("%")]
+    rows = rows[next((at for at, row in enumerate(rows) if row), len(rows)):]
+    head = [whole(field) for field in rows[0]] if rows else []
+    if not 2 <= len(head) <= 4 or None in head or any(rows[head[0] + 1:]) or len(rows) <= head[0]:
+        return False
+    kind = (rows[0] + ["0"])[2].rjust(3, "0")
+    if len(kind) > 3 or set(kind) - set("01"):
+        return False
+    before = int(kind[0]) + int(kind[1]) * (head[3:] or [1])[0]
+    return sum(map(len, rows[1:])) == head[0] * before + 2 * head[1] * (1 + int(kind[2]))
+
+
 def have_counts(fields: list[list[str]]) -> bool:
     """Whether each row of two has a number, and is followed by as many rows of one; some by one or more."""
     left, most = 0, 0
@@ -58,6 +73,16 @@ def counts_neighbours(fields: list[list[str]]) -> bool:
         return False
     after = {field for row in fields for field in row[2:] if field}
     return bool(after) and (any(len(row) > 3 for row in fields) or after <= {row[0] for row in fields})
+
+
+def are_degrees(fields: list[list[str]]) -> bool:
+    """Whether each line may be a node of its own and how many neighbours it has: fewer than there are lines, with an
+    even sum. A tree may look so, too, if each line names a node before its parent; only its root has no line."""
+    if len(fields) < 3 or any(len(row) != 2 or None in map(whole, row) for row in fields):
+        return False
+    nodes, counts = {row[0] for row in fields}, [whole(row[1]) for row in fields]
+    are_few = len(nodes) == len(fields) > max(counts) and sum(counts) % 2 == 0
+    return are_few and len({row[1] for row in fields} - nodes) > 1
 
 
 def is_by_line(rows: list[tuple[int, list[str]]]) -> bool:

@@ -26,7 +26,7 @@ def read(text: str, name: str) -> Listed:
     A line `i V NUMBER` gives V an identifier, and `b V CHANNEL` bars a channel at V."""
     found = Listed("DIMACS")
     # The word after `p` and the number of edges, if there is a `p` line.
-    head, passed = (None, None), 0
+    head, passed, weights = (None, None), 0, 0
     for line, raw in enumerate(text.split("\n"), 1):
         fields = [field for field in fields_of(raw) if field]
         if not fields or fields[0] in SKIPPED:
@@ -52,11 +52,14 @@ def read(text: str, name: str) -> Listed:
                                              f"`{shown(raw.strip())}`; `a V W WEIGHT` has a weight")
             if fields[0] == "a":
                 refuse_zero((fields + [None] * 4)[3], f"{name} line {line}")
+                weights += len(fields) > 3
             found.edges.append((line, str(whole(ends[0])), str(whole(ends[1]))))
     if found.nodes is None:
         found.left_out.append("there is no `p` line, so nodes without an edge aren't known")
     if passed:
-        found.notes.append(f"lines `n`, `d`, `v` and `x` aren't read: {passed}")
+        found.left_out.append(f"lines `n`, `d`, `v` and `x` not read: {passed}")
+    if weights:
+        found.left_out.append(f"weights of lines `a` not read: {weights}")
     there = len({frozenset(ends) for _, *ends in found.edges})
     if head[1] not in (None, there, 2 * there, len(found.edges)):
         found.left_out.append(f"the `p` line says {head[1]:,} edges, and the text has {there:,}: is it cut?")

@@ -3,7 +3,7 @@ subgraph in braces at an end of an edge means all its nodes."""
 import re
 
 from lab.networks.fields import refuse_zero
-from lab.networks.listed import Listed, refuse_flags
+from lab.networks.listed import Listed, leave_keys, refuse_flags
 from lab.networks.network_text import MAX_EDGES, shown
 from lab.wrong import Wrong, wrong_line
 
@@ -97,13 +97,14 @@ def begins(text):
 class Reader:
     """A place in the list of tokens, and what was read before it: `edges` as (line, name, name), `nodes` as
     (line, name), once and again, the attribute `name` of nodes that have one, whether some statement `has_lists`, how
-    many `ports` there are that are no points of the compass, what attributes of edges have `said`, and their
-    `defaults`, also behind the subgraph that has them."""
+    many `ports` there are that are no points of the compass, the `keys` of nodes, what attributes of edges have `said`,
+    and their `defaults`, also behind the subgraph that has them."""
 
     def __init__(self, text, name):
         self.name, self.at, self.tokens, self.depth = name, 0, list(tokens_of(text, name)), 0
         self.edges, self.nodes, self.labels, self.is_directed = [], [], {}, False
         self.has_lists, self.ports, self.said, self.statements_read, self.defaults = False, 0, {}, 0, {}
+        self.keys = set()
 
     def next(self):
         """The next token; beyond the last one it is refused."""
@@ -189,6 +190,8 @@ class Reader:
         line, said = self.tokens[self.at - 1][0], self.attributes()
         if not is_node:
             self.see_edge(line, said)
+        else:
+            self.keys |= said.keys()
         if is_node and len(names) == 1 and "name" in said:
             self.labels[names[0]] = said["name"]
         return names
@@ -252,6 +255,7 @@ def read(text: str, name: str) -> Listed:
     notes = ["directions aren't read"] if reader.is_directed else []
     found = Listed("DOT", reader.edges, reader.nodes, notes, is_exact=True)
     refuse_flags(found, reader.said, name)
+    leave_keys(found, reader.keys - {"name"}, "nodes")
     if reader.ports:
         found.left_out.append(f"ports of nodes aren't read: {reader.ports} (a name with a colon needs quotes)")
     found.names_by(reader.labels, "name")

@@ -39,10 +39,10 @@ def refuse_columns(titles: list[str], body: Rows, columns: tuple[int, int], know
                         "pair (if it has none: --as pairs)")
 
 
-def columns_of_words(titles: list[str], body: Rows, columns: tuple[int, int], name: str) -> list[str]:
-    """The titles of further columns whose words differ, so that they may say which lines count. One that says yes and
-    no, and weights of which some are zero, are refused: a line may mean that there is no edge."""
-    found, (one, other) = [], columns
+def refuse_signs(titles: list[str], body: Rows, columns: tuple[int, int], name: str) -> None:
+    """Refuses further columns that may say which lines count, since a line may mean that there is no edge: one that
+    says yes and no, and weights of which some are zero."""
+    one, other = columns
     rows = [row for row in body if len(row[1]) > other and row[1][one] != row[1][other]]
     for at in sorted(set(range(max((len(fields) for _, fields in rows), default=0))) - set(columns)):
         title = titles[at] if at < len(titles) else ""
@@ -58,9 +58,6 @@ def columns_of_words(titles: list[str], body: Rows, columns: tuple[int, int], na
         elif words <= FLAGS and words & (NOT | {"", "-"}):
             raise Wrong(f"{name}: the {column_of(title, at)} may say which lines are edges: leave out those that are "
                         "none (if each is one: --as pairs)")
-        elif len(words) > 1:
-            found.append(title or f"the {at + 1}th")
-    return found
 
 
 def column_of(title: str, at: int) -> str:
@@ -87,17 +84,20 @@ def refuse_alone(pairs: Pairs, is_unknown: bool, is_closed: bool, name: str) -> 
 
 def refuse_shape(pairs: Pairs, name: str) -> None:
     """Refuses pairs of which each name comes once, if it is a device's and a port's; and those of which one column has
-    each name twice and no name of the other, as numbers of edges beside their two ends."""
-    ones, others = Counter(one for _, one, other in pairs if other), Counter(other for _, _, other in pairs if other)
-    if ones.keys() & others.keys():
-        return
+    each name twice, as numbers of edges beside their two ends: it has no name of the other, or few if the lines of each
+    number are neighbours."""
+    columns = [[pair[at] for pair in pairs if pair[2]] for at in (1, 2)]
+    ones, others = map(set, columns)
+    both = len(ones & others)
     stems = [PORT.fullmatch(end) for end in (*ones, *others)]
-    if len(ones) == len(others) == len(pairs) > 1 and all(stems) and len({stem[1] for stem in stems}) < len(stems):
+    if not both and len(stems) == 2 * len(pairs) > 2 and all(stems) and len({stem[1] for stem in stems}) < len(stems):
         raise unsure(name, f"each name comes once, as `{shown(stems[0][0])}`, so they may be ports of the nodes", PAIRS)
-    for times in (ones, others):
-        if len(times) > 1 and set(times.values()) == {2}:
-            raise unsure(name, f"one column has each name twice, as `{shown(next(iter(times)))}`, so they may number "
-                               "edges, each beside its two ends", PAIRS)
+    for ends in columns:
+        times = Counter(ends)
+        if len(times) > 1 and set(times.values()) == {2} and (
+                not both or ends[::2] == ends[1::2] and 2 * both < len(times)):
+            raise unsure(name, f"one column has each name twice, as `{shown(ends[0])}`, so they may number edges, each "
+                               "beside its two ends", PAIRS)
 
 
 def refuse_kinds(titles: list[str], body: Rows, name: str) -> None:

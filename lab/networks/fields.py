@@ -40,6 +40,13 @@ def why_no_number(fields, names):
     return None
 
 
+def columns_left(titles: list[str], rows: list[tuple[int, list[str]]], read: set[int | None]) -> str:
+    """What is said of the columns that aren't `read` and have something in some row; empty if there is none."""
+    there = {at for _, fields in rows for at, field in enumerate(fields) if field} - read
+    named = [titles[at] if at < len(titles) and titles[at] else f"number {at + 1}" for at in sorted(there)]
+    return f"{len(named)} column{'s' * (len(named) > 1)} not read: {shown(', '.join(named))}" if named else ""
+
+
 @lru_cache(1 << 16)
 def value_of(field: str) -> float | None:
     """A number with a point or a comma before its fraction, as spreadsheets of some countries write it, or with the

@@ -3,7 +3,7 @@ import html
 import re
 
 from lab.networks.fields import refuse_zero, shown
-from lab.networks.listed import HIDDEN, Listed, refuse_flags
+from lab.networks.listed import HIDDEN, Listed, leave_keys, refuse_flags
 from lab.wrong import Wrong, wrong_line
 
 BEGINS = re.compile(
@@ -100,6 +100,8 @@ def read(text: str, name: str) -> Listed:
             if hidden:
                 raise wrong_line(name, line, f"an edge that is {hidden}: leave it out if it is none")
     refuse_flags(found, flags_of(graphs[0]), name)
+    keys = {inner for _, key, entries in graphs[0] if key == "node" for _, inner, _ in entries}
+    leave_keys(found, keys - {*LABELS, "graphics", "isgroup", "gid"}, "nodes")
     for line, *ends in found.edges:
         for end in ends:
             if end not in lines:
@@ -122,10 +124,10 @@ def read(text: str, name: str) -> Listed:
 
 def flags_of(graph: list) -> dict[str, set[str]]:
     """What each key of edges says, by key."""
-    edges = [{known: value for _, known, value in entries if isinstance(value, str)}
+    edges = [{known: value.lower() or "null" if isinstance(value, str) else known for _, known, value in entries}
              for _, key, entries in graph if key == "edge" and isinstance(entries, list)]
     keys = {key for edge in edges for key in edge} - {"source", "target"}
-    return {key: {edge.get(key, "").lower() for edge in edges} for key in keys}
+    return {key: {edge.get(key, "") for edge in edges} for key in keys}
 
 
 def refuse_others(tree: list, graph: list, name: str) -> None:

@@ -2,7 +2,7 @@
 from xml.etree import ElementTree
 
 from lab.networks.fields import refuse_zero, shown
-from lab.networks.listed import Listed, refuse_flags
+from lab.networks.listed import Listed, leave_keys, refuse_flags
 from lab.wrong import Wrong
 
 # The names of data that say where a node is: networkx and Gephi write them. y grows downwards there.
@@ -42,6 +42,8 @@ def read(text: str, name: str) -> Listed:
     for at, element in enumerate(graphs[0].iter(), 1):
         read_element(found, name, at, element, words, said)
     refuse_flags(found, flags_of(root, graphs[0], words), name)
+    leave_keys(found, {words.get(data.get("key"), "") for node in graphs[0].iter() if plain(node.tag) == "node"
+                       for data in node if plain(data.tag) == "data"} - {*LABELS, *ACROSS, *DOWN}, "nodes")
     listed = {node for _, node in found.alone}
     if len(listed) != len(found.alone):
         raise Wrong(f"{name}: two nodes have one id")
@@ -62,7 +64,7 @@ def flags_of(root: ElementTree.Element, graph: ElementTree.Element, words: dict)
     """What each key says of the edges, and its default of those of which it says nothing."""
     defaults = {words[key.get("id")]: (part.text or "").strip().lower() for key in root.iter()
                 if plain(key.tag) == "key" and key.get("for") != "node" for part in key if plain(part.tag) == "default"}
-    edges = [{words.get(data.get("key"), ""): (data.text or "").strip().lower() for data in edge
+    edges = [{words.get(data.get("key"), ""): (data.text or "").strip().lower() or "null" for data in edge
               if plain(data.tag) == "data"} for edge in graph.iter() if plain(edge.tag) == "edge"]
     keys = {key for edge in edges for key in edge}
     return {key: {edge.get(key, defaults.get(key, "")) for edge in edges} for key in keys - {""}}

@@ -14,7 +14,8 @@ ENDS = {"source": "target", "from": "to", "src": "dst", "start": "end", "node": 
 NOUN = "(site|node|station|transmitter|mast|cell|vertex|id|standort|sender|knoten|zelle|anlage)"
 SECOND = {"a": "b", "1": "2"}
 # Words that make nobody think of a site, in a first row.
-TITLES = {*ENDS, *ENDS.values(), *NOUN[1:-1].split("|"), "name", "nodes", "sites", "edge", "other", "label"}
+TITLES = {*ENDS, *ENDS.values(), *NOUN[1:-1].split("|"), "name", "nodes", "sites", "edge", "edges", "other", "label",
+          "graph", "network", "netz", "netzwerk", "links", "pairs", "list", "liste", "table", "tabelle", "kanten"}
 # Words in place of a number that isn't known.
 MISSING = {"", "-", "?", "n/a", "na", "nan", "none", "null", "inf", "unknown", "unbekannt", "k.a.", "k. a."}
 # Parts of headings of tables that list channels.
@@ -35,26 +36,28 @@ class Heading:
     doubt: Wrong | None = None
 
 
-def heading_of(rows: list, name: str, heading: bool | None) -> Heading:
+def heading_of(rows: list, separator: str | None, name: str, heading: bool | None) -> Heading:
     """The heading of rows. `heading` is what the caller knows of it; if it isn't known and the rows don't show it, they
     are refused."""
     line, first = rows[0]
     again = [row for row in rows[1:] if row[1][0].casefold() == first[0].casefold() and folded(row[1]) == folded(first)]
     repeated = {number for number, _ in again}
     body = [row for row in rows[1:] if row[0] not in repeated]
-    columns, is_guess = None, False
+    columns, is_guess, said = None, False, []
     if heading is None:
         columns = columns_named(rows[0], body, name)
         heading = columns is not None
         if not heading:
             refuse_tables(first, name)
             heading = is_guess = shows_numbers(first, body, name, line)
-        if not heading and may_be_heading(first, body):
+        if not heading and may_be_heading(first, rows[1:]):
             return Heading(False, None, body or rows, doubt=unsure(name, line, first))
+        if not heading and separator and are_columns(first, rows[1:]):
+            said = [f"line {line} (`{shown(','.join(first))}`) is taken for a pair, no heading (else: --heading yes)"]
     elif heading:
         columns = one_of(all_ends_named(first), first, name)
     if not heading:
-        return Heading(False, None, rows)
+        return Heading(False, None, rows, said)
     found = Heading(True, columns, body)
     if is_guess:
         found.left_out.append(f"line {line} (`{shown(','.join(first))}`) is taken for a heading (else: --heading no)")
@@ -142,10 +145,20 @@ def shows_numbers(first: list[str], body: list, name: str, line: int) -> bool:
 
 
 def may_be_heading(first: list[str], body: list) -> bool:
-    """Whether the words of the first row come in no other; or one of them is a word that headings have."""
+    """Whether the words of the first row come in no other, or one of them, which headings and titles have; or they
+    number the columns, and it isn't first by the order of the rows."""
     ends = [end for _, fields in body for end in fields[:2] if end]
-    if len(first) < 2 or set(first[:2]) & set(ends):
+    if are_columns(first, body):
+        order = [tuple(map(whole, fields[:2])) for _, fields in body if len(fields) > 1 and all(fields[:2])]
+        return None in map(whole, ends) or not {"0", "1"} & set(ends) or order != sorted(order)
+    new = [word for word in first[:2] if word not in ends]
+    if len(first) < 2 or any(map(is_number, first)):
         return False
-    if any(map(is_number, first)):
-        return first == [str(at) for at in range(len(first))] and bool(ends)
-    return any(word in TITLES for word in folded(first[:2])) or bool(ends)
+    return any(word.casefold() in TITLES for word in new) or len(new) == 2 and bool(ends)
+
+
+def are_columns(first: list[str], body: list) -> bool:
+    """Whether the first row has the numbers of its columns from 0 on, as pandas writes them, and no other is this
+    pair."""
+    return len(first) > 1 and first == [str(at) for at in range(len(first))] and bool(body) and not any(
+        set(fields[:2]) == {"0", "1"} for _, fields in body)

@@ -3,10 +3,10 @@ import codecs
 import io
 import re
 import unicodedata
-from collections.abc import Callable
+from collections.abc import Callable, Iterable
 from dataclasses import dataclass, field
 
-from lab.networks.fields import shown, value_of
+from lab.networks.fields import shown
 from lab.wrong import Wrong, wrong_line
 
 # More bytes than a network within the limits needs in any form.
@@ -34,14 +34,11 @@ NO_END = "its last line has no line end: is the text cut?"
 LOOK_ALIKE = str.maketrans("\u0410\u0412\u0415\u041a\u041c\u041d\u041e\u0420\u0421\u0422\u0425\u0430\u0435\u043e\u0440"
                            "\u0441\u0443\u0445\u0391\u0392\u0395\u0396\u0397\u0399\u039a\u039c\u039d\u039f\u03a1\u03a4"
                            "\u03a7", "ABEKMHOPCTXaeopcyxABEZHIKMNOPTX")
-# Titles that say whether a row or an edge counts.
-STATUS = re.compile("status|state|zustand|activ|aktiv|valid|g\u00fcltig|delet|gel\u00f6scht|enabl|disabl|remov|inuse|"
-                    "betrieb|allow|erlaubt|free|frei|barred|gesperrt|exist|visib|^ok$")
-NO_FLAGS = ("key", "networkx_key", "id", "index", "group", "type", "")
-# Keys that only name an edge.
-NAMES = ("key", "networkx_key", "id", "index", "label", "name", "")
+# Keys that only number a node or an edge, and those whose 0 and 1 say something else than whether it counts.
+NUMBERS = ("key", "networkx_key", "id", "index", "")
+NO_FLAGS = (*NUMBERS, "group", "type")
 # Words that say no, and those that say yes or no.
-NOT = {"no", "n", "nein", "false", "f", "falsch", "off", "0"}
+NOT = {"no", "n", "nein", "false", "f", "falsch", "off", "0", "null"}
 FLAGS = NOT | {"yes", "y", "ja", "j", "true", "t", "wahr", "w", "on", "x", "1", "", "-"}
 # What is said of an edge that is there and doesn't count.
 HIDDEN = ("hidden", "deleted", "removed", "disabled", "ignored")
@@ -98,15 +95,19 @@ class Listed:
 
 
 def refuse_flags(found: Listed, said: dict[str, set[str]], name: str) -> None:
-    """Refuses edges of which a key says yes of some and no of others: these may be none. A key that may say it in
-    another way is counted: a status, and one that says different things of edges, not numbers above zero alone."""
+    """Refuses edges of which a key says yes of some and no, or nothing at all, of others: these may be none. All keys
+    are counted."""
     for key, words in said.items():
         if len(words) > 1 and words <= FLAGS and words & NOT and key not in NO_FLAGS:
             raise Wrong(f"{name}: the key `{shown(key)}` may say which edges count: leave out those that are none, and "
                         "the key of the others")
-        is_measure = all((value_of(word) or 0) > 0 for word in words)
-        if len(words) > 1 and (STATUS.search(key) or key not in NAMES and not is_measure):
-            found.left_out.append(f"the key `{shown(key)}` may say which edges count, and isn't read")
+    leave_keys(found, said, "edges")
+
+
+def leave_keys(found: Listed, keys: Iterable[str], what: str) -> None:
+    """Counts keys of nodes or edges that aren't read, whatever they say."""
+    if left := sorted(set(keys) - set(NUMBERS)):
+        found.left_out.append(f"{len(left)} key{'s' * (len(left) > 1)} of {what} not read: {shown(', '.join(left))}")
 
 
 def clean(name: str) -> str:

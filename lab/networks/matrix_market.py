@@ -46,7 +46,7 @@ def read(text: str, name: str) -> Listed:
     if zeros:
         found.left_out.append(f"entries of value zero left out: {len(zeros)}, first at line {zeros[0]}")
     if words[3] != "pattern":
-        found.notes.append("values, as weights are, aren't read")
+        found.left_out.append("values not read, as weights are")
     return found
 
 

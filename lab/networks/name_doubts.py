@@ -8,7 +8,7 @@ from collections import Counter
 
 from lab.networks.fields import is_number, shown, whole
 from lab.networks.headings import ENDS, MISSING, NOUN, ends_named
-from lab.wrong import Wrong, wrong_line
+from lab.wrong import wrong_line
 
 Pairs = list[tuple[int, str, str]]
 IF_NAME = " (if it is a name: --as pairs)"
@@ -20,7 +20,8 @@ TWICE = re.compile(r"--|: |\.\.|['&+,;]{2}|(?<!:)//|^\d+\. |^\w{1,3}\) |&#?\w+;|
 LIST, WORDS = re.compile(r"[\s,;|/&+]+"), re.compile(r"\s*([,;|/&+]|\b(?:and|und|or|oder|et)\b)\s*")
 COMMENT, AFTER = re.compile(r"(^|.*\s)([#%!]+|//|--|/\*)\s"), re.compile(r"(.*?\S)\s*([#%!(\[]|//|--|/\*)")
 # What stands between a node and its neighbours where each has a line of its own, and between the ends of one pair.
-BETWEEN, BRACKETS = (":", " - ", "@", "/", "&", "+", "#", "%", ";", ","), ("(", "[", "{")
+# Those that are `LOOSE`, and brackets, are rarer between names than in them.
+BETWEEN, LOOSE, BRACKETS = (":", " - ", "@", "#", "%", ";", ","), ("/", "&", "+"), ("(", "[", "{")
 JOINED = re.compile(r"([^\s:/\u2010-\u2015-][^:/\u2010-\u2015-]*?)\s?[:/\u2010-\u2015-]\s?([^\s:/\u2010-\u2015-]+)|"
                     r"(\S+) (\S+)")
 # A number of the line in front, and a measure after a name, as weights with their unit are.
@@ -42,8 +43,9 @@ NOTHING = MISSING | {"true", "false", "wahr", "falsch", "nil", "dto", "dto.", "d
                      "id."}
 
 
-def refuse_names(pairs: Pairs, separator: str | None, name: str) -> None:
-    """Refuses names that may be more than a name, or none; and rows that name two columns."""
+def refuse_names(pairs: Pairs, separator: str | None, name: str) -> list[str]:
+    """Refuses names that may be more than a name, or none; and rows that name two columns. Returns what is counted:
+    words that may be a title, and names with a mark that lists have, too, which names of one column alone have."""
     lines: dict[str, int] = {}
     for line, *ends in pairs:
         for end in filter(None, ends):
@@ -51,19 +53,27 @@ def refuse_names(pairs: Pairs, separator: str | None, name: str) -> None:
     times = Counter(end for _, *ends in pairs for end in ends)
     ones, others = {one for _, one, _ in pairs}, {other for _, _, other in pairs} - {""}
     usual = marks_of(ones) & marks_of(others)
+    lists = {end: WORDS.split(end)[::2] for end in lines if WORDS.search(end)}
+    # Parts that come first in one name and later in another are names of a list, too.
+    moved = {parts[0] for parts in lists.values()} & {part for parts in lists.values() for part in parts[1:]} - {""}
+    known = lines.keys() | moved
     for end, line in lines.items():
         is_bare = BARE.fullmatch(end) and end.isascii() and " " not in end and not TWICE.search(end)
         if not is_bare or is_number(end) or end.casefold() in NOTHING or DATE.search(end) or NEGATED.fullmatch(end):
-            refuse_name(end, line, lines, usual, name)
+            refuse_name(end, line, known, usual, name)
         if separator is None and times[end] == 1 and re.match(r"[#%][^\W\d]", end):
             raise wrong_line(name, line, f"`{shown(end)}` may be a comment{IF_NAME}")
     refuse_twins(lines, name)
     if others:
         refuse_marks(ones, others, pairs[0], name)
+    said = []
     if separator is None:
-        refuse_strays(pairs, times, name)
+        said = refuse_strays(pairs, times, name)
         refuse_single(pairs, name)
     refuse_headings(pairs, lines, name)
+    loose = [end for end in lines if not usual.issuperset(WORDS.split(end)[1::2])]
+    return said + ([f"{len(loose):,} name{'s' * (len(loose) > 1)} may be a list, first at line {lines[loose[0]]}: "
+                    f"{shown(loose[0])}"] if loose else [])
 
 
 def marks_of(names: set[str]) -> set[str]:
@@ -72,32 +82,34 @@ def marks_of(names: set[str]) -> set[str]:
             for mark in (*WORDS.split(name)[1::2], name[-1])}
 
 
-def is_row_of(end: str, lines: dict[str, int]) -> bool:
+def is_row_of(end: str, known: set[str]) -> bool:
     """Whether a name is several others with blanks between them, each of which may have blanks."""
     words = end.split(" ")
     begun = {0}
     for to in range(1, len(words) + 1):
-        if any(to - at < len(words) and " ".join(words[at:to]) in lines for at in begun):
+        if any(to - at < len(words) and " ".join(words[at:to]) in known for at in begun):
             begun.add(to)
     return len(words) in begun
 
 
-def refuse_name(end: str, line: int, lines: dict[str, int], usual: set[str], name: str) -> None:
-    """Refuses a name that may be several, or have a comment after it, beside the `lines` of all names; or none. Marks
-    that first ends and second ones have are `usual` in names."""
+def refuse_name(end: str, line: int, known: set[str], usual: set[str], name: str) -> None:
+    """Refuses a name that may be several, or have a comment after it, beside all that are `known`, or none. A name with
+    a mark that lists have is one if a part of it is known, and with a semicolon or a comma also unless first ends and
+    second ones have them, so that they are `usual` in names."""
     parts = list(filter(None, LIST.split(end)))
     marks, of_list = WORDS.split(end)[1::2], [part for part in WORDS.split(end)[::2] if part]
-    is_list = len(of_list) > 1 and (not usual.issuperset(marks) or any(part in lines for part in of_list))
+    is_list = len(of_list) > 1 and (not usual.issuperset(set(marks) & set("|;,")) or any(
+        part in known for part in of_list))
     if "|" in end or is_list or len(parts) > 1 and (
-            all(map(is_number, parts)) or all(part in lines for part in parts) or is_row_of(end, lines)):
+            all(map(is_number, parts)) or all(part in known for part in parts) or is_row_of(end, known)):
         raise wrong_line(name, line, f"`{shown(end)}` may name more than one node: write a line for each pair{IF_NAME}")
     after = AFTER.match(end)
-    if COMMENT.match(end) or after and after[1] in lines:
+    if COMMENT.match(end) or after and after[1] in known:
         raise wrong_line(name, line, f"`{shown(end)}` may have a comment in it{IF_NAME}")
     if end.casefold() in NOTHING or NO_VALUE.fullmatch(end):
         raise wrong_line(name, line, f"`{shown(end)}` may mean that there is no name: leave the field empty then"
                                      f"{IF_NAME}")
-    is_code = re.fullmatch(r"\d+[eE]\d+", end) and not all(map(is_number, lines))
+    is_code = re.fullmatch(r"\d+[eE]\d+", end) and not all(map(is_number, known))
     if is_number(end) and whole(end) is None and not is_code:
         raise wrong_line(name, line, f"`{shown(end)}` is a number with a sign or a fraction, and may be no node"
                                      f"{IF_NAME}")
@@ -145,7 +157,7 @@ def refuse_marks(ones: set[str], others: set[str], first: tuple[int, str, str], 
 def has_more(names: set[str], against: set[str]) -> bool:
     """Whether all names have the same mark inside or at the end, a number in front, or a measure or a number after
     them, and none of the others has."""
-    marks = BETWEEN + (BRACKETS if len(names) > 2 else ())
+    marks = BETWEEN + (LOOSE + BRACKETS if len(names) > 2 else ())
     if any(all(mark in one[1:] for one in names) and not any(mark in one for one in against) for mark in marks):
         return True
     for kind in (IN_ORDER, MEASURE, PADDED):
@@ -171,16 +183,22 @@ def are_pairs(halves: list) -> bool:
         "-" in found[0] for found in halves)
 
 
-def refuse_strays(pairs: Pairs, times: Counter, name: str) -> None:
+def refuse_strays(pairs: Pairs, times: Counter, name: str) -> list[str]:
     """Refuses a pair between blanks by itself with a name that looks like no other, as words do among names with
-    digits: it may be a title or a greeting."""
+    digits: it may be a title or a greeting; and a first pair with such a name. Words that look like the others are
+    counted."""
     apart = [pair for pair in pairs if all(times[end] == 1 for end in pair[1:] if end)]
+    if len(apart) == len(pairs):
+        return []
     alone = {end for _, *ends in apart for end in ends}
-    kinds = {look_of(end) for end in times if end and end not in alone}
-    for line, *ends in apart if len(apart) < len(pairs) else ():
-        if not kinds.issuperset(map(look_of, filter(None, ends))):
+    kinds = {look_of(end) for end in times if end and end not in alone and end not in pairs[0][1:]}
+    for line, *ends in sorted({pairs[0], *apart}) if kinds else ():
+        if not kinds.issuperset(look_of(end) for end in ends if end and times[end] == 1):
             raise wrong_line(name, line, f"`{shown(' '.join(ends))}` may be no pair of nodes, beside the other lines "
                                          "(if it is one: --as pairs)")
+    words = [pair for pair in apart if pair[2] and all(map(str.isalpha, pair[1:]))]
+    return [f"line {words[0][0]} (`{shown(' '.join(words[0][1:]))}`) is taken for a pair, and may be a title: its "
+            "words come in no other line"] if words else []
 
 
 def look_of(end: str) -> tuple[bool, bool, bool, bool]:
@@ -192,7 +210,7 @@ def look_of(end: str) -> tuple[bool, bool, bool, bool]:
 def refuse_single(pairs: Pairs, name: str) -> None:
     """Refuses rows with blanks between two names, each of which has the same mark once: it may separate them."""
     rows = [f"{one} {other}" for _, one, other in pairs]
-    mark = next((mark for mark in BETWEEN if all(row.count(mark) == 1 for row in rows)), None)
+    mark = next((mark for mark in BETWEEN + LOOSE if all(row.count(mark) == 1 for row in rows)), None)
     if mark and len(rows) > 2:
         raise wrong_line(name, pairs[0][0], f"`{shown(rows[0])}` may be two names with `{mark}` between them: write a "
                                             f"comma there{IF_NAME}")

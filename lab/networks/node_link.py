@@ -1,9 +1,8 @@
 """A network in JSON as nodes and links: networkx writes it (`node_link_data`), and D3 reads it."""
 import json
-import re
 
 from lab.networks.fields import refuse_zero, shown
-from lab.networks.listed import HIDDEN, Listed, refuse_flags
+from lab.networks.listed import HIDDEN, Listed, leave_keys, refuse_flags
 from lab.networks.unread import unread
 from lab.wrong import Wrong
 
@@ -14,8 +13,8 @@ READERS = {"adjacency": (list, "G = nx.adjacency_graph(json.load(open(FILE)))"),
 LINKS = ("links", "edges")
 # How networkx and D3 name the ends of a link, and how vis.js does.
 ENDS = (("source", "target"), ("from", "to"))
-# Keys of a list that is one page of several.
-MORE = re.compile(r"(next|has|total|num)?[ _-]?(next|more|pages?|cursor|offset|page[ _-]?token)|next.*|.*truncated")
+# Keys that are read, of the whole, of its nodes and of their links.
+OF_GRAPHS, OF_NODES = {"directed", "multigraph", "graph", "nodes", *LINKS}, {"id", "key", "label", "name", "x", "y"}
 OF_LISTS = "G = nx.from_dict_of_lists(json.load(open(FILE)))"
 
 
@@ -80,13 +79,8 @@ def read(text: str, name: str) -> Listed:
     refuse_flagged(found, nodes, links, name)
     refuse_other_ends(found, ids, links, labels, "multigraph" in graph, name)
     found.names_by(labels, "label or name")
-    lists = [key for node in nodes for key, value in node.items() if isinstance(value, list) and value and (
-        not links or names.issuperset(word_of(one) for one in value))]
-    if lists:
-        found.left_out.append(f"lists of nodes aren't read: {shown(lists[0])}")
-    more = next((key for key in graph if MORE.fullmatch(key.casefold())), None)
-    if more:
-        found.left_out.append(f"the key `{shown(more)}` may say that there are more pages of it")
+    leave_keys(found, {key for node in nodes for key in node} - OF_NODES, "nodes")
+    leave_keys(found, set(graph) - OF_GRAPHS, "the graph")
     if graph.get("directed") is True:
         found.notes.append("directions aren't read")
     return found
@@ -117,7 +111,8 @@ def read_node(found: Listed, node: dict, one: str, labels: dict) -> None:
 def refuse_flagged(found: Listed, nodes: list, links: list, name: str) -> None:
     """Refuses nodes and links of which some may not count, by a key that says so."""
     keys = {key for link in links for key in link} - {word for words in ENDS for word in words}
-    said = {key: {json.dumps(link.get(key, "")).strip('"').lower() for link in links} for key in keys}
+    said = {key: {(json.dumps(link[key]).strip('"').lower() or "null") if key in link else "" for link in links}
+            for key in keys}
     refuse_flags(found, said, name)
     hidden = next((key for one in (*links, *nodes) for key in HIDDEN if one.get(key) is True), None)
     if hidden:

@@ -3,9 +3,8 @@ can be one of them alone."""
 import re
 
 from lab.networks.doubts import (
-    NEIGHBOURS, PAIRS, columns_of_words, refuse_alone, refuse_columns, refuse_kinds, refuse_others, refuse_shape,
-    unsure)
-from lab.networks.fields import is_number
+    NEIGHBOURS, PAIRS, refuse_alone, refuse_columns, refuse_kinds, refuse_others, refuse_shape, refuse_signs, unsure)
+from lab.networks.fields import columns_left, is_number
 from lab.networks.headings import heading_of
 from lab.networks.lines import Rows, Table, table_of, uneven
 from lab.networks.listed import Listed, clean
@@ -122,7 +121,7 @@ def are_mutual(rows: Rows) -> bool:
 
 def read_pairs(table: Table, name: str, heading: bool | None, is_sure: bool) -> Listed:
     """The pairs in two columns. Unless it `is_sure` that they are pairs, they have to look like nothing else."""
-    head = heading_of(table.rows, name, heading)
+    head = heading_of(table.rows, table.separator, name, heading)
     found = Listed("pairs with a heading" if head.is_there else "pairs", left_out=head.left_out)
     titles = table.rows[0][1] if head.is_there else []
     if not head.body:
@@ -138,15 +137,10 @@ def read_pairs(table: Table, name: str, heading: bool | None, is_sure: bool) -> 
              for line, fields in head.body]
     if not is_sure:
         refuse_alone(pairs, heading is None, is_closed(head.body), name)
-        refuse_names(pairs, table.separator, name)
+        found.left_out += refuse_names(pairs, table.separator, name)
         refuse_shape(pairs, name)
         refuse_columns(titles, head.body, columns, {end for _, *ends in pairs for end in ends}, name)
-        words = columns_of_words(titles, head.body, columns, name)
-        if words:
-            found.left_out.append("a further column of words isn't read, which may say what lines count: "
-                                  f"{shown(', '.join(words))}")
-        elif not titles and may_be_ends(head.body, columns):
-            found.left_out.append("a further column of numbers isn't read, which may be nodes (if none is: --as pairs)")
+        refuse_signs(titles, head.body, columns, name)
     found.edges = [pair for pair in pairs if pair[2]]
     found.alone = [pair[:2] for pair in pairs if not pair[2]]
     beyond = next((row for row in head.body if not is_sure and len(row[1]) > max(columns) and not row[1][columns[1]]
@@ -154,20 +148,9 @@ def read_pairs(table: Table, name: str, heading: bool | None, is_sure: bool) -> 
     if beyond and head.columns is None:
         raise wrong_line(name, beyond[0], f"one node and more fields, as sums have: `{shown(' '.join(beyond[1]))}` (if "
                                           "it is a node: --as pairs)")
-    if any(any(fields[2:]) for _, fields in head.body):
-        others = [word for at, word in enumerate(titles) if at not in columns and word]
-        found.notes.append("further columns, as weights are, aren't read" + (f": {shown(', '.join(others))}"
-                                                                            if others else ""))
+    if left := columns_left(titles, head.body, set(columns)):
+        (found.notes if is_sure else found.left_out).append(left)
     return found
-
-
-def may_be_ends(body: Rows, columns: tuple[int, int]) -> bool:
-    """Whether all nodes are whole numbers, and a further column has such numbers alone, some of which may be nodes."""
-    numbers = [[whole(field) for at, field in enumerate(fields) if field and at in columns] for _, fields in body]
-    others = [{whole(fields[at]) for _, fields in body if at < len(fields) and fields[at]}
-              for at in range(max(len(fields) for _, fields in body)) if at not in columns]
-    nodes = {number for row in numbers for number in row}
-    return None not in nodes and any(column and None not in column and min(column) <= max(nodes) for column in others)
 
 
 def ends_of(line: int, fields: list[str], columns: tuple[int, int], width: int | None, name: str) -> list[str]:
@@ -189,7 +172,14 @@ def read_adjacency(rows: Rows, name: str) -> Listed:
         found.edges += [(line, node, other) for other in others]
         if not others:
             found.alone.append((line, node))
+    see_missing(found, {parts_of(fields, has_colons)[0] for _, fields in rows})
     return found
+
+
+def see_missing(found: Listed, nodes: set[str]) -> None:
+    """Counts the neighbours that have no line of their own, beside the `nodes` that have one."""
+    if without := {other for _, _, other in found.edges} - nodes:
+        found.left_out.append(f"no line for {len(without):,} of the nodes, as {shown(min(without))}: is the text cut?")
 
 
 def read_multiline(rows: Rows, name: str) -> Listed:
@@ -208,4 +198,5 @@ def read_multiline(rows: Rows, name: str) -> Listed:
         found.alone.append((line, fields[0]))
         found.edges += [(below, fields[0], other[0]) for below, other in others]
         at += 1 + count
+    see_missing(found, nodes)
     return found

@@ -1,10 +1,11 @@
-"""What a table of sites or of bars may mean otherwise: names that may be none, places that stand for none, and columns
-that say which rows count."""
+"""What a table of sites or of bars may mean otherwise: names that may be none, places that stand for none or are in
+another unit than its headings say, and numbers that may have a fraction."""
 import re
 
 from lab.networks.fields import shown
-from lab.networks.listed import SPOILT, STATUS
+from lab.networks.listed import SPOILT
 from lab.networks.name_doubts import NO_VALUE, NOTHING, SUMS
+from lab.networks.places import WIDEST, Point, across_of, near
 from lab.wrong import Wrong, wrong_line
 
 # Marks of lists, comments and spreadsheets before a name, and of footnotes after it.
@@ -12,7 +13,6 @@ BEFORE = re.compile(r"[=;,|/*>~+\u2022\u2013-]|\\")
 AFTER = re.compile(r"[*\u2020\u2021^~\u00b0\u00b9\u00b2\u00b3?!;,]$")
 # How programs write that a place isn't known.
 NO_PLACE = re.compile(r"[-+]?(9{3,}|9{2,}\.9+)(\.0*)?|[-+]?1(\.0*)?e\+?\d{2,3}", re.I)
-YES_AND_NO = {*"yntfxj", "", "yes", "no", "ja", "nein", "true", "false", "wahr", "falsch", "on", "off"}
 
 
 def refuse_names(names: list[str], lines: list[int], has_quotes: bool, name: str) -> None:
@@ -51,21 +51,67 @@ def refuse_again(words: list[str], known: set[str], name: str) -> None:
         raise Wrong(f"{name}: the column {shown(again)} is a second one, and isn't read: write a row for each site")
 
 
-def flags(words: list[str], rows: list[tuple[int, list[str]]], read: set[int]) -> list[str]:
-    """The titles of columns, beside those that are `read`, that may say which rows count."""
-    found = []
-    for at, word in enumerate(words):
-        said = {fields[at].casefold() if at < len(fields) else "" for _, fields in rows}
-        if at not in read and len(said) > 1 and (said <= YES_AND_NO or STATUS.search(word)):
-            found.append(word)
-    return found
+def check_marks(places: list[tuple[int, list[str]]], separator: str | None, is_metres: bool, name: str) -> list[str]:
+    """Refuses numbers of places whose commas or points may begin a fraction or separate thousands; returns what is
+    noted. In kilometres three digits after a point, or after a comma between semicolons, are a fraction."""
+    of = {mark: [(line, field) for line, fields in places for field in fields if mark in field] for mark in ".,"}
+    for line, field in sorted(of["."][:1] + of[","][:1])[1:]:
+        raise wrong_line(name, line, f"`{shown(field)}`, and before it fractions begin with another mark")
+    whole = {mark: [row for row in rows if re.fullmatch(r"[-+]?[1-9]\d{0,2}([.,]\d{3})+", row[1])]
+             for mark, rows in of.items()}
+    doubtful = whole[","] if separator == "," or is_metres else []
+    doubtful += whole["."] if separator != "," and is_metres and len(whole["."]) == len(of["."]) else []
+    for line, field in doubtful:
+        raise wrong_line(name, line, f"`{shown(field)}` may have a fraction or thousands: write it without a separator "
+                         "of thousands, and a fraction with more or fewer digits than three")
+    is_noted = separator != "," and 1 < len(of["."]) == len(whole["."])
+    return [f"`{shown(of['.'][0][1])}` of {name} is read as a number with a fraction"] if is_noted else []
 
 
-def said_of_reach(edges: int, sites: int, across: float, is_metres: bool) -> list[str]:
-    """What is doubtful of the places, by the edges of a reach: no two sites are near, or all are within a hundred
-    metres, though the table is in metres."""
-    if sites > 1 and not edges:
-        return ["no site is within the reach of another: are the places in the units that their columns say?"]
-    if sites > 2 and is_metres and across < 0.1:
-        return [f"all sites are within {1000 * across:,.0f} m: are the places in metres?"]
-    return []
+def refuse_far(pair: tuple, points: list[Point | None], name: str) -> None:
+    """Refuses kilometres that are wider than the earth, or reach farther than around it: they are metres."""
+    farthest = max((abs(part) for point in points if point for part in point), default=0)
+    if pair[2] == 1.0 and (farthest > 2 * WIDEST or across_of(points) > WIDEST):
+        raise Wrong(f"{name}: {pair[0]} and {pair[1]} reach {farthest:,.0f} km, farther than the earth does: columns "
+                    "in metres are called `x (m)` and `y (m)`, or easting and northing")
+
+
+def refuse_units(pair: tuple, points: list[Point | None], said: list[list[str]], met: set[int], reach: float,
+                 name: str) -> None:
+    """Refuses places of a `pair` of columns without a unit if they may be in another one, and the reach would join
+    other sites then: kilometres of which most have no neighbour elsewhere, those in `met` have, or with as many digits
+    as degrees have; and metres that are all within a hundred."""
+    x, y, unit = pair
+    there = [point for point in points if point]
+    across = across_of(points)
+    are_metres = unit == 1.0 and across >= 100 and 2 * len(met) < len(there) and any(
+        there[one] != there[other] for one, other in near(there, 1000 * reach, False))
+    if are_metres or unit != 1.0 and 0 < across < 0.1:
+        raise Wrong(f"{name}: {x} and {y} may be in kilometres or in metres, and the reach joins other sites then: "
+                    f"call the columns `{x} (km)` and `{y} (km)`, or `{x} (m)` and `{y} (m)`")
+    if unit == 1.0 and may_be_degrees(there, [number for numbers in said for number in numbers if number]):
+        raise Wrong(f"{name}: {x} and {y} may be kilometres or degrees, and the reach joins other sites then: call the "
+                    f"columns `{x} (km)` and `{y} (km)`, or lon and lat")
+
+
+def may_be_degrees(points: list[Point], numbers: list[str]) -> bool:
+    """Whether numbers in the range of longitudes and latitudes have four digits after the point, or are all far from
+    zero and near each other, as those of a country are."""
+    columns = list(zip(*(point[:2] for point in points)))
+    most = sorted(max(map(abs, column)) for column in columns)
+    if len(points) < 2 or most[0] > 90 or most[1] > 180:
+        return False
+    digits = [re.search(r"[.,](\d+)", number) for number in numbers]
+    are_long = 2 * sum(found is not None and len(found[1]) > 3 for found in digits) > len(digits)
+    are_apart = all(min(column) > 0 or max(column) < 0 for column in columns) and any(
+        4 * (max(column) - min(column)) < max(map(abs, column)) for column in columns)
+    return are_long or any(digits) and are_apart and len(points) > 2
+
+
+def one_pair(kinds: tuple, words: list[str], name: str) -> tuple | None:
+    """The one pair of columns of a place that the headings have, or None."""
+    there = [it for it in kinds if it[0] in words and it[1] in words]
+    if len(there) > 1:
+        both = " and ".join(f"{one}, {other}" for one, other, *_ in there[:2])
+        raise Wrong(f"{name}: places in two pairs of columns, {both}: leave one of them")
+    return there[0] if there else None

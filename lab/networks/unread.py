@@ -2,8 +2,7 @@
 read it as another network."""
 import re
 
-from lab.networks import metis
-from lab.networks.counts import counts_neighbours, has_counts, have_counts, is_by_line
+from lab.networks.counts import are_degrees, counts_neighbours, has_counts, have_counts, is_by_line, is_metis
 from lab.networks.fields import is_number, shown, value_of, whole
 from lab.networks.lines import DATA, without_inner_commas
 from lab.wrong import Wrong, wrong_line
@@ -78,9 +77,10 @@ def refuse_rows(rows: list[tuple[int, list[str]]], separator: str | None, text: 
     if is_grouped(text, {field for row in fields for field in row}):
         raise unread(name, "LGL, nodes after `#` with their neighbours below", None, "; if these are pairs of nodes: "
                      "--as pairs")
-    if metis.is_like(text):
-        raise Wrong(f"{name}: it looks like METIS, which is read if that is said: --as metis; if each line is a node "
-                    "and its neighbours: --as adjacency")
+    if is_metis(text):
+        raise Wrong(f"{name}: it looks like METIS, which isn't read: without weights, take its first line away and put "
+                    "each node in front of its neighbours (sed 1d FILE | nl -ba -s' '), and say --as adjacency; if "
+                    "pairs come after the first line, take that away")
     if has_counts(fields):
         first = shown(" ".join(fields[0]))
         raise Wrong(f"{name}: the first line (`{first}`) may be how many nodes and edges there are: remove it then; if "
@@ -91,6 +91,8 @@ def refuse_rows(rows: list[tuple[int, list[str]]], separator: str | None, text: 
     if counts_neighbours(fields):
         raise Wrong(f"{name}: the second field of each line may count the fields after it: leave it out, and say --as "
                     "adjacency (a node and its neighbours)")
+    if are_degrees(fields):
+        raise Wrong(f"{name}: each line may be a node and how many neighbours it has; if these are pairs: --as pairs")
     if is_by_line(rows):
         raise Wrong(f"{name}: each line may have the neighbours of the node that its number is: write a node in front "
                     "of its neighbours, and say --as adjacency; if these are pairs: --as pairs")

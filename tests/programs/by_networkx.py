@@ -133,6 +133,7 @@ class ByNetworkx(Case):
             ("pajek", '*vertices 3\n1 "Ulm"\n2 "Ulm"\n3 "Aue"\n*edges\n1 3\n2 3\n'),
             ("pajek", '*vertices 2\n1 "Ulm"\n*edges\n1 1\n'),
             ("pajek", '*vertices 2\n1 "Ulm"\n2 "Aue"\n*arcslist\n1 2\n'),
+            ("pajek", '*vertices 3\n0 "Ulm"\n1 "Aue"\n2 "Hof"\n*edges\n1 2\n'),
             ("leda", LEDA.format(nodes="2\n|{Ulm}|\n|{Ulm}|", edges="1\n1 2 0 |{1}|")),
             ("gexf", '<gexf><graph><nodes><node id="a"/><node id="a"/></nodes><edges/></graph></gexf>'),
             ("sparse6", ":An\n:An\n"),
@@ -141,11 +142,20 @@ class ByNetworkx(Case):
             self.note(f"{form}: {text!r}", ours(text, {"form": form}) is None, ours(text, {"form": form}))
 
     def test_twice(self):
-        """An edge of LEDA that comes twice is counted."""
-        text = LEDA.format(nodes="2\n|{Ulm}|\n|{Aue}|", edges="2\n1 2 0 |{1}|\n2 1 0 |{1}|")
-        made, said, left_out = made_of(listed_of(text.encode(), "net"), "net")
-        self.note("an edge twice", left_out == ["1 line with an edge that was there before, counted once"]
-                  and len(made.edges) == 1, (said, left_out))
+        """An edge of LEDA that comes twice is counted, and so are weights, labels of edges, and edges that may count
+        from 0."""
+        for text, wanted in (
+            (LEDA.format(nodes="2\n|{Ulm}|\n|{Aue}|", edges="2\n1 2 0 |{}|\n2 1 0 |{}|"),
+             "1 line with an edge that was there before, counted once"),
+            (LEDA.format(nodes="2\n|{Ulm}|\n|{Aue}|", edges="1\n1 2 0 |{3}|"), "1 key of edges not read: label"),
+            (LEDA.format(nodes="3\n|{Ulm}|\n|{Aue}|\n|{Hof}|", edges="1\n1 2 0 |{}|"),
+             "the last node has no edge: do "),
+            ('*vertices 3\n1 "Ulm"\n2 "Aue"\n3 "Hof"\n*edges\n1 2\n', "the last node has no edge: do "),
+            ('*vertices 2\n1 "Ulm"\n2 "Aue"\n*edges\n1 2 3.5\n', "1 key of edges not read: weight"),
+        ):
+            made, said, left_out = made_of(listed_of(text.encode(), "net"), "net")
+            good = len(left_out) == 1 and left_out[0].startswith(wanted) and len(made.edges) == 1
+            self.note(f"counted: {wanted}", good, (said, left_out))
 
     def test_encodings(self):
         """The encoding that XML declares is obeyed, and one that it hasn't is refused."""

@@ -109,10 +109,11 @@ REFUSED = [
     ("a list in JSON", "[[0, 1], [1, 2]]\n", "a matrix or a list in brackets"),
     ("a matrix as numpy prints it", "[[0 1 0]\n [1 0 1]\n [0 1 0]]\n", "a matrix or a list in brackets"),
     ("JSON that is cut", '{"nodes": [{"id": 0}', "begins like JSON, and isn't JSON"),
-    ("METIS", "10 15\n" + "".join(" ".join(str(w + 1) for w in BESIDE[v]) + "\n" for v in range(10)), "--as metis"),
-    ("METIS of a row", "3 2\n2\n1 3\n2\n", "--as metis"),
-    ("METIS with weights", "3 2 011\n5 2 1\n4 1 1 3 7\n9 2 7\n", "--as metis"),
-    ("METIS without edges", "2 0\n\n\n", "--as metis"),
+    ("METIS", "10 15\n" + "".join(" ".join(str(w + 1) for w in BESIDE[v]) + "\n" for v in range(10)),
+     "looks like METIS"),
+    ("METIS of a row", "3 2\n2\n1 3\n2\n", "looks like METIS"),
+    ("METIS with weights", "3 2 011\n5 2 1\n4 1 1 3 7\n9 2 7\n", "looks like METIS"),
+    ("METIS without edges", "2 0\n\n\n", "looks like METIS"),
     ("a matrix", "".join(" ".join(row) + "\n" for row in MATRIX), "a matrix"),
     ("a matrix in CSV", "".join(",".join(row) + "\n" for row in MATRIX), "a matrix"),
     ("a matrix with weights", "0 2 0.5\n2 0 1\n0.5 1 0\n", "a matrix"),
@@ -175,30 +176,6 @@ class ForeignForms(Case):
             wanted = {v: (f"{v - 1} 0" if "GraphML" in name else f"{2 * v - 1} {2 * v}") for v in range(1, 5)}
             self.note(f"read: {name}: its places", places == wanted, places)
 
-    def test_metis(self):
-        """METIS is read if that is said, whatever weights it has: the example of its manual, in five of its forms. What
-        isn't whole is refused with its line."""
-        plain = ["5 3 2", "1 3 4", "5 4 2 1", "2 3 6 7", "1 3 6", "5 4 7", "6 4"]
-        of_edges = [" ".join(f"{w} {9 - at}" for at, w in enumerate(row.split())) for row in plain]
-        wanted = {frozenset((str(v), w)) for v, row in enumerate(plain, 1) for w in row.split()}
-        for head, rows in (("7 11", plain), ("7 11 1", of_edges), ("7 11 001", of_edges),
-                           ("7 11 010 3", [f"4 1 0 {row}" for row in plain]),
-                           ("7 11 100", [f"8 {row}" for row in plain]),
-                           ("7 11 111 2", [f"8 4 1 {row}" for row in of_edges])):
-            text = "% of the manual\n" + "\n".join([head, *rows]) + "\n"
-            status, wrote, told = call("read", "-", "--as", "metis", data=text.encode())
-            good = status == 0 and pairs_in(wrote) == (wanted, set()) and len(wanted) == 11
-            self.note(f"METIS {head}", good and (b"weights aren't read" in told) == (head != "7 11"), (wrote, told))
-        for text, alone in (("3 1\n2\n1\n\n", {"3"}), ("2 0\n\n\n", {"1", "2"}), ("0 0\n", set())):
-            got = call("read", "-", "--as", "metis", data=text.encode())
-            self.note(f"METIS {text!r}", got[0] == 0 and pairs_in(got[1])[1] == alone, got)
-        for text, said in (("3 2\n2\n1 3", b"is it cut?"), ("3 2\n2\n1 3\n4\n", b"line 4: no line of node 3"),
-                           ("3 2\n2\n1 3\n\n", b"node 2 names 3 as its neighbour"), ("2 2\n2\n1\n", b"says 2 edges"),
-                           ("2 1 7\n2\n1\n", b"`7` is no kind of weights"), ("2 1 1\n2\n1 5\n", b"line 2: no line of"),
-                           ("a b\n", b"line 1: METIS begins"), ("", b"METIS begins"), ("20001 0\n", b"at most 20000")):
-            got = call("read", "-", "--as", "metis", data=text.encode())
-            self.note(f"METIS {text!r}", got[:2] == (1, b"") and said in got[2] and got[2].count(b"\n") == 1, got)
-
     def test_drawings(self):
         """Labels, places and groups of yEd, and labels of Graphviz in the form of HTML."""
         status, wrote, told = call("read", "-", data=YED.encode())
@@ -220,7 +197,7 @@ class ForeignForms(Case):
         status, wrote, told = call("read", "-", data=text.encode())
         wanted = {frozenset(pair) for pair in ("12", "23", "13")}
         self.note("Matrix Market", status == 0 and pairs_in(wrote) == (wanted, {"4"}), (wrote, told))
-        for said in (b"1 edge from a node to itself left", b"entries of value zero left out: 1", b"values, as weights"):
+        for said in (b"1 edge from a node to itself left", b"entries of value zero left out: 1", b"values not read"):
             self.note(f"it says {said.decode()}", said in told, told)
 
     def test_refused(self):
@@ -240,7 +217,7 @@ class ForeignForms(Case):
         for text, said in ((group, b"groups of nodes, without an edge of their own, are no nodes: 1"),
                            (group.replace("isGroup", "x"), b"nodes aren't named by their label: A comes twice"),
                            (group.replace("isGroup 1", 'name "B"'), b"nodes aren't named by their name: some have none"),
-                           ("p edge 3 2\ne 1 2\nx 1 3\nd 2\n", b"lines `n`, `d`, `v` and `x` aren't read: 2"),
+                           ("p edge 3 2\ne 1 2\nx 1 3\nd 2\n", b"lines `n`, `d`, `v` and `x` not read: 2"),
                            ("c name 1 A\nc name 2 A\np edge 2 1\ne 1 2\n", b"two nodes are named A")):
             status, _, told = call("read", "-", data=text.encode())
             self.note(f"said of {text!r}", status == 0 and said in told, told)
@@ -254,7 +231,7 @@ class ForeignForms(Case):
             (["--as", "pairs"], b"A,B,t,u\nB,C,s,v\n", 2),
             (["--as", "pairs", "--heading", "yes"], b"A,B,t,u\nB,C,s,v\n", 1),
             (["--as", "adjacency"], b"Ulm Aue Hof\nBonn Kiel Jena\n", 4),
-            (["--as", "adjacency"], b"3 2\n2\n1 3\n2\n", 2),
+            (["--as", "adjacency"], b"     1 2\n     2 1 3\n     3 2\n", 2),
             (["--heading", "no"], b"one,other\nUlm,Aue\nAue,Hof\nHof,Ulm\n", 4),
             (["--as", "pairs"], b"1 -> 2\n2 -> 3\n", 2),
         ):
@@ -269,8 +246,18 @@ class ForeignForms(Case):
         said = b"--strict is asked for: 1 edge from a node to itself left out, first at line 2: 2"
         self.note("a loop", (status, wrote) == (1, b"") and said in told, told)
         self.note("without the word", call("read", "-", data=loop)[0] == 0)
-        for data in (b"1 2\n2 1\n", b"source,target,km\nA,B,3\n", "\ufeff1 2\n".encode()):
-            self.note(f"nothing is left out of {data}", call("read", "-", "--strict", data=data)[0] == 0)
+        for data, *words in ((b"1 2\n2 1\n",), (b"source,target\nA,B\n",), ("\ufeff1 2\n".encode(),),
+                             (b"A,B,3\nB,C,2\n", "--as", "pairs")):
+            self.note(f"nothing is left out of {data}", call("read", "-", "--strict", *words, data=data)[0] == 0)
+        for data, said in ((b"source,target,km\nA,B,3\n", b"1 column not read: km"),
+                           (b"A B {'weight': 2}\n", b"data in braces not read"),
+                           (b"graph { a -- b [len=2, color=red] }\n", b"2 keys of edges not read: color, len"),
+                           (b'{"nodes": [{"id": 1, "on": true}], "links": []}\n', b"1 key of nodes not read: on"),
+                           (b"graph [ node [ id 1 ] edge [ source 1 target 1 w 2 ] ]\n", b"1 key of edges not read: w"),
+                           (b"p sp 2 1\na 1 2 3\n", b"weights of lines `a` not read: 1")):
+            got = call("read", "-", "--strict", data=data)
+            self.note(f"left out of {data}", got[:2] == (1, b"") and said in got[2] and call(
+                "read", "-", data=data)[0] == 0, got)
 
     def test_tell(self):
         """A number is quoted as it is in the text, and a text that says fewer edges than it has isn't cut. That a

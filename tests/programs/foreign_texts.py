@@ -8,7 +8,7 @@ import re
 from xml.sax.saxutils import quoteattr
 
 from lab.networks import sites
-from lab.networks.listed import Listed
+from lab.networks.listed import NO_END, Listed
 from lab.networks.reading import listed_of, made_of
 from lab.wrong import Wrong
 from tests.cases import Case
@@ -88,48 +88,52 @@ def as_metis(nodes, pairs):
     return f"{len(nodes)} {len(pairs)}\n" + "".join(" ".join(number[one] for one in row) + "\n" for row in rows)
 
 
-# (what it is, the names that it can have, its writer, its second reader, words for `read`).
+# (what it is, the names that it can have, its writer, its second reader).
 FORMS = (
     ("CSV with a heading", QUOTED,
      lambda nodes, pairs: as_csv([("source", "target", "km"), *((a, b, 3) for a, b in pairs)]),
-     lambda text: second_reader.csv_pairs(text, ",", ("source", "target")), {}),
+     lambda text: second_reader.csv_pairs(text, ",", ("source", "target"))),
     ("CSV with quotes", QUOTED, lambda nodes, pairs: as_csv(pairs, ",", csv.QUOTE_ALL),
-     lambda text: second_reader.csv_pairs(text, ","), {}),
-    ("CSV", QUOTED, lambda nodes, pairs: as_csv(pairs), lambda text: second_reader.csv_pairs(text, ","), {}),
+     lambda text: second_reader.csv_pairs(text, ",")),
+    ("CSV", QUOTED, lambda nodes, pairs: as_csv(pairs), lambda text: second_reader.csv_pairs(text, ",")),
     ("semicolons", QUOTED,
      lambda nodes, pairs: as_csv([("Nr", "von", "nach"), *((at, *pair) for at, pair in enumerate(pairs))], ";"),
-     lambda text: second_reader.csv_pairs(text, ";", ("von", "nach")), {}),
-    ("tabs", QUOTED, lambda nodes, pairs: as_csv(pairs, "\t"), lambda text: second_reader.csv_pairs(text, "\t"), {}),
-    ("pairs", BARE, lambda nodes, pairs: "".join(f"{a} {b}\n" for a, b in pairs), second_reader.pairs, {}),
+     lambda text: second_reader.csv_pairs(text, ";", ("von", "nach"))),
+    ("tabs", QUOTED, lambda nodes, pairs: as_csv(pairs, "\t"), lambda text: second_reader.csv_pairs(text, "\t")),
+    ("pairs", BARE, lambda nodes, pairs: "".join(f"{a} {b}\n" for a, b in pairs), second_reader.pairs),
     ("pairs with data", BARE, lambda nodes, pairs: "".join(f"{a} {b} {{'weight': 2}}\n" for a, b in pairs),
-     second_reader.pairs, {}),
-    ("pairs with weights", BARE, lambda nodes, pairs: "".join(f"{a} {b} 2.5\n" for a, b in pairs), second_reader.pairs,
-     {}),
-    ("adjacency", BARE[:2], as_adjacency, second_reader.adjacency, {}),
+     second_reader.pairs),
+    ("pairs with weights", BARE, lambda nodes, pairs: "".join(f"{a} {b} 2.5\n" for a, b in pairs), second_reader.pairs),
+    ("adjacency", BARE[:2], as_adjacency, second_reader.adjacency),
     ("adjacency of networkx", BARE[:4],
      lambda nodes, pairs: "#x.py\n# GMT Sat Nov 28 11:00:00 2026\n# \n" + as_adjacency(nodes, pairs, False),
-     second_reader.adjacency, {}),
+     second_reader.adjacency),
     ("several lines", BARE, lambda nodes, pairs: "".join(
         f"{node} {len(others)}\n" + "".join(f"{other} {{}}\n" for other in others)
-        for node, others in beside(nodes, pairs).items()), second_reader.multiline, {}),
-    ("DIMACS", BARE, as_dimacs, second_reader.dimacs, {}),
-    ("DIMACS from 0", BARE, lambda nodes, pairs: as_dimacs(nodes, pairs, 0), second_reader.dimacs, {}),
-    ("Matrix Market", BARE, as_matrix_market, second_reader.matrix_market, {}),
-    ("METIS", BARE, as_metis, second_reader.metis, {"form": "metis"}),
-    ("GML", QUOTED, as_gml, second_reader.gml, {}),
-    ("GraphML", QUOTED, as_graphml, second_reader.graphml, {}),
-    ("JSON", QUOTED, as_json, second_reader.node_link, {}),
-    ("DOT", QUOTED, as_dot, second_reader.dot, {}),
+        for node, others in beside(nodes, pairs).items()), second_reader.multiline),
+    ("DIMACS", BARE, as_dimacs, second_reader.dimacs),
+    ("DIMACS from 0", BARE, lambda nodes, pairs: as_dimacs(nodes, pairs, 0), second_reader.dimacs),
+    ("Matrix Market", BARE, as_matrix_market, second_reader.matrix_market),
+    ("GML", QUOTED, as_gml, second_reader.gml),
+    ("GraphML", QUOTED, as_graphml, second_reader.graphml),
+    ("JSON", QUOTED, as_json, second_reader.node_link),
+    ("DOT", QUOTED, as_dot, second_reader.dot),
 )
 
 
-def ours(text, words):
+def ours(text):
     """The network that `read` makes of a text, and what it leaves out; None if it refuses."""
     try:
-        made, _, left_out = made_of(listed_of(text.encode(), "net", words.get("form")), "net")
+        made, _, left_out = made_of(listed_of(text.encode(), "net"), "net")
     except Wrong:
         return None, []
-    return named(made), left_out
+    return named(made), excuses(left_out)
+
+
+def excuses(left_out):
+    """What is left out, without columns, keys and values that aren't read, as weights are: these are no edges; nor is
+    that a text may be cut a reason to read another network than it has."""
+    return [what for what in left_out if " not read" not in what and NO_END not in what]
 
 
 def named(made):
@@ -207,7 +211,7 @@ def ours_of_tables(places, bars):
     except Wrong:
         return None
     names = {v: made.names.get(v, str(v)) for v in range(1, made.nodes + 1)}
-    if any(not what.startswith("no site is within the reach") for what in left_out):
+    if any(not what.startswith("no site is within the reach") for what in excuses(left_out)):
         return None
     return (named(made), {names[v]: channels for v, channels in made.bars.items()})
 
@@ -226,12 +230,12 @@ class ForeignTexts(Case):
     def test_random(self):
         """Each form of each graph is read as that network, or refused since it may be something else."""
         source = random.Random(SEED)
-        for name, kinds, writer, reader, words in FORMS:
+        for name, kinds, writer, reader in FORMS:
             wrong, same = [], 0
             for _ in range(GRAPHS):
                 nodes, pairs = graph_of(source, source.choice(kinds))
                 text = writer(nodes, pairs)
-                wanted, (got, left_out) = second(reader, text), ours(text, words)
+                wanted, (got, left_out) = second(reader, text), ours(text)
                 same += got == wanted is not None
                 is_marked = re.search("(?m)^[#%]", text)
                 if got is not None and got != wanted and not (left_out and is_marked) or wanted is None:
@@ -243,10 +247,10 @@ class ForeignTexts(Case):
         source = random.Random(SEED)
         wrong, more, read = [], [], 0
         for _ in range(MUTATED):
-            name, kinds, writer, reader, words = source.choice(FORMS)
+            name, kinds, writer, reader = source.choice(FORMS)
             text = spoilt(source, writer(*graph_of(source, source.choice(kinds))),
                           writer(*graph_of(source, source.choice(kinds))))
-            got, left_out = ours(text, words)
+            got, left_out = ours(text)
             wanted = second(reader, text)
             read += got is not None
             if got is not None and not left_out and got not in (wanted, *others(text)):
@@ -273,4 +277,4 @@ class ForeignTexts(Case):
             if got is not None and got != second_of_tables(spoilt_places, spoilt_bars):
                 wrong.append((spoilt_places, spoilt_bars, got))
         self.note("each table is the same to both", not wrong, (len(wrong), wrong[:1]))
-        self.note("many are read", read > MUTATED // 30, read)
+        self.note("many are read", read > MUTATED // 25, read)

@@ -106,7 +106,26 @@ NEAR = (
             ("", "South\n"), ("Part 1:\n", "Part 2:\n"))),
     ("an average", (TOWNS, CELLS), lambda nodes, pairs, source: lines(pairs, ",", "3") + "Average,,3\n"),
     ("kinds below the heading", ALL, lambda nodes, pairs, source: "source,target\nString,Text\n" + lines(pairs, ",")),
-    ("columns of numbers as heading", (GAPS,), lambda nodes, pairs, source: "0,1\n" + lines(pairs, ",")),
+    ("columns of numbers as heading", ALL, lambda nodes, pairs, source: lines(
+        [("0", "1"), *pairs], source.choice(",;\t"))),
+    ("columns of numbers as heading, and a weight", ALL,
+     lambda nodes, pairs, source: "0,1,2\n" + lines(pairs, ",", "3")),
+    ("columns of numbers as heading between blanks", (TOWNS, CELLS, GAPS, ONES), lambda nodes, pairs, source: lines(
+        [("0", "1"), *pairs], " ")),
+    *((f"a title with a node {word!r}", (TOWNS,), lambda nodes, pairs, source, word=word: (
+        f"{nodes[0]} {word}\n" + lines(pairs, " "))) for word in ("network", "Network", "region")),
+    ("a section of two words", (TOWNS,), lambda nodes, pairs, source: lines(pairs[:1], " ") + "Sector South\n" + lines(
+        pairs[1:], " ")),
+    ("lists in quotes in both columns", (TOWNS, BLANKS), lambda nodes, pairs, source: lines(
+        [(f'"{a}, {b}"', f'"{b}, {a}"') for a, b in pairs], ",")),
+    ("edges with their numbers, one a node's", (GAPS,), lambda nodes, pairs, source: "".join(
+        f"{at},{end}\n" for at, pair in enumerate(pairs, 10) for end in pair)),
+    *((f"an empty flag {flag} of some in JSON", WORDS, of_all(lambda *graph: as_json(*graph).replace(
+        '"weight": 2', '"id": 1'), '"id": 1', flag)) for flag in ('"present": ""', '"present": null')),
+    ("GraphML with an empty flag", WORDS, of_all(lambda *graph: as_graphml(*graph).replace(
+        '"weight"', '"present"').replace('<data key="w">2</data>', "<!-- -->"), "<!-- -->", '<data key="w"></data>')),
+    ("GML with an empty flag", WORDS, of_all(lambda *graph: as_gml(*graph).replace("edge [", "edge [ # "), "# ",
+                                             'present ""\n')),
     ("cells that are merged", (TOWNS, CELLS), merged),
     *((f"all pairs {word!r} {other!r} {heading!r}", ALL, beside_others(word, other, "{},{},{}", heading))
       for word, other, heading in (
@@ -202,11 +221,28 @@ REFUSED = (
     '*Vertices 4\n1 "2"\n2 "6"\n3 "3"\n4 "4"\n*Edges\n2 3\n4 2\n6 4\n',
     "source,target\nUlm,Aue\nHof,\nBonn,Aue\n", "4 3\n1 2\n0\n3 0\n2\n",
     "Upper Hill:Ulm\nUlm:Neu Ulm\nUpper Hill:Mill\nHof:Neu Ulm\n", "1 2\n2 3\n3 4\n2\n1 4\n",
-    "origen,destino\nUlm,Aue\n")
+    "origen,destino\nUlm,Aue\n", "6 1\n7 2\n4 3\n8 4\n3 2\n5 2\n", "Ulm,Hof/Bonn\nHof,Aue\nAue,Ulm\n",
+    "Aue,Ulm\nUlm,Hof und Wald\nHof,Aue\n", "Ulm,Smith & Co\nCo,Aue\nAue,Ulm\n")
+
+
+# Names with a mark that lists have, too, and no part that is another node: they are read, and counted if one column
+# alone has such.
+WITH_MARKS = (
+    ("source,target\nUlm,Smith & Co\nHof,Aue\nA/B,Ulm\n", 1),
+    ("source,target\nUlm,Smith & Co\nHof & Sons,Aue\n", 0),
+    ("von;nach\nUlm;Berg+Wald\nHof;Aue\n", 1), ("Aue,Ulm\nUlm,Berg und Wald\nHof,Aue\n", 1),
+)
 
 
 class NearRows(Case):
     needs_programs = False
+
+    def test_marks(self):
+        for text, count in WITH_MARKS:
+            found, left_out = found_in(text.encode())
+            is_headed = text.startswith(("source", "von"))
+            self.note(f"read: {text!r}", found and len(found[0]) == text.count("\n") - is_headed and [
+                " may be a list" in what for what in left_out] == [True] * count, (found, left_out))
 
     def test_near(self):
         judge(self, NEAR, TEXTS, SEED)

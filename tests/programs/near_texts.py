@@ -8,7 +8,7 @@ from lab.networks.listed import Listed
 from lab.networks.reading import listed_of, made_of
 from lab.wrong import Wrong
 from tests.cases import Case
-from tests.programs.foreign_texts import as_csv, as_dot, as_gml, as_graphml, as_metis, beside, named
+from tests.programs.foreign_texts import as_csv, as_dot, as_gml, as_graphml, as_metis, beside, excuses, named
 
 TEXTS, SEED = 30, 20261130
 TOWNS = ("Ulm", "Aue", "Hof", "Köln", "Mörs", "Bonn", "Kiel", "Jena")
@@ -182,11 +182,25 @@ COUNTED = (
     ("sites with a status", b"site,x,y,status\nUlm,0,0,on air\nAue,1,1,planned\n", b"site,channel\n"),
     ("bars that are free", b"site,x,y\nUlm,0,0\nAue,1,1\n", b"site,channel,allowed\nUlm,1,yes\nAue,6,no\n"),
     ("bars that end", b"site,x,y\nUlm,0,0\nAue,1,1\n", b"site,channel,until\nUlm,1,1999\nAue,6,2030\n"),
-    ("metres in x and y", b"site,x,y\nUlm,0,0\nAue,1000,1000\n", b"site,channel\n"),
-    ("kilometres in metres", b"site,easting,northing\nUlm,1,2\nAue,3,5\nHof,9,9\n", b"site,channel\n"),
+    ("kilometres that are metres", b"site,x (km),y (km)\nUlm,0,0\nUlm 2,0,0\nAue,1000,1000\n", b"site,channel\n"),
+    ("a height", b"site,x,y,height\nUlm,0,0,\nAue,1,1,40\n", b"site,channel\n"),
+    ("a remark", b"site,x,y\nUlm,0,0\nAue,1,1\n", b"site,channel,remark\nUlm,1,old\n"),
+    ("places in two kinds", b"site,lat,lon,x,y\nUlm,48.4,10,0,0\nAue,48.41,10,1,1\n", b"site,channel\n"),
     ("two spellings of a site", b"site,x,y\nUlm,0,0\nULM,1,1\n", b"site,channel\n"),
     ("a line without its end", b"site,x,y\nUlm,0,0\nAue,1,1", b"site,channel\n"),
     ("letters of Windows", "site,x,y\nUlm,0,0\nKöln,1,1\n".encode("cp1252"), b"site,channel\n"),
+)
+
+
+# Places without a unit that may be in another one, so that another network has the edges of a reach: each is refused.
+UNITS = (
+    ("metres in x and y", "site,x,y\nUlm,0,0\nAue,1000,1000\n"),
+    ("metres, and two sites in one place", "site,x,y\nUlm,0,0\nUlm 2,0,0\nAue,1000,1000\nHof,2000,3000\n"),
+    ("metres, and two sites on one roof",
+     "site;x;y\nUlm;0;0\nUlm 2;0,5;0\nAue;1000;1000\nHof;2000;3000\nJena;9;5000\n"),
+    ("kilometres in metres", "site,easting,northing\nUlm,1,2\nAue,3,5\nHof,9,9\n"),
+    ("degrees of a programme", "site,x,y\nUlm,10.12345,48.40123\nAue,10.12745,48.41123\n"),
+    ("degrees by hand", "site;x;y\nUlm;10,05;48,06\nAue;10,09;48,05\nHof;10,12;48,0\n"),
 )
 
 
@@ -199,9 +213,14 @@ def found_in(data):
     return named(made), left_out
 
 
+# Kinds of which a column or a key that isn't read, and is counted, may say which edges count.
+UNREAD = ("JSON with ", "JSON of the first page", "all pairs 'active'", "GML with styles",
+          "GraphML with a default of zero", "numbers and a weight")
+
+
 def judge(case, kinds, texts, seed):
-    """Has the texts of each kind read: each gives its network, or none, or says that something is left out. Returns how
-    many were read of each kind."""
+    """Has the texts of each kind read: each gives its network, or none, or says that something is left out, other than
+    a column or a key where these are no edges. Returns how many were read of each kind."""
     source, read = random.Random(seed), {}
     for name, names, writer in kinds:
         wrong = []
@@ -211,6 +230,7 @@ def judge(case, kinds, texts, seed):
             found, left_out = found_in(text if isinstance(text, bytes) else text.encode())
             read[name] = read.get(name, 0) + (found is not None)
             edges = frozenset(map(frozenset, pairs))
+            left_out = left_out if name.startswith(UNREAD) else excuses(left_out)
             if found and not left_out and not (found[0] == edges and found[1] <= set(nodes)):
                 wrong.append((text, found))
         case.note(f"{name}: its network, or none", not wrong, (len(wrong), wrong[:1]))
@@ -230,6 +250,25 @@ class NearTexts(Case):
                 sites.with_sites(found, sites.read_sites(places, "sites"), "sites", None)
                 sites.with_bars(found, bars, "bars", None)
 
+    def test_units(self):
+        for name, text in UNITS:
+            with self.subTest(name), self.assertRaises(Wrong):
+                sites.with_sites(Listed("sites"), sites.read_sites(text.encode(), "sites"), "sites", 3)
+            # The same numbers with their unit are read.
+            title, unit = ("x", "km") if ",x," in text or ";x;" in text else ("easting", "m")
+            found = Listed("sites")
+            named_text = text.replace(title, f"{title} ({unit})", 1).replace(
+                "y\n" if title == "x" else "northing", f"y ({unit})\n" if title == "x" else f"northing ({unit})", 1)
+            sites.with_sites(found, sites.read_sites(named_text.encode(), "sites"), "sites", 3)
+            self.note(f"with its unit: {name}", len(found.order) > 1, named_text)
+
+    def test_exchanged(self):
+        """Latitude and longitude that are exchanged for sure are refused; else it is said where the sites are."""
+        with self.assertRaisesRegex(Wrong, "line 2: .*are they exchanged"):
+            sites.read_sites(b"site,lat,lon\nUlm,100.5,48.4\n", "sites")
+        said = sites.read_sites(b"site,lat,lon\nUlm,48.4,10\nAue,50.5,12.7\n", "sites").notes
+        self.note("where", said == ["the sites of sites are at 48.4 to 50.5 degrees north, 10 to 12.7 east"], said)
+
     def test_counted(self):
         for name, places, bars in COUNTED:
             found = Listed("sites")
@@ -242,7 +281,8 @@ class NearTexts(Case):
         for text, count in ((b"Ulm,Aue\nAue,Hof", 1), (b"Ulm,Aue\nAue,Hof\n", 0), (b"p edge 2 1\ne 1 2", 1),
                             (as_dot(["a", "b"], [("a", "b")]).strip().encode(), 0)):
             left_out = made_of(listed_of(text, "net"), "net")[2]
-            self.note(f"a line without its end: {text!r}", len(left_out) == count, left_out)
+            said = [what for what in left_out if "its last line has no line end" in what]
+            self.note(f"a line without its end: {text!r}", len(said) == count, left_out)
 
     def test_pairs_within_the_reach(self):
         """A pair that is within the reach, too, isn't an edge that comes twice."""

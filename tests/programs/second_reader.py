@@ -188,20 +188,6 @@ def matrix_market(text):
     return network(found, map(str, range(1, height + 1)))
 
 
-def metis(text):
-    """How many nodes and edges there are, and a line of each node with its neighbours."""
-    rows = [words(line) for line in text.split("\n") if not line.lstrip().startswith("%")]
-    while rows and not rows[0]:
-        rows.pop(0)
-    want(rows and len(rows[0]) == 2 and all(re.fullmatch("[0-9]+", word) for row in rows for word in row), "no numbers")
-    nodes, edges = map(int, rows[0])
-    want(len(rows) > nodes and not any(rows[nodes + 1:]), "another number of lines")
-    found = [(v, int(word)) for v, row in enumerate(rows[1:nodes + 1], 1) for word in row]
-    want(len(found) == len(set(found)) == 2 * edges and {(w, v) for v, w in found} == set(found), "other ends")
-    want(all(1 <= w <= nodes for _, w in found), "no node")
-    return network([(str(v), str(w)) for v, w in found], map(str, range(1, nodes + 1)))
-
-
 def graphml(text):
     """Elements `node` and `edge` of the one element `graph`, and data of a key that is called `label` or `name`."""
     try:

@@ -1,0 +1,84 @@
+"""Tables with a heading, of sites, bars or channels: the words of their headings, and their rows."""
+import math
+import re
+
+from lab.networks.lines import table_of
+from lab.networks.listed import decoded
+from lab.networks.network_text import shown
+from lab.networks.site_doubts import refuse_again
+from lab.wrong import Wrong, wrong_line
+
+# Headings of the columns, in small letters without blanks, lines and points.
+NAMES = ("site", "name", "id", "siteid", "sitename", "node", "label", "transmitter", "station", "mast", "cell", "ap",
+         "standort", "standortname", "bezeichnung", "kennung", "sender", "knoten", "zelle", "anlage")
+# Columns of a place, with what makes kilometres of them, also with a unit after them; latitude and longitude are in
+# degrees.
+BARE = (("x", "y", 1.0), ("easting", "northing", 0.001), ("east", "north", 0.001), ("rechtswert", "hochwert", 0.001),
+        ("ostwert", "nordwert", 0.001))
+PLANES = BARE + tuple((f"{x}{unit}", f"{y}{unit}", factor) for x, y, _ in BARE
+                      for unit, factor in (("km", 1.0), ("m", 0.001)))
+GLOBES = (("lat", "lon"), ("lat", "lng"), ("lat", "long"), ("latitude", "longitude"), ("breite", "länge"),
+          ("breitengrad", "längengrad"))
+IDENTIFIER = "identifier"
+# Units of degrees, and what may be said of them.
+DEGREES = ("", "deg", "degree", "degrees", "°", "grad", "decimal", "decimaldegrees", "dd", "dezimal", "dezimalgrad",
+           "wgs84", "wgs 84", "n", "s", "e", "w", "o")
+CHANNELS = ("channel", "channels", "barredchannel", "barredchannels", "barred", "bar", "kanal", "kanäle",
+            "gesperrterkanal", "gesperrtekanäle", "gesperrt")
+KNOWN = {*NAMES, *CHANNELS, IDENTIFIER, *(word for pair in (*PLANES, *GLOBES) for word in pair[:2])}
+
+
+def table(data: bytes, name: str) -> tuple[list[str], list[tuple[int, list[str]]], str | None, list[str]]:
+    """The headings of a table, as the words above, its rows, what separates their fields, and what was mended."""
+    text, mended = decoded(data, name)
+    if text.lstrip()[:1] in ("<", "{", "["):
+        raise Wrong(f"{name}: it looks like XML or JSON, as KML, GPX and GeoJSON are: a table is read, with a heading "
+                    "as site,lat,lon")
+    found = table_of(text, name, is_headed=True)
+    rows = found.rows
+    if not rows or found.separator is None and len(rows[0][1]) > 1:
+        raise Wrong(f"{name}: no table with commas, semicolons or tabs between its columns in each line")
+    if found.separator is None:
+        rows = [(line, [" ".join(fields)]) for line, fields in rows]
+    words = [heading_word(title) for title in rows[0][1]]
+    twice = next((word for at, word in enumerate(words) if word in KNOWN and word in words[:at]), None)
+    if twice:
+        raise Wrong(f"{name}: two columns are named {shown(twice)}: which one is meant?")
+    refuse_again(words, KNOWN, name)
+    marked = [line for line in found.marked if line != rows[0][0]]
+    if 0 < len(marked) < len(rows) - 1:
+        raise wrong_line(name, marked[0], "it begins with # or %, and other rows don't: write a name that begins so in "
+                                          "quotes, or leave the line out")
+    for line, fields in rows[1:]:
+        if any(fields[len(words):]):
+            raise wrong_line(name, line, f"more fields than the heading: `{shown(','.join(fields))}`")
+        if sorted(map(heading_word, filter(None, fields))) == sorted(filter(None, words)):
+            raise wrong_line(name, line, "the heading of a second table: write both into one with the same columns")
+    return words, rows[1:], found.separator, mended + found.notes
+
+
+def heading_word(title: str) -> str:
+    """A heading in small letters without blanks, lines and points. Of what is in brackets the unit of a place
+    alone stays, unless it means degrees."""
+    title = re.sub(r"[\s_.\-]", "", title.lower())
+    word, unit = (re.fullmatch(r"([^(\[]*)[(\[](.*)[)\]]", title) or re.fullmatch("(.*)()", title)).groups()
+    is_other = any(word in places[:2] for places in GLOBES) and unit not in DEGREES
+    return word + unit if is_other or any(word in places[:2] for places in BARE) else word
+
+
+def number_of(field: str) -> float | None:
+    """A number with a point, or with a comma as spreadsheets write it; None for an empty field or another word."""
+    try:
+        number = float(field.replace(",", ".") if field.count(",") == 1 else field)
+    except ValueError:
+        return None
+    return number if math.isfinite(number) else None
+
+
+def identifier_of(field: str) -> int | None:
+    """A whole number, in decimal or after 0x in hexadecimal digits, or six pairs of these as hardware has them."""
+    if re.fullmatch(r"[0-9]{1,39}", field):
+        return int(field)
+    if re.fullmatch(r"0x[0-9a-fA-F]{1,32}|([0-9a-fA-F]{2}[:-]){5}[0-9a-fA-F]{2}", field):
+        return int(re.sub(r"0x|[:-]", "", field), 16)
+    return None
