@@ -432,7 +432,8 @@ class Schedules(Case):
         with open(os.path.join(TOP, "docs", "learn", "GALLERY.md"), encoding="utf-8") as file:
             gallery = file.read()
         for word, rule in rules.ALL.items():
-            self.note(f"{word} in the gallery", f"\n### `{word}`: " in gallery and f"--without {word}" in gallery)
+            part = gallery.partition(f"\n### `{word}`: ")[2].partition("\n### ")[0]
+            self.note(f"{word} in the gallery", f"--without {word}" in part and rule.edit in part)
             paths = [os.path.join(TOP, "crates", rule.crate, folder) for folder in ("must-fail", "wrong-bodies")]
             found = [path for path in paths if os.path.exists(os.path.join(path, rule.edit + ".edit"))]
             self.note(f"the wrong body of {word}", len(found) == 1, rule)
