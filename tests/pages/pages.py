@@ -14,7 +14,7 @@ import os
 import random
 import re
 
-from lab.definitions.colours import Network, colours, merge, three
+from lab.definitions.colours import Network, colours
 from lab.definitions.nodes import NetState, synchronous_run, text_of_wire
 from tests import TOP
 from tests.cases import Case
@@ -41,18 +41,6 @@ def tables_of(lines):
             rows = [[cell.strip() for cell in row.strip("|").split("|")] for row in lines[start:number]]
             yield start + 1, next((above for above in reversed(lines[:start]) if above), ""), rows
             start = None
-
-
-def entries(c):
-    return [str(c[v]) for v in sorted(c)]
-
-
-def merges_of(net):
-    c, rows = dict.fromkeys(net.neighbours, 0), []
-    for f in range(net.forest_count):
-        c = merge(net, f, c)
-        rows += [entries(three(net, f)), entries(c)]
-    return rows
 
 
 def played(net, rows):
@@ -88,10 +76,6 @@ def tutorial_table(title, rows):
             [f"**{c[v]}**" if (p, v) in changed else str(c[v]) for v in joined]
             for p, c in enumerate(pulses_of(net, f), 2)
         ]
-    found = re.match(r"Merges of `(.*)`:", title)
-    if found:
-        net = example(found.group(1))
-        return [entries(net.identifiers)] + merges_of(net)
     found = re.match(r"Events on `(.*)`:", title)
     if found:
         return played(example(found.group(1)), rows)
@@ -189,7 +173,7 @@ class Pages(Case):
                 count += 1
                 got = [row[1:1 + len(wanted[0])] for row in rows[:1] + rows[2:]]
                 self.note(f"docs/learn/TUTORIAL.md:{number}", got == wanted, f"wanted {wanted}")
-        self.note("tables of the tutorial", count == 5, count)
+        self.note("tables of the tutorial", count == 4, count)
 
     def check_names(self, page):
         lines = lines_of(page)
