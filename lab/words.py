@@ -23,6 +23,12 @@ def one_line(words: str) -> str:
         letter if letter.isprintable() else letter.encode("unicode_escape").decode() for letter in words)
 
 
+def in_words(things) -> str:
+    """`2`, `2 and 3`, `2, 3 and 5`."""
+    words = [str(thing) for thing in things]
+    return " and ".join(filter(None, [", ".join(words[:-1]), *words[-1:]]))
+
+
 def parser_of(name: str, words: str, what: str, more: str) -> argparse.ArgumentParser:
     """The parser of `forestlab NAME WORDS`, whose help begins with `what` and ends with `more`, as they stand."""
     return Parser(prog=f"forestlab {name}", usage=f"forestlab {name} {words}", description=what,

@@ -16,6 +16,7 @@ from collections.abc import Iterable, Iterator
 from dataclasses import dataclass, field
 
 from lab.definitions.colours import Network, other_than
+from lab.words import in_words
 
 Payload = tuple[str, int]
 Slot = Payload | None
@@ -337,11 +338,6 @@ class NetState:
                 yield "Take", v, port
 
 
-def named(names: list[int]) -> str:
-    """`2`, `2 and 3`, `2, 3 and 5`."""
-    return ", ".join(map(str, names[:-1])) + " and " * (len(names) > 1) + str(names[-1])
-
-
 def missing_words(state: NetState, kind: str, v: int, port: int | None = None) -> str:
     """What comes after the line of an event that isn't possible: the wires of the pulse that are still to come, or
     the out-list or the link that is empty."""
@@ -354,7 +350,7 @@ def missing_words(state: NetState, kind: str, v: int, port: int | None = None) -
         return f": pulse {node.last} is the last"
     lacks = [("ack", [w for w, port in zip(neighbours, node.ports) if port.waits]),
              ("safe", [w for w, port in zip(neighbours, node.ports) if not port.safe])]
-    return ": " + "; ".join(f"{word} {node.pulse_number} of {named(names)}" for word, names in lacks if names)
+    return ": " + "; ".join(f"{word} {node.pulse_number} of {in_words(names)}" for word, names in lacks if names)
 
 
 def event_of(state: NetState, entry) -> tuple:

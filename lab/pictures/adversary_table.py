@@ -17,6 +17,7 @@ number.
 
 A column is [width, text]: numbers of this width in `digits` of base 64, the highest first."""
 from lab.pictures.schedules_space import quoted
+from lab.words import in_words
 
 DIGITS = "0123456789ABCDEFGHIJKLMNOPQRSTUVWXYZabcdefghijklmnopqrstuvwxyz-_"
 
@@ -42,9 +43,7 @@ def waiting(waits):
     of = {}
     for wire, w in waits:
         of.setdefault(wire, []).append(str(w))
-    return " and ".join(
-        f"{wire} of {' and '.join(filter(None, [', '.join(ws[:-1]), ws[-1]]))}" for wire, ws in of.items()
-    )
+    return " and ".join(f"{wire} of {in_words(ws)}" for wire, ws in of.items())
 
 
 def phase_words(phase):

@@ -11,6 +11,7 @@ from lab.pictures.schedules_space import broken_rounds, left_out_words
 from lab.pictures.svg import Svg, counted, text_width
 from lab.schedules.ruled_rounds import RuledRounds
 from lab.schedules.rules import OF_FORESTS
+from lab.words import in_words
 from lab.wrong import at_most
 
 LEFT, ROW, COLUMN, HALF, HEAD, GAP, RIGHT = 100, 38, 34, 12, 62, 40, 24
@@ -66,9 +67,8 @@ def told(rounds, without, network, smaller):
     said = [left_out_words(without)]
     if network is None:
         joined = {v for edge in edges for v in edge}
-        others = [str(v) for v in rounds.net.neighbours if v not in joined]
-        named = " and ".join([", ".join(others[:-1])] * bool(others[1:]) + others[-1:])
-        apart = f" ({named} {'has' if len(others) == 1 else 'have'} none)"
+        others = [v for v in rounds.net.neighbours if v not in joined]
+        apart = f" ({in_words(others)} {'has' if len(others) == 1 else 'have'} none)"
         # Of forests' rules rows alone are tried.
         what = "rows" if set(without) <= set(OF_FORESTS) else "networks"
         said.append(f"A smallest network that goes wrong: {counted(nodes, 'node')} with the edges "
@@ -297,7 +297,6 @@ class OfMerge:
                 if turn[w] < turn[v]
                 and (self.forest_of(v, w, rounds) == f if "earlier" in without else self.forest_of(v, w, rounds) <= f)
             ]
-            heard = " and ".join([", ".join(said[:-1])] * bool(said[1:]) + said[-1:]) or "nothing"
             lines.append(f"node {v}, turn {', '.join(map(str, turn[v]))}: takes channel {new[v] + 1}")
-            lines.append(f"(it has heard {heard})")
+            lines.append(f"(it has heard {in_words(said) or 'nothing'})")
         return lines

@@ -6,6 +6,7 @@ choice of a node to all facts that its value was worked out from. What a node di
 free follows from nobody's having taken it before; and who is whose parent follows from the greetings."""
 from lab.definitions.pulses import DROPPED, LAST_COLOUR, SEED
 from lab.pictures.rounds_picture import MOST_ROWS, draw_strips
+from lab.words import in_words
 from lab.wrong import Wrong, at_most
 
 
@@ -114,12 +115,6 @@ class Cone:
         return ("merged", v, f) in self.known
 
 
-def listed(things):
-    """`2`, `2 and 3`, `2, 3 and 5`."""
-    words = [str(thing) for thing in things]
-    return " and ".join(filter(None, [", ".join(words[:-1]), words[-1]]))
-
-
 def summary(cone):
     """How many messages decided it, and on whose identifiers it depends."""
     names, nodes = cone.identifiers(), cone.network.nodes
@@ -131,7 +126,7 @@ def summary(cone):
         return f"{counts}1 of {nodes} nodes: its own."
     edges = f"{most} edge{'s' * (most != 1)} away"
     farthest = (f"The farthest of them is node {who[0]}, {edges}" if len(who) == 1
-                else f"The farthest of them are the nodes {listed(who)}, each {edges}")
+                else f"The farthest of them are the nodes {in_words(who)}, each {edges}")
     return f"{counts}{len(names)} of {nodes} nodes. {farthest} by the shortest way."
 
 
@@ -154,7 +149,7 @@ def text(cone):
         lines.append("the messages that decided it, pulse by pulse:")
         lines += [message_words(cone, *message) for message in sorted(cone.messages)]
     if names := cone.identifiers():
-        lines.append(f"the identifiers that decided it: of node{'s' * (len(names) > 1)} {listed(names)}")
+        lines.append(f"the identifiers that decided it: of node{'s' * (len(names) > 1)} {in_words(names)}")
     lines.append(NOT_FOLLOWED)
     return "".join(line + "\n" for line in lines)
 

@@ -9,7 +9,7 @@ import sys
 from collections import namedtuple
 
 from lab.definitions.colours import fields_of, network_of
-from lab.definitions.nodes import Colouring, named, wire_words
+from lab.definitions.nodes import Colouring, wire_words
 from lab.definitions.programs import add_program, check_root, note_ignored_bars, program_at
 from lab.networks.named import network_bytes
 from lab.networks.network_text import read_network
@@ -18,7 +18,7 @@ from lab.transcripts.reading import Wrong, read_to_fault, words
 from lab.transcripts.rules import Standing, rule_of, stuck_words
 from lab.transcripts.search import Search
 from lab.transcripts.stamps import check_stamped, stamped_as_it_stands
-from lab.words import add_output, bytes_at, called, parser_of, write
+from lab.words import add_output, bytes_at, called, in_words, parser_of, write
 from lab.wrong import Wrong as WrongNetwork
 
 HELP = """\
@@ -116,7 +116,7 @@ def standing(node):
     """Where a node is, for the words on its next entry."""
     lacks = [("ack", [port.neighbour for port in node.all_ports if port.waits]),
              ("safe", [port.neighbour for port in node.all_ports if port.known == node.pulse])]
-    lacked = "; ".join(f"{word} {node.pulse} of {named(names)}" for word, names in lacks if names)
+    lacked = "; ".join(f"{word} {node.pulse} of {in_words(names)}" for word, names in lacks if names)
     can_pulse = node.pulse < node.last and node.can_pulse()
     puts = {port.neighbour: port.out[0].decode() for port in node.all_ports if port.out}
     return Standing(node.pulse, node.last, can_pulse, lacked if node.pulse < node.last else "", puts, "for {}")

@@ -1,6 +1,8 @@
 """What the workshop finds: a run that isn't right, a program that doesn't answer, or that nobody can say."""
 from dataclasses import dataclass, field
 
+from lab.words import in_words
+
 
 class Fault(Exception):
     """A program gave no answer. `kind` is silent, ended, garbage, flood, late or start."""
@@ -41,9 +43,5 @@ class Finding:
 
 def listed(what: str, numbers) -> str:
     """`no port`, `port 1`, `ports 1 and 2`, `ports 0, 1 and 2`."""
-    numbers = [str(number) for number in numbers]
-    if not numbers:
-        return f"no {what}"
-    if len(numbers) == 1:
-        return f"{what} {numbers[0]}"
-    return f"{what}s {', '.join(numbers[:-1])} and {numbers[-1]}"
+    numbers = list(numbers)
+    return f"{what}{'s' * (len(numbers) > 1)} {in_words(numbers)}" if numbers else f"no {what}"
