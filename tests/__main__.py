@@ -48,16 +48,14 @@ def is_named(name, test):
 
 
 def chosen_tests(names, words):
-    """The tests to run by their names, and these by module. A module that can't be read, or that has no test, is one of
-    them: its process says so."""
-    from tests.running import is_helper, modules, tests_of
+    """The tests to run by their names, and these by module. A module that can't be read is one of them: its process
+    says so."""
+    from tests.running import modules, tests_of
     found = {}
     for module in modules():
         try:
             tests = tests_of(module)
         except Exception:
-            tests = {module: None}
-        if not tests and not is_helper(module):
             tests = {module: None}
         chosen = {test: tests[test] for test in tests if not names or any(is_named(name, test) for name in names)}
         if chosen:
@@ -68,14 +66,19 @@ def chosen_tests(names, words):
     return found
 
 
-def what_is_missing(chosen, programs):
+def what_is_missing(chosen, settings, setting):
     """What the chosen tests need and isn't there, in words."""
     tests = [test for tests in chosen.values() for test in tests.values() if test is not None]
     if not any(getattr(test, "needs_programs", True) for test in tests):
         return ""
-    for path in programs:
+    for name, option in (("forestplan", "plan"), ("forestplay", "play")):
+        path, script = setting(option), os.path.join(TOP, "bin", name)
         if not os.access(path, os.X_OK):
-            return f"{os.path.relpath(path)} isn't built: ./test builds it, and so do ./forestplan and forestplay"
+            return f"{os.path.relpath(path)} isn't built: ./test builds it, and so does bin/{name}"
+        is_built = os.environ | {"FORESTPLAN_IS_BUILT": "1"}
+        if path == settings[option][0] and subprocess.run([script], env=is_built).returncode:
+            return (f"{os.path.relpath(path)} wasn't built from the sources as they are, and no test proves anything: "
+                    f"./test builds it, and so does bin/{name}; --{option} FILE names another")
     return "" if shutil.which("cc") else "there is no C compiler cc"
 
 
@@ -154,7 +157,7 @@ def main():
         if given.list:
             print("\n".join(test for tests in chosen.values() for test in tests))
             return 0
-        missing = what_is_missing(chosen, [setting("plan"), setting("play")])
+        missing = what_is_missing(chosen, SETTINGS, setting)
         if missing:
             print(f"tests: {missing}", file=sys.stderr)
             return 2

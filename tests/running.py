@@ -2,17 +2,18 @@
 
   python3 -m tests.running MODULE [TEST ..]
 
-A test is a method of a `unittest.TestCase`. A module without one fails, unless it is a helper that another one imports.
-It prints each row that failed or was skipped, and last 'N passed, M failed'."""
+A test is a method of a `unittest.TestCase`; a module without one is a helper that others import. It prints each row
+that failed or was skipped, and last 'N passed, M failed'."""
 import importlib
 import inspect
 import os
-import re
+import shutil
 import sys
 import unittest
 
 from tests import TOP
 from tests.cases import Wrong
+from tests.shell import without_rt
 
 # The folders of tests/ that come first in the report; others come after them, and by_hand/ is no part of it.
 FOLDERS = ("programs", "faults", "pictures", "pages")
@@ -28,20 +29,6 @@ def modules():
         stems = [name.removesuffix(".py") for name in names if name.endswith(".py") and not name.startswith("__")]
         found += [f"{folder}.{stem}" if folder else stem for stem in stems]
     return found
-
-
-def is_helper(module):
-    """Whether another file of tests/ or bench/ names a module: then it need not have a test."""
-    own = os.path.join(TOP, "tests", *module.split(".")) + ".py"
-    folder, _, stem = f"tests.{module}".rpartition(".")
-    named = re.compile(rf"\b{re.escape(folder)}(\.| import .*\b){stem}\b")
-    for part in ("tests", "bench"):
-        for at, _, names in os.walk(os.path.join(TOP, part)):
-            for path in (os.path.join(at, name) for name in names if name.endswith(".py")):
-                with open(path, encoding="utf-8") as file:
-                    if path != own and named.search(file.read()):
-                        return True
-    return False
 
 
 def tests_of(module):
@@ -105,6 +92,8 @@ def name_of(test):
 
 def main():
     counted, (module, *chosen) = Counting(), sys.argv[1:]
+    # No test proves anything.
+    os.environ |= {"PATH": without_rt(os.environ["PATH"]), "TESTS_RT": shutil.which("rt") or ""}
     tests = tests_of(module)
     unittest.TestSuite(tests[name] for name in chosen or tests if name in tests).run(counted)
     if counted.passed + counted.failed == 0:

@@ -1,8 +1,14 @@
-"""A line of shell, run to its end, or stopped at its limit with all that it started."""
+"""A line of shell, run to its end, or stopped at its limit with all that it started; and where it finds commands."""
 import contextlib
 import os
 import signal
 import subprocess
+
+
+def without_rt(path):
+    """A PATH without the folders that have the toolchain's command: where a program isn't built from the sources as
+    they are, its script then says so, and proves nothing."""
+    return ":".join(folder for folder in path.split(":") if not os.path.exists(os.path.join(folder, "rt")))
 
 
 def run_line(line, *words, limit, **given):

@@ -8,7 +8,6 @@ import collections
 import glob
 import os
 import re
-import shutil
 
 from tests import TOP
 from tests.cases import Case
@@ -58,7 +57,7 @@ def lemmas_in(pattern, head=""):
 def of_library():
     """The names of the library's lemmas, by their plain statements, if the toolchain is here: those of its folder of
     lemmas, and those that this passes on."""
-    rt = shutil.which("rt")
+    rt = os.environ.get("TESTS_RT")
     top = os.path.join(os.path.dirname(os.path.dirname(os.path.realpath(rt))), "rattle") if rt else ""
     passed, found = {}, {}
     lemmas = os.path.join(top, "std", "proofs", "lemmas", "**", "*.antt")

@@ -17,6 +17,7 @@ import time
 from tests import TOP
 from tests.cases import Case
 from tests.commands import commands_of
+from tests.shell import without_rt
 
 # Seconds; a busy machine is slow.
 LIMIT = 300
@@ -346,13 +347,12 @@ class FirstRun(Case):
                             ignore=shutil.ignore_patterns("__pycache__"))
             for at, _, files in os.walk(os.path.join(top, name)):
                 found += [os.path.join(at, file) for file in files if is_called(os.path.join(at, file))]
-        path = ":".join(part for part in os.environ["PATH"].split(":") if not os.path.exists(os.path.join(part, "rt")))
         for script in sorted(found):
             # Those of a package are called as its modules; a program of bench/peers needs nothing beside it.
             name = os.path.relpath(script, top).removesuffix(".py").removesuffix("/__main__")
             words = [script] if name.startswith("bench/peers/python") else ["-m", name.replace("/", ".")]
             done = subprocess.run([sys.executable, *words, "--help"], stdin=subprocess.DEVNULL, capture_output=True,
-                                  text=True, timeout=LIMIT, cwd=top, env=dict(os.environ, PATH=path, COLUMNS="120"))
+                                  text=True, timeout=LIMIT, cwd=top, env=dict(os.environ, COLUMNS="120"))
             good = done.returncode == 0 and len(done.stdout) > 60 and not done.stderr
             self.note(f"{name} --help", good, done)
         self.note("no script has made anything", not os.path.exists(os.path.join(top, "crates")))
@@ -410,8 +410,7 @@ class FirstRun(Case):
         os.remove(tree.kit)
         status, out, err = tree.call("plan")
         self.note("a command of no kit", (status, out) == (70, "") and f"KIT-ID; {wanted} is wanted" in err, err)
-        tree.environment["PATH"] = ":".join(
-            part for part in tree.environment["PATH"].split(":") if not os.path.exists(os.path.join(part, "rt")))
+        tree.environment["PATH"] = without_rt(tree.environment["PATH"])
         status, out, err = tree.call("plan")
         self.note("no command", (status, out) == (70, "") and f"rt is not on the PATH: {wanted} is wanted" in err, err)
         self.note("what it would take isn't said then", "minutes" not in err and "Traceback" not in err, err)

@@ -29,9 +29,7 @@ LIMIT = 600
 TRIES = 5
 NAMES = [*PROGRAMS, "forestlab"]
 BUILD = [sys.executable, os.path.join(TOP, "build")]
-# Without the toolchain's command.
-ENVIRONMENT = dict(os.environ, COLUMNS="80", PATH=":".join(
-    folder for folder in os.environ["PATH"].split(":") if not os.path.exists(os.path.join(folder, "rt"))))
+ENVIRONMENT = dict(os.environ, COLUMNS="80")
 
 
 def run(words, data=b"", **more):
