@@ -1,6 +1,9 @@
 """What every test has: the case whose rows are counted, and how a program's answer is compared."""
+import os
 import subprocess
 import unittest
+
+from tests import FORESTLAB, TOP
 
 # Letters of what is said of a row that fails.
 MOST_SAID = 4000
@@ -36,6 +39,24 @@ class Case(unittest.TestCase):
 def text(lines):
     """Bytes of a text in which '|' is a line feed."""
     return lines.replace("|", "\n").encode("latin-1")
+
+
+def example(name):
+    """The bytes of a file of examples/; a network may be named without its ending."""
+    with open(os.path.join(TOP, "examples", name if "." in name else f"{name}.col"), "rb") as file:
+        return file.read()
+
+
+def forestlab(*words, data=b"", **more):
+    """The status and both outputs of a command of forestlab."""
+    done = run_program(FORESTLAB, map(str, words), data, **more)
+    return done.returncode, done.stdout, done.stderr
+
+
+def said_by(*words, **more):
+    """The same as texts."""
+    status, out, errors = forestlab(*words, **more)
+    return status, out.decode(), errors.decode()
 
 
 def run_program(path, words, data=b"", limit=300, **streams):

@@ -5,8 +5,8 @@ import subprocess
 import tempfile
 
 from lab.definitions.colours import network_of
-from tests import FORESTLAB, TOP
-from tests.cases import Case
+from tests import TOP
+from tests.cases import Case, example, forestlab
 from tests.pictures.marks import marks, number, parsed
 from tests.pictures.process import Painter
 from tests.programs.made_transcripts import made_transcript, transcript_text
@@ -17,13 +17,7 @@ EDGE, APART = b"p edge 2 1\ne 1 2\n", b"p edge 5 3\ne 1 2\ne 2 3\ne 1 3\n"
 
 
 def call(words, data=b"", **more):
-    done = subprocess.run([FORESTLAB, "picture", *words], input=data, capture_output=True, timeout=LIMIT, **more)
-    return done.returncode, done.stdout, done.stderr
-
-
-def example(name):
-    with open(os.path.join(TOP, "examples", name), "rb") as file:
-        return file.read()
+    return forestlab("picture", *words, data=data, **more)
 
 
 def examples():

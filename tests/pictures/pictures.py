@@ -12,8 +12,8 @@ from lab.definitions.rounds import rounds_text
 from lab.transcripts.check import find_order
 from lab.transcripts.reading import Wrong, read
 from tests import TOP
-from tests.cases import run_program
-from tests.pictures.base import APART, EDGE, SEED, PictureCase, call, circle_of, example, examples, transcript
+from tests.cases import example, run_program
+from tests.pictures.base import APART, EDGE, SEED, PictureCase, call, circle_of, examples, transcript
 from tests.pictures.marks import gap, parsed, texts, titles
 from tests.programs.made_transcripts import MISTAKES, made_transcript, merged_text, transcript_text, with_mistake
 from tests.settings import PLAN, PLAY

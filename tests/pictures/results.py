@@ -2,7 +2,8 @@
 import json
 import re
 
-from tests.pictures.base import PictureCase, example
+from tests.cases import example
+from tests.pictures.base import PictureCase
 from tests.pictures.marks import SVG, centre, ends, marks, nearest, parsed, texts, title
 
 ROW, TRIANGLE = b"p edge 3 2\ne 1 2\ne 2 3\n", b"p edge 3 3\ne 1 2\ne 1 3\ne 2 3\n"

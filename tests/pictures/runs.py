@@ -7,7 +7,8 @@ from lab.definitions.nodes import NetState, last_pulse
 from lab.definitions.rounds import rounds_text
 from lab.transcripts.check import find_order
 from lab.transcripts.reading import read
-from tests.pictures.base import EDGE, PictureCase, circle_of, example, transcript, transcript_by
+from tests.cases import example
+from tests.pictures.base import EDGE, PictureCase, circle_of, transcript, transcript_by
 from tests.pictures.marks import ends, gap, marks, number, parsed, texts, title, titles
 from tests.programs.made_transcripts import transcript_text
 from tests.settings import PLAN

@@ -6,7 +6,6 @@ import json
 import os
 import random
 import re
-import subprocess
 import tempfile
 from unittest import mock
 
@@ -17,22 +16,12 @@ from lab.pictures import watch_page
 from lab.pictures.watch_page import Run, Steps, steps_of_text
 from lab.schedules.policies import policy_of
 from lab.schedules.simulate import Player, edges_of, text_of_rows
-from tests import FORESTLAB, TOP
-from tests.cases import Case
+from tests import TOP
+from tests.cases import Case, example, said_by
 from tests.programs.made_transcripts import made_transcript, merged_text, transcript_text
 
-LIMIT = 120
-
-
-def contents(name):
-    with open(os.path.join(TOP, "examples", name), "rb") as file:
-        return file.read()
-
-
 def watch(*words, data=b""):
-    done = subprocess.run([FORESTLAB, "picture", "watch", *words], input=data, capture_output=True,
-                          timeout=LIMIT)
-    return done.returncode, done.stdout.decode(), done.stderr.decode()
+    return said_by("picture", "watch", *words, data=data)
 
 
 def table_of(page):
@@ -132,7 +121,7 @@ class OneRun(Page):
     def test_rows(self):
         for name in ("two", "triangle", "barred", "star", "petersen"):
             with self.subTest(name):
-                data = contents(f"{name}.col")
+                data = example(f"{name}.col")
                 net = network_of(data)
                 text = merged_text(len(net.neighbours), made_transcript(random.Random(f"watch {name}"), net, 3))
                 page = self.drawn(self.file("net.col", data), self.file("run", text))
@@ -140,7 +129,7 @@ class OneRun(Page):
                 self.assertNotRegex(page, r"(src|href)=|https?://(?!www\.w3\.org/2000/svg)|@[A-Z]+@")
 
     def test_edition_1_is_put_in_an_order(self):
-        data = contents("chain6.col")
+        data = example("chain6.col")
         page = self.drawn(self.file("chain6.col", data), os.path.join(TOP, "examples", "chain6_slow.transcript"))
         table = table_of(page)
         rows = table["runs"][0]["rows"]
@@ -148,7 +137,7 @@ class OneRun(Page):
         self.assertEqual(rows, sorted(rows, key=lambda row: row[:2]))
 
     def test_pulses(self):
-        data = contents("petersen.col")
+        data = example("petersen.col")
         net = network_of(data)
         text = merged_text(10, made_transcript(random.Random("pulses"), net, 3))
         whole = table_of(self.drawn(self.file("net.col", data), self.file("run", text)))["runs"][0]
@@ -168,7 +157,7 @@ class OneRun(Page):
 
     def test_cut_text(self):
         """A text that ends early is drawn as far as it goes, and says so."""
-        data = contents("triangle.col")
+        data = example("triangle.col")
         net = network_of(data)
         lines = merged_text(3, made_transcript(random.Random("cut"), net, 3)).splitlines(keepends=True)
         page = self.drawn(self.file("net.col", data), "-", data=b"".join(lines[:200]))
@@ -176,7 +165,7 @@ class OneRun(Page):
         self.assertIn("standard input ends before the nodes are through.", page)
 
     def test_a_run_that_is_too_long_says_how_to_see_the_rest(self):
-        data = contents("triangle.col")
+        data = example("triangle.col")
         network = read_network(data.decode(), "triangle")
         text = merged_text(3, made_transcript(random.Random("long"), network_of(data), 3))
         for most, pulses, is_said in ((20_000, None, False), (100, None, True), (100, (3, 4), False)):
@@ -190,7 +179,7 @@ class OneRun(Page):
         """The steps of a player show what its transcript shows, on the way and at the end."""
         for name in ("two", "triangle", "barred", "petersen"):
             with self.subTest(name):
-                data = contents(f"{name}.col")
+                data = example(f"{name}.col")
                 net, network = network_of(data), read_network(data.decode(), name)
                 player = Player(net)
                 steps = Steps(player.state)
@@ -214,7 +203,7 @@ class OneRun(Page):
 
 class TwoRuns(Page):
     def test_same_rounds(self):
-        data = contents("petersen.col")
+        data = example("petersen.col")
         net = network_of(data)
         texts = [merged_text(10, made_transcript(random.Random(f"two {k}"), net, 3)) for k in "ab"]
         paths = [self.file(name, text) for name, text in zip("ab", texts)]
@@ -231,7 +220,7 @@ class TwoRuns(Page):
 
     def test_a_run_that_is_cut(self):
         """Of a text that ends early the last moment is its end."""
-        data = contents("triangle.col")
+        data = example("triangle.col")
         net = network_of(data)
         texts = [merged_text(3, made_transcript(random.Random(f"cut {k}"), net, 3)) for k in "ab"]
         lines = texts[0].splitlines(keepends=True)
@@ -245,7 +234,7 @@ class TwoRuns(Page):
 
 class Refusals(Page):
     def test_refusals(self):
-        data = contents("triangle.col")
+        data = example("triangle.col")
         net = network_of(data)
         lines = made_transcript(random.Random("wrong"), net, 3)
         good, old = merged_text(3, lines), transcript_text(3, lines)
@@ -254,14 +243,14 @@ class Refusals(Page):
         forged = b"".join(rows[:first_take] + [rows[first_take].replace(b"hello 1", b"hello 7")
                                                .replace(b"hello 2", b"hello 7").replace(b"hello 3", b"hello 7")])
         late = re.sub(rb"^1 ", b"2 ", good, count=1, flags=re.M)
-        network, two = self.file("net.col", data), self.file("two.col", contents("two.col"))
+        network, two = self.file("net.col", data), self.file("two.col", example("two.col"))
         at = old.index(b"\n1 pulse 5\n")
         missing = old[:at] + old[at + len(b"\n1 pulse 5"):]
         cases = [
             ("a forged take", [network, "-"], forged, f"line {first_take + 1}: "),
             ("a wrong stamp", [network, "-"], late, "(WrongStamp)"),
             ("another network", [two, "-"], good, "line 1: 3 nodes, and two has 2 (Nodes)"),
-            ("a line left out", [network, "-"], missing, "which can't come in any order"),
+            ("a line left out", [network, "-"], missing, "NothingToPut: node "),
             ("no transcript", [network, "-"], b"plan\n", "X1"),
             ("three runs", [network, "a", "b", "c"], b"", "a page has room for two runs"),
             ("standard input twice", ["-", "-"], b"", "standard input has one text"),

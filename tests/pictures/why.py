@@ -3,10 +3,8 @@
 The channel of the triangle's node 2 is worked by hand, as in docs/learn/TUTORIAL.md. Of other networks: each message
 that is named is one of the rounds by the definitions; and a colour stays the same if identifiers on which it is said
 not to depend change."""
-import os
 import random
 import re
-import subprocess
 import xml.etree.ElementTree as ElementTree
 
 from lab.definitions.colours import Network, colours, network_of, three
@@ -14,8 +12,7 @@ from lab.definitions.rounds import rounds_text
 from lab.networks.network_text import Network as Read, read_network
 from lab.definitions.pulses import Rounds
 from lab.pictures.why_picture import Cone
-from tests import FORESTLAB, TOP
-from tests.cases import Case
+from tests.cases import Case, example, said_by
 
 HAND = [
     "why node 2 of triangle has channel 3",
@@ -28,18 +25,10 @@ HAND = [
 ]
 
 
-def example(name):
-    with open(os.path.join(TOP, "examples", f"{name}.col"), "rb") as file:
-        return file.read()
-
-
 def why(name, vertex, *words):
     """By the rounds of the definitions, which are the program's too."""
-    done = subprocess.run(
-        [FORESTLAB, "picture", "why", os.path.join(TOP, "examples", f"{name}.col"), "--vertex",
-         str(vertex), "--rounds", "-", *words], input=rounds_text(network_of(example(name))), capture_output=True,
-        timeout=100)
-    return done.returncode, done.stdout.decode(), done.stderr.decode()
+    return said_by("picture", "why", name, "--vertex", vertex, "--rounds", "-", *words,
+                   data=rounds_text(network_of(example(name))))
 
 
 def cone_of(name, vertex):
@@ -165,7 +154,7 @@ class Picture(Case):
                 self.assertIn(end, fault)
 
     def test_no_forest(self):
-        done = subprocess.run([FORESTLAB, "picture", "why", "/dev/stdin", "--vertex", "1", "--rounds",
-                               "/dev/null"], input=b"p edge 1 0\n", capture_output=True, timeout=60)
-        self.assertEqual(done.returncode, 1)
-        self.assertTrue(re.match(rb"picture: [^\n]*\n$", done.stderr), done.stderr)
+        status, _, fault = said_by("picture", "why", "/dev/stdin", "--vertex", "1", "--rounds", "/dev/null",
+                                   data=b"p edge 1 0\n")
+        self.assertEqual(status, 1)
+        self.assertRegex(fault, r"\Apicture: [^\n]*\n\Z")

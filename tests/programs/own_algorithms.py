@@ -15,10 +15,9 @@ from lab.definitions.colours import Network
 from lab.definitions.nodes import synchronous_run
 from lab.definitions.programs import PROGRAMS, program_at
 from lab.schedules.reading import network_at
-from tests import FORESTLAB, TOP
-from tests.cases import Case
+from tests import TOP
+from tests.cases import Case, forestlab
 from tests.programs.plain_networks import random_of, tree
-from tests.programs.simulate import call
 
 SEED = 2026
 MOST_NODES = 30
@@ -83,17 +82,13 @@ WRONG = [
 ]
 
 
-def example(name):
-    return os.path.join(TOP, "examples", name)
-
-
 def script(name, *words, data=b""):
-    return call(FORESTLAB, *name.split(), *words, data=data)
+    return forestlab(*name.split(), *words, data=data)
 
 
 def some_networks():
     """The examples, and random networks with identifiers in any order."""
-    for path in sorted(glob.glob(example("*.col"))):
+    for path in sorted(glob.glob(os.path.join(TOP, "examples", "*.col"))):
         name, net = network_at(path)
         if len(net.neighbours) <= MOST_NODES:
             yield name, net
@@ -143,7 +138,7 @@ class OwnAlgorithms(Case):
             net = Network({v: v for v in names}, {(min(e), max(e)) for e in tree(source, names)})
             found = {node.result() for node in synchronous_run(net, program_at(COUNT)).values()}
             self.note(f"a tree of {count} nodes counted", found == {f"nodes {count}"}, found)
-        found = {node.result() for node in synchronous_run(network_at(example("four_cycle.col"))[1],
+        found = {node.result() for node in synchronous_run(network_at("four_cycle")[1],
                                                            program_at(COUNT)).values()}
         self.note("a ring isn't counted", found == {"nodes unknown"}, found)
 
@@ -151,22 +146,22 @@ class OwnAlgorithms(Case):
         """Every order on two nodes leads to what the rounds find; a run by seed is checked, and drawn."""
         with tempfile.TemporaryDirectory() as folder:
             for program in ("leader", "layers", SET, COUNT):
-                status, text, fault = script("explore", example("two.col"), "--program", program)
-                nodes = synchronous_run(network_at(example("two.col"))[1], program_at(program))
+                status, text, fault = script("explore", "two", "--program", program)
+                nodes = synchronous_run(network_at("two")[1], program_at(program))
                 end = "one end: " + ", ".join(f"{v} {node.result()}" for v, node in nodes.items())
                 good = (status, text.decode().splitlines()[-1:], fault) == (0, [end], b"")
                 self.note(f"every order of {program}", good, text)
-                status, run, fault = script("simulate", example("chain6.col"), "--program", program, "--seed", "3")
+                status, run, fault = script("simulate", "chain6", "--program", program, "--seed", "3")
                 path = os.path.join(folder, "run")
                 with open(path, "wb") as file:
                     file.write(run)
-                done = script("transcript check", example("chain6.col"), path, "--program", program)
+                done = script("transcript check", "chain6", path, "--program", program)
                 self.note(f"a run of {program}", (status, done[0], done[2]) == (0, 0, b"")
                           and done[1].startswith(b"whole run of 6 nodes, "), done)
                 last = run.replace(b" safe 0", b" safe 1", 1)
                 with open(path, "wb") as file:
                     file.write(last)
-                done = script("transcript check", example("chain6.col"), path, "--program", program)
+                done = script("transcript check", "chain6", path, "--program", program)
                 self.note(f"a wrong run of {program}", done[0] == 1 and b"WrongWire" in done[2], done)
 
     def test_what_me_knows(self):
@@ -217,7 +212,7 @@ class OwnAlgorithms(Case):
             ("chance", "import random\n" + draws.replace("me.random", "random"), "`greet` at pulse 0 of the node of "),
             ("a variable", SHARED, "`next` at pulse 1 of the node of identifier 1 "),
         ):
-            for command, network in (("explore", "path.col"), ("simulate", "chain6.col")):
+            for command, network in (("explore", "path"), ("simulate", "chain6")):
                 got = self.told(text, command=command, network=network)
                 said = "does something else the second time: does it use chance other than `me.random`, or a variable"
                 self.note(f"{name} in {command}", got[0] == 1 and where in got[2] and said in got[2], got)
@@ -257,7 +252,7 @@ class OwnAlgorithms(Case):
 
     def test_what_it_prints(self):
         """It goes to standard error, and leaves what the command writes as it was."""
-        for name, words in (("explore", ["two.col"]), ("simulate", ["chain6.col"])):
+        for name, words in (("explore", ["two"]), ("simulate", ["chain6"])):
             plain = self.told(FLOOD, command=name, network=words[0])
             loud = self.told(FLOOD.replace("def greet(me):", "print('HERE')\ndef greet(me):\n    print('THERE')"),
                              command=name, network=words[0])
@@ -266,24 +261,24 @@ class OwnAlgorithms(Case):
         got = self.told(FLOOD.replace("me.best = me.id", "me.best = __import__('sys').exit(0)"))
         self.note("exit", (got[0], got[1]) == (1, "") and " line 2: SystemExit: 0" in got[2], got)
 
-    def told(self, text, *words, command="explore", network="two.col"):
+    def told(self, text, *words, command="explore", network="two"):
         """Status, output and errors of a command with a file of this text."""
         with tempfile.TemporaryDirectory() as folder:
             path = os.path.join(folder, "flood.py")
             with open(path, "w", encoding="utf-8") as file:
                 file.write(text)
-            status, out, errors = script(command, example(network), "--program", path, *words)
+            status, out, errors = script(command, network, "--program", path, *words)
         return status, out.decode(), errors.decode()
 
     def test_pictures(self):
-        for kind, name in (("rounds", "petersen.col"), ("run", "chain6.col"), ("overview", "chain6.col"),
-                           ("node", "path.col"), ("tally", "path.col"), ("schedules", "two.col")):
-            status, text, fault = script("picture", kind, example(name), "--program", SET)
+        for kind, name in (("rounds", "petersen"), ("run", "chain6"), ("overview", "chain6"),
+                           ("node", "path"), ("tally", "path"), ("schedules", "two")):
+            status, text, fault = script("picture", kind, name, "--program", SET)
             self.note(f"picture {kind}", (status, text[:4], fault) == (0, b"<svg", b""), fault)
-        status, text, fault = script("picture", "player", example("petersen.col"), "--program", SET)
+        status, text, fault = script("picture", "player", "petersen", "--program", SET)
         self.note("picture player", (status, text[:15], fault) == (0, b"<!doctype html>", b""), fault)
         self.note_all(self.rows_of_a_tree())
-        _, text, _ = script("picture", "rounds", example("path.col"), "--program", SET)
+        _, text, _ = script("picture", "rounds", "path", "--program", SET)
         # Node 3 is in at pulse 1, 2 out at 2, and 1 in at 3.
         self.note("what is found", text.count(b'class="found"') == 6, text)
 
@@ -294,20 +289,20 @@ class OwnAlgorithms(Case):
         for right, said in (("True", False), ("'no tree'", True)):
             with open(path, "w", encoding="utf-8") as file:
                 file.write(TREE.replace("RIGHT", right))
-            _, page, fault = script("picture", "player", example("chain6.col"), "--program", path)
+            _, page, fault = script("picture", "player", "chain6", "--program", path)
             data = json.loads(re.search(rb"^var D = (.*);$", page, re.M).group(1))
             last = data["film"]["pulses"][-1]
             wanted = {"1": [None, None]} | {str(v): [v - 2, v - 1] for v in range(2, 7)}
             yield f"a tree, {right}", (last["drawn"], fault) == (wanted, b""), (last["drawn"], fault)
             yield f"words of it, {right}", last["results"][5] == "layer 5 by the port 0", last["results"]
-            _, picture, _ = script("picture", "rounds", example("chain6.col"), "--program", path)
+            _, picture, _ = script("picture", "rounds", "chain6", "--program", path)
             for text in (page, picture):
                 is_said = b"right: no tree" in text or b"the end: no tree" in text
                 yield f"what isn't right, {right}", is_said == said, text
         for returned, why in (("1", "a pair"), ("(9, None)", "a colour below 8"), ("(1, 5)", "a port")):
             with open(path, "w", encoding="utf-8") as file:
                 file.write(TREE.replace("return (me.layer - 1 if me.layer else None), me.by", f"return {returned}"))
-            done = script("picture", "player", example("chain6.col"), "--program", path)
+            done = script("picture", "player", "chain6", "--program", path)
             yield f"drawn returns {returned}", done[:2] == (1, b"") and why.encode() in done[2], done
 
     def test_wrong_files(self):
@@ -318,10 +313,10 @@ class OwnAlgorithms(Case):
                     file.write(lines)
                 # A run by seed has no need of what is found.
                 for name in ("explore",) if "`result`" in said else ("simulate", "explore"):
-                    done = script(name, example("two.col"), "--program", path)
+                    done = script(name, "two", "--program", path)
                     self.note(f"{name}{said}", done == (1, b"", f"{name}: {path}{said}\n".encode()), done)
-        status, _, fault = script("simulate", example("two.col"), "--program", "tree")
+        status, _, fault = script("simulate", "two", "--program", "tree")
         self.note("an unknown name",
                   status == 1 and fault.startswith(b"simulate: there is no program tree: there are "), fault)
-        done = script("simulate", example("two.col"), "--program", "nowhere.py")
+        done = script("simulate", "two", "--program", "nowhere.py")
         self.note("no such file", done == (1, b"", b"simulate: nowhere.py: No such file or directory\n"), done)

@@ -4,12 +4,11 @@ On each connected network of up to three nodes, in each numbering, and on two of
 same, the ends are the same states, and every state of the reduced search is one of the whole search."""
 import itertools
 import os
-import subprocess
 
 from lab.definitions.colours import Network
 from lab.schedules.space import Space
-from tests import FORESTLAB, TOP
-from tests.cases import Case
+from tests import TOP
+from tests.cases import Case, said_by
 
 MOST = 200_000
 
@@ -75,8 +74,7 @@ class Command(Case):
     needs_programs = False
 
     def call(self, *words):
-        done = subprocess.run([FORESTLAB, "explore", *words], capture_output=True, timeout=120)
-        return done.returncode, done.stdout.decode(), done.stderr.decode()
+        return said_by("explore", *words)
 
     def test_what_it_says(self):
         """The triangle's counts by the help; and nothing of what it doesn't know."""

@@ -16,7 +16,7 @@ from lab.definitions.nodes import Colouring, NetState, bit_step, last_pulse, syn
 from lab.schedules import ruled_rounds, rules
 from lab.schedules.space import Space, TooMany
 from tests import FORESTLAB, TOP
-from tests.cases import Case
+from tests.cases import Case, said_by
 from tests.programs.events import answer_of
 from tests.settings import PLAN, PLAY
 
@@ -143,8 +143,7 @@ def state_text(space, s, taken):
 
 
 def explored(*words):
-    done = subprocess.run([FORESTLAB, "explore", *words], cwd=TOP, capture_output=True, timeout=LIMIT)
-    return done.returncode, done.stdout.decode(), done.stderr.decode()
+    return said_by("explore", *words, cwd=TOP)
 
 
 # (network, rules, what goes wrong, the fault of `forestplay events` on that list or None): what happens to two nodes is
@@ -372,8 +371,10 @@ class Schedules(Case):
     def test_not_broken(self):
         """On links that keep the order, acknowledgements aren't needed; and nothing is broken if no rule is left
         out."""
-        space = Space(net_of("two"), without=("acks",), limit=MOST)
-        self.note("two without acks", not space.faults and len(space.ends) == 1, space.faults)
+        for puts, states in ((False, 536), (True, 2061)):
+            space = Space(net_of("two"), without=("acks",), limit=MOST, puts=puts)
+            good = not space.faults and len(space.ends) == 1 and space.count == states
+            self.note(f"two without acks, puts apart: {puts}", good, (space.count, space.faults))
         beyond = Space(net_of("two"), without=("safes",), beyond=True, limit=MOST)
         plans = [{v: node.colour for v, node in beyond.nodes(s).items()} for s in beyond.ends]
         wrong = [plan for s, plan in zip(beyond.ends, plans) if plan != colours(beyond.net)]

@@ -3,20 +3,15 @@
 Each sheet's network is read from its answers, and each answer worked out once more here: from nodes that hear and send
 (lab/definitions/nodes.py), from counts, and by hand for one network."""
 import re
-import subprocess
 
 from lab.definitions.colours import network_of
 from lab.definitions.nodes import synchronous_pulses
 from lab.pictures.sheet import farthest
-from tests import FORESTLAB
-from tests.cases import Case
-
-LIMIT = 120
+from tests.cases import Case, said_by
 
 
 def sheet(*words):
-    done = subprocess.run([FORESTLAB, "sheet", *words], capture_output=True, timeout=LIMIT)
-    return done.returncode, done.stdout.decode(), done.stderr.decode()
+    return said_by("sheet", *words)
 
 
 def sections_of(page):

@@ -5,7 +5,6 @@ nothing is compared with what simulate itself wrote before."""
 import os
 import random
 import re
-import subprocess
 import tempfile
 
 from lab.definitions.colours import colours, network_of
@@ -15,30 +14,20 @@ from lab.schedules.simulate import HABITS, played
 from lab.schedules.space import Space
 from lab.transcripts.reading import read
 from lab.transcripts.stamps import check_stamped
-from tests import FORESTLAB, TOP
-from tests.cases import Case
+from tests.cases import Case, example, forestlab, run_program
 from tests.settings import PLAY
 
-LIMIT = 120
 NETWORKS = ("two", "triangle", "chain6", "barred", "petersen")
 
 
-def contents(name):
-    with open(os.path.join(TOP, "examples", f"{name}.col"), "rb") as file:
-        return file.read()
-
-
-def call(program, *words, data=b""):
-    done = subprocess.run([program, *words], input=data, capture_output=True, timeout=LIMIT)
+def played_by(command, name, text):
+    """What `forestplay` says of a text after a network."""
+    done = run_program(PLAY, [command], example(name) + b"\n" + text)
     return done.returncode, done.stdout, done.stderr
 
 
 def simulate(*words, data=b""):
-    return call(FORESTLAB, "simulate", *words, data=data)
-
-
-def example(name):
-    return os.path.join(TOP, "examples", f"{name}.col")
+    return forestlab("simulate", *words, data=data)
 
 
 class Event:
@@ -82,7 +71,7 @@ class Waits(Case):
         self.assertGreater(waited, 0)
 
     def test_waits(self):
-        chain, petersen = network_of(contents("chain6")), network_of(contents("petersen"))
+        chain, petersen = network_of(example("chain6")), network_of(example("petersen"))
         rows = [
             ("a slow edge", chain, dict(slow=[(3, 2)]), lambda v, edge, wire: edge == (2, 3)),
             ("two slow edges", chain, dict(slow=[(1, 2), (5, 6)], policy="oldest"),
@@ -99,7 +88,7 @@ class Waits(Case):
     def test_how_far_a_slow_edge_lets_others_run(self):
         """By hand: while nothing goes over 2-3 in six in a row, nodes 2 and 3 wait for each other's acknowledgement at
         pulse 0, so 1 and 4 wait for their safe; 5 makes one pulse by 4's safe, and 6 another by 5's."""
-        net = network_of(contents("chain6"))
+        net = network_of(example("chain6"))
         state = NetState(net)
         for row in played(net, slow=[(2, 3)], seed="5"):
             event = Event(state, row)
@@ -113,28 +102,28 @@ class Runs(Case):
     def test_whole_runs(self):
         """Each policy gives a whole run with right stamps, and ends with the plan."""
         for name in NETWORKS:
-            net = network_of(contents(name))
+            net = network_of(example(name))
             for policy in POLICIES if name != "petersen" else ("random", "newest", "slow-node"):
                 with self.subTest(name, policy=policy):
-                    status, text, fault = simulate(example(name), "--policy", policy, "--seed", "7")
+                    status, text, fault = simulate(name, "--policy", policy, "--seed", "7")
                     self.assertEqual((status, fault), (0, b""))
                     head, entries = read(text)
                     self.assertEqual((head.edition, head.nodes), (2, len(net.neighbours)))
                     check_stamped(net, head, entries)
-                    status, state, fault = call(PLAY, "replay", data=contents(name) + b"\n" + text)
+                    status, state, fault = played_by("replay", name, text)
                     self.assertEqual((status, fault), (0, b""))
                     found = {int(v): int(c) - 1 for v, c in re.findall(rb"^node (\d+) .* channel (\d+)$", state, re.M)}
                     self.assertEqual(found, colours(net))
 
     def test_repeatable(self):
         """Two calls give the same bytes, and seeds differ."""
-        texts = {seed: [simulate(example("triangle"), "--seed", seed)[1] for _ in range(2)] for seed in ("1", "2", "x")}
+        texts = {seed: [simulate("triangle", "--seed", seed)[1] for _ in range(2)] for seed in ("1", "2", "x")}
         self.assertTrue(all(first == second for first, second in texts.values()))
         self.assertEqual(len({first for first, _ in texts.values()}), 3)
-        self.assertEqual(simulate(example("triangle"))[1], texts["1"][0])
+        self.assertEqual(simulate("triangle")[1], texts["1"][0])
 
     def test_standard_input(self):
-        self.assertEqual(simulate("-", data=contents("two")), simulate(example("two")))
+        self.assertEqual(simulate("-", data=example("two")), simulate("two"))
 
     def test_help_has_all_policies(self):
         self.assertEqual(sorted(HABITS), sorted(POLICIES))
@@ -176,16 +165,16 @@ class Lists(Case):
     def test_random_lists(self):
         """The transcript has each node's entries of the list, in its order; and with --to-the-end further ones."""
         for name in NETWORKS:
-            net = network_of(contents(name))
+            net = network_of(example(name))
             for events in (0, 1, 40, 400):
                 lines, entries, state = walk(net, events, random.Random(f"{name} {events}"))
-                status, text, fault = simulate(example(name), "--events", "-", data="\n".join(lines).encode())
+                status, text, fault = simulate(name, "--events", "-", data="\n".join(lines).encode())
                 self.note(f"{name}, {events} events", status == 0 and entries_of(text) == {
                     v: own for v, own in entries.items() if own}, fault)
                 is_over = all(node.drained() for node in state.nodes.values()) and not any(state.link.values())
                 self.note(f"{name}, {events} events: what is left is said",
                           (fault == b"") == is_over and fault.count(b"\n") <= 1, fault)
-                whole = simulate(example(name), "--events", "-", "--to-the-end", data="\n".join(lines).encode())
+                whole = simulate(name, "--events", "-", "--to-the-end", data="\n".join(lines).encode())
                 self.note(f"{name}, {events} events, to the end", whole[::2] == (0, b""), whole)
                 head, rows = read(whole[1])
                 check_stamped(net, head, rows)
@@ -194,11 +183,11 @@ class Lists(Case):
 
     def test_lists_of_the_page(self):
         """A list to the end as the adversary's page writes it, with puts as soon as they can be, is a whole run."""
-        for name, net in (("two", network_of(contents("two"))), ("path", network_of(contents("path")))):
+        for name, net in (("two", network_of(example("two"))), ("path", network_of(example("path")))):
             space = Space(net)
             lines = space.lines(space.path(space.ends[0]), True)
             events = "".join(f"{line}\n" for line in map(str, lines)).encode()
-            status, text, fault = simulate(example(name), "--events", "-", data=events)
+            status, text, fault = simulate(name, "--events", "-", data=events)
             self.note(f"{name}: the list is a run", (status, fault) == (0, b""), fault)
             head, rows = read(text)
             check_stamped(net, head, rows)
@@ -207,13 +196,13 @@ class Lists(Case):
         """Comments, blank lines, and notes after a colon."""
         plain = b"put 1 0\ntake 2 0\n"
         noted = b"c a list\n\n  put\t1 0: payload 0 hello 1 for 2\r\ncomment\ntake 2 0: payload 0 hello 1 from 1\n"
-        self.assertEqual(simulate(example("two"), "--events", "-", data=noted),
-                         simulate(example("two"), "--events", "-", data=plain))
+        self.assertEqual(simulate("two", "--events", "-", data=noted),
+                         simulate("two", "--events", "-", data=plain))
 
     def test_worked(self):
         """Two nodes, by hand: 1 greets, 2 takes it and puts its own greeting. Lamport's clock gives 1, then 2 for the
         take (one more than the put), then 3."""
-        status, text, fault = simulate(example("two"), "--events", "-", data=b"put 1 0\ntake 2 0\nput 2 0\n")
+        status, text, fault = simulate("two", "--events", "-", data=b"put 1 0\ntake 2 0\nput 2 0\n")
         self.assertEqual((status, text), (0, b"transcript 2 2\n1 1 put 2 payload 0 hello 1\n"
                                              b"2 2 take 1 payload 0 hello 1\n3 2 put 1 payload 0 hello 2\n"))
         self.assertEqual(fault, b"simulate: after the last event node 1 is at pulse 0 of 18; --to-the-end plays the rest\n")
@@ -232,11 +221,11 @@ class Lists(Case):
             ("put 1 0|take 2 0: ack 0 from 1, out of turn",
              "line 2: `take 2 0: ack 0 from 1, out of turn` overtakes another message, and links keep their order"),
         ):
-            done = simulate(example("two"), "--events", "-", data=events.replace("|", "\n").encode())
+            done = simulate("two", "--events", "-", data=events.replace("|", "\n").encode())
             self.note(events, done == (1, b"", f"simulate: standard input {end}\n".encode()), done)
         for words, wanted, end in (
-            ([example("two"), "--events", "nowhere"], 1, b"simulate: nowhere: No such file or directory\n"),
-            ([example("two"), "--to-the-end"], 2, b"--to-the-end is for a list of --events\n"),
+            (["two", "--events", "nowhere"], 1, b"simulate: nowhere: No such file or directory\n"),
+            (["two", "--to-the-end"], 2, b"--to-the-end is for a list of --events\n"),
             (["-", "--events", "-"], 2, b"standard input is one file, not two\n"),
         ):
             status, text, fault = simulate(*words)
@@ -247,21 +236,19 @@ class ListsByTheProgram(Case):
     """A list leads the proved machine to the state to which its transcript does."""
 
     def test_states(self):
-        triangle = os.path.join(TOP, "examples", "triangle.events")
-        with open(triangle, "rb") as file:
-            lists = [("triangle", file.read())]
+        lists = [("triangle", example("triangle.events"))]
         for name in ("two", "path", "barred"):
-            lines, _, _ = walk(network_of(contents(name)), 90, random.Random(f"states {name}"))
+            lines, _, _ = walk(network_of(example(name)), 90, random.Random(f"states {name}"))
             lists.append((name, "".join(line + "\n" for line in lines).encode()))
         for name, events in lists:
-            status, text, _ = simulate(example(name), "--events", "-", data=events)
+            status, text, _ = simulate(name, "--events", "-", data=events)
             self.note(f"{name}: it is written", status == 0)
-            wanted = call(PLAY, "events", data=contents(name) + b"\n" + events)
+            wanted = played_by("events", name, events)
             self.note(f"{name}: the state of the list", wanted[::2] == (0, b"") and wanted[1], wanted)
-            got = call(PLAY, "replay", data=contents(name) + b"\n" + in_edition_1(text))
+            got = played_by("replay", name, in_edition_1(text))
             self.note(f"{name}: the state of the transcript", got == wanted, (got, wanted))
-            status, text, _ = simulate(example(name), "--events", "-", "--to-the-end", data=events)
-            done = call(PLAY, "replay", data=contents(name) + b"\n" + text)
+            status, text, _ = simulate(name, "--events", "-", "--to-the-end", data=events)
+            done = played_by("replay", name, text)
             self.note(f"{name}: to the end, it is replayed whole", done[::2] == (0, b""), done)
 
 
@@ -276,10 +263,10 @@ class Refusals(Case):
             rows = [
                 (["nowhere.col"], 1, b"simulate: nowhere.col: No such file or directory\n"),
                 ([bad], 1, b"(F3)\n"),
-                ([example("chain6"), "--slow", "2-4"], 1, b"simulate: chain6 has no edge 2-4\n"),
-                ([example("chain6"), "--lazy", "7"], 1, b"simulate: chain6 has no node 7: its nodes are 1 to 6\n"),
-                ([example("chain6"), "--slow", "2"], 2, b"two neighbours, as 2-3\n"),
-                ([example("chain6"), "--policy", "kind"], 2, b""),
+                (["chain6", "--slow", "2-4"], 1, b"simulate: chain6 has no edge 2-4\n"),
+                (["chain6", "--lazy", "7"], 1, b"simulate: chain6 has no node 7: its nodes are 1 to 6\n"),
+                (["chain6", "--slow", "2"], 2, b"two neighbours, as 2-3\n"),
+                (["chain6", "--policy", "kind"], 2, b""),
                 ([], 2, b""),
             ]
             for words, wanted, end in rows:

@@ -2,25 +2,19 @@
 
 A vector clock is worked out here in another way: as the sets of entries that happened before an entry."""
 import json
-import os
 import random
-import subprocess
 
 from lab.definitions.colours import network_of
-from tests import FORESTLAB, TOP
-from tests.cases import Case
+from tests.cases import Case, example, said_by
 from tests.programs.made_transcripts import made_transcript, merged_text, transcript_text
 
 
 def call(*words, data=b""):
-    done = subprocess.run([FORESTLAB, "transcript", "convert", *words], input=data, capture_output=True,
-                          timeout=60)
-    return done.returncode, done.stdout.decode(), done.stderr.decode()
+    return said_by("transcript", "convert", *words, data=data)
 
 
 def made(name):
-    with open(os.path.join(TOP, "examples", f"{name}.col"), "rb") as file:
-        net = network_of(file.read())
+    net = network_of(example(name))
     lines = made_transcript(random.Random(f"to {name}"), net, 3)
     return len(net.neighbours), lines
 

@@ -19,7 +19,7 @@ from lab.definitions.nodes import NetState, Refused, last_pulse, make, wire_word
 from lab.transcripts.check import Wrong, find_order, first_refused, in_order, unfinished, whole_run
 from lab.transcripts.reading import read
 from tests import FORESTLAB
-from tests.cases import Case, text
+from tests.cases import Case, forestlab, text
 from tests.programs.made_transcripts import MISTAKES, made_transcript, mixed_text, transcript_text, with_mistake
 from tests.programs.one_worker import Run
 from tests.programs.plain_networks import all_small, cycle, path, random_of, some_bars, star, text_of, tree, two_sided
@@ -267,8 +267,7 @@ def script(folder, words, data):
 
 
 def command(words, data):
-    done = subprocess.run([FORESTLAB, "transcript", "check", *words], input=data, capture_output=True, timeout=LIMIT)
-    return done.returncode, done.stdout, done.stderr
+    return forestlab("transcript", "check", *words, data=data)
 
 
 def transcript_by(program, words, network):
