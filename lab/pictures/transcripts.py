@@ -1,10 +1,10 @@
 """The transcript of a run (docs/claim/FORMATS.md) as pictures need it: entries by node, each take beside its put, and a
-place in time for each, which is its stamp. lab/transcripts reads it, finds an order and judges it."""
+place in time for each, which is its stamp. lab/transcripts reads it, finds an order and judges it, here for all
+pictures."""
 from collections import deque
 
 from lab.definitions.colours import Network
-from lab.definitions.nodes import Colouring, wire_words
-from lab.pictures.led_node import LedNode, defined
+from lab.definitions.nodes import Colouring
 from lab.pictures.program_rounds import rounds_of
 from lab.transcripts.check import find_order, first_fault, first_refused, refusal_of
 from lab.transcripts.reading import Wrong as WrongEntry, read_to_fault
@@ -23,29 +23,25 @@ class Entry:
 
     __slots__ = ("line", "vertex", "kind", "neighbour", "wire", "pulse", "mate", "x", "during")
 
-    def __init__(self, line, vertex, kind, neighbour, wire, pulse):
-        self.line, self.vertex, self.kind, self.neighbour, self.wire, self.pulse = (
-            line,
-            vertex,
-            kind,
-            neighbour,
-            wire,
-            pulse,
-        )
-        self.mate = self.x = None
-        self.during = 0
+    def __init__(self, line, vertex, kind, neighbour, wire, pulse, x=None):
+        self.line, self.vertex, self.kind, self.neighbour = line, vertex, kind, neighbour
+        self.wire, self.pulse, self.mate, self.x, self.during = wire, pulse, None, x, 0
 
     def title(self):
         """An arrow's title: from whom to whom, and the transcript's words of the wire."""
-        return f"{self.vertex} to {self.neighbour}: {words_of(self.wire)}"
+        kind, pulse, payload = self.wire
+        words = " ".join(str(word) for word in (kind, pulse, *(payload or ())) if word is not None)
+        return f"{self.vertex} to {self.neighbour}: {words}"
 
 
 class Run:
-    """`entries[v]` in v's order; `last` is R; `whole`, whether every node is through with its last pulse; `read_to`,
-    the pulse up to which a long text was read, or None if it was read to its end; `is_stamped`, whether the text is."""
+    """`entries[v]` in v's order, of nodes that run `program`; `last` is R; `whole`, whether every node is through with
+    its last pulse; `read_to`, the pulse up to which a long text was read, or None if it was read to its end;
+    `is_stamped`, whether the text is."""
 
-    def __init__(self, network, name, entries, rounds, is_stamped):
-        self.network, self.name, self.entries, self.rounds, self.is_stamped = network, name, entries, rounds, is_stamped
+    def __init__(self, network, name, rounds, program, is_stamped):
+        self.network, self.name, self.rounds, self.program, self.is_stamped = network, name, rounds, program, is_stamped
+        self.entries = {v: [] for v in network.vertices}
         self.last, self.whole, self.read_to = rounds.last, False, None
 
     def all(self):
@@ -71,34 +67,14 @@ def window_of(name, greatest, pulses):
     return first, last
 
 
-def words_of(wire):
-    """The transcript's words of a wire."""
-    return wire_words(defined(wire))
-
-
 def entry_of(read):
     """The entry of one that lab/transcripts has read."""
     kind = read.kind.lower()
     if kind == "pulse":
-        return Entry(read.line, read.vertex, kind, None, None, read.what)
+        return Entry(read.line, read.vertex, kind, None, None, read.what, read.stamp)
     word, *pulse, payload = *read.what, *[None] * (3 - len(read.what))
     wire = word.lower(), pulse[0], payload and (payload[0].lower(), payload[1])
-    return Entry(read.line, read.vertex, kind, read.neighbour, wire, wire[1])
-
-
-def sends_of(rounds):
-    """{vertex: {pulse: {neighbour: payload}}} of the rounds."""
-    sends = {v: {} for v in rounds.network.vertices}
-    for pulse in rounds.pulses:
-        for v, w, word, number in pulse.puts:
-            sends[v].setdefault(pulse.number, {})[w] = word.title(), number
-    return sends
-
-
-def nodes_of(run):
-    """A fresh node for each vertex, to be replayed."""
-    sends, net = sends_of(run.rounds), run.rounds.net
-    return {v: LedNode(net, v, run.network.neighbours[v], sends[v], run.last) for v in run.network.vertices}
+    return Entry(read.line, read.vertex, kind, read.neighbour, wire, wire[1], read.stamp)
 
 
 def identifiers_of(network, entries):
@@ -125,38 +101,69 @@ def read_transcript(text, name, network, until=None, program=Colouring):
 
 def run_of(text, name, network, stop, program):
     """The run, or with `stop` what each node did before it begins that pulse, as far as it depends on no more."""
+    head, net, order, made = ordered(text, name, network, program, stop)
+    run = Run(network, name, rounds_of(network, net.identifiers, program), program, head.is_stamped)
+    run.read_to = stop if stop is not None and stop <= run.last else None
+    add_entries(run, made)
+    run.whole = not order.left and all(node.is_drained() for node in order.nodes.values())
+    return run
+
+
+def ordered(text, name, network, program, stop=None, is_greeted=True):
+    """The first line, the definitions' network, the order that is found, and its entries, each with its stamp; or what
+    is wrong in the text. If `is_greeted`, the vertices are called what their greetings say."""
     try:
         head, read, fault = read_to_fault(text.encode(), program.name, stop)
     except WrongEntry as why:
         raise Wrong(f"{name} {why}") from None
     if head.nodes != network.nodes:
         raise wrong_line(name, head.line, f"{head.nodes} nodes, and {network.name} has {network.nodes} (Nodes)")
-    identifiers = identifiers_of(network, read)
+    identifiers = identifiers_of(network, read) if is_greeted else dict(network.identifiers)
     if len(set(identifiers.values())) < network.nodes:
         raise Wrong(f"{name}: two nodes have one identifier")
-    rounds = rounds_of(network, identifiers, program)
-    run = Run(network, name, {v: [] for v in network.vertices}, rounds, head.is_stamped)
-    run.read_to = stop if stop is not None and stop <= run.last else None
     bars = {v: [channel - 1 for channel in network.barred(v)] for v in network.vertices}
-    order = find_order(Network(identifiers, network.edges, bars), read, program)
+    net = Network(identifiers, network.edges, bars)
+    order, is_part = find_order(net, read, program), stop is not None and stop <= program.last_pulse(net)
     if fault:
         raise Wrong(f"{name} {first_fault(order, fault)}")
-    if order.left and (run.read_to is None or {order.refusals[v] for v in order.left} != {"LinkEmpty"}):
+    if order.left and (not is_part or {order.refusals[v] for v in order.left} != {"LinkEmpty"}):
         raise Wrong(f"{name} {refusal_of(order, first_refused(order))}")
-    set_in_time(run, order.made)
-    run.whole = not order.left and all(node.is_drained() for node in order.nodes.values())
-    return run
+    return head, net, order, stamped(name, net, order.made)
 
 
-def set_in_time(run, made):
-    """The entries in the order found: of each its stamp as its place in time, its put or take, and its node's pulse."""
-    clock, flying, pulse, wrong = Clock(run.entries), {}, dict.fromkeys(run.entries, 0), []
-    for read in made:
-        entry, v = entry_of(read), read.vertex
-        entry.x = clock.next(read.kind, v, read.neighbour)
-        if read.stamp not in (None, entry.x):
-            said = f"stamp {read.stamp}, but the clock of node {v} gives {entry.x} there (WrongStamp)"
-            wrong.append((entry.line, said))
+def stamped(name, net, made):
+    """The entries in the order found with the clock's stamps, which those of the text have to be; and stamps ascend in
+    the text, as vertices do where they are equal."""
+    clock, found, wrong = Clock(net.neighbours), [], []
+    for entry in made:
+        stamp = clock.next(entry.kind, entry.vertex, entry.neighbour)
+        found.append(entry._replace(stamp=stamp))
+        if entry.stamp not in (None, stamp):
+            wrong.append((entry.line, f"stamp {entry.stamp}, but the clock of node {entry.vertex} gives {stamp} there"))
+    if made and made[0].stamp is not None:
+        rows = sorted(found, key=lambda entry: entry.line)
+        wrong += [(entry.line, f"stamp {entry.stamp} of node {entry.vertex} comes after line {before.line}")
+                  for before, entry in zip(rows, rows[1:]) if place_of(before) > place_of(entry)]
+    if wrong:
+        raise wrong_line(name, min(wrong)[0], f"{min(wrong)[1]} (WrongStamp)")
+    return found
+
+
+def place_of(entry):
+    """By what the entries that were read are in the order of a transcript."""
+    return entry.stamp, entry.vertex
+
+
+def place_in_time(entry):
+    """The same of an `Entry`."""
+    return entry.x, entry.vertex
+
+
+def add_entries(run, made):
+    """The entries in the order found: of each its put or take, and its node's pulse."""
+    flying, pulse = {}, dict.fromkeys(run.entries, 0)
+    for entry in map(entry_of, made):
+        v = entry.vertex
         if entry.kind == "pulse":
             pulse[v] = entry.pulse
         elif entry.kind == "put":
@@ -166,5 +173,3 @@ def set_in_time(run, made):
             entry.mate.mate = entry
         entry.during = pulse[v]
         run.entries[v].append(entry)
-    if wrong:
-        raise wrong_line(run.name, *min(wrong))

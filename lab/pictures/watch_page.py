@@ -6,13 +6,11 @@ The page has no algorithm in it: what a node is after each entry is worked out h
 import functools
 import json
 
-from lab.definitions.nodes import Colouring, NetState, Refused, entry_words, make, wire_words
+from lab.definitions.nodes import Colouring, NetState, make, wire_words
 from lab.pictures.pages import net_of, page
-from lab.schedules.reading import network_of
-from lab.transcripts.check import find_order
-from lab.transcripts.reading import Wrong as WrongEntry, read, words
-from lab.transcripts.stamps import Clock
-from lab.wrong import Wrong, wrong_line
+from lab.pictures.transcripts import ordered, place_of
+from lab.transcripts.reading import words
+from lab.wrong import Wrong
 
 MOST_ENTRIES = 20_000
 ORDER = ("The order is one of those that are possible, not that of real time: a stamp is Lamport’s clock, "
@@ -25,7 +23,7 @@ class Moment:
 
     def __init__(self, entry, state, during):
         self.stamp, self.vertex, self.state, self.during = entry.stamp, entry.vertex, state, during
-        self.kind, self.words = entry.kind.lower(), step_words(entry)
+        self.kind, self.words = entry.kind.lower(), words(entry).split(" ", 2)[2]
 
 
 class Flight:
@@ -34,14 +32,6 @@ class Flight:
     def __init__(self, entry, at):
         self.start, self.end, self.wire = entry.vertex, entry.neighbour, entry.what
         self.put_at, self.put_stamp, self.take_at, self.take_stamp = at, entry.stamp, None, None
-
-
-def step_words(entry):
-    """What an entry says of its node."""
-    if entry.kind == "Pulse":
-        return f"makes pulse {entry.what}"
-    way = "for" if entry.kind == "Put" else "from"
-    return f"{entry.kind.lower()}s {wire_words(entry.what)} {way} {entry.neighbour}"
 
 
 def look_of(state, v):
@@ -103,46 +93,17 @@ class Steps:
 
 def steps_of_text(name, network, text, pulses=None, program=Colouring):
     """The steps of a transcript, as far as they are needed for these pulses; or its first fault in words."""
-    net = network_of(network)
-    state, clock, made = NetState(net, program), Clock(net.neighbours), {v: 0 for v in net.neighbours}
+    _, net, _, entries = ordered(text, name, network, program, is_greeted=False)
+    state, made = NetState(net, program), dict.fromkeys(net.neighbours, 0)
     steps = Steps(state)
-    for entry in ordered(name, network, net, text, program):
-        try:
-            make(state, entry)
-        except Refused as refused:
-            said = words(entry) + entry_words(state, entry, refused)
-            raise wrong_line(name, entry.line, f"{said} ({refused})") from None
-        stamp = clock.next(entry.kind, entry.vertex, entry.neighbour)
-        if entry.stamp not in (None, stamp):
-            raise wrong_line(name, entry.line, f"stamp {entry.stamp}, but the clock of node {entry.vertex} gives "
-                                               f"{stamp} there (WrongStamp)")
-        steps.add(entry._replace(stamp=stamp))
+    for entry in sorted(entries, key=place_of):
+        make(state, entry)
+        steps.add(entry)
         if entry.kind == "Pulse":
             made[entry.vertex] = entry.what
         if not pulses and len(steps.every) > MOST_ENTRIES + 1 or pulses and min(made.values()) > pulses[1]:
             break
     return steps
-
-
-def ordered(name, network, net, text, program):
-    """The entries of a text in an order that is a run: as they stand with stamps, and else as one is found."""
-    try:
-        head, entries = read(text.encode(), program.name)
-    except WrongEntry as why:
-        raise Wrong(f"{name} {why}") from None
-    if head.nodes != network.nodes:
-        raise wrong_line(name, head.line, f"{head.nodes} nodes, and {network.name} has {network.nodes} (Nodes)")
-    if head.is_stamped:
-        return entries
-    order = find_order(net, entries, program)
-    if order.left:
-        first = min((left[-1] for left in order.left.values()), key=lambda entry: entry.line)
-        raise wrong_line(name, first.line, f"{words(first)}, which can't come in any order (`forestlab transcript "
-                                           "check` says more)")
-    clock = Clock(net.neighbours)
-    rows = [(clock.next(entry.kind, entry.vertex, entry.neighbour), entry.vertex, at, entry)
-            for at, entry in enumerate(order.made)]
-    return [entry for *_, entry in sorted(rows, key=lambda row: row[:3])]
 
 
 class Run:
