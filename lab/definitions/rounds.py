@@ -48,6 +48,18 @@ def pulse_lines(net: Network, p: int) -> list[str]:
     return lines
 
 
+def forest_colours(net: Network, f: int) -> dict[int, Colours]:
+    """The colours in forest f by pulse, from 2: the identifiers, four bit steps, then a shift and a drop for 5, 4 and
+    3."""
+    lists = [net.identifiers]
+    for _ in range(4):
+        lists.append(bit(net, f, lists[-1]))
+    for x in (5, 4, 3):
+        lists.append(shift(net, f, lists[-1]))
+        lists.append(drop(x, net, f, lists[-1], lists[-2]))
+    return dict(enumerate(lists, 2))
+
+
 class Facts:
     """Of each forest the colours after each pulse, and before and after each merge the merged colours: `colours[f][p]`
     for p from 2 to 12, and `merged[f]` after the merges of the forests below f."""
@@ -58,7 +70,7 @@ class Facts:
 
     def __init__(self, net: Network):
         self.net = net
-        self.colours = [self.colours_of(f) for f in range(net.forest_count)]
+        self.colours = [forest_colours(net, f) for f in range(net.forest_count)]
         self.merged = [first_colours(net)]
         for f in range(net.forest_count):
             self.merged.append(merge(net, f, self.merged[f]))
@@ -69,16 +81,6 @@ class Facts:
         if not hasattr(net, "facts"):
             net.facts = Facts(net)
         return net.facts
-
-    def colours_of(self, f: int) -> dict[int, Colours]:
-        """By pulse, from 2: the identifiers, four bit steps, then a shift and a drop for 5, 4 and 3."""
-        lists = [self.net.identifiers]
-        for _ in range(4):
-            lists.append(bit(self.net, f, lists[-1]))
-        for x in (5, 4, 3):
-            lists.append(shift(self.net, f, lists[-1]))
-            lists.append(drop(x, self.net, f, lists[-1], lists[-2]))
-        return dict(enumerate(lists, 2))
 
     def chooses(self, p: int, v: int) -> bool:
         """Whether v chooses at a pulse: its three-colour and its old colour are the pair of the merge step."""

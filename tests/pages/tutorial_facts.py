@@ -1,11 +1,12 @@
-"""What docs/learn/TUTORIAL.md says of small networks, of rows, and of nodes that break a rule, worked out from the
-definitions (lab/definitions/colours.py, lab/definitions/nodes.py) or by hand: rows (name, good, what)."""
-import copy
+"""What docs/learn/TUTORIAL.md says of small networks and of rows, worked out from the definitions
+(lab/definitions/colours.py, lab/definitions/nodes.py) or by hand: rows (name, good, what). What it says of nodes that
+break a rule is in tests/programs/schedules.py."""
 import itertools
 import os
 
-from lab.definitions.colours import Network, bit, colours, drop, first_colours, merge, network_of, shift, three
-from lab.definitions.nodes import AlphaNode, NetState, last_pulse, synchronous_pulses
+from lab.definitions.colours import Network, colours, first_colours, merge, network_of, three
+from lab.definitions.nodes import NetState, last_pulse
+from lab.definitions.rounds import forest_colours
 from tests import TOP
 from tests.cases import Case
 
@@ -17,17 +18,7 @@ def example(name):
 
 def pulses_of(net, f):
     """The colours in forest f after each of the pulses 2 to 12."""
-    c = net.identifiers
-    lists = [c]
-    for _ in range(4):
-        c = bit(net, f, c)
-        lists.append(c)
-    for x in (5, 4, 3):
-        before, c = c, shift(net, f, c)
-        lists.append(c)
-        c = drop(x, net, f, c, before)
-        lists.append(c)
-    return lists
+    return list(forest_colours(net, f).values())
 
 
 def channels_of(net):
@@ -132,91 +123,6 @@ def bar_rows():
                                            {v: 0 for v in range(1, 9)} | {9: 1}], found
 
 
-class Hasty(AlphaNode):
-    """A node that says safe at once, and takes no notice of acknowledgements."""
-
-    def settle(self):
-        if self.pulse_number < self.last and not self.said:
-            self.said = True
-            for port in self.ports:
-                port.out.append(("Safe", self.pulse_number))
-
-    def on_wire(self, at, wire):
-        if wire[0] != "Ack":
-            super().on_wire(at, wire)
-
-
-def acknowledgement_rows():
-    """Two hasty nodes have all their inboxes, too; but not if a safe overtakes a greeting. A search by width, which was
-    written apart from this one, counted the same states."""
-    two = Network({1: 1, 2: 2}, {(1, 2)})
-    for kind, wanted in ((AlphaNode, (281, 641)), (Hasty, (536, 2061))):
-        for puts_apart in (False, True):
-            found = states_of(two, kind, puts_apart)
-            yield f"states of two nodes: {kind.__name__}, {puts_apart}", found == (wanted[puts_apart], True), found
-    state = start_of(two, Hasty)
-    state.step("Put", 1, 0)
-    state.step("Put", 1, 0)
-    state.link_to(2, 0).reverse()
-    found = state.step("Take", 2, 0), state.nodes[2].can_pulse(), inbox_of(state.nodes[2])
-    wanted = ("Safe", 0), True, [None]
-    yield "a safe that overtakes", found == wanted and inboxes_of(two)[1, 2] == [("Hello", 1)], found
-
-
-def start_of(net, kind):
-    state = NetState(net)
-    state.nodes = {v: kind(net, v) for v in net.neighbours}
-    return state
-
-
-def inbox_of(node):
-    return [port.present for port in node.ports]
-
-
-def inboxes_of(net):
-    """What each node has to read in each of its pulses."""
-    return {(pulse, v): inbox for pulse, _, inboxes, _ in synchronous_pulses(net) for v, inbox in inboxes.items()}
-
-
-def put_all(state):
-    """The state after all puts that are possible."""
-    while event := next((event for event in state.possible() if event[0] == "Put"), None):
-        state.step(*event)
-    return state
-
-
-def states_of(net, kind, puts_apart):
-    """How many states events lead to, and whether each pulse that is possible in one of them has its inbox. If puts
-    aren't counted apart, each is made as soon as it can be."""
-    inboxes, start = inboxes_of(net), start_of(net, kind)
-    start = start if puts_apart else put_all(start)
-    seen, left, is_right = {frozen(start)}, [start], True
-    while left:
-        state = left.pop()
-        for event in state.possible():
-            if event[0] == "Pulse":
-                node = state.nodes[event[1]]
-                is_right &= inbox_of(node) == inboxes[node.pulse_number + 1, event[1]]
-            after = copy.deepcopy(state)
-            after.step(*event)
-            after = after if puts_apart else put_all(after)
-            if frozen(after) not in seen:
-                seen.add(frozen(after))
-                left.append(after)
-    return len(seen), is_right
-
-
-def frozen(thing):
-    """A value that is equal for equal states."""
-    if isinstance(thing, dict):
-        return tuple((key, frozen(value)) for key, value in thing.items())
-    if isinstance(thing, (list, tuple)):
-        return tuple(map(frozen, thing))
-    if isinstance(thing, set):
-        return frozenset(thing)
-    return frozen(vars(thing)) if hasattr(thing, "__dict__") else thing
-
-
 class TutorialFacts(Case):
     needs_programs = False
 
@@ -235,6 +141,3 @@ class TutorialFacts(Case):
 
     def test_bars(self):
         self.note_all(bar_rows())
-
-    def test_acknowledgements(self):
-        self.note_all(acknowledgement_rows())

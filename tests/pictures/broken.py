@@ -2,31 +2,17 @@
 compares these with nodes that hear and send), what has all rules beside lab/definitions/colours.py, and the words
 beside what `forestlab explore` prints."""
 import re
-import subprocess
 
-from lab.definitions.colours import bit, drop, merge, network_of, shift, three
+from lab.definitions.colours import network_of, three
+from lab.definitions.rounds import Facts, forest_colours
 from lab.schedules import rules
 from lab.schedules.ruled_rounds import RuledRounds, smallest
-from tests import FORESTLAB, TOP
-from tests.pictures.base import LIMIT, PictureCase
+from tests import TOP
+from tests.cases import said_by
+from tests.pictures.base import PictureCase
 from tests.pictures.marks import SVG, centre, ends, marks, nearest, number, numbered, parsed, texts
 
 MOST = {rule: 12 if rule in rules.OF_FORESTS else 5 for rule in rules.OF_ROUNDS}
-
-
-def explored(*words):
-    done = subprocess.run([FORESTLAB, "explore", *words], capture_output=True, cwd=TOP, timeout=LIMIT)
-    return done.stdout.decode().split("\n")
-
-
-def colours_by_definition(net, f, last):
-    """A forest's colours after each pulse from 2 to `last`."""
-    found = [net.identifiers]
-    for pulse in range(3, last + 1):
-        c = found[-1]
-        found.append(bit(net, f, c) if pulse <= 6 else shift(net, f, c) if pulse % 2 else
-                     drop({8: 5, 10: 4, 12: 3}[pulse], net, f, c, found[-2]))
-    return found
 
 
 def squares_of(group):
@@ -36,13 +22,6 @@ def squares_of(group):
     for (x, y), (_, _, said) in zip(places, numbered(group, "colour")):
         rows.setdefault(y, []).append((x, int(said)))
     return [[said for _, said in sorted(row)] for _, row in sorted(rows.items())]
-
-
-def merged_by_definition(net, forests):
-    c = dict.fromkeys(net.neighbours, 0)
-    for f in range(forests):
-        c = merge(net, f, c)
-    return c
 
 
 class Broken(PictureCase):
@@ -70,7 +49,7 @@ class Broken(PictureCase):
         )
         self.note(f"{name}: its nodes", [v for _, v in circles] == chain, (circles, chain))
         groups = [marks(root, "without")[0], marks(root, "with")[0]]
-        wanted = [rounds.colours[clash.forest], colours_by_definition(net, clash.forest, clash.pulse)]
+        wanted = [rounds.colours[clash.forest], list(forest_colours(net, clash.forest).values())[:clash.pulse - 1]]
         for group, lists in zip(groups, wanted):
             shown = squares_of(group)
             self.note(f"{name}: the colours {group.get('class')}", shown == [[c[v] for c in lists] for v in chain],
@@ -91,7 +70,7 @@ class Broken(PictureCase):
         f, vertices = clash.forest, sorted(rounds.net.neighbours)
         for kind, (before, colours, after) in {
             "without": (rounds.merged[f], rounds.colours[f][-1], rounds.merged[f + 1]),
-            "with": (merged_by_definition(net, f), three(net, f), merged_by_definition(net, f + 1)),
+            "with": (Facts.of(net).merged[f], three(net, f), Facts.of(net).merged[f + 1]),
         }.items():
             group = marks(root, kind)[0]
             shown = [int(said) for _, _, said in numbered(group, "channel")]
@@ -148,7 +127,7 @@ class Broken(PictureCase):
         self.note(f"{name}: it is drawn", (status, fault) == (0, b""), fault)
         root = parsed(picture.decode())
         (self.forest_row if rounds.clash.pulse else self.merge_row)(name, root, rounds)
-        self.words_row(name, root, explored(*words)[1:])
+        self.words_row(name, root, said_by("explore", *words, cwd=TOP)[1].split("\n")[1:])
         self.edge_row(name, root)
 
     def test_broken(self):

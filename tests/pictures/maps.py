@@ -3,9 +3,9 @@ import json
 import re
 from collections import Counter
 
-from lab.definitions.colours import bit, colours, drop, first_colours, merge, network_of, plan_text, shift, three
+from lab.definitions.colours import bit, colours, first_colours, merge, network_of, plan_text, three
 from lab.definitions.nodes import last_pulse
-from lab.definitions.rounds import rounds_text
+from lab.definitions.rounds import forest_colours, rounds_text
 from tests.pictures.base import APART, EDGE, PictureCase, circle_of
 from tests.pictures.marks import (
     SVG, centre, ends, gap, marks, nearest, number, numbered, parsed, texts, title, titles,
@@ -50,19 +50,6 @@ def words_of_bars(net, v):
     bars = [str(c + 1) for c in sorted(net.barred[v])]
     more = f" and {len(bars) - 12} more" if len(bars) > 12 else ""
     return f", barred {', '.join(bars[:12])}{more}" if bars else ""
-
-
-def colour_table(net, f):
-    """The colours of forest f after each of the pulses 2 to 12."""
-    c = net.identifiers
-    rows = [c]
-    for _ in range(4):
-        rows.append(bit(net, f, rows[-1]))
-    for x in (5, 4, 3):
-        before = rows[-1]
-        rows.append(shift(net, f, before))
-        rows.append(drop(x, net, f, rows[-1], before))
-    return rows
 
 
 def strip_mark(column, colour, is_in_forest):
@@ -385,7 +372,7 @@ class Maps(PictureCase):
             ended = {
                 v for v in net.neighbours if net.parent(f, v) or any(net.parent(f, w) == v for w in net.neighbours)
             }
-            table = colour_table(net, f)
+            table = list(forest_colours(net, f).values())
             pairs = [(three(net, f)[v], old[v]) for v in old]
             turns.append(sorted(set(pairs)))
             wanted = [
@@ -458,7 +445,7 @@ class Maps(PictureCase):
             self.note(f"bits of {name}, pulse {p}: its title", title(pair) == f"pulse {p}: {c[v]} under {c[w]}",
                       title(pair))
             c = following
-        wanted = [row[v] for row in colour_table(net, f)[1:5]]
+        wanted = [row[v] for row in list(forest_colours(net, f).values())[1:5]]
         self.note(f"bits of {name}: the next numbers", shown == wanted, shown)
 
     def player_rows(self, name, network):

@@ -1,23 +1,21 @@
-"""Pictures of every schedule: the adversary's table and the lattice, beside the explorer's states, the definitions of
-lab/definitions/nodes.py played event by event, and what `forestplay events` shows. What is read here is the JSON and
-the SVG alone."""
+"""Pictures of every schedule: the adversary's table and the lattice, beside the explorer's states, which
+tests/programs/schedules.py compares with the definitions and with `forestplay events`. What is read here is the JSON
+and the SVG alone."""
 import json
 import os
 import random
 import re
-import subprocess
 from collections import Counter
 
 from lab.definitions.colours import colours, network_of
-from lab.definitions.nodes import NetState, last_pulse, wire_words
+from lab.definitions.nodes import NetState
 from lab.schedules.space import Space
-from tests.pictures.base import LIMIT, SEED, PictureCase
+from lab.words import in_words
+from tests.pictures.base import SEED, PictureCase
 from tests.pictures.marks import centre, ends, marks, parsed, texts, title, titles
-from tests.settings import PLAY
 
 TWO, STAR = b"p edge 2 1\ne 1 2\n", b"p edge 4 3\ne 1 4\ne 2 4\ne 3 4\n"
 ALL_OF_FOUR, FIVE = b"p edge 4 6\ne 1 2\ne 1 3\ne 1 4\ne 2 3\ne 2 4\ne 3 4\n", b"p edge 5 1\ne 1 2\n"
-WALKS = 100
 
 
 def drawn(painter, kind, network, *options):
@@ -85,27 +83,16 @@ def plain(words):
     return words.replace("`", "").replace("‘", "").replace("’", "")
 
 
-def waits_of(net, v, node):
-    """What a node waits for, by the definition of its ports."""
-    p, ports = node.pulse_number, list(zip(sorted(net.neighbours[v]), node.ports))
-    if p == last_pulse(net):
-        wire, of = "close", [w for w, port in ports if not port.closed]
-    elif not node.said:
-        wire, of = f"ack {p}", [w for w, port in ports if port.waits]
-    else:
-        wire, of = f"safe {p}", [w for w, port in ports if not port.safe]
-    if of:
-        return f"waits for {wire} of {', '.join(map(str, of[:-1]))}{' and ' if of[1:] else ''}{of[-1]}"
-    return f"can make pulse {p + 1}" if p < last_pulse(net) else "has halted"
-
-
-def besides_of(net, v, node):
-    """The safes that a node lacks besides acknowledgements."""
-    p, ports = node.pulse_number, list(zip(sorted(net.neighbours[v]), node.ports))
-    lacks = [str(w) for w, port in ports if not port.safe]
-    if p == last_pulse(net) or node.said or not lacks:
-        return ""
-    return f", and for safe {p} of " + " and ".join(filter(None, [", ".join(lacks[:-1]), lacks[-1]]))
+def row_of(space, v, node, value):
+    """A node's row but for what it has taken, by what the explorer says of it and by its ports: its pulse, what it
+    waits for or can do, its channel at the end, whether it is wrong, and which safes it lacks besides acks."""
+    p, of = node.pulse, [str(w) for _, w in node.waits]
+    words = f"waits for {node.waits[0][0]} of {in_words(of)}" if of else {
+        "last": "has only to put its close", "whole": "has halted"}.get(node.stage, f"can make pulse {p + 1}")
+    lacks = [str(w) for w, port in zip(space.ports[v], value.ports) if not port.safe]
+    asks = node.stage == "asks" and lacks and "safes" not in space.without
+    return (p, words, node.colour + 1 if p == space.last else 0, int(node.wrong),
+            f", and for safe {p} of {in_words(lacks)}" if asks else "")
 
 
 def put_all(net, state, lines):
@@ -114,20 +101,6 @@ def put_all(net, state, lines):
             while state.nodes[v].ports[port].out:
                 state.step("Put", v, port)
                 lines.append(f"put {v} {port}")
-
-
-def shown_state(table, s, taken):
-    lines = []
-    for v, row in enumerate(table.nodes(s), 1):
-        lines.append(f"node {v} pulse {row[0]}" + (f" channel {row[2]}" if row[2] else ""))
-        for (a, b), wires in table.wires(s).items():
-            if a == v:
-                lines.append(" ".join([f"link {a} {b} taken {taken[a, b]}", *wires]))
-    return "".join(f"{line}\n" for line in lines).encode()
-
-
-def net_port(net, v, port):
-    return sorted(net.neighbours[v])[port]
 
 
 def net_port_to(net, v, w):
@@ -142,6 +115,8 @@ def columns_of(root):
 
 
 class Schedules(PictureCase):
+    needs_programs = False
+
     @classmethod
     def setUpClass(cls):
         super().setUpClass()
@@ -153,10 +128,6 @@ class Schedules(PictureCase):
             self.table_rows(name, network)
         for without in (("safes",), ("acks",), ("early",), ("fifo",)):
             self.table_rows(f"two without {without[0]}", TWO, without)
-
-    def test_walks(self):
-        for name, walks in (("two", WALKS // 4), ("path", WALKS // 4), ("triangle", WALKS // 2)):
-            self.walk_rows(name, self.networks[name], self.tables[name], walks)
 
     def test_dares(self):
         for name, answers in (("two", [["281"], ["281"], ["281"], ["6"]]),
@@ -187,13 +158,11 @@ class Schedules(PictureCase):
         table = table_of(self.painter, network, *(["--without", ",".join(without)] if without else []))
         net = network_of(network)
         space = Space(net, without, beyond=bool(without))
-        wrong = [
-            s
-            for s in range(space.count)
-            if [row[0] for row in table.nodes(s)] != [node.pulse for node in space.nodes(s).values()]
-            or [row[3] for row in table.nodes(s)] != [node.wrong for node in space.nodes(s).values()]
-            or table.wires(s) != space.wires(s)
-        ]
+        count = len(space.vertices)
+        values = [[space.locals[a][part] for a, part in enumerate(state[:count])] for state in space.states]
+        wrong = [s for s in range(space.count) if table.wires(s) != space.wires(s)
+                 or [(*row[:4], row[5]) for row in table.nodes(s)]
+                 != [row_of(space, v, node, value) for (v, node), value in zip(space.nodes(s).items(), values[s])]]
         self.note(f"table of {name}: each state", len(table.node[0][1]) == space.count and not wrong, wrong[:3])
         ports = [
             (v, w, net_port_to(net, v, w), net_port_to(net, w, v))
@@ -217,51 +186,6 @@ class Schedules(PictureCase):
         self.note(f"table of {name}: what goes wrong",
                   shown == faults and bool(faults) == (without not in [(), ("acks",)]), list(shown.items())[:3])
         return table
-
-    def walk_rows(self, name, network, table, walks):
-        """Random walks over the table: the definitions allow the same at each state, and what they wait for is said;
-        the list that a walk makes is accepted by `forestplay`, which shows the walk's last state."""
-        net, source = network_of(network), random.Random(f"{SEED} {name}")
-        wrong, played = [], []
-        for walk in range(walks):
-            state, s, lines, taken = NetState(net), 0, [], Counter()
-            put_all(net, state, lines)
-            stop = source.randrange(1, 700)
-            while True:
-                nodes = [
-                    (node.pulse_number, waits_of(net, v, node),
-                     node.program.merged + 1 if node.pulse_number == last_pulse(net) else 0, besides_of(net, v, node))
-                    for v, node in state.nodes.items()
-                ]
-                links = {
-                    (v, net_port(net, v, port)): [wire_words(wire) for wire in wires]
-                    for (v, port), wires in state.link.items()
-                }
-                events = {(kind.lower(), v, port, 0) for kind, v, port in state.possible()}
-                if ([(*row[:3], row[5]) for row in table.nodes(s)], table.wires(s), {event for event, _ in table.steps[s]}) != (
-                    nodes,
-                    links,
-                    events,
-                ):
-                    wrong.append((s, nodes, table.nodes(s)))
-                    break
-                if not table.steps[s] or stop == 0:
-                    break
-                stop -= 1
-                (kind, v, port, _), s = source.choice(table.steps[s])
-                state.step(kind.capitalize(), v, port)
-                lines.append(f"{kind} {v}" if port is None else f"{kind} {v} {port}")
-                if kind == "take":
-                    taken[sorted(net.neighbours[v])[port], v] += 1
-                put_all(net, state, lines)
-            if PLAY:
-                done = subprocess.run([PLAY, "events"], input=network + "\n".join(lines).encode() + b"\n",
-                                      capture_output=True, timeout=LIMIT)
-                if (done.returncode, done.stdout) != (0, shown_state(table, s, taken)):
-                    played.append((lines[-3:], done))
-        self.note(f"{walks} walks over the table of {name}: each state is the definitions'", not wrong, wrong[:1])
-        if PLAY:
-            self.note(f"{walks} walks over the table of {name}: forestplay shows the same", not played, played[:1])
 
     def page_rows(self, name, network):
         """The page has the table that --json writes, and needs nothing from elsewhere."""
