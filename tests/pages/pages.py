@@ -2,7 +2,6 @@
 
 - Each table of docs/learn/TUTORIAL.md is worked out from the definitions (lab/definitions/colours.py,
   lab/definitions/nodes.py), not from the program. tutorial_facts.py has the rest of what it says.
-- These definitions fit together: on small networks the rounds, and any order of events, end with the colours.
 - Each excerpt of code, a fence whose first line names its file, has its lines in that file, in this order; a comment
   `..` means lines that are left out.
 - README.md or docs/work/LAYERS.md names each crate. No line of a page is wider than 150 columns.
@@ -11,11 +10,9 @@
 """
 import glob
 import os
-import random
 import re
 
-from lab.definitions.colours import Network, colours
-from lab.definitions.nodes import NetState, synchronous_run, text_of_wire
+from lab.definitions.nodes import NetState, text_of_wire
 from tests import TOP
 from tests.cases import Case
 from tests.pages.tutorial_facts import channels_of, dropped, example, pulses_of
@@ -147,23 +144,6 @@ class Pages(Case):
     def test_excerpts(self):
         for page in PAGES:
             self.check_excerpts(page)
-
-    def test_definitions(self):
-        """On small networks the rounds, and any order of events, end with the colours: so the pages' definitions fit
-        together."""
-        source, wrong = random.Random(2026), []
-        for _ in range(40):
-            nodes = source.randrange(0, 7)
-            pairs = [(v, w) for v in range(1, nodes + 1) for w in range(v + 1, nodes + 1)]
-            net = Network({v: v for v in range(1, nodes + 1)}, {pair for pair in pairs if source.random() < 0.5})
-            rounds, state = synchronous_run(net), NetState(net)
-            while events := list(state.possible()):
-                state.step(*source.choice(events))
-            ends = [{v: node.merged for v, node in rounds.items()},
-                    {v: node.program.merged for v, node in state.nodes.items()}]
-            if ends != [colours(net)] * 2 or not all(node.drained() for node in state.nodes.values()):
-                wrong.append(net.neighbours)
-        self.note("rounds and events of 40 small networks end with the colours", not wrong, wrong[:1])
 
     def test_tutorial(self):
         count = 0

@@ -35,22 +35,6 @@ MERGES = [
     ("the greatest star", "p edge 1024 1023|" + "".join(f"e {v} 1024|" for v in range(1, 1024)),
      "rounds 1 1024 1023 1 3084", [(0,) * 1023 + (1,)]),
 ]
-# A network text for each kind of fault, and what is said of it.
-FAULTS = [
-    ("", "F1"),
-    ("p edge 1 0|p edge 1 0|", "F2 line 2"),
-    ("e 1 2|p edge 2 1|", "F3 line 1"),
-    ("p edge 2|", "F4 line 1"),
-    ("p edge 2 1|e 1 3|", "F5 line 2"),
-    ("p edge 2 1|e 1 1|", "F6 line 2"),
-    ("p edge 20001 0|", "F7 line 1"),
-    (EDGE + "put 1 0|q|", "F8 line 3"),
-    ("i 1 5|p edge 2 1|", "F10 line 1"),
-    (f"p edge 2 1|i 1 {2**128}|", "F11 line 2"),
-    ("p edge 2 1|i 1 5|i 1 5|", "F12 line 3"),
-    (EDGE + "b 1 2049|", "F13 line 3"),
-    ("p edge 1 0|" + "".join(f"b 1 {channel}|" for channel in range(1, 1026)), "F14 line 1026"),
-]
 # The headline as one line of shell, as README has it: the payloads of the rounds and of a run of threads are the same
 # lines.
 HEADLINE = """cmp <("$0" rounds < "$2" | grep put | sort) \\
@@ -175,10 +159,3 @@ class Rounds(Case):
                     done = run_line(HEADLINE, PLAY, PLAN, file_name, str(workers), limit=LIMIT)
                     self.note(f"the payloads of {name} with {workers} workers",
                               (done.returncode, done.stdout, done.stderr) == (0, b"", b""), done)
-
-    def test_faults(self):
-        """The faults of a network text, each of its kind."""
-        crowd = "p edge 1025 1024|" + "".join(f"e 1 {v}|" for v in range(2, 1026))
-        for data, fault in FAULTS + [(crowd, "N1 vertex 1"), (crowd + "e 1 1|", "F6 line 1026")]:
-            done = run_program(PLAY, ["rounds"], text(data))
-            self.expect(f"the fault of {data[-40:]!r}", done, 1, b"", f"forestplay: {fault}\n".encode())
