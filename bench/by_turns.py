@@ -1,7 +1,7 @@
 """Runs forestplan and another program by turns on the same networks, and measures time and peak memory.
 
-bench.plan.run and bench.transcript.run print what it finds. The other program of bench.plan.run is in baseline/, with
-array queues as links and a deque of nodes for each worker, which is what forestplan has."""
+bench.plain.run, bench.plan.run and bench.transcript.run print what it finds. The other program of the first two is in
+baseline/, with array queues as links and a deque of nodes for each worker, which is what forestplan has."""
 import argparse
 import os
 import statistics
@@ -10,6 +10,7 @@ import sys
 
 from bench import graphs
 from bench.compare import once
+from lab.networks import kinds
 
 BENCH = os.path.dirname(os.path.abspath(__file__))
 TOP = os.path.dirname(BENCH)
@@ -20,12 +21,12 @@ BASELINE = os.path.join(BENCH, "baseline", "target", "release", "forestbase")
 def networks():
     """By name, the number of nodes and the edges, vertices from 0."""
     return {
-        "queen8_8": graphs.queen(8, 8),
+        "queen8_8": graphs.of_kind(kinds.queen(8, 8)),
         "myciel5": graphs.mycielski(5),
         "random200": graphs.gnp(200, 0.05, 200),
         "disk500": graphs.disk(500, 10, 500),
         "tree2000": graphs.tree(2000, 2000),
-        "complete32": (32, [(v, w) for v in range(32) for w in range(v)]),
+        "complete32": graphs.of_kind(kinds.complete(32)),
     }
 
 
@@ -88,7 +89,7 @@ def mark(runs):
 def times(runs):
     """The least and the median milliseconds of both, and their ratios."""
     ours, base = runs
-    each = " ".join(f"{milliseconds:9.1f}" for own in runs for milliseconds in (own.least(), own.median()))
+    each = " ".join(f"{milliseconds:9.2f}" for own in runs for milliseconds in (own.least(), own.median()))
     return f"{each} {ours.least() / base.least():6.2f} {ours.median() / base.median():6.2f}"
 
 

@@ -27,16 +27,6 @@ from lab.programs import built, called
 Neighbours = dict[int, set[int]]
 
 
-def mycielski(steps: int) -> Made:
-    """The graphs of Mycielski without triangles, each of one more colour; from one edge on."""
-    nodes, edges = 2, [(1, 2)]
-    for _ in range(steps):
-        copies = [(v, w + nodes) for one, other in edges for v, w in ((one, other), (other, one))]
-        edges = edges + copies + [(v + nodes, 2 * nodes + 1) for v in range(1, nodes + 1)]
-        nodes = 2 * nodes + 1
-    return Made(nodes, edges)
-
-
 def preferential(nodes: int, edges: int, seed: int) -> Made:
     """Each node is joined to some before it, the likelier the more neighbours they have (Barabasi and Albert, 1999)."""
     source, made, ends = random.Random(seed), set(), list(range(1, edges + 1))
@@ -74,8 +64,8 @@ NETWORKS = {
     "queen 5x5": lambda: kinds.queen(5, 5),
     "queen 8x8": lambda: kinds.queen(8, 8),
     "queen 13x13": lambda: kinds.queen(13, 13),
-    "Mycielski 3": lambda: mycielski(2),
-    "Mycielski 7": lambda: mycielski(6),
+    "Mycielski 3": lambda: of_graphs(graphs.mycielski(3)),
+    "Mycielski 7": lambda: of_graphs(graphs.mycielski(7)),
     "450 nodes, 5 groups": lambda: classes(450, 5, 0.07, 1),
     "450 nodes, 15 groups": lambda: classes(450, 15, 0.09, 1),
     "450 nodes, 25 groups": lambda: classes(450, 25, 0.18, 1),
