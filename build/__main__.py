@@ -12,7 +12,6 @@ MODULES = {
     "new-program": "new_program",
     "pack": "pack",
     "promises": "promises",
-    "schedule": "schedule",
     "vendor": "vendor",
     "wrong-bodies": "wrong_bodies",
 }

@@ -27,11 +27,68 @@ import time
 
 from build import kit, offered
 from build.crate_lists import TOP, listed, with_below
-from build.estimates import jobs_with_room, measured_seconds, processors, seconds_of
 from build.order import WAY, Order
-from build.progress import Shown
 
 LOGS = os.path.join(TOP, "out", "build")
+# Memory that a crate takes at most, in the mean.
+ROOM = 4 << 30
+
+
+def processors():
+    return len(os.sched_getaffinity(0))
+
+
+def jobs_with_room():
+    with open("/proc/meminfo", encoding="ascii") as text:
+        free = next(int(line.split()[1]) << 10 for line in text if line.startswith("MemAvailable"))
+    return max(1, min(processors(), free // ROOM))
+
+
+def measured_seconds():
+    """What proof_seconds.txt says of each crate."""
+    with open(os.path.join(TOP, "build", "proof_seconds.txt"), encoding="utf-8") as text:
+        rows = [line.split() for line in text if line.strip() and not line.startswith("#")]
+    return {crate: int(seconds) for crate, seconds in rows}
+
+
+def seconds_of(crate, measured):
+    """About how many seconds one processor takes for a crate: as measured, or else a start and its lines of code."""
+    if crate in measured:
+        return measured[crate]
+    files = kit.files_of(os.path.join(TOP, "crates", crate))
+    return 15 + 0.2 * sum(text.count(b"\n") for path, text in files if path.endswith(".rt"))
+
+
+class Shown:
+    """The progress on standard error: on a terminal one line that is rewritten, else a line a crate."""
+
+    def __init__(self, name, total):
+        self.name, self.total, self.start = name, total, time.monotonic()
+        self.is_terminal = sys.stderr.isatty()
+
+    def time(self):
+        seconds = int(time.monotonic() - self.start)
+        return f"{seconds // 60} min {seconds % 60} s" if seconds >= 60 else f"{seconds} s"
+
+    def line(self, done, running):
+        now = f"now {', '.join(running)}" if running else "nothing to do"
+        return f"{self.name}: {done} of {self.total} crates proved, {self.time()}: {now}"
+
+    def tick(self, done, running):
+        """Called about five times a second; only a terminal sees it."""
+        if self.is_terminal:
+            width = shutil.get_terminal_size().columns
+            print(f"\r\033[K{self.line(done, running)[: width - 1]}", end="", file=sys.stderr, flush=True)
+
+    def step(self, done, running):
+        """Called after each crate that was begun or proved."""
+        if not self.is_terminal:
+            print(self.line(done, running), file=sys.stderr, flush=True)
+        else:
+            self.tick(done, running)
+
+    def end(self, text):
+        print(("\r\033[K" if self.is_terminal else "") + f"{self.name}: {text}", file=sys.stderr, flush=True)
 
 
 class Proving:
