@@ -1,4 +1,4 @@
-"""Runs by a seed and their number, over and over, side by side: what stress.py and memory_stress.py have in common."""
+"""Runs by a seed and their number, over and over, side by side: what the scripts of many runs have in common."""
 import multiprocessing
 import time
 from collections import Counter

@@ -20,7 +20,6 @@ from lab.definitions.colours import colours, network_of
 from lab.definitions.nodes import last_pulse, ports_of, synchronous_pulses
 from lab.schedules.space import Space
 from tests import TOP
-from tests.by_hand.tally import last_line, note
 
 MODEL = os.path.join(TOP, "bench", "spin", "alpha.pml")
 NETWORKS = {
@@ -108,18 +107,18 @@ def main():
     given = words.parse_args()
     if not (shutil.which("spin") and shutil.which("gcc")):
         words.error("spin and gcc are needed")
-    for name, without, puts, reduce in CASES + ALL * given.all:
+    passed, cases = 0, CASES + ALL * given.all
+    for name, without, puts, reduce in cases:
         net = network_of((NETWORKS | LARGE)[name])
         space = Space(net, [without] if without else [], MOST, puts, reduce=reduce)
-        wanted = space.count + 3, len(space.target) + 4, 0
         got = searched(net, without, puts, reduce)
-        good = got == wanted and not space.faults
+        good = got == (space.count + 3, len(space.target) + 4, 0) and not space.faults
         what = f"{name}{f' without {without}' if without else ''}{', puts apart' * puts}{', reduced' * reduce}"
-        found = f"{space.count:,} states and {len(space.target):,} steps"
-        if good:
-            print(f"{what}: {found}")
-        note(what, good, f"{found}, and Spin has {got}")
-    return last_line()
+        print(f"{'' if good else 'FAILED '}{what}: {space.count:,} states and {len(space.target):,} steps"
+              f"{'' if good else f', and Spin has {got}'}")
+        passed += good
+    print(f"{passed} passed, {len(cases) - passed} failed")
+    return 0 if passed == len(cases) else 1
 
 
 if __name__ == "__main__":
