@@ -425,11 +425,13 @@ class FirstRun(Case):
         script = ("import sys; from lab import progress; progress.MOMENTS = [0.1, 0.2, 60]; "
                   "sys.exit(progress.main(sys.argv[1:]))")
         network = os.path.join(TOP, "examples", "triangle.col")
-        with open(network, "rb") as given, subprocess.Popen(["sleep", "4"], stdin=given) as run:
-            done = subprocess.run([sys.executable, "-c", script, str(run.pid), "forestplan", "plan"], cwd=TOP,
-                                  capture_output=True, text=True, timeout=LIMIT)
-        lines = done.stderr.splitlines()
+        with open(network, "rb") as given, subprocess.Popen(["sleep", str(LIMIT)], stdin=given) as run:
+            with subprocess.Popen([sys.executable, "-c", script, str(run.pid), "forestplan", "plan"], cwd=TOP,
+                                  stdout=subprocess.PIPE, stderr=subprocess.PIPE, text=True) as watching:
+                first = watching.stderr.readline()
+                run.kill()
+                out, more = watching.communicate(timeout=LIMIT)
         shape = r"forestplan: \d+ s, 0 s of processor time(, of about 0 s for 284 wires)?"
-        good = done.returncode == 0 and lines and all(re.fullmatch(shape, it) for it in lines)
-        self.note("lines of a run", good, done)
-        self.note("nothing on standard output", done.stdout == "", done)
+        good = watching.returncode == 0 and all(re.fullmatch(shape, it) for it in (first + more).splitlines())
+        self.note("lines of a run", first and good, (watching.returncode, first, more))
+        self.note("nothing on standard output", out == "", out)
