@@ -26,6 +26,28 @@ READS = "forestplan reads the network from standard input: forestplan plan < FIL
 LONG = ("the greatest star", "the greatest span")
 
 
+# Networks and their channels, worked by hand.
+PLANS = [
+    ("one edge", "p edge 2 1|e 1 2|", [1, 2]),
+    ("one edge and an identifier", "p edge 2 1|i 2 5|e 1 2|", [2, 1]),
+    ("one edge and the greatest identifier", f"p edge 2 1|i 2 {2**128 - 1}|e 1 2|", [2, 1]),
+    ("triangle", TRIANGLE, [2, 3, 1]),
+    ("path in an odd layout", "c path\r|p edges 3 99 extra\r|\r|n 1 2\r|e 1 2 7\r|e 2 1\r|e 3 2\r|e 2 3\r|",
+     [1, 2, 1]),
+    ("two nodes alone", "p col 2 0|", [1, 1]),
+    ("no node", "p edge 0 0|", []),
+    ("four-cycle", "p edge 4 4|e 1 2|e 2 3|e 3 4|e 1 4|", [1, 2, 1, 2]),
+    ("complete graph on four", "p edge 4 6|e 1 2|e 1 3|e 1 4|e 2 3|e 2 4|e 3 4|", [2, 3, 1, 4]),
+    ("the greatest star", "p edge 1024 1023|" + "".join(f"e {v} 1024|" for v in range(1, 1024)), [1] * 1023 + [2]),
+    ("a path of seven, one node alone", "p edge 8 6|e 1 2|e 2 4|e 4 5|e 5 6|e 6 7|e 7 8|",
+     [2, 1, 1, 2, 1, 2, 1, 2]),
+    ("a path of six, three nodes alone", "p edge 9 5|e 3 4|e 4 5|e 5 6|e 6 7|e 7 9|",
+     [1, 1, 1, 3, 2, 1, 2, 1, 1]),
+    ("a path of seven, three nodes alone", "p edge 10 6|e 2 3|e 3 5|e 5 6|e 6 7|e 7 8|e 8 10|",
+     [1, 2, 1, 1, 2, 1, 2, 1, 1, 2]),
+]
+
+
 def bars_of(v, first, last):
     """Lines that bar the channels from the first to the last one."""
     return "".join(f"b {v} {channel}|" for channel in range(first, last + 1))
@@ -114,27 +136,7 @@ class BlackBox(Case):
             self.expect(name, run_program(PLAN, ["forests"], text(network)), 0, text(wanted), b"")
 
     def test_plans(self):
-        rows = [
-            ("one edge", "p edge 2 1|e 1 2|", [1, 2]),
-            ("one edge and an identifier", "p edge 2 1|i 2 5|e 1 2|", [2, 1]),
-            ("one edge and the greatest identifier", f"p edge 2 1|i 2 {2**128 - 1}|e 1 2|", [2, 1]),
-            ("triangle", TRIANGLE, [2, 3, 1]),
-            ("path in an odd layout", "c path\r|p edges 3 99 extra\r|\r|n 1 2\r|e 1 2 7\r|e 2 1\r|e 3 2\r|e 2 3\r|",
-             [1, 2, 1]),
-            ("two nodes alone", "p col 2 0|", [1, 1]),
-            ("no node", "p edge 0 0|", []),
-            ("four-cycle", "p edge 4 4|e 1 2|e 2 3|e 3 4|e 1 4|", [1, 2, 1, 2]),
-            ("complete graph on four", "p edge 4 6|e 1 2|e 1 3|e 1 4|e 2 3|e 2 4|e 3 4|", [2, 3, 1, 4]),
-            ("the greatest star", "p edge 1024 1023|" + "".join(f"e {v} 1024|" for v in range(1, 1024)),
-             [1] * 1023 + [2]),
-            ("a path of seven, one node alone", "p edge 8 6|e 1 2|e 2 4|e 4 5|e 5 6|e 6 7|e 7 8|",
-             [2, 1, 1, 2, 1, 2, 1, 2]),
-            ("a path of six, three nodes alone", "p edge 9 5|e 3 4|e 4 5|e 5 6|e 6 7|e 7 9|",
-             [1, 1, 1, 3, 2, 1, 2, 1, 1]),
-            ("a path of seven, three nodes alone", "p edge 10 6|e 2 3|e 3 5|e 5 6|e 6 7|e 7 8|e 8 10|",
-             [1, 2, 1, 1, 2, 1, 2, 1, 1, 2]),
-        ] + barred_plans()
-        for name, network, channels in rows:
+        for name, network, channels in PLANS + barred_plans():
             wanted = "plan|" + "".join(f"{v} {channel}|" for v, channel in enumerate(channels, 1))
             for command in ("plain", "plan") if name not in LONG else ("plain",):
                 self.expect(f"{command} of {name}", run_program(PLAN, [command], text(network)), 0, text(wanted), b"")

@@ -11,38 +11,20 @@ from collections import Counter
 
 from lab.definitions.colours import Network, bit, colours, first_colours, merge, plan_text, three
 from tests.cases import Case
+from tests.programs.black_box import PLANS, barred_plans
 from tests.settings import PLAN
 
 SEED = 2026
 LIMIT = 60
 MOST_TOLD = 4000
 
-# (text in which '|' is a line feed, channels of vertices 1, 2, ..)
-WORKED_PLANS = [
-    ("p edge 2 1|e 1 2|", [1, 2]),
-    ("p edge 3 3|e 1 2|e 1 3|e 2 3|", [2, 3, 1]),
-    ("c path\r|p edges 3 99 extra\r|\r|n 1 2\r|e 1 2 7\r|e 2 1\r|e 3 2\r|e 2 3\r|", [1, 2, 1]),
-    ("p col 2 0|", [1, 1]),
-    ("p edge 0 0|", []),
-    ("p edge 4 4|e 1 2|e 2 3|e 3 4|e 1 4|", [1, 2, 1, 2]),
-    ("p edge 4 6|e 1 2|e 1 3|e 1 4|e 2 3|e 2 4|e 3 4|", [2, 3, 1, 4]),
-    ("p edge 1024 1023|" + "".join(f"e {v} 1024|" for v in range(1, 1024)), [1] * 1023 + [2]),
-    ("p edge 8 6|e 1 2|e 2 4|e 4 5|e 5 6|e 6 7|e 7 8|", [2, 1, 1, 2, 1, 2, 1, 2]),
-    ("p edge 9 5|e 3 4|e 4 5|e 5 6|e 6 7|e 7 9|", [1, 1, 1, 3, 2, 1, 2, 1, 1]),
-    ("p edge 10 6|e 2 3|e 3 5|e 5 6|e 6 7|e 7 8|e 8 10|", [1, 2, 1, 1, 2, 1, 2, 1, 1, 2]),
-    ("p edge 3 3|e 1 2|e 1 3|e 2 3|b 3 1|", [1, 3, 2]),
-    ("p edge 2 0|b 1 1|b 1 2|b 2 2|", [3, 1]),
-    ("p edge 2 1|e 1 2|b 1 1|b 2 2|", [2, 1]),
-    ("p edge 2 1|b 2 3|b 1 3|e 1 2|b 1 1|b 2 1|b 2 3|", [2, 4]),
-]
-
 
 def worked_rows():
     rows = []
-    for text, channels in WORKED_PLANS:
+    for name, text, channels in PLANS + barred_plans():
         wanted = "plan\n" + "".join(f"{v} {channel}\n" for v, channel in enumerate(channels, 1))
         got = plan_text(text.replace("|", "\n").encode())
-        rows.append((f"the definition on {text[:50]!r}", got == wanted.encode(), got))
+        rows.append((f"the definition on {name}", got == wanted.encode(), got))
     triangle = Network({1: 1, 2: 2, 3: 3}, {(1, 2), (1, 3), (2, 3)})
     barred = Network({1: 1, 2: 2, 3: 3}, {(1, 2), (1, 3), (2, 3)}, {3: {0}})
     after = {1: 0, 2: 2, 3: 1}
