@@ -1,4 +1,3 @@
-#!/usr/bin/env python3
 """Copies the built programs and the scripts into a folder, from where they run without this tree and its toolchain.
 
 All is made in a folder inside the target and moved file by file, so that a full disk leaves nothing half; SHA256SUMS
@@ -190,7 +189,3 @@ def main():
         return 1
     say(f"{folder} has all; with {folder}/bin on the PATH the commands work anywhere, and man finds their pages")
     return 0
-
-
-if __name__ == "__main__":
-    sys.exit(main())

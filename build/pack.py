@@ -1,4 +1,3 @@
-#!/usr/bin/env python3
 """Packs an installed folder into one archive with its sum, so that a class needs no build."""
 import argparse
 import filecmp
@@ -92,7 +91,3 @@ def main():
         return 1
     print(f"{to} and {to}.sha256")
     return 0
-
-
-if __name__ == "__main__":
-    sys.exit(main())

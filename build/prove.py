@@ -1,4 +1,3 @@
-#!/usr/bin/env python3
 """Proves crates, each as soon as those below it are proved, several side by side, builds the programs, and shows how
 far that is.
 
@@ -265,7 +264,3 @@ def main():
         return 2
     signal.signal(signal.SIGTERM, signal.default_int_handler)
     return proved(asked.crates, max(1, asked.jobs), asked.kept, asked.name)
-
-
-if __name__ == "__main__":
-    sys.exit(main())

@@ -1,4 +1,3 @@
-#!/usr/bin/env python3
 """Proves one crate; prove.py calls it for each, once those below it are proved, and reads its status and its log.
 
   prove_crate.py [--kept] CRATE PROCESSES [KEY ..]
@@ -16,7 +15,6 @@ import os
 import resource
 import shutil
 import subprocess
-import sys
 import tempfile
 import threading
 
@@ -130,7 +128,3 @@ def main():
     used = resource.getrusage(resource.RUSAGE_CHILDREN)
     print(f"processor seconds: {used.ru_utime + used.ru_stime:.0f}", flush=True)
     return 1 if status else 0
-
-
-if __name__ == "__main__":
-    sys.exit(main())

@@ -1,4 +1,3 @@
-#!/usr/bin/env python3
 """Copies crates, and all below them, into another repository, so that a program there can use them."""
 import argparse
 import os
@@ -146,7 +145,3 @@ def main():
     if handles(top) != handles(TOP):
         print(f"vendor: HANDLES here is `{handles(TOP)}`, and there `{handles(top)}`", file=sys.stderr)
     return 0
-
-
-if __name__ == "__main__":
-    sys.exit(main())

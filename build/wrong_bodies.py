@@ -1,4 +1,3 @@
-#!/usr/bin/env python3
 """Tries the wrong bodies of crates/NAME/wrong-bodies/ against the prover, and prints each that is proved all the same.
 
   python3 build wrong-bodies [-j JOBS] [--minutes N] [--since REV | CRATE .. | CRATE/NAME ..]    default: all
@@ -181,7 +180,3 @@ def main():
     print(f"{counts['refused']} refused, {counts['WEAK']} of them WEAK, {counts['NOT REFUSED']} PROVED, "
           f"{not_run} not run")
     return 1 if counts["NOT REFUSED"] + not_run else 3 if counts["WEAK"] else 0
-
-
-if __name__ == "__main__":
-    sys.exit(main())
