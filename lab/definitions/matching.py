@@ -12,6 +12,7 @@ class Matching(Sequel):
     """A node that finds a partner: `partner` is the port that leads to it, or None."""
 
     name = "matching"
+    kinds = ("Free", "Take")
 
     partner: int | None
 

@@ -10,6 +10,7 @@ class Recolouring(Sequel):
     colours of the neighbours that have chosen."""
 
     name = "recolouring"
+    kinds = ("Anew",)
     cut_of = staticmethod(last_pulse)
 
     span: int

@@ -1,23 +1,27 @@
-"""Programs that go on where the colouring ends, at one node, by their definition (docs/claim/DEFINITIONS.md), slow and
-plain. Payloads, ports and pulses are as in lab/definitions/nodes.py."""
+"""Programs that go on where another one ends, mostly the colouring, at one node, by their definition
+(docs/claim/DEFINITIONS.md), slow and plain. Payloads, ports and pulses are as in lab/definitions/nodes.py."""
 from lab.definitions.colours import Network
 from lab.definitions.nodes import Colouring, Slot
 
 
 class Sequel:
-    """A node that runs the colouring up to a pulse, the cut; from then on its node of the colouring, `first`, stays, and
-    it makes pulses of its own, counted from 0."""
+    """A node that runs a program, `before`, up to a pulse, the cut; from then on its node of that program, `first`,
+    stays, and it makes pulses of its own, counted from 0. The program is the colouring, or a sequel itself."""
 
-    first: Colouring
+    before: type = Colouring
+    # The kinds of its own payloads: up to the cut it refuses them.
+    kinds: tuple[str, ...]
+
+    first: "Colouring | Sequel"
     degree: int
     cut: int
 
     def __init__(self, net: Network, v: int):
-        self.first, self.degree, self.cut = Colouring(net, v), len(net.neighbours[v]), self.cut_of(net)
+        self.first, self.degree, self.cut = self.before(net, v), len(net.neighbours[v]), self.cut_of(net)
 
     @staticmethod
     def cut_of(net: Network) -> int:
-        """The last pulse of the colouring that is made."""
+        """The last pulse of that program that is made."""
         raise NotImplementedError
 
     def greet(self) -> list[Slot]:

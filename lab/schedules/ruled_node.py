@@ -86,7 +86,7 @@ def copied_program(program):
     for name, value in vars(program).items():
         if isinstance(value, (list, set, dict)):
             setattr(node, name, copy.copy(value))
-        elif isinstance(value, Colouring):
+        elif isinstance(value, (Colouring, Sequel)):
             setattr(node, name, copied_program(value))
     return node
 
@@ -101,7 +101,7 @@ def key_of_field(value):
         return tuple(value)
     if isinstance(value, (set, dict)):
         return frozenset(value.items() if isinstance(value, dict) else value)
-    return key_of_program(value) if isinstance(value, Colouring) else value
+    return key_of_program(value) if isinstance(value, (Colouring, Sequel)) else value
 
 
 class Rounds:
@@ -137,7 +137,8 @@ def program_refuses(program, pulse, inbox):
     if isinstance(program, Colouring):
         return colouring_refuses(program, pulse, inbox)
     if isinstance(program, Sequel):
-        return pulse <= program.cut and colouring_refuses(program.first, pulse, inbox)
+        return pulse <= program.cut and (any(slot and slot[0] in program.kinds for slot in inbox)
+                                         or program_refuses(program.first, pulse, inbox))
     return not isinstance(program, OwnNode) and program.refuses(pulse, inbox)
 
 
