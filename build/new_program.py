@@ -12,10 +12,17 @@ from build.crate_lists import TOP
 MODEL, SEQUEL = ("silent", "Silent", "silent"), ("independent_set", "IndependentSet", "independent-set")
 PARTS = ("src", "specs", "proofs")
 LONGEST = 20
-# Words that can't name a crate: those of the language, and those that its modules use.
+# What has to be changed, one after another.
+CHANGES = (("specs/Knowing.antt", "what a node knows and does"),
+           ("specs/Lawful.antt", "the laws"),
+           ("src/{payload}.rt", "what nodes send, with specs/Words.antt"),
+           ("src/node.rt", "the code"),
+           ("src/laws.rt", "what the nodes find"),
+           ("src/texts.rt", "what is printed, with specs/Texts.antt"))
+PAYLOADS = {MODEL: "payload", SEQUEL: "joined"}
+# Words that can't name a crate beside those of the model's code.
 TAKEN = set("""as break const continue crate dyn else enum false fn for ghost if impl in let loop match mod move mut pub
-ref return self static struct super trait true type unsafe use where while core std word number node laws texts tests
-payload known""".split())
+ref return self static struct super trait true type unsafe use where while core std""".split())
 
 HELP = f"""\
 Makes the crate crates/NAME with a node program, all of it proved already: a copy of
@@ -33,8 +40,10 @@ example):
 
   specs/Knowing.antt  what a node knows, and what it does: the definition
   specs/Lawful.antt   that it keeps the laws of every program
-  src/node.rt         the same in code, at places 1 to 4
+  src/payload.rt      what nodes send, with specs/Words.antt (of a sequel: src/joined.rt)
+  src/node.rt         the same in code (of a copy of `silent`: at places 1 to 4)
   src/laws.rt         what the nodes have found at the end, in the words of the subject
+  src/texts.rt        what is printed of it, with specs/Texts.antt
 
 In the crate's folder `rt try --test` runs its test unproved, within a minute, and
 `rt check` proves it.
@@ -51,13 +60,30 @@ class Refused(Exception):
     """Why no crate is made."""
 
 
-def check_name(name, top):
+def files_of(model):
+    """(part, folder, file, text) of all that is copied, the folder below the model's."""
+    source = os.path.join(TOP, "crates", model[0])
+    for part in PARTS:
+        for folder, _, files in os.walk(os.path.join(source, part)):
+            for file in files:
+                with open(os.path.join(folder, file), encoding="utf-8") as text:
+                    yield part, os.path.relpath(folder, source), file, text.read()
+
+
+def words_in(model):
+    """The words of a model's code and of its files' names, without comments: if the program had one of them as its name,
+    the code would have two things of one name."""
+    texts = (f"{file} " + re.sub("(--|//).*", "", text) for _, _, file, text in files_of(model))
+    return {word for text in texts for word in re.findall("[A-Za-z_]+", text)}
+
+
+def check_name(name, top, model=MODEL):
     """Refuses a name that no new crate can have."""
     if not re.fullmatch("[a-z]+", name):
         raise Refused(f"{name}: a program's name is one word of small letters, a to z")
     if len(name) > LONGEST:
         raise Refused(f"{name}: a program's name has at most {LONGEST} letters")
-    if name in TAKEN:
+    if name in TAKEN or words_in(model) & {name, name.title()}:
         raise Refused(f"{name}: this word is taken in the language or in the crate itself")
     if os.path.exists(os.path.join(top, "crates", name)) or name == "colouring":
         raise Refused(f"{name}: there is a crate or a program of this name")
@@ -77,22 +103,23 @@ def head_of(name):
 
 def copy(name, top, model=MODEL):
     """Writes the crate; nothing of it is there before, and nothing is left if that fails."""
-    to, source = os.path.join(top, "crates", name), os.path.join(TOP, "crates", model[0])
+    to = os.path.join(top, "crates", name)
     try:
-        for part in PARTS:
-            for folder, _, files in os.walk(os.path.join(source, part)):
-                there = os.path.join(to, renamed(os.path.relpath(folder, source), model, name))
-                os.makedirs(there)
-                for file in files:
-                    with open(os.path.join(folder, file), encoding="utf-8") as text:
-                        made = renamed(text.read(), model, name)
-                    if (part, file) == ("src", "lib.rt"):
-                        made = head_of(name) + made[made.index("//!\n"):]
-                    with open(os.path.join(there, file), "w", encoding="utf-8") as text:
-                        text.write(made)
+        for part, folder, file, text in files_of(model):
+            there, made = os.path.join(to, renamed(folder, model, name)), renamed(text, model, name)
+            os.makedirs(there, exist_ok=True)
+            if (part, file) == ("src", "lib.rt"):
+                made = head_of(name) + made[made.index("//!\n"):]
+            with open(os.path.join(there, file), "w", encoding="utf-8") as to_file:
+                to_file.write(made)
     except BaseException:
         shutil.rmtree(to, ignore_errors=True)
         raise
+
+
+def changes(model):
+    """(file, what is there) of what has to be changed, one after another."""
+    return [(file.format(payload=PAYLOADS[model]), what) for file, what in CHANGES]
 
 
 def add_line(name, top, model=MODEL):
@@ -115,17 +142,14 @@ def main():
     given = words.parse_args()
     name, model = given.name, SEQUEL if given.sequel else MODEL
     try:
-        check_name(name, TOP)
+        check_name(name, TOP, model)
         copy(name, TOP, model)
         add_line(name, TOP, model)
     except (OSError, Refused) as why:
         print(f"new-program: {why}", file=sys.stderr)
         return 1
-    print(f"crates/{name} is there, and its line in crates.txt. Change, one after another:\n"
-          f"  crates/{name}/specs/Knowing.antt  what a node knows and does\n"
-          f"  crates/{name}/specs/Lawful.antt   the laws\n"
-          f"  crates/{name}/src/node.rt         the code\n"
-          f"  crates/{name}/src/laws.rt         what the nodes find\n"
+    listed = "".join(f"  crates/{name}/{file:<18}  {what}\n" for file, what in changes(model))
+    print(f"crates/{name} is there, and its line in crates.txt. Change, one after another:\n{listed}"
           f"Try it: cd crates/{name} && rt try --test    Prove it: rt check\n"
           "docs/work/OWN_PROGRAM.md goes along with an example, to forestplay run --program.")
     return 0

@@ -3,7 +3,7 @@ import os
 import shutil
 import tempfile
 
-from build.new_program import MODEL, PARTS, SEQUEL, Refused, add_line, check_name, copy
+from build.new_program import MODEL, PARTS, SEQUEL, Refused, add_line, changes, check_name, copy
 from tests import TOP
 from tests.cases import Case
 
@@ -31,6 +31,8 @@ class NewProgram(Case):
             made, source = (os.path.join(top, "crates", crate) for top, crate in ((self.top, name), (TOP, model[0])))
             self.note(f"{name}: files", len(files_in(made)) == sum(
                 len(files_in(os.path.join(source, part))) for part in PARTS), files_in(made))
+            listed = [file for file, _ in changes(model)]
+            self.note(f"{name}: what is to be changed", set(listed) <= set(files_in(made)), listed)
             left = []
             for path in files_in(made):
                 with open(os.path.join(made, path), encoding="utf-8") as file:
@@ -42,9 +44,12 @@ class NewProgram(Case):
             self.note(f"{name}: its line", good, added)
 
     def test_names(self):
-        for name in ("Echoes", "a-b", "match", "laws", "colouring", "x" * 21, ""):
-            try:
-                check_name(name, self.top)
-                self.note(f"{name} is refused", False)
-            except Refused as why:
-                self.note(f"{name} is refused", name in str(why))
+        for model, names in ((MODEL, ("Echoes", "a-b", "match", "laws", "known", "colouring", "x" * 21, "")),
+                             (SEQUEL, ("while", "joined", "told", "slot", "member"))):
+            for name in names:
+                try:
+                    check_name(name, self.top, model)
+                    self.note(f"{name} is refused", False)
+                except Refused as why:
+                    self.note(f"{name} is refused", name in str(why))
+            check_name("dominating", self.top, model)
