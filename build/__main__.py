@@ -4,17 +4,9 @@ import importlib
 import os
 import sys
 
-MODULES = {
-    "completion": "completion",
-    "prove": "prove",
-    "prove-crate": "prove_crate",
-    "install": "install",
-    "new-program": "new_program",
-    "pack": "pack",
-    "promises": "promises",
-    "vendor": "vendor",
-    "wrong-bodies": "wrong_bodies",
-}
+MODULES = {"completion": "completion", "prove": "prove", "prove-crate": "prove_crate", "install": "install",
+           "new-program": "new_program", "pack": "pack", "promises": "promises", "vendor": "vendor",
+           "wrong-bodies": "wrong_bodies"}
 
 
 def main():

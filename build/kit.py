@@ -99,9 +99,8 @@ def keys(crates=None):
     with open(os.path.join(TOP, "HANDLES"), "rb") as handles:
         common = kit_named() + handles.read()
     with open(os.path.join(TOP, "crates.txt"), encoding="utf-8") as text:
-        lines = {
-            line.partition(":")[0].split()[0]: line.partition("#")[0] for line in text if ":" in line.partition("#")[0]
-        }
+        lines = {line.partition(":")[0].split()[0]: line.partition("#")[0] for line in text
+                 if ":" in line.partition("#")[0]}
     found, below = {}, listed()
     for crate in with_below(below if crates is None else crates, below):
         own = sum_of_texts(os.path.join(TOP, "crates", crate))

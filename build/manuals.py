@@ -12,14 +12,8 @@ WITH_COMMANDS = ("forestlab", "forestlab picture", "forestlab network", "forestl
 @functools.cache
 def help_of(program, *words):
     """What `--help` prints, in lines of the width that the texts are written for."""
-    return subprocess.run(
-        [program, *words, "--help"],
-        stdin=subprocess.DEVNULL,
-        stdout=subprocess.PIPE,
-        check=True,
-        text=True,
-        env=dict(os.environ, COLUMNS="80"),
-    ).stdout
+    return subprocess.run([program, *words, "--help"], stdin=subprocess.DEVNULL, stdout=subprocess.PIPE, check=True,
+                          text=True, env=dict(os.environ, COLUMNS="80")).stdout
 
 
 def commands_of(name, text):

@@ -25,10 +25,8 @@ class Order:
 
     def ready(self, left, done):
         """What can begin, the longest chain first."""
-        return sorted(
-            (crate for crate in left if all(lower in done for lower in self.below[crate])),
-            key=lambda crate: -self.behind[crate],
-        )
+        return sorted((crate for crate in left if all(lower in done for lower in self.below[crate])),
+                      key=lambda crate: -self.behind[crate])
 
     def share(self, crate, left, running):
         """The length of the chain of crates that wait for a crate, as a share of the longest."""

@@ -8,10 +8,8 @@ import textwrap
 TOP = os.path.dirname(os.path.dirname(os.path.abspath(__file__)))
 WIDTH = 148
 # From the program down to the texts.
-CRATES = (
-    "serving", "byte_functions", "answers", "command_line", "whole_streams", "channel_plan", "transcripts",
-    "round_texts", "event_texts", "wire_texts", "number_rows",
-)
+CRATES = ("serving", "byte_functions", "answers", "command_line", "whole_streams", "channel_plan", "transcripts",
+          "round_texts", "event_texts", "wire_texts", "number_rows")
 
 
 def text_of(*parts):
@@ -55,10 +53,8 @@ def index():
             if found:
                 sentence, clauses = found
                 named = ": " + ", ".join(f"`{clause}`" for clause in clauses) if clauses else ""
-                lines += textwrap.wrap(
-                    f"`{path}`{named}. {sentence}", WIDTH, initial_indent="- ", subsequent_indent="  ",
-                    break_on_hyphens=False, break_long_words=False,
-                )
+                lines += textwrap.wrap(f"`{path}`{named}. {sentence}", WIDTH, initial_indent="- ",
+                                       subsequent_indent="  ", break_on_hyphens=False, break_long_words=False)
     return "\n".join(lines)
 
 

@@ -118,9 +118,8 @@ class Proving:
         with open(os.path.join(LOGS, f"{crate}.log"), "w", encoding="utf-8") as log:
             # In a group of its own Ctrl-C doesn't reach it; in a session of its own its priority would count for
             # nothing.
-            process = subprocess.Popen(
-                [*way, *words], stdin=subprocess.PIPE, stdout=log, stderr=subprocess.STDOUT, preexec_fn=os.setpgrp
-            )
+            process = subprocess.Popen([*way, *words], stdin=subprocess.PIPE, stdout=log, stderr=subprocess.STDOUT,
+                                       preexec_fn=os.setpgrp)
         self.running[crate] = (process, count)
         self.left.remove(crate)
 
@@ -232,9 +231,8 @@ def proved(crates, jobs, is_kept=False, name="prove"):
     try:
         if is_kept:
             _lock = wait_for_turn(name, LOGS)
-            failed = Proving(
-                wanted, below, jobs, shown, lambda crate, processes: ["--kept", crate, str(processes)]
-            ).run()
+            failed = Proving(wanted, below, jobs, shown,
+                             lambda crate, processes: ["--kept", crate, str(processes)]).run()
         else:
             _lock = wait_for_turn(name, kit.store())
             failed = prove_anew(wanted, below, jobs, shown)
@@ -250,12 +248,10 @@ def proved(crates, jobs, is_kept=False, name="prove"):
 
 def main():
     summary, _, more = __doc__.partition("\n")
-    words = argparse.ArgumentParser(
-        description=summary, epilog=more, formatter_class=argparse.RawDescriptionHelpFormatter
-    )
-    words.add_argument(
-        "-j", "--jobs", type=int, default=jobs_with_room(), help="how many crates are proved side by side"
-    )
+    words = argparse.ArgumentParser(description=summary, epilog=more,
+                                    formatter_class=argparse.RawDescriptionHelpFormatter)
+    words.add_argument("-j", "--jobs", type=int, default=jobs_with_room(),
+                       help="how many crates are proved side by side")
     words.add_argument("--kept", action="store_true", help="build in out/, over kept work, for `rt check`")
     words.add_argument("--name", default="prove", help="the name at the head of each line of progress")
     words.add_argument("crates", nargs="*", metavar="CRATE")

@@ -37,9 +37,8 @@ def prove_kept(rt, name, flags):
     """Builds a crate in its own out/, for `rt check`."""
     if os.path.isfile(os.path.join(TOP, "crates", name, "src", "main.rt")):
         folder = os.path.join(TOP, "crates", name)
-        return subprocess.run(
-            ["rt", "run", *flags, "--", "--help"], cwd=folder, stdin=subprocess.DEVNULL, check=False
-        ).returncode
+        return subprocess.run(["rt", "run", *flags, "--", "--help"], cwd=folder, stdin=subprocess.DEVNULL,
+                              check=False).returncode
     rt.Crate.cuts_libraries = False
     # A sum of a crate takes one of each crate below it, which is asked for once here and not once for every path to it.
     known, stamp = {}, rt.Crate.__mro__[1].stamp
@@ -109,9 +108,8 @@ def prove_anew(rt, name, flags, keys):
 
 def main():
     summary, _, more = __doc__.partition("\n")
-    words = argparse.ArgumentParser(
-        description=summary, epilog=more, formatter_class=argparse.RawDescriptionHelpFormatter
-    )
+    words = argparse.ArgumentParser(description=summary, epilog=more,
+                                    formatter_class=argparse.RawDescriptionHelpFormatter)
     words.add_argument("--kept", action="store_true", help="build the library in out/, for `rt check`")
     words.add_argument("crate", metavar="CRATE")
     words.add_argument("processes", metavar="PROCESSES", type=int)

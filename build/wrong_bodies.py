@@ -100,10 +100,8 @@ def said_of_each(rt, crate, edits):
         return [text for _, text in rt.must_fail_all(crate, edits, flags)]
     room = rt.seeded(crate, flags)
     if room is None:
-        return [
-            f"must-fail {crate.name}/{os.path.basename(edit)}: NOT TRIED: the crate isn't proved without the edit"
-            for edit in edits
-        ]
+        return [f"must-fail {crate.name}/{os.path.basename(edit)}: NOT TRIED: the crate isn't proved without the edit"
+                for edit in edits]
     try:
         said = [said_over(rt, crate, edit, flags, room) for edit in edits]
         # A refusal counts only if the crate is still proved over the same.
@@ -127,9 +125,8 @@ def try_all(rt, edits, jobs, end):
     counts = {"refused": 0, "WEAK": 0, "NOT REFUSED": 0, "BAD EDIT": 0, "NOT TRIED": 0, "not run": 0}
     keys = kit.keys()
     with ThreadPoolExecutor(jobs) as pool:
-        running = {
-            pool.submit(tried, rt, crate, some, keys, end): (crate, some) for crate, some in lists_of(edits, jobs)
-        }
+        running = {pool.submit(tried, rt, crate, some, keys, end): (crate, some)
+                   for crate, some in lists_of(edits, jobs)}
         for done in as_completed(running):
             (crate, some), verdicts = running[done], done.result()
             refused = sum(verdict == "refused" for verdict, _ in verdicts)
@@ -147,16 +144,12 @@ def try_all(rt, edits, jobs, end):
 
 def main():
     summary, _, more = __doc__.partition("\n")
-    words = argparse.ArgumentParser(
-        prog="python3 build wrong-bodies", description=summary, epilog=more,
-        formatter_class=argparse.RawDescriptionHelpFormatter,
-    )
-    words.add_argument(
-        "-j", "--jobs", type=int, default=prove.jobs_with_room(), help="how many lists are tried side by side"
-    )
-    words.add_argument(
-        "--minutes", type=float, default=float("inf"), help="begin no list later than this many minutes from now"
-    )
+    words = argparse.ArgumentParser(prog="python3 build wrong-bodies", description=summary, epilog=more,
+                                    formatter_class=argparse.RawDescriptionHelpFormatter)
+    words.add_argument("-j", "--jobs", type=int, default=prove.jobs_with_room(),
+                       help="how many lists are tried side by side")
+    words.add_argument("--minutes", type=float, default=float("inf"),
+                       help="begin no list later than this many minutes from now")
     words.add_argument("--since", metavar="REV", help="only what a change since the commit REV may concern")
     words.add_argument("names", nargs="*", metavar="CRATE", help="a crate, or one edit of it, as CRATE/NAME")
     asked = words.parse_args()

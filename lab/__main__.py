@@ -25,9 +25,7 @@ READERS = {
         "simulate": Command("lab.schedules.simulate", "makes a run without a clock, by a seed or a list of events"),
         "explore": Command("lab.schedules.explore", "plays every order of events of up to four nodes"),
     },
-    "To judge": {
-        "transcript": Command("lab.transcripts.transcript", "checks, replays and converts transcripts"),
-    },
+    "To judge": {"transcript": Command("lab.transcripts.transcript", "checks, replays and converts transcripts")},
     "To teach": {
         "workshop": Command("lab.workshop.workshop", "runs students' nodes, and has the proved programs judge them"),
         "sheet": Command("lab.pictures.sheet", "prints question sheets, and their answers"),

@@ -57,16 +57,10 @@ def main():
     words.add_argument("baseline", nargs="?", default=BASELINE)
     given = words.parse_args()
     programs = programs_of(given.program, given.baseline)
-    print(
-        f"{'':18s} {'program ms':>19s} {'baseline ms':>19s} {'ratio':>13s} {'growth with workers':>20s}"
-        f" {'peak MiB':>22s}"
-    )
-    print(
-        f"{'network':10s} wor cap "
-        + 2 * f"{'least':>9s} {'median':>9s} "
-        + f"{'least':>6s} {'median':>6s} "
-        + f"{'prog':>6s} {'base':>6s} {'ratio':>6s} {'prog':>7s} {'base':>7s} {'ratio':>6s}  same bytes"
-    )
+    print(f"{'':18s} {'program ms':>19s} {'baseline ms':>19s} {'ratio':>13s} {'growth with workers':>20s}"
+          f" {'peak MiB':>22s}")
+    print(f"{'network':10s} wor cap " + 2 * f"{'least':>9s} {'median':>9s} " + f"{'least':>6s} {'median':>6s} "
+          + f"{'prog':>6s} {'base':>6s} {'ratio':>6s} {'prog':>7s} {'base':>7s} {'ratio':>6s}  same bytes")
     good = []
     with tempfile.TemporaryDirectory() as folder:
         peak = build_peak(folder)

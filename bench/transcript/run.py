@@ -92,12 +92,9 @@ def main():
     given = words.parse_args()
     programs = programs_of(given.program, given.other or given.program)
     print(f"{'':23s} {'program ms':>19s} {'other ms':>19s} {'ratio':>13s} {'peak MiB':>22s} {'bytes an entry':>13s}")
-    print(
-        f"{'network':10s} wor {'entries':>8s} "
-        + 2 * f"{'least':>9s} {'median':>9s} "
-        + f"{'least':>6s} {'median':>6s} "
-        + f"{'prog':>7s} {'other':>7s} {'ratio':>6s} {'prog':>6s} {'other':>6s}  same payloads  checked"
-    )
+    print(f"{'network':10s} wor {'entries':>8s} " + 2 * f"{'least':>9s} {'median':>9s} "
+          + f"{'least':>6s} {'median':>6s} "
+          + f"{'prog':>7s} {'other':>7s} {'ratio':>6s} {'prog':>6s} {'other':>6s}  same payloads  checked")
     good = []
     with tempfile.TemporaryDirectory() as folder:
         peak = build_peak(folder)

@@ -56,24 +56,16 @@ def wrong_dare(seen):
     if faults:
         s, e = next(iter(faults))
         answer = f"Yes, with {events(seen.space.depth[s] + (e is not None))}: {fault_words(seen.space)}."
-    return {
-        "kind": "wrong",
-        "words": "Have a node make a pulse without its round’s messages, or refuse a message.",
-        "answer": answer,
-    }
+    return {"kind": "wrong", "words": "Have a node make a pulse without its round’s messages, or refuse a message.",
+            "answer": answer}
 
 
 def apart_dare(seen):
     pairs = [link for link in seen.space.links if link[0] < link[1]]
     fewest = seen.fewest(lambda state: seen.apart(state, pairs) >= 2)
     answer = seen.none("are neighbours more than one pulse apart") if fewest is None else f"Yes, with {events(fewest)}."
-    return {
-        "kind": "apart",
-        "pairs": pairs,
-        "least": 2,
-        "words": "Bring two neighbours two pulses apart.",
-        "answer": answer,
-    }
+    return {"kind": "apart", "pairs": pairs, "least": 2, "words": "Bring two neighbours two pulses apart.",
+            "answer": answer}
 
 
 def plan_in(space):
@@ -90,12 +82,8 @@ def plan_dare(seen):
              and [found(node) for node in space.nodes(s).values()] != plan]
     what = "channels" if space.program is Colouring else "results"
     answer = f"Yes, with {events(min(other))}." if other else seen.none(f"have all halted with other {what}")
-    return {
-        "kind": "plan",
-        "plan": plan,
-        "words": f"Have them all halt with other {what} than {', '.join(map(str, plan))}.",
-        "answer": answer,
-    }
+    return {"kind": "plan", "plan": plan,
+            "words": f"Have them all halt with other {what} than {', '.join(map(str, plan))}.", "answer": answer}
 
 
 def ends_dare(seen, ends, distance):
@@ -108,13 +96,9 @@ def ends_dare(seen, ends, distance):
 
 def few_dare(seen, v):
     best = seen.fewest(lambda state: seen.pulse(state, v) >= 1)
-    return {
-        "kind": "few",
-        "node": v,
-        "best": best,
-        "words": f"Use as few takes and pulses as you can until node {v} has made pulse 1.",
-        "answer": f"{events(best).capitalize()}; puts make themselves.",
-    }
+    return {"kind": "few", "node": v, "best": best,
+            "words": f"Use as few takes and pulses as you can until node {v} has made pulse 1.",
+            "answer": f"{events(best).capitalize()}; puts make themselves."}
 
 
 def far_ends(space):

@@ -26,17 +26,12 @@ def draw_table(space):
 
 def about(space):
     if space.without:
-        reach = (
-            ""
-            if space.expanded == space.count
-            else f" The table goes as far as {space.depth[space.expanded - 1]} takes and pulses."
-        )
+        reach = ("" if space.expanded == space.count
+                 else f" The table goes as far as {space.depth[space.expanded - 1]} takes and pulses.")
         return f"{left_out_words(space.without)} Choose what comes next, and try to make something go wrong.{reach}"
     plan = ("channels " if space.program is Colouring else "") + ", ".join(map(str, plan_in(space)))
-    return (
-        "Choose what comes next: every order of events is in this page. Whatever you choose, after "
-        f"{space.depth[space.ends[0]]} takes and pulses all have halted, with {plan}."
-    )
+    return ("Choose what comes next: every order of events is in this page. Whatever you choose, after "
+            f"{space.depth[space.ends[0]]} takes and pulses all have halted, with {plan}.")
 
 
 def option(program):
@@ -51,10 +46,8 @@ def play_words(network, space):
     words = (f"Store the list as list.events, and type (cat {network.name}.col; cat list.events) | "
              f"forestplay events{option(space.program)}")
     if space.without:
-        return (
-            f"{words}. It keeps all rules, so it names the line of the first event that can happen here alone; "
-            "up to there it shows the same as this page:"
-        )
+        return (f"{words}. It keeps all rules, so it names the line of the first event that can happen here alone; "
+                "up to there it shows the same as this page:")
     return f"{words}. It accepts the list, and shows:"
 
 

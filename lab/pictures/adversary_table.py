@@ -56,11 +56,8 @@ def node_words(node):
     """What a node waits for, or what it can do."""
     if node.waits:
         return f"waits for {waiting(node.waits)}"
-    return {
-        "ready": f"can make pulse {node.pulse + 1}",
-        "whole": "has halted",
-        "last": "has only to put its close",
-    }.get(node.stage, "waits for nothing")
+    return {"ready": f"can make pulse {node.pulse + 1}", "whole": "has halted",
+            "last": "has only to put its close"}.get(node.stage, "waits for nothing")
 
 
 def besides_words(space, v, node, value):

@@ -84,9 +84,8 @@ class Automaton:
             self.svg.path(steps, drawn, round(width, 1))
             self.svg.head(xb, yb, dx, dy, size, drawn)
             self.svg.text(*label, words, 11.5, colour if count else SOFT, anchor, bold=True, halo=4)
-            self.svg.text(
-                label[0], label[1] + 13, counted(count, "time") if count else "never here", 10, SOFT, anchor, halo=4
-            )
+            self.svg.text(label[0], label[1] + 13, counted(count, "time") if count else "never here", 10, SOFT, anchor,
+                          halo=4)
 
 
 def begins(svg, x, y):
@@ -103,37 +102,16 @@ def draw_node(automaton):
     automaton.svg.text(60, 100, "The node", 14, INK, bold=True)
     automaton.arrow(("asks", "ack", "safe"), ack, [(257, y), (432, y)], "last ack taken", (345, y - 26))
     automaton.arrow(("safe", "safe", "ready"), safe, [(607, y), (782, y)], "last safe taken", (695, y - 26))
-    automaton.arrow(
-        ("asks", "ack", "ready"),
-        ack,
-        [(240, y - 32), (520, y - 118), (815, y - 32)],
-        "last ack, all safes here already",
-        (520, y - 92),
-    )
-    automaton.arrow(
-        ("ready", "pulse", "asks"),
-        INK,
-        [(815, y + 32), (490, y + 200), (185, y + 34)],
-        "next pulse, payloads to send",
-        (490, y + 134),
-    )
-    automaton.arrow(
-        ("ready", "pulse", "safe"),
-        INK,
-        [(845, y + 32), (690, y + 116), (550, y + 34)],
-        "next pulse, none to send",
-        (668, y + 48),
-    )
-    automaton.arrow(
-        ("ready", "pulse", "last"), INK, [(905, y + 32), (915, y + 90), (960, 322)], "pulse R", (915, 306), "end"
-    )
-    automaton.arrow(
-        ("ready", "pulse", "ready"),
-        INK,
-        [(945, y - 32), (985, y - 92), (1040, y - 20), (958, y + 4)],
-        "next pulse, safe and ready at once",
-        (962, y - 82),
-    )
+    automaton.arrow(("asks", "ack", "ready"), ack, [(240, y - 32), (520, y - 118), (815, y - 32)],
+                    "last ack, all safes here already", (520, y - 92))
+    automaton.arrow(("ready", "pulse", "asks"), INK, [(815, y + 32), (490, y + 200), (185, y + 34)],
+                    "next pulse, payloads to send", (490, y + 134))
+    automaton.arrow(("ready", "pulse", "safe"), INK, [(845, y + 32), (690, y + 116), (550, y + 34)],
+                    "next pulse, none to send", (668, y + 48))
+    automaton.arrow(("ready", "pulse", "last"), INK, [(905, y + 32), (915, y + 90), (960, 322)], "pulse R", (915, 306),
+                    "end")
+    automaton.arrow(("ready", "pulse", "ready"), INK, [(945, y - 32), (985, y - 92), (1040, y - 20), (958, y + 4)],
+                    "next pulse, safe and ready at once", (962, y - 82))
     begins(automaton.svg, 85, y)
     for x, row, name, under in STAGES.values():
         automaton.box(x, row, 170 if row == ROW_OF_NODE else 130, 60 if row == ROW_OF_NODE else 52, name, under)
@@ -147,22 +125,16 @@ def draw_port(automaton):
         at[level] = 130 + number * 200
     for (a, _), (b, _) in zip(LEVELS, LEVELS[1:]):
         kind = "safe" if a[1] else "payload"
-        automaton.arrow(
-            (a, kind, b), WIRES[kind], [(at[a] + 55, y), (at[b] - 57, y)], kind, ((at[a] + at[b]) / 2, y - 24)
-        )
+        automaton.arrow((a, kind, b), WIRES[kind], [(at[a] + 55, y), (at[b] - 57, y)], kind,
+                        ((at[a] + at[b]) / 2, y - 24))
     for a, b in (((0, False), (1, False)), ((1, False), (2, False))):
         middle = (at[a] + at[b]) / 2
         automaton.arrow((a, "safe", b), WIRES["safe"], [(at[a] + 20, y - 24), (middle, y - 100), (at[b] - 20, y - 26)],
                         "safe, no payload", (middle, y - 84))
     for a, b in (((1, False), (0, False)), ((1, True), (0, True)), ((2, False), (1, False))):
         middle = (at[a] + at[b]) / 2
-        automaton.arrow(
-            (a, "pulse", b),
-            INK,
-            [(at[a] - 12, y + 24), (middle, y + 104), (at[b] + 12, y + 26)],
-            "pulse",
-            (middle, y + 84),
-        )
+        automaton.arrow((a, "pulse", b), INK, [(at[a] - 12, y + 24), (middle, y + 104), (at[b] + 12, y + 26)], "pulse",
+                        (middle, y + 84))
     begins(automaton.svg, at[0, False] - 54, y)
     for level, name in LEVELS:
         automaton.box(at[level], y, 108, 44, name, fill=FILLS[level[0]])

@@ -144,15 +144,9 @@ class OfForest:
             last = min(last, self.last)
             if first <= last:
                 x1, x2 = self.x(left, first) - COLUMN / 2 + 2, self.x(left, last) + COLUMN / 2 - 2
-                svg.text(
-                    (x1 + x2) / 2,
-                    top + HEAD - 24,
-                    group if last > first else group.removesuffix(" steps") + " step" * (first == 3),
-                    10 if last > first else 8.5,
-                    INK,
-                    "middle",
-                    mark="group",
-                )
+                svg.text((x1 + x2) / 2, top + HEAD - 24, group if last > first
+                         else group.removesuffix(" steps") + " step" * (first == 3), 10 if last > first else 8.5, INK,
+                         "middle", mark="group")
                 svg.line(x1, top + HEAD - 19, x2, top + HEAD - 19, "#9A9A9A", 1)
         for pulse in range(START, self.last + 1):
             svg.text(self.x(left, pulse), top + HEAD - 8, pulse, 9, SOFT, "middle")
@@ -179,13 +173,8 @@ class OfMerge:
     """Three panels in a row: the channels before the merge, the colours in the forest, the channels after it."""
 
     def __init__(self, rounds, without, network):
-        at_most(
-            "broken",
-            network.nodes,
-            "nodes of a merge",
-            MOST_MERGED,
-            "`forestlab explore NETWORK --without RULES`, which says it in words",
-        )
+        at_most("broken", network.nodes, "nodes of a merge", MOST_MERGED,
+                "`forestlab explore NETWORK --without RULES`, which says it in words")
         self.clash, self.network, self.without = rounds.clash, network, without
         self.blocks = [
             (f"without {left_out(without)}", rounds, set(without)),
@@ -228,14 +217,8 @@ class OfMerge:
         self.colours(svg, 20 + self.panel, top, rounds)
         self.channels(svg, 20 + 2 * self.panel, top, "channels after this merge", rounds.merged[f + 1], f, is_wrong)
         for at, line in enumerate(self.chooses(block)):
-            svg.text(
-                20 + 3 * self.panel,
-                top + self.box / 2 - 20 + 17 * at,
-                line,
-                11,
-                INK if at % 2 == 0 else SOFT,
-                mark="chooses",
-            )
+            svg.text(20 + 3 * self.panel, top + self.box / 2 - 20 + 17 * at, line, 11, INK if at % 2 == 0 else SOFT,
+                     mark="chooses")
 
     def forest_of(self, v, w, rounds):
         return rounds.net.number[frozenset((v, w))]
@@ -260,12 +243,10 @@ class OfMerge:
                       mark="wrong" if hue == WRONG else "edge")
         self.numbers(svg, left, top)
         for v, (x, y) in sorted(places.items()):
-            is_red = is_wrong and any(
-                merged[v] == merged[w] and self.forest_of(v, w, rounds) <= upto for w in self.network.neighbours[v]
-            )
-            svg.circle(
-                x, y, self.radius + (3.6 if is_red else 1.4), PAPER, WRONG if is_red else None, 2.2 if is_red else None
-            )
+            is_red = is_wrong and any(merged[v] == merged[w] and self.forest_of(v, w, rounds) <= upto
+                                      for w in self.network.neighbours[v])
+            svg.circle(x, y, self.radius + (3.6 if is_red else 1.4), PAPER, WRONG if is_red else None, 2.2 if is_red
+                       else None)
             channel_circle(svg, x, y, self.radius, merged[v] + 1)
 
     def colours(self, svg, left, top, rounds):

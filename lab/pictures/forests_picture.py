@@ -37,9 +37,8 @@ def draw(rounds, asked=None):
     sheet = Sheet(rounds)
     parted = f"{counted(len(network.edges), 'edge')} in {counted(count, 'forest')}"
     said = f"{network.name}: {parted}; merged, they are the plan"
-    svg = Svg(
-        max(width, LEGEND, 60 + text_width(said, 17) * 1.1), TOP + 2 * sheet.height + 76, f"Forests of {network.name}"
-    )
+    svg = Svg(max(width, LEGEND, 60 + text_width(said, 17) * 1.1), TOP + 2 * sheet.height + 76,
+              f"Forests of {network.name}")
     svg.heading(said)
     legend(svg)
     shift = (svg.width - width) / 2
@@ -121,14 +120,8 @@ def colours_panel(svg, left, sheet, forest):
             if not sheet.rounds.in_forest(v, forest):
                 alone_chip(svg, x, y, radius * 0.6, None if sheet.is_large else sheet.three[v, forest])
             elif sheet.is_large:
-                svg.rect(
-                    x - radius,
-                    y - radius,
-                    2 * radius,
-                    2 * radius,
-                    FOREST_COLOURS[sheet.three[v, forest]],
-                    mark="colour",
-                )
+                svg.rect(x - radius, y - radius, 2 * radius, 2 * radius, FOREST_COLOURS[sheet.three[v, forest]],
+                         mark="colour")
             else:
                 colour_square(svg, x, y, radius, sheet.three[v, forest])
 

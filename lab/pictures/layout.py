@@ -140,9 +140,8 @@ def upright(network, places):
     turn = root(root(turn))
     back = turn.conjugate() if turn else 1
     turned = {v: complex(x, y) * back for v, (x, y) in places.items()}
-    wide, high = (
-        max(part) - min(part) for part in ([z.real for z in turned.values()], [z.imag for z in turned.values()])
-    )
+    wide, high = (max(part) - min(part)
+                  for part in ([z.real for z in turned.values()], [z.imag for z in turned.values()]))
     if high > wide:
         turned = {v: z * 1j for v, z in turned.items()}
     first, centre = turned[min(turned)], sum(turned.values()) / len(turned)

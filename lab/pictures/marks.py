@@ -1,9 +1,8 @@
 """The marks that the pictures share: vertices by their channel or colour, edges and arrows between them, legends."""
 from math import sqrt
 
-from lab.pictures.palette import (
-    ALONE, FOREST_COLOURS, INK, PAPER, SOFT, WIRES, WRONG, channel_hue, grey, is_ring, short, text_on,
-)
+from lab.pictures.palette import (ALONE, FOREST_COLOURS, INK, PAPER, SOFT, WIRES, WRONG, channel_hue, grey, is_ring,
+                                  short, text_on)
 from lab.pictures.places import middle
 from lab.pictures.svg import text_width
 
@@ -48,15 +47,8 @@ def bar_row(svg, x, y, channels, radius):
     for at, channel in enumerate(channels[:MOST_BARS]):
         bar_mark(svg, x + radius + at * (2 * radius + 2), y, radius, channel)
     if more_bars(channels):
-        svg.text(
-            x + MOST_BARS * (2 * radius + 2),
-            y + 0.55 * radius,
-            more_bars(channels),
-            1.5 * radius,
-            SOFT,
-            halo=2,
-            mark="more",
-        )
+        svg.text(x + MOST_BARS * (2 * radius + 2), y + 0.55 * radius, more_bars(channels), 1.5 * radius, SOFT, halo=2,
+                 mark="more")
 
 
 def colour_square(svg, x, y, half, colour, number=True, mark="colour"):

@@ -26,16 +26,10 @@ def draw(network, plan):
         said = (f"Each red mark, in a block on the diagonal, is a pair on one channel: "
                 f"{counted(len(wrong), 'pair')}.")
     else:
-        said = (
-            "No mark in a block on the diagonal: none interferes on its own channel."
-            if network.edges
-            else "No pair interferes."
-        )
-    svg.heading(
-        f"{network.name}: the plan is {'NOT proper' if wrong else 'proper'}",
-        "Each mark is a pair that interferes. Rows and columns are sorted by channel.",
-        said,
-    )
+        said = ("No mark in a block on the diagonal: none interferes on its own channel." if network.edges
+                else "No pair interferes.")
+    svg.heading(f"{network.name}: the plan is {'NOT proper' if wrong else 'proper'}",
+                "Each mark is a pair that interferes. Rows and columns are sorted by channel.", said)
     draw_blocks(svg, [plan[v] for v in order], cell, side, (left, top), rim)
     if network.nodes <= LARGEST_NUMBERED:
         draw_numbers(svg, order, cell, (left, top), size)
@@ -44,9 +38,8 @@ def draw(network, plan):
         for a, b in ((v, w), (w, v)):
             x, y = left + (index[b] + 0.5) * cell, top + (index[a] + 0.5) * cell
             is_wrong = plan[a] == plan[b]
-            svg.rect(
-                x - mark / 2, y - mark / 2, mark, mark, WRONG if is_wrong else INK, mark="wrong" if is_wrong else "pair"
-            )
+            svg.rect(x - mark / 2, y - mark / 2, mark, mark, WRONG if is_wrong else INK, mark="wrong" if is_wrong
+                     else "pair")
     return svg.document()
 
 
@@ -56,15 +49,8 @@ def draw_numbers(svg, order, cell, corner, size):
     for at, v in enumerate(order):
         middle = (at + 0.5) * cell + size * 0.36
         svg.text(left - 4, top + middle, v, size, SOFT, "end", mark="row")
-        svg.text(
-            0,
-            0,
-            v,
-            size,
-            SOFT,
-            transform=f"translate({shown(left + middle)} {shown(top - 4)}) rotate(-90)",
-            mark="column",
-        )
+        svg.text(0, 0, v, size, SOFT, transform=f"translate({shown(left + middle)} {shown(top - 4)}) rotate(-90)",
+                 mark="column")
 
 
 def blocks_of(channels):

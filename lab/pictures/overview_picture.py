@@ -108,15 +108,8 @@ def draw_node(svg, overview, v):
     svg.text(left - 14, y + 4, v, overview.size, INK, "end", bold=True)
     name = short_name(overview.network, v)
     if name:
-        svg.text(
-            left - 20 - text_width(len(overview.nodes), overview.size) * 1.15,
-            y + 4,
-            name,
-            overview.name_size(),
-            SOFT,
-            "end",
-            mark="vertex-name",
-        )
+        svg.text(left - 20 - text_width(len(overview.nodes), overview.size) * 1.15, y + 4, name, overview.name_size(),
+                 SOFT, "end", mark="vertex-name")
     for pulse, time in sorted(overview.ticks[v].items()):
         if overview.start <= time <= overview.stop:
             inside = overview.first <= pulse <= overview.last + 1

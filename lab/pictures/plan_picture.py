@@ -75,16 +75,8 @@ def draw_label(svg, network, v, x, y):
     """A vertex's number and name, and after them its barred channels, around a place."""
     size, bars = size_of(network), network.barred(v)
     shift = (GAP + bars_width(bars, BAR)) / 2 if bars else 0
-    svg.text(
-        x - shift,
-        y + size * 0.37,
-        label_of(network, v),
-        size,
-        INK,
-        "middle",
-        halo=2.5 if network.nodes > LARGE else 3,
-        mark="number",
-    )
+    svg.text(x - shift, y + size * 0.37, label_of(network, v), size, INK, "middle", halo=2.5 if network.nodes > LARGE
+             else 3, mark="number")
     if bars:
         bar_row(svg, x - shift + text_width(label_of(network, v), size) / 2 + GAP, y, bars, BAR)
 

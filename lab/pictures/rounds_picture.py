@@ -83,9 +83,8 @@ def legend(svg, y, has_bars):
     svg.text(42, y + 4, "circle: the node chooses this channel", 11.5, SOFT)
     svg.line(276, y, 300, y, channel_hue(1), 3, opacity="0.35")
     svg.text(308, y + 4, "its channel meanwhile", 11.5, SOFT)
-    svg.text(
-        452, y + 4, "K and J say whose turn it is: colour in the forest, colour so far (channel J + 1).", 11.5, SOFT
-    )
+    svg.text(452, y + 4, "K and J say whose turn it is: colour in the forest, colour so far (channel J + 1).", 11.5,
+             SOFT)
 
 
 class Strip:
@@ -176,9 +175,8 @@ class Strip:
 
     def choices_of(self, v, channel, end):
         svg, y, x0 = self.svg, self.row(v), MERGES
-        chosen = [
-            (MERGES + (index + 0.5) * self.column, pulse) for index, pulse in enumerate(self.steps) if v in pulse.chosen
-        ]
+        chosen = [(MERGES + (index + 0.5) * self.column, pulse) for index, pulse in enumerate(self.steps)
+                  if v in pulse.chosen]
         for x, pulse in chosen:
             if channel is not None:
                 svg.line(x0, y, x, y, channel_hue(channel + 1), 3, opacity="0.35")

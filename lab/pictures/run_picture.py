@@ -65,13 +65,8 @@ def draw(run, pulses=None, kinds=None, wrong=None):
     kinds = kinds or (KINDS if run.network.nodes <= MOST_NODES_OF_ALL_KINDS else ("payload",))
     first, last = run.window(pulses, usual(run.network, run.last))
     window = Window(run, first, last)
-    at_most(
-        "run",
-        window.stop - window.start,
-        "steps of time side by side",
-        MOST_STEPS,
-        "fewer pulses (--pulses A..B), or overview",
-    )
+    at_most("run", window.stop - window.start, "steps of time side by side", MOST_STEPS,
+            "fewer pulses (--pulses A..B), or overview")
     nodes = run.network.nodes
     upper = (nodes - 1) * window.row_height
     lower_row = 46 if nodes <= 5 else 30
@@ -83,9 +78,8 @@ def draw(run, pulses=None, kinds=None, wrong=None):
         if set(kinds) == set(KINDS)
         else " and ".join(f"{NAMES[kind]}s" for kind in kinds)
     )
-    svg.heading(
-        f"{run.name}: {shown}, pulses {first} to {last} of {run.last}", time_words(run, ", so every arrow points right")
-    )
+    svg.heading(f"{run.name}: {shown}, pulses {first} to {last} of {run.last}",
+                time_words(run, ", so every arrow points right"))
     legend(svg, kinds)
     svg.clip("window", LEFT - 8, 0, width - LEFT - 8, lower_top - 74)
     draw_bands(svg, window)
@@ -117,10 +111,8 @@ def time_words(run, behind=""):
             "Time is the transcript's stamps, by Lamport's clock: one more than the node's last, and of a take also "
             f"than the put's{behind}. It is not real time."
         )
-    return (
-        "No clock was kept. An event stands as far right as the longest chain of events that lead to it (found by "
-        f"replaying){behind}."
-    )
+    return ("No clock was kept. An event stands as far right as the longest chain of events that lead to it (found by "
+            f"replaying){behind}.")
 
 
 def name_below(svg, network, v, y):
@@ -160,13 +152,8 @@ def draw_bands(svg, window):
     pulses = range(window.first, window.last + 1)
     for pulse in pulses:
         left, right = border(pulse), border(pulse + 1)
-        svg.path(
-            polygon(left + right[::-1]) + ["Z"],
-            None,
-            None,
-            BAND if (pulse - window.first) % 2 == 0 else PAPER,
-            mark="band",
-        )
+        svg.path(polygon(left + right[::-1]) + ["Z"], None, None, BAND if (pulse - window.first) % 2 == 0 else PAPER,
+                 mark="band")
         svg.path(polygon(left), BORDER, 1.2)
         if pulse == window.last:
             svg.path(polygon(right), BORDER, 1.2)
@@ -248,11 +235,8 @@ def early_words(window, kinds):
     if not seen:
         return "No clock is shared, and nothing is put in these pulses."
     named = "payload" if list(kinds) == ["payload"] else "wire"
-    of_them = (
-        ""
-        if named == "payload" or not early
-        else f" ({payloads} of them {'a payload' if payloads == 1 else 'payloads'})"
-    )
+    of_them = ("" if named == "payload" or not early
+               else f" ({payloads} of them {'a payload' if payloads == 1 else 'payloads'})")
     come = (
         "none comes early, before its"
         if not early
@@ -281,14 +265,9 @@ def draw_rounds(svg, run, first, last, top, row_height):
     puts = sorted((put for put in run.puts("payload") if first <= put.wire[1] <= last),
                   key=lambda put: (put.wire[1], put.vertex, put.neighbour))
     with svg.group("lower", transform=f"translate(0 {top:.0f})"):
-        svg.text(
-            20,
-            -40,
-            "The same payloads, each from its own pulse to the one in which it is read: the synchronous rounds",
-            13.5,
-            INK,
-            bold=True,
-        )
+        svg.text(20, -40,
+                 "The same payloads, each from its own pulse to the one in which it is read: the synchronous rounds",
+                 13.5, INK, bold=True)
         for pulse in range(first, last + 2):
             if pulse <= last:
                 svg.rect(x_of(pulse), -8, column, height + 44, BAND if (pulse - first) % 2 == 0 else PAPER)
@@ -311,10 +290,8 @@ def rounds_words(run, last, count):
     """What the lower half has: all payloads of its pulses, if each node has come to the end of them."""
     if not all(last + 1 in run.ticks(v) or run.whole for v in run.network.vertices):
         return f"{counted(count, 'payload')}: those that are put in these pulses as far as this text goes."
-    return (
-        f"{counted(count, 'payload')}, all that {'is' if count == 1 else 'are'} put in these pulses. Draw "
-        "another run of this network: the upper half changes, this half does not."
-    )
+    return (f"{counted(count, 'payload')}, all that {'is' if count == 1 else 'are'} put in these pulses. Draw "
+            "another run of this network: the upper half changes, this half does not.")
 
 
 def round_arrow(svg, x1, y1, x2, y2):

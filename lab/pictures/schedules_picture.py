@@ -41,9 +41,8 @@ def last_column(space):
     """The most events after which all states are known, one that is refused being a state of its own."""
     if space.expanded < space.count:
         return space.depth[space.expanded]
-    return max(
-        space.depth[space.count - 1], max((space.depth[s] + (e is not None) for s, e in space.faults), default=0)
-    )
+    return max(space.depth[space.count - 1],
+               max((space.depth[s] + (e is not None) for s, e in space.faults), default=0))
 
 
 def steps_between(space):
@@ -122,13 +121,8 @@ class Lattice:
         for s in range(space.count):
             if low <= space.depth[s] <= high:
                 self.columns[space.depth[s] - low].append(s)
-        self.steps = [
-            (s, e, event, t)
-            for column in self.columns
-            for s in column
-            for e, (event, t) in enumerate(space.steps(s))
-            if space.depth[s] < high
-        ]
+        self.steps = [(s, e, event, t) for column in self.columns for s in column
+                      for e, (event, t) in enumerate(space.steps(s)) if space.depth[s] < high]
         for s, e, event, t in self.steps:
             if t is None:
                 self.columns[space.depth[s] + 1 - low].append((s, e))
@@ -152,10 +146,8 @@ class Lattice:
         for sweep in range(SWEEPS):
             columns, beside = (self.columns, before) if sweep % 2 == 0 else (self.columns[::-1], after)
             for column in columns:
-                mean = {
-                    s: sum(self.row[t] for t in beside[s]) / len(beside[s]) if s in beside else self.row[s]
-                    for s in column
-                }
+                mean = {s: sum(self.row[t] for t in beside[s]) / len(beside[s]) if s in beside else self.row[s]
+                        for s in column}
                 column.sort(key=lambda s: (self.lead(s), mean[s], self.row[s]))
                 self.spread(column)
         self.widest = max(map(len, self.columns))
@@ -201,13 +193,8 @@ class Lattice:
         svg.heading(self.fact(), *lines)
         for k in range(0, len(self.columns), 1 if len(self.columns) <= 12 else 5 if len(self.columns) <= 60 else 10):
             svg.text(LEFT + k * self.step, bottom, self.low + k, 9, SOFT, "middle")
-        svg.text(
-            20,
-            bottom + 16,
-            "takes and pulses so far; a put is made as soon as it can be, and has no column",
-            11.5,
-            SOFT,
-        )
+        svg.text(20, bottom + 16, "takes and pulses so far; a put is made as soon as it can be, and has no column",
+                 11.5, SOFT)
         self.draw_steps(svg)
         for column in self.columns:
             for s in column:
@@ -229,11 +216,9 @@ class Lattice:
         space = self.space
         said = [left_out_words(space.without)] if space.without else []
         inside = ", and inside are the nodes’ pulses" if self.number_size() >= 5 else ""
-        said.append(
-            f"A mark is a state of the whole network{inside}; a line is one event. "
-            f"{space.count:,} states, {len(space.target):,} steps"
-            + ("." if space.schedules is None else f", {rounded(space.schedules)} schedules.")
-        )
+        said.append(f"A mark is a state of the whole network{inside}; a line is one event. "
+                    f"{space.count:,} states, {len(space.target):,} steps"
+                    + ("." if space.schedules is None else f", {rounded(space.schedules)} schedules."))
         if (self.low, self.high) != (0, self.last):
             said.append(f"Here are those after {self.low} to {self.high} of {self.last} events.")
         if not any(self.low <= space.depth[s] < self.high for s, _ in self.bold):

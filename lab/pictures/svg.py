@@ -69,9 +69,8 @@ class Svg:
                           f'height="{shown(height)}"/></clipPath>')
 
     def line(self, x1, y1, x2, y2, colour=INK, width=1, dash=None, **more):
-        self.element(
-            "line", x1=x1, y1=y1, x2=x2, y2=y2, stroke=colour, stroke_width=width, stroke_dasharray=dash, **more
-        )
+        self.element("line", x1=x1, y1=y1, x2=x2, y2=y2, stroke=colour, stroke_width=width, stroke_dasharray=dash,
+                     **more)
 
     def path(self, steps, colour=INK, width=1, fill="none", **more):
         """Steps are letters and numbers, as ["M", 0, 0, "L", 5, 5]."""

@@ -104,9 +104,8 @@ class Timing:
         for index, moment in enumerate(self.moments):
             high = moment.heights[neighbour]
             if high:
-                svg.rect(
-                    self.x(index), base - high * UNIT, self.to_next(index) - self.x(index) + 0.3, high * UNIT, "#FBEFE4"
-                )
+                svg.rect(self.x(index), base - high * UNIT, self.to_next(index) - self.x(index) + 0.3, high * UNIT,
+                         "#FBEFE4")
             if before is None:
                 steps += ["M", self.x(index), base - high * UNIT]
             elif high != before:

@@ -5,9 +5,8 @@ from lab.networks import named
 
 def network_of(read):
     """The definitions' network of one that was read."""
-    return Network(
-        dict(read.identifiers), set(read.edges), {v: [channel - 1 for channel in bars] for v, bars in read.bars.items()}
-    )
+    return Network(dict(read.identifiers), set(read.edges),
+                   {v: [channel - 1 for channel in bars] for v, bars in read.bars.items()})
 
 
 def network_at(name):

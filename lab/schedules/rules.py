@@ -32,18 +32,11 @@ OF_FORESTS = {
                    "shift_down", "drop_class_forgets_the_parent"),
 }
 OF_MERGING = {
-    "pair": Rule(
-        "nodes choose in the order of pairs: colour in the forest, old colour",
-        "the order is by the colour in the forest alone",
-        "colour_rules",
-        "chooses_by_the_colour_in_the_forest_alone",
-    ),
-    "earlier": Rule(
-        "a node tells its choice to its neighbours in this forest and in earlier ones",
-        "to those in this forest alone",
-        "colour_rules",
-        "is_merged_takes_the_merged_forest_alone",
-    ),
+    "pair": Rule("nodes choose in the order of pairs: colour in the forest, old colour",
+                 "the order is by the colour in the forest alone", "colour_rules",
+                 "chooses_by_the_colour_in_the_forest_alone"),
+    "earlier": Rule("a node tells its choice to its neighbours in this forest and in earlier ones",
+                    "to those in this forest alone", "colour_rules", "is_merged_takes_the_merged_forest_alone"),
 }
 OF_ROUNDS = OF_FORESTS | OF_MERGING
 ALL = OF_SCHEDULES | OF_ROUNDS

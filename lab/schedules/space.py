@@ -334,9 +334,8 @@ class Space:
     def farthest(self):
         places = [(self.vertices.index(v), self.vertices.index(w)) for v, w in self.links if v < w]
         pulses = [[node.pulse_number for node in nodes] for nodes in self.locals]
-        return max(
-            (abs(pulses[a][state[a]] - pulses[b][state[b]]) for state in self.states for a, b in places), default=0
-        )
+        return max((abs(pulses[a][state[a]] - pulses[b][state[b]]) for state in self.states for a, b in places),
+                   default=0)
 
     @property
     def most_wires(self):

@@ -39,9 +39,8 @@ def check_stamped(net, head, entries, fault=None, program=Colouring):
             raise Wrong(entry.line, str(refused), why_refused(state, entry, refused, entries)) from None
         due = clock.next(entry.kind, entry.vertex, entry.neighbour)
         if entry.stamp != due:
-            raise Wrong(
-                entry.line, "WrongStamp", f"{words(entry)} with stamp {entry.stamp}, but the clock there gives {due}"
-            )
+            raise Wrong(entry.line, "WrongStamp",
+                        f"{words(entry)} with stamp {entry.stamp}, but the clock there gives {due}")
         if last and (last.stamp, last.vertex) > (entry.stamp, entry.vertex):
             before = f"line {last.line}, which has stamp {last.stamp} of node {last.vertex}"
             raise Wrong(entry.line, "WrongStamp", f"{words(entry)} with stamp {entry.stamp}, but comes after {before}")

@@ -129,13 +129,8 @@ class Run:
         if answer == "no end":
             return answer, answer
         asked, started, ended = threads or (0, 0, -1)
-        when = (
-            "limited from the start"
-            if self.is_from_start
-            else "limited under way"
-            if is_limited
-            else "over before the limit"
-        )
+        when = ("limited from the start" if self.is_from_start else "limited under way" if is_limited
+                else "over before the limit")
         if answer in REFUSALS:
             said = f"{REFUSALS[answer]} refused, {'all' if started == self.workers else 'not all'} threads started"
         elif self.is_right(answer):

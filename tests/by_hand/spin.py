@@ -22,17 +22,11 @@ from lab.schedules.space import Space
 from tests import TOP
 
 MODEL = os.path.join(TOP, "bench", "spin", "alpha.pml")
-NETWORKS = {
-    "two": b"p edge 2 1\ne 1 2\n",
-    "path": b"p edge 3 2\ne 1 2\ne 2 3\n",
-    "triangle": b"p edge 3 3\ne 1 2\ne 1 3\ne 2 3\n",
-    "star of four": b"p edge 4 3\ne 1 4\ne 2 4\ne 3 4\n",
-    "ring of four": b"p edge 4 4\ne 1 2\ne 2 3\ne 3 4\ne 1 4\n",
-}
-LARGE = {
-    "path of four": b"p edge 4 3\ne 1 2\ne 2 3\ne 3 4\n",
-    "all of four": b"p edge 4 6\ne 1 2\ne 1 3\ne 1 4\ne 2 3\ne 2 4\ne 3 4\n",
-}
+NETWORKS = {"two": b"p edge 2 1\ne 1 2\n", "path": b"p edge 3 2\ne 1 2\ne 2 3\n",
+            "triangle": b"p edge 3 3\ne 1 2\ne 1 3\ne 2 3\n", "star of four": b"p edge 4 3\ne 1 4\ne 2 4\ne 3 4\n",
+            "ring of four": b"p edge 4 4\ne 1 2\ne 2 3\ne 3 4\ne 1 4\n"}
+LARGE = {"path of four": b"p edge 4 3\ne 1 2\ne 2 3\ne 3 4\n",
+         "all of four": b"p edge 4 6\ne 1 2\ne 1 3\ne 1 4\ne 2 3\ne 2 4\ne 3 4\n"}
 # Of each network: rules left out, puts as events, reduced.
 PLAIN, PUTS, WITHOUT_ACKS = ("", False, False), ("", True, False), ("acks", False, False)
 REDUCED, REDUCED_PUTS = ("", False, True), ("", True, True)

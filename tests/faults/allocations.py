@@ -57,9 +57,8 @@ def capacity_row(words, front, folder):
         ]
         if None in asked or len({calls for calls, _ in asked}) != 1:
             return name, False, asked
-        places[directions] = {
-            (asked[at][1] - asked[0][1], directions * (capacity - 1)) for at, capacity in enumerate(CAPACITIES)
-        }
+        places[directions] = {(asked[at][1] - asked[0][1], directions * (capacity - 1))
+                              for at, capacity in enumerate(CAPACITIES)}
     sizes = {more / wires for rows in places.values() for more, wires in rows if wires}
     return name, len(sizes) == 1 and min(sizes) > 0, places
 

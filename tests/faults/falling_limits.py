@@ -17,9 +17,8 @@ from tests.settings import PLAN, PLAY
 LIMIT = 60
 MOST, LEAST, FINE_STEPS = 2**30, 2**20, 40
 LINE = 'ulimit -v "$0"; export LD_PRELOAD="$1" STARTED="$2"; shift 2; exec "$@"'
-PATH, SHORT_PATH = (
-    b"p edge %d %d\n" % (n, n - 1) + b"".join(b"e %d %d\n" % (v, v + 1) for v in range(1, n)) for n in (2000, 300)
-)
+PATH, SHORT_PATH = (b"p edge %d %d\n" % (n, n - 1) + b"".join(b"e %d %d\n" % (v, v + 1) for v in range(1, n))
+                    for n in (2000, 300))
 TRIANGLE = b"p edge 3 3\ne 1 2\ne 1 3\ne 2 3\n"
 CIRCLE = b"p edge 12 12\n" + b"".join(b"e %d %d\n" % (v, v % 12 + 1) for v in range(1, 13))
 
@@ -95,9 +94,8 @@ def answer_within(program, front, data, limit):
 def allowed(name, words, data):
     """Whether an answer is the right one, or the line of what was refused."""
     is_threaded = words[0] in ("plan", "transcript", "run")
-    refusals = [
-        (4, b"", f"{name}: {line}\n".encode()) for line in (["memory", "threads"] if is_threaded else ["memory"])
-    ]
+    refusals = [(4, b"", f"{name}: {line}\n".encode())
+                for line in (["memory", "threads"] if is_threaded else ["memory"])]
     if words[0] == "transcript":
         return lambda answer: answer in refusals or is_whole(data, answer)
     wanted = answer_to(words[0], data)

@@ -34,9 +34,8 @@ def refused_memory_rows(program, network, answer):
         rows = [("the refusing allocator builds", True, "")]
         rows.append(sweep(program, front, ["forests"], network, (0, answer, b"")))
         rows.append(sweep(program, front, ["plain"], network, (0, plan_text(network), b"")))
-        rows += [
-            sweep(program, front, ["plain"], barred, (0, plan_text(barred), b"")) for barred in barred_networks(network)
-        ]
+        rows += [sweep(program, front, ["plain"], barred, (0, plan_text(barred), b""))
+                 for barred in barred_networks(network)]
         checked = network + plan_text(network)
         rows.append(sweep(program, front, ["check"], checked, (0, b"proper 3\n", b"")))
         rows.append(sweep(program, front, ["check"], network, (1, b"", b"forestplan: C6 line 1\n")))

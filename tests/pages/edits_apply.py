@@ -50,9 +50,8 @@ def fault_of(crate, edit):
 def edits():
     """Each edit, with its crate: the gate's, and the further ones."""
     crates = sorted(os.listdir(os.path.join(TOP, "crates")))
-    for crate, folder in [
-        (crate, os.path.join("crates", crate, name)) for crate in crates for name in ("must-fail", "wrong-bodies")
-    ]:
+    for crate, folder in [(crate, os.path.join("crates", crate, name)) for crate in crates
+                          for name in ("must-fail", "wrong-bodies")]:
         if os.path.isdir(os.path.join(TOP, folder)):
             for name in sorted(os.listdir(os.path.join(TOP, folder))):
                 yield crate, os.path.join(folder, name)

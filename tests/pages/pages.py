@@ -17,9 +17,8 @@ from tests import TOP
 from tests.cases import Case
 from tests.pages.tutorial_facts import channels_of, dropped, example, pulses_of
 
-PAGES = ["README.md"] + sorted(
-    os.path.relpath(path, TOP) for path in glob.glob(os.path.join(TOP, "docs", "**", "*.md"), recursive=True)
-)
+PAGES = ["README.md"] + sorted(os.path.relpath(path, TOP)
+                               for path in glob.glob(os.path.join(TOP, "docs", "**", "*.md"), recursive=True))
 WIDEST = 150
 
 
@@ -221,7 +220,6 @@ class Pages(Case):
         self.note("crates in README.md and docs/work/LAYERS.md", not missing, f"not named: {missing}")
 
     def test_lengths(self):
-        wide = [
-            f"{page}:{number}" for page in PAGES for number, line in enumerate(lines_of(page), 1) if len(line) > WIDEST
-        ]
+        wide = [f"{page}:{number}" for page in PAGES for number, line in enumerate(lines_of(page), 1)
+                if len(line) > WIDEST]
         self.note(f"lines of pages wider than {WIDEST} columns", not wide, wide[:5])

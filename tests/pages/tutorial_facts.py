@@ -26,12 +26,8 @@ def channels_of(net):
 
 
 def fewest_colours(nodes, edges):
-    return next(
-        k
-        for k in range(nodes + 1)
-        for c in itertools.product(range(k), repeat=nodes)
-        if all(c[v - 1] != c[w - 1] for v, w in edges)
-    )
+    return next(k for k in range(nodes + 1) for c in itertools.product(range(k), repeat=nodes)
+                if all(c[v - 1] != c[w - 1] for v, w in edges))
 
 
 def too_many_row():

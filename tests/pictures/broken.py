@@ -30,11 +30,8 @@ class Broken(PictureCase):
     def words_row(self, name, root, said):
         """The sentences of forestlab explore are in the picture's, with its own quotes."""
         shown = " ".join(texts(root))
-        missing = [
-            line
-            for line in said
-            if line and not line.startswith("wrong body") and line[1:].replace("'", "’") not in shown
-        ]
+        missing = [line for line in said if line and not line.startswith("wrong body")
+                   and line[1:].replace("'", "’") not in shown]
         self.note(f"{name}: the words", not missing, missing)
 
     def forest_row(self, name, root, rounds):
@@ -56,11 +53,8 @@ class Broken(PictureCase):
                       shown)
         (frame,), (x, y) = marks(root, "wrong"), centre(marks(root, "wrong")[0])
         half = number(frame, "width") / 2, number(frame, "height") / 2
-        inside = [
-            said
-            for mark, (_, _, said) in zip(marks(groups[0], "colour"), numbered(groups[0], "colour"))
-            if abs(centre(mark)[0] - x) < half[0] and abs(centre(mark)[1] - y) < half[1]
-        ]
+        inside = [said for mark, (_, _, said) in zip(marks(groups[0], "colour"), numbered(groups[0], "colour"))
+                  if abs(centre(mark)[0] - x) < half[0] and abs(centre(mark)[1] - y) < half[1]]
         self.note(f"{name}: the red frame", inside == [str(clash.colour)] * 2 and len(marks(groups[1], "wrong")) == 0,
                   inside)
 
@@ -80,11 +74,8 @@ class Broken(PictureCase):
             self.note(f"{name}: the colours {kind}", squares == [colours[v] for v in vertices], squares)
             places = dict(zip(vertices, [centre(mark) for mark in marks(group, "channel")][len(vertices):]))
             red = sorted(tuple(sorted(nearest(places, end) for end in ends(mark))) for mark in marks(group, "wrong"))
-            same = sorted(
-                tuple(sorted(edge))
-                for edge, forest in net.number.items()
-                if forest <= f and len({after[v] for v in edge}) == 1
-            )
+            same = sorted(tuple(sorted(edge)) for edge, forest in net.number.items() if forest <= f
+                          and len({after[v] for v in edge}) == 1)
             self.note(f"{name}: what is red {kind}", red == same and bool(red) == (kind == "without"), (red, same))
             takes = {
                 int(v): int(c) - 1

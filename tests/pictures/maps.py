@@ -7,9 +7,8 @@ from lab.definitions.colours import bit, colours, first_colours, merge, network_
 from lab.definitions.nodes import last_pulse
 from lab.definitions.rounds import forest_colours, rounds_text
 from tests.pictures.base import APART, EDGE, PictureCase, circle_of
-from tests.pictures.marks import (
-    SVG, centre, ends, gap, marks, nearest, number, numbered, parsed, texts, title, titles,
-)
+from tests.pictures.marks import (SVG, centre, ends, gap, marks, nearest, number, numbered, parsed, texts, title,
+                                  titles)
 
 CHANNELS = ["#0072B2", "#E69F00", "#009E73", "#F0E442", "#CC79A7", "#56B4E9", "#D55E00", "#444444"]
 COLOURS = ["#004488", "#997700", "#994455", "#6699CC", "#EECC66", "#EE99AA"]
@@ -21,15 +20,12 @@ ONE, ROW = b"p edge 1 0\n", b"p edge 4 3\ne 1 2\ne 2 3\ne 3 4\n"
 ALL_JOINED = b"p edge 8 28\n" + b"".join(
     b"e %d %d\nc at %d %d %d\n" % (v, w, v, v, v * v) for v in range(1, 9) for w in range(1, 9) if v != w)
 # Eight vertices with a place for two or three of them.
-CROWD = b"p edge 8 4\ne 1 2\ne 2 3\ne 1 3\ne 5 6\n" + b"".join(
-    b"c at %d %d %d\n" % (v, v // 3, v // 5) for v in range(1, 9)
-)
+CROWD = b"p edge 8 4\ne 1 2\ne 2 3\ne 1 3\ne 5 6\n" + b"".join(b"c at %d %d %d\n" % (v, v // 3, v // 5)
+                                                               for v in range(1, 9))
 # Barred channels of ten vertices: one, four, five, and fourteen at a vertex, of one to four digits.
-BARS = b"b 1 2\n" + b"".join(
-    b"b %d %d\n" % pair
-    for v, bars in ((3, (1, 2048, 77, 500)), (7, (4, 3, 2, 1, 1024)), (10, range(1, 15)))
-    for pair in [(v, channel) for channel in bars]
-)
+BARS = b"b 1 2\n" + b"".join(b"b %d %d\n" % pair
+                             for v, bars in ((3, (1, 2048, 77, 500)), (7, (4, 3, 2, 1, 1024)), (10, range(1, 15)))
+                             for pair in [(v, channel) for channel in bars])
 
 
 def edges_drawn(root, places, name="edge"):
@@ -40,9 +36,8 @@ def edges_drawn(root, places, name="edge"):
 
 def places_drawn(draw, network):
     root = parsed(draw("plan", network, plan_text(network)))
-    return {
-        int(title(group).split()[1].rstrip(":")): centre(marks(group, "channel")[0]) for group in marks(root, "vertex")
-    }
+    return {int(title(group).split()[1].rstrip(":")): centre(marks(group, "channel")[0])
+            for group in marks(root, "vertex")}
 
 
 def words_of_bars(net, v):
@@ -169,12 +164,8 @@ class Maps(PictureCase):
 
     def squares_row(self, name, squares):
         """No two squares (half a side, x, y) overlap."""
-        wrong = [
-            (p, q)
-            for at, p in enumerate(squares)
-            for q in squares[:at]
-            if max(abs(p[1] - q[1]), abs(p[2] - q[2])) < p[0] + q[0] - 0.1
-        ]
+        wrong = [(p, q) for at, p in enumerate(squares) for q in squares[:at]
+                 if max(abs(p[1] - q[1]), abs(p[2] - q[2])) < p[0] + q[0] - 0.1]
         self.note(f"{name}: no squares overlap", squares and not wrong, wrong[:3])
 
     def crowded_rows(self, name, network):
@@ -201,9 +192,8 @@ class Maps(PictureCase):
         nearest_other = min(length for pair, length in far.items() if pair not in edges)
         self.note(f"a grid of {wide} by {high}: others are farther apart", nearest_other > 1.15 * longest,
                   (nearest_other, longest))
-        level = sum(
-            min(abs(places[v][0] - places[w][0]), abs(places[v][1] - places[w][1])) < 0.12 * far[v, w] for v, w in edges
-        )
+        level = sum(min(abs(places[v][0] - places[w][0]), abs(places[v][1] - places[w][1])) < 0.12 * far[v, w]
+                    for v, w in edges)
         self.note(f"a grid of {wide} by {high}: its edges are level or upright", level > 0.9 * len(edges),
                   (level, len(edges)))
 
@@ -214,12 +204,8 @@ class Maps(PictureCase):
         network = f"p edge 16 {len(edges)}\n" + "".join(f"e {v} {w}\n" for v, w in edges)
         places = places_drawn(self.draw, network.encode())
         boxes = [tuple(of(places[v][at] for v in ring) for of in (min, max) for at in (0, 1)) for ring in rings]
-        wrong = [
-            (a, b)
-            for at, a in enumerate(boxes)
-            for b in boxes[:at]
-            if a[0] < b[2] and b[0] < a[2] and a[1] < b[3] and b[1] < a[3]
-        ]
+        wrong = [(a, b) for at, a in enumerate(boxes) for b in boxes[:at] if a[0] < b[2] and b[0] < a[2] and a[1] < b[3]
+                 and b[1] < a[3]]
         self.note("parts are drawn beside each other", not wrong, wrong)
 
     def bars_row(self, name, net, root, times):
@@ -235,21 +221,15 @@ class Maps(PictureCase):
         right = [centre(mark)[0] + number(mark, "r") for mark in marks(root, "bar")] + [
             number(mark, "x") + 0.6 * number(mark, "font-size") * len(mark.text) for mark in marks(root, "more")
         ]
-        self.note(
-            f"{name}: no barred channel is cut",
-            all(x <= width for x in right)
-            and all(number(mark, "cx") > number(mark, "r") for mark in marks(root, "bar")),
-            right,
-        )
+        self.note(f"{name}: no barred channel is cut", all(x <= width for x in right)
+                  and all(number(mark, "cx") > number(mark, "r") for mark in marks(root, "bar")), right)
 
     def plan_rows(self, name, network):
         net = network_of(network)
         plan = {v: c + 1 for v, c in colours(net).items()}
         root = parsed(self.draw("plan", network, plan_text(network)))
-        places = {
-            int(title(group).split()[1].rstrip(":")): centre(marks(group, "channel")[0])
-            for group in marks(root, "vertex")
-        }
+        places = {int(title(group).split()[1].rstrip(":")): centre(marks(group, "channel")[0])
+                  for group in marks(root, "vertex")}
         wanted = [f"vertex {v}: channel {c}{words_of_bars(net, v)}" for v, c in sorted(plan.items())]
         self.note(f"plan of {name}: a vertex each", titles(root, "vertex") == wanted, titles(root, "vertex"))
         self.bars_row(f"plan of {name}", net, root, len(plan) <= 100)
@@ -288,9 +268,8 @@ class Maps(PictureCase):
             x, y = centre(mark)
             pair = order[int((y - top) / cell)], order[int((x - left) / cell)]
             shown[pair + (mark.get("class") == "wrong",)] += 1
-        wanted = Counter(
-            pair + (plan[pair[0]] == plan[pair[1]],) for e in net.number for pair in (tuple(e), tuple(e)[::-1])
-        )
+        wanted = Counter(pair + (plan[pair[0]] == plan[pair[1]],) for e in net.number
+                         for pair in (tuple(e), tuple(e)[::-1]))
         self.note(f"matrix of {name}: a mark for each pair, on both sides", shown == wanted, shown - wanted)
         for side in ("row", "column"):
             numbers = [int(mark.text) for mark in marks(root, side)]
@@ -309,9 +288,8 @@ class Maps(PictureCase):
         root = parsed(self.draw("forests", network, rounds_text(net), *words))
         merged = first_colours(net)
         shown_forests = {title(group): group for group in marks(root, "forest") + marks(root, "merged")}
-        kept = asked or [
-            f for f in range(net.forest_count) if net.forest_count <= 6 or f < 4 or f == net.forest_count - 1
-        ]
+        kept = asked or [f for f in range(net.forest_count) if net.forest_count <= 6 or f < 4
+                         or f == net.forest_count - 1]
         self.note(f"forests of {name}: its columns", len(shown_forests) == 2 * len(kept), list(shown_forests))
         for f in range(net.forest_count):
             merged = merge(net, f, merged)
@@ -369,26 +347,21 @@ class Maps(PictureCase):
             if f not in drawn:
                 continue
             block = next(group for group in marks(root, "colours") if title(group) == f"forest {f}")
-            ended = {
-                v for v in net.neighbours if net.parent(f, v) or any(net.parent(f, w) == v for w in net.neighbours)
-            }
+            ended = {v for v in net.neighbours if net.parent(f, v)
+                     or any(net.parent(f, w) == v for w in net.neighbours)}
             table = list(forest_colours(net, f).values())
             pairs = [(three(net, f)[v], old[v]) for v in old]
             turns.append(sorted(set(pairs)))
-            wanted = [
-                strip_mark(column, row[v], v in ended)
-                for v in sorted(net.neighbours)
-                for column, row in enumerate(table)
-            ]
+            wanted = [strip_mark(column, row[v], v in ended) for v in sorted(net.neighbours)
+                      for column, row in enumerate(table)]
             self.note(f"rounds of {name}, forest {f}: squares", numbered(block, "colour", "alone") == wanted)
             block = next(group for group in marks(root, "choices") if title(group) == f"forest {f}")
             for mark in ("choice", "after"):
                 wanted = [(mark, CHANNELS[merged[v] % 8], str(merged[v] + 1)) for v in sorted(merged)]
                 self.note(f"rounds of {name}, forest {f}: {mark}", numbered(block, mark) == wanted,
                           numbered(block, mark))
-            wanted = [
-                ("bar", CHANNELS[c % 8], str(c + 1)) for v in sorted(net.barred) for c in sorted(net.barred[v])[:4]
-            ]
+            wanted = [("bar", CHANNELS[c % 8], str(c + 1)) for v in sorted(net.barred)
+                      for c in sorted(net.barred[v])[:4]]
             self.note(f"rounds of {name}, forest {f}: barred channels", numbered(block, "bar") == wanted,
                       numbered(block, "bar"))
             xs = dict(zip(sorted(merged), (centre(mark)[0] for mark in marks(block, "choice"))))

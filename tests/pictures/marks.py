@@ -7,9 +7,8 @@ SVG = "{http://www.w3.org/2000/svg}"
 
 def parsed(picture):
     """A picture, or a part of a page: that names no space of its own."""
-    return tree.fromstring(
-        picture if "xmlns=" in picture else re.sub(r"^<(\w+)", r'<\1 xmlns="http://www.w3.org/2000/svg"', picture)
-    )
+    return tree.fromstring(picture if "xmlns=" in picture
+                           else re.sub(r"^<(\w+)", r'<\1 xmlns="http://www.w3.org/2000/svg"', picture))
 
 
 def marks(root, name):

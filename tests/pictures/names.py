@@ -46,24 +46,14 @@ class Names(PictureCase):
         labels, circles = marks(root, "number"), marks(root, "channel")
         width, height = (float(side) for side in root.get("viewBox").split()[2:])
         boxes = [box_of(label) for label in labels]
-        cut = [
-            label.text
-            for label, box in zip(labels, boxes)
-            if box[0] < 0 or box[1] > width or box[2] < 0 or box[3] > height
-        ]
+        cut = [label.text for label, box in zip(labels, boxes) if box[0] < 0 or box[1] > width or box[2] < 0
+               or box[3] > height]
         self.note(f"{name}: no number is cut", not cut, cut)
-        on = [
-            (label.text, round(depth_in_circle(box, circle), 1))
-            for label, box in zip(labels, boxes)
-            for circle in circles
-            if depth_in_circle(box, circle) > deepest
-        ]
+        on = [(label.text, round(depth_in_circle(box, circle), 1)) for label, box in zip(labels, boxes)
+              for circle in circles if depth_in_circle(box, circle) > deepest]
         self.note(f"{name}: no number is on a circle", not on, on)
-        touch = [
-            (a.text, b.text)
-            for (a, box), (b, other) in combinations(list(zip(labels, boxes)), 2)
-            if depth_in_box(box, other) > deepest
-        ]
+        touch = [(a.text, b.text) for (a, box), (b, other) in combinations(list(zip(labels, boxes)), 2)
+                 if depth_in_box(box, other) > deepest]
         self.note(f"{name}: no number is on another", not touch, touch)
 
     def test_file_names(self):
@@ -90,11 +80,8 @@ class Names(PictureCase):
             root = parsed(self.draw(kind, NAMED, run))
             shown = [mark.text for mark in marks(root, "vertex-name")]
             self.note(f"names in {kind}", shown == names * times, shown)
-            cut = [
-                mark.text
-                for mark in marks(root, "vertex-name")
-                if number(mark, "x") - LETTER * number(mark, "font-size") * len(mark.text) < 0
-            ]
+            cut = [mark.text for mark in marks(root, "vertex-name")
+                   if number(mark, "x") - LETTER * number(mark, "font-size") * len(mark.text) < 0]
             self.note(f"names in {kind}: none is cut", not cut, cut)
         for name in ("disk100", "petersen", "queen5_5", "drops"):
             self.label_rows(f"plan of {name}", self.draw("plan", self.examples[name], plan_text(self.examples[name])),

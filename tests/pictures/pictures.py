@@ -19,24 +19,12 @@ from tests.programs.made_transcripts import MISTAKES, made_transcript, merged_te
 from tests.settings import PLAN, PLAY
 
 ONE = b"p edge 1 0\n"
-WRONG_NETWORKS = {
-    b"": b"(F1)",
-    b"p edge 2 1\ne 1 2\np edge 2 1\n": b"(F2)",
-    b"e 1 2\n": b"(F3)",
-    b"p edge 2\n": b"(F4)",
-    b"p edge 2 1\ne 1\n": b"(F4)",
-    b"p edge 2 1\ne 1 x\n": b"(F4)",
-    b"p map 2 1\n": b"(F4)",
-    b"p edge 2 1\ne 1 3\n": b"(F5)",
-    b"p edge 2 1\ne 0 1\n": b"(F5)",
-    b"p edge 2 1\nb 1 0\n": b"(F13)",
-    b"b 1 1\np edge 2 1\n": b"(F10)",
-    b"p edge 2 1\nb 1\n": b"(F4)",
-    b"p edge 2 1\ne 1 1\n": b"(F6)",
-    b"p edge 20001 0\n": b"(F7)",
-    b"p edge 2 1\nq 1 2\n": b"(F8)",
-    b"p edge 0 0\n": b"no node",
-}
+WRONG_NETWORKS = {b"": b"(F1)", b"p edge 2 1\ne 1 2\np edge 2 1\n": b"(F2)", b"e 1 2\n": b"(F3)",
+                  b"p edge 2\n": b"(F4)", b"p edge 2 1\ne 1\n": b"(F4)", b"p edge 2 1\ne 1 x\n": b"(F4)",
+                  b"p map 2 1\n": b"(F4)", b"p edge 2 1\ne 1 3\n": b"(F5)", b"p edge 2 1\ne 0 1\n": b"(F5)",
+                  b"p edge 2 1\nb 1 0\n": b"(F13)", b"b 1 1\np edge 2 1\n": b"(F10)", b"p edge 2 1\nb 1\n": b"(F4)",
+                  b"p edge 2 1\ne 1 1\n": b"(F6)", b"p edge 20001 0\n": b"(F7)", b"p edge 2 1\nq 1 2\n": b"(F8)",
+                  b"p edge 0 0\n": b"no node"}
 # How often a mistake is tried until it makes a transcript wrong: most do at once.
 TRIES = 1000
 
@@ -222,9 +210,8 @@ class Pictures(PictureCase):
         texts_of = {"plan": plan_text(network), "forests": rounds_text(network_of(network)),
                     "tally": transcript(network, "twice")}
         for kind, text in texts_of.items():
-            once, again = (
-                self.draw.run(kind, network, text, env=dict(os.environ, PYTHONHASHSEED=seed)) for seed in "12"
-            )
+            once, again = (self.draw.run(kind, network, text, env=dict(os.environ, PYTHONHASHSEED=seed))
+                           for seed in "12")
             self.note(f"{kind}: the same bytes twice", once == again and once[0] == 0)
         status, picture, fault = call(["plan", "-", "--plan", self.draw.file("text", plan_text(network))], network)
         self.note("a network on standard input",
@@ -240,10 +227,8 @@ class Pictures(PictureCase):
         some = plain + b"c at 1 0 0\n"
         for name, data, said in (("given", network, b""), ("none", plain, b""),
                                  ("some", some, b"for 1 of 10 vertices")):
-            once, again = (
-                self.draw.run("plan", data, plan_text(network), env=dict(os.environ, PYTHONHASHSEED=seed))
-                for seed in "12"
-            )
+            once, again = (self.draw.run("plan", data, plan_text(network), env=dict(os.environ, PYTHONHASHSEED=seed))
+                           for seed in "12")
             self.note(f"places: {name}",
                       once == again and once[0] == 0 and said in once[2] and bool(said) == bool(once[2]), once[2])
 
@@ -280,8 +265,7 @@ class Pictures(PictureCase):
             self.note(f"{name} has a place for each vertex", sorted(places) == sorted(network_of(network).neighbours))
             self.note(f"{name} says what it shows", re.match(rb"c [A-Z][^\n]{20,}", network))
             if name == "disk100":
-                joined = {
-                    frozenset((v, w)) for v in places for w in places if v < w and gap(places[v], places[w]) < 170
-                }
+                joined = {frozenset((v, w)) for v in places for w in places if v < w
+                          and gap(places[v], places[w]) < 170}
                 self.note("disk100: two are less than 170 apart just if they interfere",
                           joined == set(network_of(network).number))

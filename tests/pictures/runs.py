@@ -30,9 +30,8 @@ def entries_of(text):
 
 def takes_of(text):
     """The arrows' titles that a transcript has: one for each take."""
-    return Counter(
-        f"{f[2]} to {f[0]}: {' '.join(f[3:])}" for own in entries_of(text).values() for f in own if f[1] == "take"
-    )
+    return Counter(f"{f[2]} to {f[0]}: {' '.join(f[3:])}" for own in entries_of(text).values() for f in own
+                   if f[1] == "take")
 
 
 def times_of(network, text):
@@ -158,11 +157,8 @@ class Runs(PictureCase):
         arrows = {kind: marks(root, kind) for kind in WIRES}
         self.note(f"run of {name}: an arrow for each take",
                   Counter(title(group) for kind in WIRES for group in arrows[kind]) == takes_of(text))
-        lines = [
-            (title(group), *ends(next(mark for mark in group if mark.tag.endswith("line"))))
-            for kind in WIRES
-            for group in arrows[kind]
-        ]
+        lines = [(title(group), *ends(next(mark for mark in group if mark.tag.endswith("line")))) for kind in WIRES
+                 for group in arrows[kind]]
         self.note(f"run of {name}: arrows point right", all(start[0] < end[0] for _, start, end in lines))
         rows = sorted({ends(mark)[0][1] for mark in marks(root, "tick")})
         ticks = [sorted(ends(mark)[0][0] for mark in marks(root, "tick") if ends(mark)[0][1] == y) for y in rows]
@@ -253,11 +249,8 @@ class Runs(PictureCase):
         shown = sorted((rows[ends(mark)[0][1]], ends(mark)[0][0]) for mark in marks(root, "tick"))
         self.note(f"{name}: ticks", [v for v, _ in shown] == [v for v, _ in wanted], (len(shown), len(wanted)))
         (low, high), (left, right) = ((min(x for _, x in pairs), max(x for _, x in pairs)) for pairs in (wanted, shown))
-        wrong = [
-            (v, x)
-            for (v, x), (_, time) in zip(shown, wanted)
-            if abs(left + (time - low) / (high - low) * (right - left) - x) > 0.2
-        ]
+        wrong = [(v, x) for (v, x), (_, time) in zip(shown, wanted)
+                 if abs(left + (time - low) / (high - low) * (right - left) - x) > 0.2]
         self.note(f"{name}: they are as far apart as their times", not wrong, wrong[:5])
         grey = sum(not first <= p <= final + 1 and low <= time <= high for (_, p), time in times.items())
         self.note(f"{name}: grey ticks", len(marks(root, "outside")) == grey, (len(marks(root, "outside")), grey))
@@ -311,9 +304,8 @@ class Runs(PictureCase):
                 shown[kind, pulse] = count
         wanted = {(kind, pulse): count for (kind, pulse), count in counts.items() if first <= pulse <= final}
         self.note(f"tally of {name}: a bar for each kind and pulse", shown == wanted, shown)
-        heights = [
-            (number(group[1], "height"), int(title(group).split()[-1])) for kind in WIRES for group in marks(root, kind)
-        ]
+        heights = [(number(group[1], "height"), int(title(group).split()[-1])) for kind in WIRES
+                   for group in marks(root, kind)]
         unit = sum(height for height, _ in heights) / sum(count for _, count in heights)
         bars = sorted(
             {(number(group[1], "x"), number(group[1], "width")) for kind in WIRES for group in marks(root, kind)}

@@ -58,9 +58,8 @@ class Table:
         return [tuple(values[column[s]]) for values, column in self.node]
 
     def wires(self, s):
-        return {
-            link: [self.data["wires"][wire] for wire in contents[column[s]]] for link, contents, column in self.link
-        }
+        return {link: [self.data["wires"][wire] for wire in contents[column[s]]]
+                for link, contents, column in self.link}
 
     def fault(self, s, e):
         number = self.data["faults"].get(str(s), {}).get(str(e))
@@ -164,11 +163,8 @@ class Schedules(PictureCase):
                  or [(*row[:4], row[5]) for row in table.nodes(s)]
                  != [row_of(space, v, node, value) for (v, node), value in zip(space.nodes(s).items(), values[s])]]
         self.note(f"table of {name}: each state", len(table.node[0][1]) == space.count and not wrong, wrong[:3])
-        ports = [
-            (v, w, net_port_to(net, v, w), net_port_to(net, w, v))
-            for v in net.neighbours
-            for w in sorted(net.neighbours[v])
-        ]
+        ports = [(v, w, net_port_to(net, v, w), net_port_to(net, w, v)) for v in net.neighbours
+                 for w in sorted(net.neighbours[v])]
         shown = [(link["from"], link["to"], link["put"], link["take"]) for link in table.data["links"]]
         self.note(f"table of {name}: its links and ports", shown == ports, shown)
         wrong = [
@@ -178,11 +174,8 @@ class Schedules(PictureCase):
         ]
         self.note(f"table of {name}: each step", len(table.steps) == space.count and not wrong, wrong[:3])
         faults = {(s, e): plain(words) for (s, e), words in space.faults.items()}
-        shown = {
-            (int(s), None if e == "-1" else int(e)): plain(table.data["sentences"][k])
-            for s, row in table.data["faults"].items()
-            for e, k in row.items()
-        }
+        shown = {(int(s), None if e == "-1" else int(e)): plain(table.data["sentences"][k])
+                 for s, row in table.data["faults"].items() for e, k in row.items()}
         self.note(f"table of {name}: what goes wrong",
                   shown == faults and bool(faults) == (without not in [(), ("acks",)]), list(shown.items())[:3])
         return table
@@ -193,11 +186,9 @@ class Schedules(PictureCase):
         data = json.loads(re.search(r"^var D = (.*);$", page, re.M).group(1))
         self.note(f"page of {name}: its table",
                   data["table"] == json.loads(drawn(self.painter, "adversary", network, "--json")))
-        self.note(
-            f"page of {name}: nothing from elsewhere",
-            not re.search(r"(src|href)=|@import|url\(|fetch\(|XMLHttp", page)
-            and set(re.findall(r"https?://[^\"' ]+", page)) == {"http://www.w3.org/2000/svg"},
-        )
+        self.note(f"page of {name}: nothing from elsewhere",
+                  not re.search(r"(src|href)=|@import|url\(|fetch\(|XMLHttp", page)
+                  and set(re.findall(r"https?://[^\"' ]+", page)) == {"http://www.w3.org/2000/svg"})
         return data
 
     def dare_rows(self, name, network, table, plan, answers):
@@ -238,10 +229,8 @@ class Schedules(PictureCase):
         bold = {ends(list(group)[1])[0] for group in marks(root, "bold") if title(group).startswith("pulse")}
         takes = {ends(list(group)[1])[0] for group in marks(root, "step") if title(group).startswith("take")}
         self.note(f"lattice of {name}: the bold run takes before it pulses", bold and not bold & takes, bold & takes)
-        kinds = Counter(
-            words.split(":")[1].split()[0] if ":" in words else "pulse"
-            for words in titles(root, "step") + titles(root, "bold")
-        )
+        kinds = Counter(words.split(":")[1].split()[0] if ":" in words else "pulse"
+                        for words in titles(root, "step") + titles(root, "bold"))
         wanted = Counter()
         for s in depth:
             for (kind, v, port, _), _ in table.steps[s]:
@@ -282,13 +271,10 @@ class Schedules(PictureCase):
         root = parsed(
             drawn(self.painter, "schedules", network, "--without", ",".join(without), "--columns", f"{low}..{high}")
         )
-        wrong = sum(
-            low <= space.depth[s] <= high and any(node.wrong for node in space.nodes(s).values())
-            for s in range(space.count)
-        )
-        self.refused = sum(
-            e is not None and low <= space.depth[s] < high and space.steps(s)[e][1] is None for s, e in space.faults
-        )
+        wrong = sum(low <= space.depth[s] <= high and any(node.wrong for node in space.nodes(s).values())
+                    for s in range(space.count))
+        self.refused = sum(e is not None and low <= space.depth[s] < high and space.steps(s)[e][1] is None
+                           for s, e in space.faults)
         red = len(marks(root, "state wrong"))
         self.note(f"two without {without}, {low} to {high} events: red marks",
                   red == wrong + self.refused and wrong + self.refused > 0, (red, wrong, self.refused))

@@ -294,15 +294,10 @@ class BlackBox(Case):
         """Values of options that are refused. Each text whole; it has no usage."""
         no_digit, too_large = "invalid digit found in string", "number too large to fit in target type"
         empty = "cannot parse integer from empty string"
-        rows = [
-            (option, value, f"{value} is not in 1..=64")
-            for option in ("workers", "capacity")
-            for value in ("0", "65", "4294967297", "18446744073709551615")
-        ]
-        rows += [
-            ("turns", value, f"{value} is not in 0..=1000000000000")
-            for value in ("1000000000001", "18446744073709551615")
-        ]
+        rows = [(option, value, f"{value} is not in 1..=64") for option in ("workers", "capacity")
+                for value in ("0", "65", "4294967297", "18446744073709551615")]
+        rows += [("turns", value, f"{value} is not in 0..=1000000000000")
+                 for value in ("1000000000001", "18446744073709551615")]
         rows += [
             (option, value, why)
             for option in ("workers", "capacity", "turns")

@@ -44,13 +44,10 @@ WORKED = [
      "node 1 pulse 0|link 1 2 taken 1|node 2 pulse 0|link 2 1 taken 0 payload 0 hello 2 ack 0|"),
     ("a safe", EDGE + "put 1 0|take 2 0|put 2 0|put 2 0|take 1 0|take 1 0|put 1 0|put 1 0|take 2 0|",
      "node 1 pulse 0|link 1 2 taken 2 safe 0|node 2 pulse 0|link 2 1 taken 2|"),
-    (
-        "the triangle after 6 events",
-        TRIANGLE + ALL_PUT,
-        "node 1 pulse 0|link 1 2 taken 0 payload 0 hello 1|link 1 3 taken 0 payload 0 hello 1|"
-        "node 2 pulse 0|link 2 1 taken 0 payload 0 hello 2|link 2 3 taken 0 payload 0 hello 2|"
-        "node 3 pulse 0|link 3 1 taken 0 payload 0 hello 3|link 3 2 taken 0 payload 0 hello 3|",
-    ),
+    ("the triangle after 6 events", TRIANGLE + ALL_PUT,
+     "node 1 pulse 0|link 1 2 taken 0 payload 0 hello 1|link 1 3 taken 0 payload 0 hello 1|"
+     "node 2 pulse 0|link 2 1 taken 0 payload 0 hello 2|link 2 3 taken 0 payload 0 hello 2|"
+     "node 3 pulse 0|link 3 1 taken 0 payload 0 hello 3|link 3 2 taken 0 payload 0 hello 3|"),
     (
         "the triangle after 34 events",
         TRIANGLE + 2 * (ALL_PUT + ALL_TAKE) + ALL_PUT + "take 1 0|take 1 1|pulse 1|put 1 1|",
@@ -181,9 +178,8 @@ def state_text(net, state, taken):
         is_last = node.pulse_number == last_pulse(net)
         lines.append(f"node {v} pulse {node.pulse_number}" + (f" channel {node.program.merged + 1}" if is_last else ""))
         for port, w in enumerate(ports_of(net, v)):
-            lines.append(
-                f"link {v} {w} taken {taken[v, port]}" + "".join(" " + wire_words(wire) for wire in state.link[v, port])
-            )
+            lines.append(f"link {v} {w} taken {taken[v, port]}"
+                         + "".join(" " + wire_words(wire) for wire in state.link[v, port]))
     return "".join(line + "\n" for line in lines).encode()
 
 

@@ -119,10 +119,8 @@ def crowds_of_bars(data):
     them."""
     middle = data.index(b"\n") + 1
     for count, again in product((1023, 1024, 1025, 1026), (0, 3)):
-        lines = b"".join(
-            b"b 1 %d\n" % channel
-            for channel in [*range(1, again + 1), *range(2049 - count, 2049), *range(2046, 2046 + again)]
-        )
+        lines = b"".join(b"b 1 %d\n" % channel
+                         for channel in [*range(1, again + 1), *range(2049 - count, 2049), *range(2046, 2046 + again)])
         yield data[:middle] + lines + data[middle:]
         yield data + lines
 

@@ -111,10 +111,8 @@ def bars_in(source, nodes):
     """Bars in half of the texts, low channels mostly, some of them twice."""
     if nodes == 0 or source.random() < 0.5:
         return []
-    return [
-        (source.randint(1, nodes), source.choice((1, 1, 2, 3, source.randint(1, 2048), 2048)))
-        for _ in range(source.choice((1, 2, 3, 6)))
-    ]
+    return [(source.randint(1, nodes), source.choice((1, 1, 2, 3, source.randint(1, 2048), 2048)))
+            for _ in range(source.choice((1, 2, 3, 6)))]
 
 
 def behind(source, command, net, network):
@@ -125,9 +123,8 @@ def behind(source, command, net, network):
         return []
     events = random_events(source, net, source.choice((3, 10, 40)))
     if command == "events":
-        return [
-            " ".join(str(word) for word in (kind.lower(), *at) if word is not None).encode() for kind, *at in events
-        ]
+        return [" ".join(str(word) for word in (kind.lower(), *at) if word is not None).encode()
+                for kind, *at in events]
     state = NetState(net)
     possible = events[:-1] if events else []
     return [b"transcript 1 %d" % len(net.neighbours)] + [line_of(state, event).encode() for event in possible]

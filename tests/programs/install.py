@@ -50,10 +50,8 @@ def all_of(folder):
 def lines_of_page(text):
     """The lines of a manual page that are printed unchanged, block by block, under its headings."""
     blocks = re.findall(r'^\.SH "?([^"\n]*)"?\n\.nf\n(.*?)^\.fi\n', text, re.M | re.S)
-    return {
-        title: re.sub(r"^\\&", "", block, flags=re.M).replace("\\-", "-").replace("\\e", "\\")
-        for title, block in blocks
-    }
+    return {title: re.sub(r"^\\&", "", block, flags=re.M).replace("\\-", "-").replace("\\e", "\\")
+            for title, block in blocks}
 
 
 def shown_commands(lines):
@@ -199,10 +197,8 @@ class Install(Case):
         for name, helped in PROGRAMS.items():
             texts = {"DESCRIPTION": helped}
             texts |= {f"{name.upper()} {it.name.upper()}": f"{it.name}_help" for it in commands_of(name)}
-            wanted = {
-                title: contents(os.path.join(TOP, "build", "help", f"{file}.txt")).decode()
-                for title, file in texts.items()
-            }
+            wanted = {title: contents(os.path.join(TOP, "build", "help", f"{file}.txt")).decode()
+                      for title, file in texts.items()}
             page = contents(os.path.join(pages, f"{name}.1")).decode()
             self.note(f"the manual page of {name} is its help", lines_of_page(page) == wanted, page[:500])
         page = contents(os.path.join(pages, "forestlab.1")).decode()

@@ -67,9 +67,8 @@ def line_of(state, event):
 
 def transcript_text(nodes, lines):
     """As the program writes it: the vertices ascend."""
-    return "".join(
-        line + "\n" for line in [f"transcript 1 {nodes}"] + [line for v in sorted(lines) for line in lines[v]]
-    ).encode()
+    return "".join(line + "\n"
+                   for line in [f"transcript 1 {nodes}"] + [line for v in sorted(lines) for line in lines[v]]).encode()
 
 
 def stamped_rows(lines):
@@ -134,9 +133,8 @@ def with_mistake(source, mistake, lines):
     elif mistake == "left out":
         del own[at]
     else:
-        other = source.choice(
-            [i for i in (at - 1, at + 1, source.randrange(len(own))) if 0 <= i < len(own) and i != at] or [at]
-        )
+        other = source.choice([i for i in (at - 1, at + 1, source.randrange(len(own))) if 0 <= i < len(own) and i != at]
+                              or [at])
         own[at], own[other] = own[other], own[at]
     return lines | {v: own}
 

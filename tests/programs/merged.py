@@ -13,9 +13,8 @@ from tests.cases import Case, text
 from tests.programs.made_transcripts import made_transcript, merged_text, odd, transcript_text
 from tests.programs.one_worker import Run
 from tests.programs.plain_networks import cycle, path, random_of, star, text_of, tree, two_sided
-from tests.programs.transcripts import (
-    CAPACITIES, EDGE, EDGE_LINES, EDGE_WHOLE, LIMIT, SEED, is_counted, networks, transcript_by,
-)
+from tests.programs.transcripts import (CAPACITIES, EDGE, EDGE_LINES, EDGE_WHOLE, LIMIT, SEED, is_counted, networks,
+                                        transcript_by)
 from tests.settings import PLAN, PLAY, setting
 
 GREATEST = 2**64 - 1
@@ -164,9 +163,8 @@ class Merged(Case):
         self.note("a merged run of an edge worked by hand", verdict_of(edge, whole) == EDGE_WHOLE,
                   verdict_of(edge, whole))
         self.note("it begins as both greet", whole.startswith(text(GREETED)), whole[:200])
-        accepted = [
-            end for end in range(0, len(whole) - 1, 11) if not verdict_of(edge, whole[:end]).startswith("line ")
-        ]
+        accepted = [end for end in range(0, len(whole) - 1, 11)
+                    if not verdict_of(edge, whole[:end]).startswith("line ")]
         self.note("no beginning of that run is whole", not accepted, accepted)
 
     def test_made(self):

@@ -97,10 +97,8 @@ def long_names(source, nodes):
 def some_bars(source, nodes, most=12):
     """Channels that are barred at some vertices, low ones mostly; at most `most` of a vertex."""
     bars = {
-        v: {
-            source.choice((source.randint(1, 4), source.randint(1, nodes + 2), 2048))
-            for _ in range(source.choice((1, 1, 2, most)))
-        }
+        v: {source.choice((source.randint(1, 4), source.randint(1, nodes + 2), 2048))
+            for _ in range(source.choice((1, 1, 2, most)))}
         for v in range(1, nodes + 1)
         if source.random() < 0.5
     }

@@ -127,9 +127,8 @@ def first_rows(program):
         left = Run(network_of(TRIANGLE), capacity, looks)
         links = {at: [wire_words(wire) for wire in wires] for at, wires in left.state.link.items() if wires}
         _, whole, _ = answer_with(program, TRIANGLE, capacity, 10**9, "transcript")
-        begun = [
-            line for v in "123" for line in of_node(v, (whole or b"").decode().splitlines())[: len(of_node(v, entries))]
-        ]
+        begun = [line for v in "123"
+                 for line in of_node(v, (whole or b"").decode().splitlines())[: len(of_node(v, entries))]]
         got = [line for _, lines in sorted(left.lines.items()) for line in lines], links, begun
         yield f"the first {looks} looks of one worker with capacity {capacity}", got == (entries, held, entries), got
 

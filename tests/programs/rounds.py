@@ -12,9 +12,8 @@ from lab.definitions.colours import network_of
 from lab.definitions.rounds import made_text, rounds_text
 from tests import TOP
 from tests.cases import Case, run_program, text
-from tests.programs.plain_networks import (
-    climbing, complete, cycle, path, random_of, some_bars, star, text_of, tree, two_sided,
-)
+from tests.programs.plain_networks import (climbing, complete, cycle, path, random_of, some_bars, star, text_of, tree,
+                                           two_sided)
 from tests.settings import PLAN, PLAY
 from tests.shell import run_line
 
@@ -48,41 +47,26 @@ EDGE_NAMES = ["seed"] + ["step"] * 4 + ["shift", "drop"] * 3
 EDGE_COLOURS = [(1, 2), (1, 0), (1, 0), (1, 0), (1, 0), (0, 1), (0, 1), (1, 0), (1, 0), (0, 1), (0, 1)]
 EDGE_BEGINNING = (
     "pulse 0 greet|1 put 2 payload 0 hello 1|2 put 1 payload 0 hello 2|pulse 1 orient|1 put 2 payload 1 label 0|"
-    + "".join(
-        f"pulse {p} {name}|1 colour 0 {own}|2 colour 0 {parent}|"
-        + (f"2 put 1 payload {p} colour {parent}|" if p < 12 else "")
-        for p, (name, (own, parent)) in enumerate(zip(EDGE_NAMES, EDGE_COLOURS), 2)
-    )
+    + "".join(f"pulse {p} {name}|1 colour 0 {own}|2 colour 0 {parent}|"
+              + (f"2 put 1 payload {p} colour {parent}|" if p < 12 else "")
+              for p, (name, (own, parent)) in enumerate(zip(EDGE_NAMES, EDGE_COLOURS), 2))
 )
-EDGE_TEXT = (
-    "rounds 1 2 1 1 18|"
-    + EDGE_BEGINNING
-    + "pulse 13 merge 0 0 0|1 chose 0|1 put 2 payload 13 chosen 0|pulse 14 merge 0 0 1|"
-    "pulse 15 merge 0 1 0|2 chose 1|2 put 1 payload 15 chosen 1|pulse 16 merge 0 1 1|"
-    "pulse 17 merge 0 2 0|pulse 18 merge 0 2 1|"
-)
+EDGE_TEXT = ("rounds 1 2 1 1 18|" + EDGE_BEGINNING
+             + "pulse 13 merge 0 0 0|1 chose 0|1 put 2 payload 13 chosen 0|pulse 14 merge 0 0 1|"
+             "pulse 15 merge 0 1 0|2 chose 1|2 put 1 payload 15 chosen 1|pulse 16 merge 0 1 1|"
+             "pulse 17 merge 0 2 0|pulse 18 merge 0 2 1|")
 # With channel 1 barred at node 1 the merge has nine pulses. Node 1 begins with colour 1, so it chooses at step 1, and
 # again 1; node 2 begins with 0, so it chooses at step 3, and 0 is neither barred nor taken. With one bar at each end
 # there are nine pulses, too: of channel 1 at both, node 2 has heard 1 and takes 2; it chooses at step 4.
 BARRED_EDGES = [
-    (
-        "b 1 1|",
-        "rounds 2 2 1 1 1 21|"
-        + EDGE_BEGINNING
-        + "pulse 13 merge 0 0 0|pulse 14 merge 0 0 1|1 chose 1|1 put 2 payload 14 chosen 1|"
-        "pulse 15 merge 0 0 2|pulse 16 merge 0 1 0|2 chose 0|2 put 1 payload 16 chosen 0|pulse 17 merge 0 1 1|"
-        "pulse 18 merge 0 1 2|"
-        "pulse 19 merge 0 2 0|pulse 20 merge 0 2 1|pulse 21 merge 0 2 2|",
-    ),
-    (
-        "b 2 1|b 1 1|b 2 1|",
-        "rounds 2 2 1 1 1 21|"
-        + EDGE_BEGINNING
-        + "pulse 13 merge 0 0 0|pulse 14 merge 0 0 1|1 chose 1|1 put 2 payload 14 chosen 1|"
-        "pulse 15 merge 0 0 2|pulse 16 merge 0 1 0|pulse 17 merge 0 1 1|2 chose 2|2 put 1 payload 17 chosen 2|"
-        "pulse 18 merge 0 1 2|"
-        "pulse 19 merge 0 2 0|pulse 20 merge 0 2 1|pulse 21 merge 0 2 2|",
-    ),
+    ("b 1 1|", "rounds 2 2 1 1 1 21|" + EDGE_BEGINNING
+     + "pulse 13 merge 0 0 0|pulse 14 merge 0 0 1|1 chose 1|1 put 2 payload 14 chosen 1|"
+     "pulse 15 merge 0 0 2|pulse 16 merge 0 1 0|2 chose 0|2 put 1 payload 16 chosen 0|pulse 17 merge 0 1 1|"
+     "pulse 18 merge 0 1 2|" "pulse 19 merge 0 2 0|pulse 20 merge 0 2 1|pulse 21 merge 0 2 2|"),
+    ("b 2 1|b 1 1|b 2 1|", "rounds 2 2 1 1 1 21|" + EDGE_BEGINNING
+     + "pulse 13 merge 0 0 0|pulse 14 merge 0 0 1|1 chose 1|1 put 2 payload 14 chosen 1|"
+     "pulse 15 merge 0 0 2|pulse 16 merge 0 1 0|pulse 17 merge 0 1 1|2 chose 2|2 put 1 payload 17 chosen 2|"
+     "pulse 18 merge 0 1 2|" "pulse 19 merge 0 2 0|pulse 20 merge 0 2 1|pulse 21 merge 0 2 2|"),
 ]
 EMPTY_TEXT = "rounds 1 0 0 0 12|pulse 0 greet|pulse 1 orient|" + "".join(
     f"pulse {p} {name}|" for p, name in enumerate(EDGE_NAMES, 2)

@@ -24,17 +24,10 @@ LIMIT = 120
 MOST = 200_000  # states; more show that a search goes on and on
 SEED = 2026
 
-NETWORKS = {
-    "two": "p edge 2 1|e 1 2|",
-    "path": "p edge 3 2|e 1 2|e 2 3|",
-    "star": "p edge 3 2|e 1 2|e 1 3|",
-    "triangle": "p edge 3 3|e 1 2|e 1 3|e 2 3|",
-    "apart": "p edge 3 1|e 1 3|",
-    "barred": "p edge 2 1|e 1 2|b 1 1|b 2 3|",
-    "alone": "p edge 1 0|",
-    "row of four": "p edge 4 3|e 1 2|e 2 3|e 3 4|",
-    "ring of four": "p edge 4 4|e 1 2|e 2 3|e 3 4|e 1 4|",
-}
+NETWORKS = {"two": "p edge 2 1|e 1 2|", "path": "p edge 3 2|e 1 2|e 2 3|", "star": "p edge 3 2|e 1 2|e 1 3|",
+            "triangle": "p edge 3 3|e 1 2|e 1 3|e 2 3|", "apart": "p edge 3 1|e 1 3|",
+            "barred": "p edge 2 1|e 1 2|b 1 1|b 2 3|", "alone": "p edge 1 0|",
+            "row of four": "p edge 4 3|e 1 2|e 2 3|e 3 4|", "ring of four": "p edge 4 4|e 1 2|e 2 3|e 3 4|e 1 4|"}
 
 # (network, puts apart, states, steps), as a trial found them that searched copies of whole states.
 TRIAL = [("two", False, 281, 430), ("path", False, 3551, 8843), ("triangle", False, 16473, 50723),
@@ -132,13 +125,10 @@ def state_text(space, s, taken):
     """A state of the table as `forestplay events` writes it."""
     lines = []
     for v, node in space.nodes(s).items():
-        lines.append(
-            f"node {v} pulse {node.pulse}" + (f" channel {node.colour + 1}" if node.pulse == space.last else "")
-        )
-        lines += [
-            f"link {v} {w} taken {taken[v, w]}" + "".join(f" {wire}" for wire in space.wires(s)[v, w])
-            for w in space.ports[v]
-        ]
+        lines.append(f"node {v} pulse {node.pulse}"
+                     + (f" channel {node.colour + 1}" if node.pulse == space.last else ""))
+        lines += [f"link {v} {w} taken {taken[v, w]}" + "".join(f" {wire}" for wire in space.wires(s)[v, w])
+                  for w in space.ports[v]]
     return "".join(line + "\n" for line in lines).encode()
 
 
@@ -382,11 +372,8 @@ class Schedules(Case):
                   beyond.farthest)
         self.note(
             "only a wrong pulse leads to another plan",
-            all(
-                any(node.wrong for node in beyond.nodes(s).values())
-                for s, plan in zip(beyond.ends, plans)
-                if plan in wrong
-            ),
+            all(any(node.wrong for node in beyond.nodes(s).values()) for s, plan in zip(beyond.ends, plans)
+                if plan in wrong),
             wrong,
         )
 
@@ -396,11 +383,8 @@ class Schedules(Case):
                                                                                               100)
         for rule in [*rules.OF_ROUNDS, "none"]:
             without = () if rule == "none" else (rule,)
-            differ = [
-                net.neighbours
-                for net in tried
-                if goes_wrong(net, rule) != bool(ruled_rounds.RuledRounds(net, without).clash)
-            ]
+            differ = [net.neighbours for net in tried
+                      if goes_wrong(net, rule) != bool(ruled_rounds.RuledRounds(net, without).clash)]
             self.note(f"small networks without {rule}", not differ, differ[:1])
         for rule in rules.OF_ROUNDS:
             rounds, count = ruled_rounds.smallest([rule], 9)

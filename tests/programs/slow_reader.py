@@ -40,10 +40,8 @@ def answer_to(command, data):
 def rows_of(data):
     """The fields of each line. Only a line feed ends a line, only spaces and tabs separate fields, and one carriage
     return at the end of a line is no part of it."""
-    return [
-        [field for field in line.removesuffix(b"\r").replace(b"\t", b" ").split(b" ") if field]
-        for line in data.split(b"\n")
-    ]
+    return [[field for field in line.removesuffix(b"\r").replace(b"\t", b" ").split(b" ") if field]
+            for line in data.split(b"\n")]
 
 
 def number(field):

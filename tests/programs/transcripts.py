@@ -150,9 +150,8 @@ def networks():
         names = source.sample(range(1, nodes + 1), source.randint(3, min(nodes, 8)))
         pairs.append((nodes, {(min(pair), max(pair)) for pair in shape(source, names)}))
     texts = [text_of(source, nodes, edges) for nodes, edges in pairs]
-    texts += [
-        text_of(source, nodes, edges, bars=some_bars(source, nodes, 3)) for nodes, edges in random_of(24, 1, 6)(source)
-    ]
+    texts += [text_of(source, nodes, edges, bars=some_bars(source, nodes, 3))
+              for nodes, edges in random_of(24, 1, 6)(source)]
     return [(data, network_of(data)) for data in texts]
 
 
@@ -303,11 +302,8 @@ def written_anew(data):
     head, entries = read(data)
     lines = {v: [] for v in range(1, head.nodes + 1)}
     for entry in entries:
-        what = (
-            f"pulse {entry.what}"
-            if entry.kind == "Pulse"
-            else f"{entry.kind.lower()} {entry.neighbour} {wire_words(entry.what)}"
-        )
+        what = (f"pulse {entry.what}" if entry.kind == "Pulse"
+                else f"{entry.kind.lower()} {entry.neighbour} {wire_words(entry.what)}")
         lines[entry.vertex].append(f"{entry.vertex} {what}")
     return transcript_text(head.nodes, lines)
 
@@ -465,9 +461,8 @@ class Transcripts(Case):
             self.note("forestlab transcript replay of a cut text", done[:2] == (1, b"") and b"cut" in done[2], done)
             if PLAY:
                 taken = {v: sum(f" take {v} " in line for line in EDGE_LINES[3 - v]) for v in (1, 2)}
-                wanted = "".join(
-                    f"node {v} pulse {EDGE_LAST} channel {v}\nlink {v} {3 - v} taken {taken[v]}\n" for v in (1, 2)
-                ).encode()
+                wanted = "".join(f"node {v} pulse {EDGE_LAST} channel {v}\nlink {v} {3 - v} taken {taken[v]}\n"
+                                 for v in (1, 2)).encode()
                 done = script(folder, [*replay, "edge.col"], whole)
                 self.note("forestlab transcript replay of a run", done == (0, wanted, b""), done)
 

@@ -41,19 +41,16 @@ def away(seconds):
 END = "\nsys.stderr.write(' '.join(said))\nsys.stderr.flush()\nos._exit(7)\n"
 FORGED = json.dumps({"workshop": 1, "runs": 1, "right": 1, "cases": [{"verdict": "right"}]})
 # What reaches the workshop, as anybody: each has to be refused.
-REACHING = {
-    "writes": f"open(f'/proc/{{WORKSHOP}}/fd/1', 'w').write({FORGED!r})",
-    "memory": "open(f'/proc/{WORKSHOP}/mem', 'r+b')", "secrets": "open(f'/proc/{WORKSHOP}/environ').read()[:9]",
-    "traces": "trace(WORKSHOP)", "kills": "os.kill(WORKSHOP, signal.SIGKILL)",
-    "stops": "os.kill(WORKSHOP, signal.SIGSTOP)", "all": "os.killpg(os.getpgid(WORKSHOP), signal.SIGKILL)",
-}
+REACHING = {"writes": f"open(f'/proc/{{WORKSHOP}}/fd/1', 'w').write({FORGED!r})",
+            "memory": "open(f'/proc/{WORKSHOP}/mem', 'r+b')", "secrets": "open(f'/proc/{WORKSHOP}/environ').read()[:9]",
+            "traces": "trace(WORKSHOP)", "kills": "os.kill(WORKSHOP, signal.SIGKILL)",
+            "stops": "os.kill(WORKSHOP, signal.SIGSTOP)", "all": "os.killpg(os.getpgid(WORKSHOP), signal.SIGKILL)"}
 # What a program has no business with as it is graded.
-OUTSIDE = {
-    "others": "os.listdir({subs!r})", "another": "open({other!r}).read()", "right": "open({right!r}).read()",
-    "words": "open(f'/proc/{{WORKSHOP}}/cmdline').read()", "processes": "os.listdir('/proc')",
-    "writes": "open({loot!r}, 'w')", "moves": "os.rename('rounds_node.py', {loot!r})",
-    "links": "os.link('rounds_node.py', {loot!r})", "connects": "socket.create_connection(('127.0.0.1', {port}))",
-}
+OUTSIDE = {"others": "os.listdir({subs!r})", "another": "open({other!r}).read()", "right": "open({right!r}).read()",
+           "words": "open(f'/proc/{{WORKSHOP}}/cmdline').read()", "processes": "os.listdir('/proc')",
+           "writes": "open({loot!r}, 'w')", "moves": "os.rename('rounds_node.py', {loot!r})",
+           "links": "os.link('rounds_node.py', {loot!r})",
+           "connects": "socket.create_connection(('127.0.0.1', {port}))"}
 
 
 def program(attacks: dict[str, str], more: str = "") -> str:
