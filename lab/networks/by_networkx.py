@@ -68,7 +68,7 @@ def read(text: str, name: str, form: str) -> Listed:
     found.names_by({str(node): str(label) for node, label in graph.nodes(data="label") if label is not None}, "label")
     for kind, parts in (("nodes", graph.nodes(data=True)), ("edges", graph.edges(data=True))):
         keys = {key for *_, data in parts for key, said in data.items() if said not in ("", None)}
-        leave_keys(found, keys - {"label"} if kind == "nodes" else keys, kind)
+        leave_keys(found, keys - {"label", "id"} if kind == "nodes" else keys - {"id"}, kind)
     if form in ("pajek", "leda") and edges and not graph.degree(list(graph)[-1]):
         found.left_out.append("the last node has no edge: do the edges count from 0? The form counts from 1")
     if graph.is_directed():

@@ -5,7 +5,7 @@ import re
 import sys
 
 from lab.networks import site_tables
-from lab.networks.listed import clean
+from lab.networks.listed import FLAGS, NOT, clean
 from lab.networks.network_text import MAX_CHANNEL, shown, whole
 from lab.words import Parser, add_output, text_at, write
 from lab.wrong import Wrong, wrong_line
@@ -68,6 +68,11 @@ def numbers_in(path: str) -> list[int]:
         raise Wrong(f"{path}: no column is named channel, or it has no row" if len(named) < 2 or not rows else
                     f"{path}: {' and '.join(named)} are two columns of channels: leave one of them")
     column = words.index(named[0])
+    for at, word in enumerate(words):
+        said = {fields[at].casefold() if at < len(fields) else "" for _, fields in rows}
+        if at != column and said <= FLAGS and said & NOT:
+            raise Wrong(f"{path}: the column {shown(word)} may say which channels may be used: leave out the others, "
+                        "and this column")
     for line, fields in rows:
         if column >= len(fields) or not re.fullmatch(r"\d{1,%d}" % MOST_DIGITS, fields[column]):
             raise wrong_line(path, line, f"no channel: `{shown(','.join(fields))}`")
@@ -84,8 +89,8 @@ def numbers_of(words: list[str]) -> list[int]:
             raise Wrong(f"`{shown(word)}` is no channel, and no range as 1-13 or 36-64/4")
         first, last, step = (int(part) if part else None for part in parts.groups())
         numbers = range(first, (first if last is None else last) + 1, step or 1) if step != 0 else ()
-        if not numbers or len(numbers) > MAX_CHANNEL:
-            raise Wrong(f"`{word}` names no channel, or more than {MAX_CHANNEL}")
+        if not numbers or len(numbers) > MAX_CHANNEL or last not in (None, numbers[-1]):
+            raise Wrong(f"`{word}` names no channel, or more than {MAX_CHANNEL}, or its last one isn't reached")
         found += numbers
     return found
 

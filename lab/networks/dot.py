@@ -170,6 +170,8 @@ class Reader:
             said = self.attributes()
             if word.lower() == "edge":
                 self.defaults |= said
+            elif word.lower() == "node":
+                self.keys |= said.keys()
             return []
         if is_before and is_before[0][1:] == ("mark", "="):
             self.id()

@@ -12,9 +12,8 @@ from lab.networks.name_doubts import DATE, SUMS, Pairs, look_of
 from lab.wrong import Wrong, wrong_line
 
 PAIRS, NEIGHBOURS = "--as pairs (the first two fields are a pair)", "--as adjacency (a node and its neighbours)"
-PORT = re.compile(r"(.+?)[:/.#@_-]\w*\d+")
-# What the last line of an export may say.
-LAST = ("total", "sum", "summe", "gesamt", "count", "end", "eof", "row", "rows", "records", "zeilen")
+PORT = re.compile(r"(.+?)(?:[:/.#@_-]|\s?[(\[])[\w/.:]*\d+[)\]]?")
+PORT_IN_BRACKETS = re.compile(r"(.+?)(?:\s?[(\[][\w/.:]*\d+[)\]]|:[\w/.]*\d+)")
 # Titles of a column whose zeros say that a pair doesn't count.
 WEIGHTS = re.compile(r"(weight|value|val|w|freq|frequency|gewicht|wert|adj|adjacent|edge|kante|link|there|present)s?")
 # Kinds of columns, as some programs write them below the heading.
@@ -51,8 +50,8 @@ def refuse_signs(titles: list[str], body: Rows, columns: tuple[int, int], name: 
         numbers = {value_of(word) for word in words - MISSING}
         if None not in numbers:
             line = next((line for line, word in said if value_of(word) == 0), None)
-            is_counted = len(numbers) == len(said) and title
-            if line and (WEIGHTS.fullmatch(title.casefold()) or not is_counted and (not title or numbers <= {0, 1})):
+            is_weight = WEIGHTS.fullmatch(title.casefold()) or not title or all(0 <= part <= 1 for part in numbers)
+            if line and is_weight and not are_in_order([word for _, word in said]):
                 raise wrong_line(name, line, f"a zero in the {column_of(title, at)}: is it an edge? Leave out the "
                                              "lines of pairs that are none (if each is one: --as pairs)")
         elif words <= FLAGS and words & (NOT | {"", "-"}):
@@ -61,7 +60,12 @@ def refuse_signs(titles: list[str], body: Rows, columns: tuple[int, int], name: 
 
 
 def column_of(title: str, at: int) -> str:
-    return f"column `{shown(title)}`" if title else f"{at + 1}th column"
+    return f"column `{shown(title)}`" if title else f"column number {at + 1}"
+
+
+def are_in_order(words: list[str]) -> bool:
+    """Whether they number the rows, from 0 or from 1 on."""
+    return [whole(word) for word in words] in (list(range(len(words))), list(range(1, len(words) + 1)))
 
 
 def refuse_alone(pairs: Pairs, is_unknown: bool, is_closed: bool, name: str) -> None:
@@ -82,17 +86,20 @@ def refuse_alone(pairs: Pairs, is_unknown: bool, is_closed: bool, name: str) -> 
                                          "--as pairs, or --as adjacency)")
 
 
-def refuse_shape(pairs: Pairs, name: str) -> None:
+def refuse_shape(pairs: Pairs, is_named: bool, name: str) -> None:
     """Refuses pairs of which each name comes once, if it is a device's and a port's; and those of which one column has
-    each name twice, as numbers of edges beside their two ends: it has no name of the other, or few if the lines of each
-    number are neighbours."""
+    each name twice, as numbers of edges beside their two ends, unless a heading has named them ends: it has no name of
+    the other, or few if the lines of each number are neighbours."""
     columns = [[pair[at] for pair in pairs if pair[2]] for at in (1, 2)]
     ones, others = map(set, columns)
     both = len(ones & others)
     stems = [PORT.fullmatch(end) for end in (*ones, *others)]
+    ports = {end: found[1] for end in ones | others if (found := PORT_IN_BRACKETS.fullmatch(end))}
+    if len(ports) == len(ones | others) > len(set(ports.values())):
+        raise unsure(name, f"`{shown(columns[0][0])}` may be a port of a node, as others of the same node", PAIRS)
     if not both and len(stems) == 2 * len(pairs) > 2 and all(stems) and len({stem[1] for stem in stems}) < len(stems):
         raise unsure(name, f"each name comes once, as `{shown(stems[0][0])}`, so they may be ports of the nodes", PAIRS)
-    for ends in columns:
+    for ends in columns if not is_named else ():
         times = Counter(ends)
         if len(times) > 1 and set(times.values()) == {2} and (
                 not both or ends[::2] == ends[1::2] and 2 * both < len(times)):
@@ -132,13 +139,24 @@ def refuse_others(body: Rows, name: str, table: Table, is_unknown: bool, is_clos
     if is_unknown and is_apart and len(others) == len(ones) > 2:
         raise unsure(name, "each first name comes once, and no second one is a first one, so the second ones may be no "
                      "nodes", PAIRS)
+    if is_unknown and len(set(others)) == len(others) == len(ones) > len(set(ones)) > 1 and not (
+            set(ones) & set(others) or all(map(is_number, known))):
+        raise unsure(name, "each second name comes once, and no first one is a second one, so the first ones may be no "
+                     "nodes", PAIRS)
     if any(len(row) > 2 for row in fields):
         refuse_wide(fields, name, table, is_apart)
 
 
+def refuse_message(table: Table, name: str) -> None:
+    """Refuses one line of words, the last of which begins small, as programs write in place of a text."""
+    words = table.rows[0][1]
+    if len(table.rows) == 1 and not table.separator and not table.has_data and all(map(str.isalpha, words)) and (
+            words[0].istitle() and words[-1].islower()):
+        raise unsure(name, "one line of words may be a message", PAIRS)
+
+
 def refuse_edges(body: Rows, name: str, is_unknown: bool, is_closed: bool) -> None:
-    """Refuses a first row that may be a title, if nobody has said that there is none, and rows of one name and one
-    number beside others of names alone, or of numbers alone, as counts and sums are."""
+    """Refuses a first row that may be a title, if nobody has said that there is none, or counts."""
     rows = [(line, ends) for line, row in body if (ends := [field for field in row[:2] if field])]
     if len(rows) < 2:
         return
@@ -146,27 +164,32 @@ def refuse_edges(body: Rows, name: str, is_unknown: bool, is_closed: bool) -> No
     first = rows[0][1]
     if is_unknown and not is_closed and len(first) == times[first[0]] == 1 and any(len(ends) > 1 for _, ends in rows):
         raise unsure(name, f"the first line (`{shown(first[0])}`) may be a title or a node", PAIRS, NEIGHBOURS)
-    last, ends = rows[-1]
-    if any(end.strip(":()").casefold() in LAST and times[end] == 1 for end in ends):
-        raise wrong_line(name, last, f"`{shown(' '.join(ends))}` may be no row (if it is a pair or a node: --as pairs)")
     if all(map(is_number, first)) and not any(is_number(end) for _, ends in rows[1:] for end in ends):
         raise unsure(name, f"the first line (`{shown(' '.join(first))}`) may say how many there are", PAIRS)
+
+
+def refuse_odd(pairs: Pairs, name: str) -> None:
+    """Refuses rows of one name and one number, which come in no other, beside rows of numbers or of names alone; and a
+    last row that may be a sum or a footer: by a word, or both of its names are new and look like no other, or come
+    after an empty line."""
+    if len(pairs) < 2:
+        return
+    rows = [(line, [end for end in ends if end]) for line, *ends in pairs]
+    times = Counter(end for _, ends in rows for end in ends)
     mixed = [row for row in rows if len(set(map(is_number, row[1]))) > 1]
     kinds = {is_number(end) for row in rows if row not in mixed for end in row[1]}
-    numbers = [end for _, ends in mixed for end in ends if is_number(end)]
-    are_strays = all(is_stray(ends, times, kinds == {True}) for _, ends in mixed) or kinds == {False} and (
-        len(mixed) > 1 and all(times[number] == 1 for number in numbers))
-    if mixed and len(kinds) == 1 and are_strays:
-        raise wrong_line(name, mixed[0][0], f"`{shown(' '.join(mixed[0][1]))}` may be no pair of nodes, beside "
-                         "the other lines (if it is one: --as pairs)")
-
-
-def is_stray(ends: list[str], times: Counter, are_numbers: bool) -> bool:
-    """Whether a number and a name may be no pair beside rows of numbers, or of names: if only the name is new there, or
-    if both are new, or the number has a fraction."""
-    number, word = sorted(ends, key=is_number, reverse=True)
-    is_new = times[word] == 1
-    return is_new if are_numbers else times[number] == 1 and (is_new or whole(number) is None)
+    odd = [row for row in mixed if all(times[end] == 1 for end in row[1] if {is_number(end)} != kinds)]
+    looks = {look_of(end) for _, ends in rows[:-1] for end in ends}
+    line, last = rows[-1]
+    are_new = len(rows) > 2 and len(last) > 1 and all(times[end] == 1 for end in last)
+    is_apart = line > rows[-2][0] + 1 or looks.isdisjoint(map(look_of, last))
+    if any(times[end] == 1 and SUMS.fullmatch(end.strip(":()")) for end in last) or are_new and is_apart:
+        odd.append(rows[-1])
+    elif len(kinds) != 1 or len(odd) < len(mixed):
+        odd = []
+    if odd:
+        raise wrong_line(name, odd[0][0], f"`{shown(' '.join(odd[0][1]))}` may be no pair of nodes, beside the other "
+                         "lines (if it is one: --as pairs)")
 
 
 def are_of_two_kinds(fields: list[list[str]]) -> bool:

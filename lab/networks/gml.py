@@ -101,7 +101,7 @@ def read(text: str, name: str) -> Listed:
                 raise wrong_line(name, line, f"an edge that is {hidden}: leave it out if it is none")
     refuse_flags(found, flags_of(graphs[0]), name)
     keys = {inner for _, key, entries in graphs[0] if key == "node" for _, inner, _ in entries}
-    leave_keys(found, keys - {*LABELS, "graphics", "isgroup", "gid"}, "nodes")
+    leave_keys(found, keys - {*LABELS, "id", "graphics", "isgroup", "gid"}, "nodes")
     for line, *ends in found.edges:
         for end in ends:
             if end not in lines:

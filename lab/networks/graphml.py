@@ -42,6 +42,8 @@ def read(text: str, name: str) -> Listed:
     for at, element in enumerate(graphs[0].iter(), 1):
         read_element(found, name, at, element, words, said)
     refuse_flags(found, flags_of(root, graphs[0], words), name)
+    if any(plain(part.tag) == "EdgeLabel" and (part.text or "").strip() for part in graphs[0].iter()):
+        found.left_out.append("labels of edges not read")
     leave_keys(found, {words.get(data.get("key"), "") for node in graphs[0].iter() if plain(node.tag) == "node"
                        for data in node if plain(data.tag) == "data"} - {*LABELS, *ACROSS, *DOWN}, "nodes")
     listed = {node for _, node in found.alone}

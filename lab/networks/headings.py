@@ -22,6 +22,8 @@ MISSING = {"", "-", "?", "n/a", "na", "nan", "none", "null", "inf", "unknown", "
 OF_CHANNELS = ("channel", "frequency", "kanal", "kanäl", "kanael", "frequenz")
 # And headings of tables of places.
 OF_PLACES = {"lat", "latitude", "easting", "breite", "breitengrad", "rechtswert", "ostwert"}
+# Words that nobody calls two neighbours.
+OF_TABLES = TITLES | OF_PLACES | {*OF_CHANNELS, "lon", "long", "longitude", "northing", "height", "power"}
 
 
 @dataclass

@@ -61,7 +61,7 @@ class Table:
     """`rows` has (line, fields) of each line that is no comment and not empty. `separator` is None for blanks. If a
     line has one field before its data of networkx, as only adjacency in several lines has, it `has_groups`; it
     `has_data` if any line has, and `is_even` if all lines have equally many fields. `marked` has the lines of rows that
-    begin with the mark of a comment, and `comments` the texts of those that are comments."""
+    begin with the mark of a comment, and `comments` those that are comments."""
 
     rows: Rows = field(default_factory=list)
     separator: str | None = None
@@ -72,7 +72,7 @@ class Table:
     by_networkx: bool = False
     is_even: bool = True
     marked: list[int] = field(default_factory=list)
-    comments: list[str] = field(default_factory=list)
+    comments: list[tuple[int, str]] = field(default_factory=list)
 
 
 def table_of(text: str, name: str, is_headed: bool = False) -> Table:
@@ -103,8 +103,7 @@ def table_of(text: str, name: str, is_headed: bool = False) -> Table:
         found.notes.append("quotes around whole fields, as \u00ab \u00bb, aren't part of them")
     rows = [(line.number, fields_of(line, found.separator, name)) for line in kept]
     there = {line.number for line in kept}
-    found.comments = [line.text for line in lines if line.is_marked and line.number not in there] if len(bare) < len(
-        lines) else []
+    found.comments = [(line.number, line.text) for line in lines if line.is_marked and line.number not in there]
     found.marked = [line.number for line in kept if line.is_marked]
     found.is_even = len({len(row) for _, row in rows}) < 2
     found.has_groups = any(line.data and len(parts_of(line, found.separator)) == 1 + line.is_apart for line in lines)

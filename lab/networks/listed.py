@@ -101,12 +101,13 @@ def refuse_flags(found: Listed, said: dict[str, set[str]], name: str) -> None:
         if len(words) > 1 and words <= FLAGS and words & NOT and key not in NO_FLAGS:
             raise Wrong(f"{name}: the key `{shown(key)}` may say which edges count: leave out those that are none, and "
                         "the key of the others")
-    leave_keys(found, said, "edges")
+    leave_keys(found, [key for key, words in said.items() if key not in NUMBERS or "".join(words).strip("0123456789")],
+               "edges")
 
 
 def leave_keys(found: Listed, keys: Iterable[str], what: str) -> None:
     """Counts keys of nodes or edges that aren't read, whatever they say."""
-    if left := sorted(set(keys) - set(NUMBERS)):
+    if left := sorted(set(keys) - {""}):
         found.left_out.append(f"{len(left)} key{'s' * (len(left) > 1)} of {what} not read: {shown(', '.join(left))}")
 
 
@@ -174,7 +175,8 @@ def likeness(name: str) -> str:
         return name.partition(".")[0].lstrip("0") or "0"
     letters = name if name.isascii() else "".join(
         letter for letter in unicodedata.normalize("NFKD", name) if not unicodedata.combining(letter))
-    letters = re.sub(r"(?<=[^\W\d_])[\s._\u2010-\u2015-]+(?=[^\W\d_])", "", letters)
+    letters = re.sub(r"(?<=[^\W_])[\s._:\u2010-\u2015-]+(?=[^\W_])(?!(?<=\d.)\d)", "", letters)
+    letters = re.sub(r"(?<!\d)0+(?=\d)", "", letters)
     letters = letters.translate(LOOK_ALIKE)
     bare = re.sub("[\"'`\u00b4\u2018-\u201e\u00ab\u00bb]", "", letters)
     return re.sub("(?<=[aou])e", "", re.sub(r"[\u2010-\u2015\u2212]", "-", bare or letters).casefold())

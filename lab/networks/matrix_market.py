@@ -45,6 +45,8 @@ def read(text: str, name: str) -> Listed:
             found.edges.append((line, str(ends[0]), str(ends[1])))
     if zeros:
         found.left_out.append(f"entries of value zero left out: {len(zeros)}, first at line {zeros[0]}")
+    if found.edges and all(str(sizes[0]) not in ends for _, *ends in found.edges):
+        found.left_out.append("the last node has no edge: do the edges count from 0? The form counts from 1")
     if words[3] != "pattern":
         found.left_out.append("values not read, as weights are")
     return found

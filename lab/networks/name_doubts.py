@@ -7,7 +7,7 @@ import unicodedata
 from collections import Counter
 
 from lab.networks.fields import is_number, shown, whole
-from lab.networks.headings import ENDS, MISSING, NOUN, ends_named
+from lab.networks.headings import ENDS, MISSING, NOUN, OF_TABLES, ends_named
 from lab.wrong import wrong_line
 
 Pairs = list[tuple[int, str, str]]
@@ -40,12 +40,15 @@ DATE = re.compile(r"\d{4}-\d\d-\d\d|\d\d?[./]\d\d?[./]\d{4}")
 # Words before a name that say that there is no edge, or more than one.
 NEGATED = re.compile("(not|nicht|keine?|ohne|except|without|all|alle|any)( .*)?|no .*", re.I)
 NOTHING = MISSING | {"true", "false", "wahr", "falsch", "nil", "dto", "dto.", "do.", "ditto", "s.o.", "s. o.", "\u3003",
-                     "id."}
+                     "id.", "yes", "no", "ja", "nein", "ok", "on", "off", "self", "nobody", "isolated", "see above"}
+TIME = re.compile(r"([01]?\d|2[0-3]):[0-5]\d")
+# A value with its unit, or a time.
+VALUE = re.compile(r"[-+]?\d[\d.,]*\s?(km|m|mi|[kmg]?hz|dbm?|%|ms|min|h|w)|([01]?\d|2[0-3]):[0-5]\d:[0-5]\d", re.I)
 
 
 def refuse_names(pairs: Pairs, separator: str | None, name: str) -> list[str]:
     """Refuses names that may be more than a name, or none; and rows that name two columns. Returns what is counted:
-    words that may be a title, and names with a mark that lists have, too, which names of one column alone have."""
+    words that may be a title, names that are another one and more, and those with a mark that lists have, too."""
     lines: dict[str, int] = {}
     for line, *ends in pairs:
         for end in filter(None, ends):
@@ -64,14 +67,18 @@ def refuse_names(pairs: Pairs, separator: str | None, name: str) -> list[str]:
         if separator is None and times[end] == 1 and re.match(r"[#%][^\W\d]", end):
             raise wrong_line(name, line, f"`{shown(end)}` may be a comment{IF_NAME}")
     refuse_twins(lines, name)
+    if all(map(TIME.fullmatch, lines)):
+        raise wrong_line(name, pairs[0][0], f"`{shown(pairs[0][1])}` and all other names may be times{IF_NAME}")
     if others:
         refuse_marks(ones, others, pairs[0], name)
     said = []
     if separator is None:
         said = refuse_strays(pairs, times, name)
         refuse_single(pairs, name)
-    refuse_headings(pairs, lines, name)
-    loose = [end for end in lines if not usual.issuperset(WORDS.split(end)[1::2])]
+    refuse_headings(pairs, lines, times, name)
+    if more := next((end for end in lines if is_name_and_more(end, lines)), None):
+        said.append(f"line {lines[more]}: `{shown(more)}` is another node and more: is it meant to be that one?")
+    loose = [end for end in lines if len(list(filter(None, WORDS.split(end)[::2]))) > 1]
     return said + ([f"{len(loose):,} name{'s' * (len(loose) > 1)} may be a list, first at line {lines[loose[0]]}: "
                     f"{shown(loose[0])}"] if loose else [])
 
@@ -80,6 +87,12 @@ def marks_of(names: set[str]) -> set[str]:
     """What separates the names of a list, and points and brackets at the end, if a name has it."""
     return {mark for name in names if not BARE.fullmatch(name) or " " in name
             for mark in (*WORDS.split(name)[1::2], name[-1])}
+
+
+def is_name_and_more(end: str, known: set[str]) -> bool:
+    """Whether a name is another one with something before or after it, parted by a blank or by a mark."""
+    return not is_number(end) and any(part in known for mark in re.finditer(r"[\s.:_()\[\]-]+", end)
+                                      for part in (end[:mark.start()], end[mark.end():]))
 
 
 def is_row_of(end: str, known: set[str]) -> bool:
@@ -106,7 +119,7 @@ def refuse_name(end: str, line: int, known: set[str], usual: set[str], name: str
     after = AFTER.match(end)
     if COMMENT.match(end) or after and after[1] in known:
         raise wrong_line(name, line, f"`{shown(end)}` may have a comment in it{IF_NAME}")
-    if end.casefold() in NOTHING or NO_VALUE.fullmatch(end):
+    if end.casefold() in NOTHING or NO_VALUE.fullmatch(end) or VALUE.fullmatch(end):
         raise wrong_line(name, line, f"`{shown(end)}` may mean that there is no name: leave the field empty then"
                                      f"{IF_NAME}")
     is_code = re.fullmatch(r"\d+[eE]\d+", end) and not all(map(is_number, known))
@@ -216,8 +229,8 @@ def refuse_single(pairs: Pairs, name: str) -> None:
                                             f"comma there{IF_NAME}")
 
 
-def refuse_headings(pairs: Pairs, lines: dict[str, int], name: str) -> None:
-    """Refuses a row that names two columns, unless there are other nodes with such names."""
+def refuse_headings(pairs: Pairs, lines: dict[str, int], times: Counter, name: str) -> None:
+    """Refuses a row that names two columns, unless there are other nodes with such names; of another table, too."""
     words = {*ENDS, *ENDS.values()}
     if len(pairs) > 1 and all(one.lower() in words for _, one, _ in pairs):
         raise wrong_line(name, pairs[0][0], f"`{shown(pairs[0][1])}` names a column: write a line for each pair"
@@ -225,7 +238,9 @@ def refuse_headings(pairs: Pairs, lines: dict[str, int], name: str) -> None:
     titles = {end for end in lines if end.lower() in words or LETTERED.fullmatch(end.lower())}
     line, *ends = next((pair for pair in pairs if titles.issuperset(pair[1:]) and ends_named(pair[1:])), (0,))
     others = (end for end in lines if end not in ends)
-    if line and (words.intersection(map(str.lower, ends)) or not any(
+    line_of_tables = next((line for line, *ends in pairs if all(
+        times[end] == 1 and end.lower() in OF_TABLES for end in ends)), 0)
+    if line_of_tables or line and (words.intersection(map(str.lower, ends)) or not any(
             re.fullmatch(NOUN + r"[ _.-]?\w{1,4}", end.lower()) for end in others)):
-        raise wrong_line(name, line, "the heading of a second table: write both into one with the same columns (if it "
-                         "is a pair: --as pairs)")
+        raise wrong_line(name, line or line_of_tables, "the heading of a second table: write both into one with the "
+                         "same columns (if it is a pair: --as pairs)")

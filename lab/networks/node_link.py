@@ -14,7 +14,8 @@ LINKS = ("links", "edges")
 # How networkx and D3 name the ends of a link, and how vis.js does.
 ENDS = (("source", "target"), ("from", "to"))
 # Keys that are read, of the whole, of its nodes and of their links.
-OF_GRAPHS, OF_NODES = {"directed", "multigraph", "graph", "nodes", *LINKS}, {"id", "key", "label", "name", "x", "y"}
+OF_GRAPHS = {"directed", "multigraph", "graph", "nodes", *LINKS}
+OF_NODES = {"id", "key", "label", "name", "x", "y", "index"}
 OF_LISTS = "G = nx.from_dict_of_lists(json.load(open(FILE)))"
 
 

@@ -2,10 +2,12 @@
 can be one of them alone."""
 import re
 
+from lab.networks.comments import said_by
 from lab.networks.doubts import (
-    NEIGHBOURS, PAIRS, refuse_alone, refuse_columns, refuse_kinds, refuse_others, refuse_shape, refuse_signs, unsure)
+    NEIGHBOURS, PAIRS, are_in_order, refuse_alone, refuse_columns, refuse_kinds, refuse_message, refuse_odd,
+    refuse_others, refuse_shape, refuse_signs, unsure)
 from lab.networks.fields import columns_left, is_number
-from lab.networks.headings import heading_of
+from lab.networks.headings import ends_named, heading_of
 from lab.networks.lines import Rows, Table, table_of, uneven
 from lab.networks.listed import Listed, clean
 from lab.networks.name_doubts import refuse_names
@@ -13,10 +15,6 @@ from lab.networks.network_text import shown, whole
 from lab.networks.unread import refuse_rows
 from lab.wrong import Wrong, wrong_line
 
-# How a comment says how many edges there are.
-EDGES = (re.compile(r"(?i)\b(?:edges|links|pairs|kanten|arcs)\s*[:=]?\s*(\d{1,9})\b"),
-         re.compile(r"(?i)\b(\d{1,9})\s+(?:edges|links|pairs|kanten|arcs)\b"),
-         re.compile(r"^%\s*(\d{1,9})(?:\s+\d+){1,2}\s*$"))
 FORMS = ("pairs", "adjacency", "multiline")
 
 
@@ -29,24 +27,19 @@ def read(text: str, name: str, form: str | None, heading: bool | None) -> Listed
         line, mark = uneven(text, name)
         raise wrong_line(name, line, f"no {mark}, and most other lines have one: remove the line if it is no row of "
                          "the table, or end it with one if it is a node alone")
+    inside = next(((line, field) for line, fields in table.rows for field in fields
+                   if form == "adjacency" and not table.separator and re.search("[,;|]", field)), None)
+    if inside:
+        raise wrong_line(name, inside[0], f"`{shown(inside[1])}` has a mark that separates fields elsewhere, and not "
+                         "each line has one: end each with it, or write blanks alone")
     if not form and table.separator == "\t" and may_be_blanks(table.rows):
         raise Wrong(f"{name}: its fields may have tabs between them, or blanks and tabs: write commas")
     if not form and not table.has_groups:
         refuse_rows(table.rows, table.separator, text, name)
     found = read_table(table, name, form, heading)
     found.notes[:0], found.left_out[:0] = table.notes, table.left_out
-    found.left_out += cut_by_comments(table.comments, {frozenset(ends) for _, *ends in found.edges}, len(found.edges))
+    found.left_out += said_by(table.comments, table.rows, found)
     return found
-
-
-def cut_by_comments(comments: list[str], pairs: set[frozenset[str]], lines: int) -> list[str]:
-    """What is said if a comment, as SNAP, KONECT and people write it, has another number of edges than there are."""
-    for comment in comments:
-        said = next(filter(None, (kind.search(comment) for kind in EDGES)), None)
-        count = int(said[1]) if said else None
-        if count is not None and count not in (lines, len(pairs), 2 * len(pairs)):
-            return [f"a comment says {count:,} edges, and the text has {len(pairs):,}: is it cut?"]
-    return []
 
 
 def read_table(table: Table, name: str, form: str | None, heading: bool | None) -> Listed:
@@ -103,13 +96,11 @@ def parts_of(fields: list[str], has_colon: bool) -> tuple[str, list[str]]:
 
 
 def may_be_weighted(rows: Rows) -> bool:
-    """Whether lines that could be nodes with their neighbours could be pairs with a number, too: three fields in each,
-    the last one a number, and some line names a neighbour that doesn't name its node."""
+    """Whether lines that could be nodes with their neighbours could be pairs with a weight, or paths, too: three fields
+    in each, and some line names a neighbour that doesn't name its node."""
     # A first row of two fields may be a heading over rows that are numbered.
     body = rows[len(rows[0][1]) == 2:]
-    if not all(len(fields) == 3 and fields[0][-1] != ":" and fields[2].isdecimal() for _, fields in body):
-        return False
-    return not are_mutual(rows)
+    return all(len(fields) == 3 and fields[0][-1] != ":" for _, fields in body) and not are_mutual(rows)
 
 
 def are_mutual(rows: Rows) -> bool:
@@ -121,6 +112,7 @@ def are_mutual(rows: Rows) -> bool:
 
 def read_pairs(table: Table, name: str, heading: bool | None, is_sure: bool) -> Listed:
     """The pairs in two columns. Unless it `is_sure` that they are pairs, they have to look like nothing else."""
+    see_row_names(table.rows)
     head = heading_of(table.rows, table.separator, name, heading)
     found = Listed("pairs with a heading" if head.is_there else "pairs", left_out=head.left_out)
     titles = table.rows[0][1] if head.is_there else []
@@ -130,15 +122,17 @@ def read_pairs(table: Table, name: str, heading: bool | None, is_sure: bool) -> 
         refuse_others(head.body, name, table, heading is None, is_closed(head.body) and are_mutual(head.body))
     if not is_sure:
         refuse_kinds(titles, head.body, name)
+        refuse_message(table, name)
     if head.doubt:
         raise head.doubt
     columns = head.columns or (0, 1)
     pairs = [(line, *ends_of(line, fields, columns, len(titles) if head.columns else None, name))
              for line, fields in head.body]
     if not is_sure:
+        refuse_odd(pairs, name)
         refuse_alone(pairs, heading is None, is_closed(head.body), name)
         found.left_out += refuse_names(pairs, table.separator, name)
-        refuse_shape(pairs, name)
+        refuse_shape(pairs, head.columns is not None, name)
         refuse_columns(titles, head.body, columns, {end for _, *ends in pairs for end in ends}, name)
         refuse_signs(titles, head.body, columns, name)
     found.edges = [pair for pair in pairs if pair[2]]
@@ -148,9 +142,21 @@ def read_pairs(table: Table, name: str, heading: bool | None, is_sure: bool) -> 
     if beyond and head.columns is None:
         raise wrong_line(name, beyond[0], f"one node and more fields, as sums have: `{shown(' '.join(beyond[1]))}` (if "
                                           "it is a node: --as pairs)")
+    if found.alone and found.edges and table.separator and not is_sure:
+        found.left_out.append(f"a node alone, first at line {found.alone[0][0]}: is its cell merged with that above?")
     if left := columns_left(titles, head.body, set(columns)):
-        (found.notes if is_sure else found.left_out).append(left)
+        how = "--heading yes" if head.columns else "--as pairs"
+        (found.notes if is_sure or heading and head.columns else found.left_out).append(
+            f"{left} (if it says nothing of edges: {how})")
     return found
+
+
+def see_row_names(rows: Rows) -> None:
+    """Gives a heading that names the ends a first field for the numbers of the rows, as R and pandas write them."""
+    (line, first), body = rows[0], rows[1:]
+    if body and ends_named(first) and all(len(fields) == len(first) + 1 for _, fields in body) and are_in_order(
+            [fields[0] for _, fields in body]):
+        rows[0] = line, ["", *first]
 
 
 def ends_of(line: int, fields: list[str], columns: tuple[int, int], width: int | None, name: str) -> list[str]:

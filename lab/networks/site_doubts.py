@@ -15,6 +15,10 @@ AFTER = re.compile(r"[*\u2020\u2021^~\u00b0\u00b9\u00b2\u00b3?!;,]$")
 NO_PLACE = re.compile(r"[-+]?(9{3,}|9{2,}\.9+)(\.0*)?|[-+]?1(\.0*)?e\+?\d{2,3}", re.I)
 
 
+# Titles of columns that say by which map the numbers are.
+OTHER_MAPS = re.compile("zone|utm|epsg|crs|datum|hemisphere|streifen|srid|unit|einheit")
+
+
 def refuse_names(names: list[str], lines: list[int], has_quotes: bool, name: str) -> None:
     """Refuses a site whose name may be none, or more than a name. In a table that `has_quotes` they would have been
     around a list's mark, too."""
@@ -41,6 +45,16 @@ def refuse_no_place(said: list[str], place: list[float], line: int, is_globe: bo
     if all(map(NO_PLACE.fullmatch, said)) or is_globe and place == [0, 0]:
         raise wrong_line(name, line, f"`{shown(' '.join(said))}` may mean that the place isn't known: leave the fields "
                                      "empty then")
+
+
+def refuse_maps(words: list[str], rows: list[tuple[int, list[str]]], read: set[int], name: str) -> None:
+    """Refuses places that a column, beside those that are `read`, may put elsewhere: one of zones that differ, or of
+    the points of the compass."""
+    for at, word in enumerate(words):
+        said = {fields[at].casefold() for _, fields in rows if at < len(fields)} - {""}
+        if at not in read and said and (said <= set("nsewo") or len(said) > 1 and OTHER_MAPS.search(word)):
+            raise Wrong(f"{name}: the column {shown(word)} may say where the places are, and isn't read: write all for "
+                        "one zone, west and south with a minus, and leave it out")
 
 
 def refuse_again(words: list[str], known: set[str], name: str) -> None:

@@ -4,9 +4,10 @@ import re
 from lab.networks.fields import columns_left
 from lab.networks.listed import Doubt, Listed, clean, note_alike
 from lab.networks.network_text import IDENTIFIERS, MAX_BARS, MAX_CHANNEL, MAX_EDGES, MAX_NODES, shown
-from lab.networks.places import Sites, add_place, near, on_map, say_of_places
+from lab.networks.places import Sites, across_of, add_place, near, on_map, say_of_places
 from lab.networks.reading import counted, numbered_by_text
-from lab.networks.site_doubts import check_marks, one_pair, refuse_far, refuse_names, refuse_no_place, refuse_units
+from lab.networks.site_doubts import (
+    check_marks, one_pair, refuse_far, refuse_maps, refuse_names, refuse_no_place, refuse_units)
 from lab.networks.site_tables import (
     BARE, CHANNELS, GLOBES, IDENTIFIER, NAMES, PLANES, identifier_of, number_of, table)
 from lab.networks.spelling import named
@@ -38,6 +39,8 @@ def read_sites(data: bytes, name: str) -> Sites:
     if globe and plane:
         found.left_out.append(f"{name}: places by {globe[0]} and {globe[1]}, not by {plane[0]} and {plane[1]}")
         of_places += [words.index(word) for word in plane[:2]]
+    if found.pair:
+        refuse_maps(words, rows, {*columns, *of_places, own}, name)
     if left := columns_left(words, rows, {*columns, *of_places, own}):
         found.left_out.append(f"{name}: {left}")
     say_of_places(found, name)
@@ -143,6 +146,8 @@ def with_sites(found: Listed, sites: Sites, name: str, reach: float | None) -> N
             found.edges.append((sites.lines[other], names[one], names[other]))
     if sites.pair in BARE:
         refuse_units(sites.pair, sites.points, sites.said, met, reach, name)
+    if 0 < 100 * across_of(sites.points) < reach:
+        found.left_out.append("the reach is more than a hundred times as wide as all sites: is it in kilometres?")
     if not met and len(names) - len(lost) > 1:
         found.left_out.append("no site is within the reach of one elsewhere: are the places in the units that their "
                               "columns say?")
@@ -156,7 +161,7 @@ def say_of_table(found: Listed, said: list[str], name: str) -> None:
 
 def with_bars(found: Listed, data: bytes, name: str, licence: list[int] | None) -> None:
     """Bars the channels of a table of site and channel; real numbers, if a licence says which are channels 1, 2, ..."""
-    words, rows, _, mended = table(data, name)
+    words, rows, separator, mended = table(data, name)
     site = next((words.index(word) for word in NAMES if word in words), None)
     barred = [word for word in words if re.sub("[0-9]+$", "", word) in CHANNELS]
     if site is None or not barred:
@@ -177,6 +182,9 @@ def with_bars(found: Listed, data: bytes, name: str, licence: list[int] | None) 
         channels = re.findall(r"[^\s,;]+", fields[channel])
         if not channels:
             empty.append(line)
+        if separator == ";" and re.fullmatch(r"\d+,\d+", fields[channel]):
+            raise wrong_line(name, line, f"`{fields[channel]}` may be two channels or a fraction: write a blank after "
+                             "the comma")
         for word in channels:
             if not re.fullmatch(r"[0-9]{1,12}", word):
                 raise wrong_line(name, line, f"`{shown(word)}` is no channel")

@@ -5,6 +5,7 @@ import re
 from lab.networks.counts import are_degrees, counts_neighbours, has_counts, have_counts, is_by_line, is_metis
 from lab.networks.fields import is_number, shown, value_of, whole
 from lab.networks.lines import DATA, without_inner_commas
+from lab.networks.listed import FLAGS
 from lab.wrong import Wrong, wrong_line
 
 WRITE = "nx.write_graphml(G, FILE) writes what is read"
@@ -45,6 +46,8 @@ def refuse_rows(rows: list[tuple[int, list[str]]], separator: str | None, text: 
     if all(row[0] in ("c", "p") for row in fields):
         raise Wrong(f"{name}: it looks like DIMACS without an `e` line: is it cut? If these are pairs: --as pairs")
     mark = next((field for row in fields for field in row if field and not any(map(str.isalnum, field))), ":")
+    if "|" in mark:
+        raise Wrong(f"{name}: a table with bars isn't read: save it as CSV (psql --csv, mysql -B, sqlite3 -csv)")
     if mark != ":":
         raise Wrong(f"{name}: `{shown(mark)}` is no name of a node; if it is: --as pairs, or --as adjacency")
     if any(row[0].startswith("//") for row in fields):
@@ -124,7 +127,7 @@ def is_matrix(fields: list[list[str]]) -> bool:
     a diagonal of zeros; three of three, if weights alone have a point, are pairs with weights, and three with the same
     three nodes are a triangle."""
     side = len(fields)
-    if side > 1 and all(len(row) > 1 and all(field in ("0", "1") for field in row) for row in fields):
+    if side > 1 and all(len(row) > 1 and FLAGS.issuperset(map(str.casefold, row)) for row in fields):
         return True
     if side < 2 or any(len(row) != side or not all(map(is_number, row)) for row in fields):
         return False

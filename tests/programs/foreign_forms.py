@@ -233,6 +233,7 @@ class ForeignForms(Case):
             (["--as", "adjacency"], b"Ulm Aue Hof\nBonn Kiel Jena\n", 4),
             (["--as", "adjacency"], b"     1 2\n     2 1 3\n     3 2\n", 2),
             (["--heading", "no"], b"one,other\nUlm,Aue\nAue,Hof\nHof,Ulm\n", 4),
+            (["--heading", "yes", "--strict"], b"source,target,weight\nUlm,Aue,1\nAue,Hof,2\n", 2),
             (["--as", "pairs"], b"1 -> 2\n2 -> 3\n", 2),
         ):
             status, wrote, told = call("read", "-", *words, data=data)
@@ -258,6 +259,13 @@ class ForeignForms(Case):
             got = call("read", "-", "--strict", data=data)
             self.note(f"left out of {data}", got[:2] == (1, b"") and said in got[2] and call(
                 "read", "-", data=data)[0] == 0, got)
+
+    def test_adjacency_with_marks(self):
+        """A mark that separates fields in some lines alone isn't part of names."""
+        for data in (b"A B, C\nB A\n", b"A|B|C\nB|A\n", b"Trier,Gera,Husum\nGera,Jena\nHusum\nKiel,Ulm\nJena\nUlm\n"):
+            got = call("read", "-", "--as", "adjacency", data=data)
+            self.note(f"{data}", got[:2] == (1, b"") and b"has a mark that separates fields" in got[2] or b"most other "
+                      b"lines have one" in got[2], got)
 
     def test_tell(self):
         """A number is quoted as it is in the text, and a text that says fewer edges than it has isn't cut. That a

@@ -222,14 +222,41 @@ REFUSED = (
     "source,target\nUlm,Aue\nHof,\nBonn,Aue\n", "4 3\n1 2\n0\n3 0\n2\n",
     "Upper Hill:Ulm\nUlm:Neu Ulm\nUpper Hill:Mill\nHof:Neu Ulm\n", "1 2\n2 3\n3 4\n2\n1 4\n",
     "origen,destino\nUlm,Aue\n", "6 1\n7 2\n4 3\n8 4\n3 2\n5 2\n", "Ulm,Hof/Bonn\nHof,Aue\nAue,Ulm\n",
-    "Aue,Ulm\nUlm,Hof und Wald\nHof,Aue\n", "Ulm,Smith & Co\nCo,Aue\nAue,Ulm\n")
+    "Aue,Ulm\nUlm,Hof und Wald\nHof,Aue\n", "Ulm,Smith & Co\nCo,Aue\nAue,Ulm\n",
+    "source,target\nUlm,Aue\nsite,height\nAue,Hof\n", "source,target\nUlm,Aue\nAnzahl,1\n",
+    "source,target\n1,2\nGrand Total,1\n", "source,target\nUlm,Aue\nErstellt von,M. Huber\n",
+    "Ulm Aue\nAue Hof\n\nTom Huber\n", "source,target\nUlm,Aue\nAue,6\n", "source,target\nUlm,Aue\nAue,yes\n",
+    "source,target\nfw1[Gi0/1],sw2[Gi0/8]\nsw2[Gi0/2],fw1[Gi0/3]\n", "WARN fw1\nINFO ap3\nWARN sw2\n",
+    "Access denied\n", "F,T\nT,F\n", "source,target,interference\nUlm,Aue,0.5\nAue,Hof,0\n",
+    "start,end\n08:00,09:30\n10:00,11:15\n", "A B C\nB C D\nC D A\nD A B\n",
+    "source,target\nfw1 (1),sw2 (8)\nsw2 (8),ap3 (1)\nap3 (2),fw1 (2)\n",
+    "source,target\nUlm,Aue\nAue,Hof\nid,label\n1,Ulm\n",
+    "source,target\nUlm,Aue\nAue,10 km\n", "| source | target |\n|---|---|\n| Ulm | Aue |\n")
+# Texts of which something is counted, which may be another network.
+COUNTED = (
+    "# edges: 4\n1 2\n2 3\n", "# n=3 m=4\n1 2\n2 3\n", "# Nodes: 5 Edges: 2\n1\t2\n2\t3\n",
+    "Ulm,Aue\n# removed:\nAue,Hof\n", "# pairs that DON'T interfere\n1 2\n2 3\n", "Ulm,Aue\nAue,\nHof,Ulm\n",
+    "6,3\n6,4\n5,\n", "source,target\nUlm,Aue\nAue,Hof old\nHof,Ulm\n",
+    "Ulm,Aue\nAue,Hof\nREM Hof,Ulm\nHof,Bonn\n",
+    "source,target\nCGN-020,BER-001\nCGN020,HAM-014\n", "0,1\n1,4\n2,5\n",
+    "source,target,weight\nUlm,Aue,1\nAue,Hof,2\n",
+    "%%MatrixMarket matrix coordinate pattern general\n3 3 1\n1 2\n",
+    "graph { node [style=invis]; A -- B; B -- C }\n",
+    "source;target\nUlm;Aue\nAue;Hof\nHof;Bonn Ulm\n", "sw1 sw2\nsw2 sw1.example.net\n",
+    '{"nodes": [{"id": "A"}, {"id": "B"}], "links": [{"source": "A", "target": "B", "key": "removed"}]}',
+    '<graphml><key id="d" for="edge" yfiles.type="edgegraphics"/><graph><node id="A"/><node id="B"/><edge source="A" '
+    'target="B"><data key="d"><E><EdgeLabel>removed</EdgeLabel></E></data></edge></graph></graphml>')
+# Texts that programs write and that are read with nothing left out but a column of numbers of the rows.
+WRITTEN = (
+    ",source,target\n0,Ulm,Aue\n1,Aue,Hof\n", "from to\n1 Ulm Aue\n2 Aue Hof\n",
+    '"from" "to"\n"1" "Ulm" "Aue"\n"2" "Aue" "Hof"\n',
+    "  source target\n0    Ulm    Aue\n1    Aue    Hof\n")
 
 
-# Names with a mark that lists have, too, and no part that is another node: they are read, and counted if one column
-# alone has such.
+# Names with a mark that lists have, too, and no part that is another node: they are read, and counted.
 WITH_MARKS = (
     ("source,target\nUlm,Smith & Co\nHof,Aue\nA/B,Ulm\n", 1),
-    ("source,target\nUlm,Smith & Co\nHof & Sons,Aue\n", 0),
+    ("source,target\nUlm,Smith & Co\nWald & Sons,Aue\n", 1), ("source,target\nUlm,Aue\nHof,Aue\n", 0),
     ("von;nach\nUlm;Berg+Wald\nHof;Aue\n", 1), ("Aue,Ulm\nUlm,Berg und Wald\nHof,Aue\n", 1),
 )
 
@@ -251,6 +278,19 @@ class NearRows(Case):
         for text in REFUSED:
             found, left_out = found_in(text.encode())
             self.note(f"refused: {text!r}", found is None, (found, left_out))
+
+    def test_counted(self):
+        for text in COUNTED:
+            found, left_out = found_in(text.encode())
+            self.note(f"counted: {text!r}", found is not None and len(left_out) == 1, (found, left_out))
+
+    def test_written(self):
+        for text in WRITTEN:
+            found, left_out = found_in(text.encode())
+            wanted = frozenset((frozenset(("Ulm", "Aue")), frozenset(("Aue", "Hof"))))
+            self.note(f"written: {text!r}", found == (wanted, frozenset()) and len(left_out) == 1, (found, left_out))
+        named_twice = "source;target\nap18;sw2\ncore01;edge-1\nap18;edge-1\ncore01;rtr-a\n"
+        self.note("names that come twice below a heading", found_in(named_twice.encode())[0] is not None)
 
     def test_numbers_as_names(self):
         """A node's name in JSON may be a number."""

@@ -174,6 +174,9 @@ TABLES = (
         "====,0,0", "Ulm*,1,1", "- Hof,1,1", "Hof;Bonn,1,1", '="Hof",1,1', "KÃ¶ln,1,1", "«Hof,1,1")),
     ("a place that isn't known", b"site,lat,lon\nUlm,48,10\nHof,0,0\n", b"site,channel\n"),
     ("names after numbers", b"site,x,y\n1. Ulm,0,0\n2. Aue,1,1\n", b"site,channel\n"),
+    ("points of the compass", b"site,lat,N/S,lon,E/W\nA,48.1,N,0.2,W\nB,48.1,N,0.2,E\n", b"site,channel\n"),
+    ("two zones", b"site,zone,easting,northing\nA,32U,500000,5300000\nB,33U,500100,5300000\n", b"site,channel\n"),
+    ("two channels or a fraction", b"site;x;y\nUlm;0;0\n", b"site;channel\nUlm;6,5\n"),
     ("two sites a row", b"site,x,y,site 2,x 2,y 2\nUlm,0,0,Aue,1,1\n", b"site,channel\n"),
 )
 # Tables of which something is counted that isn't read, or may be wrong.
@@ -261,6 +264,12 @@ class NearTexts(Case):
                 "y\n" if title == "x" else "northing", f"y ({unit})\n" if title == "x" else f"northing ({unit})", 1)
             sites.with_sites(found, sites.read_sites(named_text.encode(), "sites"), "sites", 3)
             self.note(f"with its unit: {name}", len(found.order) > 1, named_text)
+
+    def test_reach(self):
+        found = Listed("sites")
+        sites.with_sites(found, sites.read_sites(b"site,x,y\nA,1,2\nB,3,4\nC,9,9\n", "sites"), "sites", 5000)
+        said = [what for what in found.left_out if "is it in kilometres" in what]
+        self.note("a reach in metres is counted", len(said) == 1, found.left_out)
 
     def test_exchanged(self):
         """Latitude and longitude that are exchanged for sure are refused; else it is said where the sites are."""

@@ -54,8 +54,9 @@ class Sites(Case):
         self.note("north is on top, and east is right",
                   places[1][1] > places[3][1] > places[4][1] and places[4][0] < places[1][0] < places[2][0], places)
         self.note("the program reads it", run_program(PLAN, ["forests"], wrote).stdout.startswith(b"forests 4 1\n"))
-        self.refused("what is left out, if that is asked for", "--strict is asked for: 1 column not read: km; 1 line "
-                     "left out, with a site", pairs, "--sites", sites, "--strict")
+        self.refused("what is left out, if that is asked for", "--strict is asked for: 1 column not read: km (if it "
+                     "says nothing of edges: --heading yes); 1 line left out, with a site", pairs, "--sites", sites,
+                     "--strict")
 
     def test_misspelt(self):
         """Names that aren't in the table are said, a few of them, with those that are written most alike."""
@@ -66,9 +67,9 @@ class Sites(Case):
         said = (f"6 lines left out, with a site that isn't in {sites}: Kölln (line 1, is it Köln?), "
                 "hof am wald (line 3, is it Hof am Wald?), Prag (line 4), Koln (line 5, is it Köln?), and 2 more\n")
         self.note("misspelt sites", (status, edges_of(wrote)) == (0, {(2, 3)}) and said.encode() in told, told)
-        self.refused("misspelt sites, if that is asked for", "asked for: 1 column not read: number 3; Hof am Wald and "
-                     "hof am wald are two nodes: are they meant to be one?; 6 lines left out", pairs, "--sites", sites,
-                     "--strict")
+        self.refused("misspelt sites, if that is asked for", "asked for: 1 column not read: number 3 (if it says "
+                     "nothing of edges: --as pairs); Hof am Wald and hof am wald are two nodes: are they meant to be "
+                     "one?; 6 lines left out", pairs, "--sites", sites, "--strict")
         self.refused("sites of another table", "none of its names is in the pairs",
                      self.file("other.csv", "A,B\nB,C\n"), "--sites", sites)
         told = call("read", pairs, "--bars", self.file("bars.csv", "site,channel\nUlmm,6\nUlm,7\nBonn,1\n"))[2]
@@ -229,6 +230,7 @@ class Channels(Case):
             ("Frequency\n5180\n", "no column is named channel"),
             ("channel,power\n36,1\nforty,1\n", "line 3: no channel: `forty,1`"),
             ("channel,power\n36,1\n36,2\n", "names a channel twice"),
+            ("channel,allowed\n36,yes\n40,no\n", "column allowed may say which channels"),
             ("channel\n", "or it has no row"),
         ):
             with open(path, "w", encoding="utf-8", newline="") as file:
@@ -258,8 +260,8 @@ class Channels(Case):
         ):
             got = self.call(*words, data=data)
             self.note(f"{words} {data!r}", got[:2] == (1, "") and said in got[2] and got[2].count("\n") == 1, got)
-        for words in ([], ["x"], ["nowhere.csv"], ["1", "1"], ["1-"], ["5-1"], ["1-5/0"], ["1-3000"], ["--forth", "1"],
-                      ["--run", "--back"]):
+        for words in ([], ["x"], ["nowhere.csv"], ["1", "1"], ["1-"], ["5-1"], ["1-5/0"], ["36-63/4"], ["1-3000"],
+                      ["--forth", "1"], ["--run", "--back"]):
             got = self.call(*words, data="plan\n")
             self.note(f"refused words: {words}", got[:2] == (2, "") and "channels: error: " in got[2], got)
 
