@@ -5,6 +5,7 @@ import re
 from lab.networks.fields import shown
 from lab.networks.lines import Rows
 from lab.networks.listed import Listed
+from lab.wrong import wrong_line
 
 EDGES, NODES = "edges|links|pairs|arcs|kanten", "nodes|vertices|sites|knoten|standorte"
 # Words that say that the rows are no edges, or no longer.
@@ -21,13 +22,16 @@ def count_in(comment: str, words: str, letter: str, of_konect: str) -> int | Non
     return int(found[1]) if found else None
 
 
-def said_by(comments: list[tuple[int, str]], rows: Rows, found: Listed) -> list[str]:
+def said_by(comments: list[tuple[int, str]], rows: Rows, found: Listed, name: str) -> list[str]:
     """What is counted: another number of edges, or more nodes, than the rows have; words that deny them; and a comment
     between them."""
     pairs = {frozenset(ends) for _, *ends in found.edges}
     nodes = {node for _, node in found.alone} | {end for pair in pairs for end in pair}
     said = []
     for line, comment in comments:
+        if re.match(r"%\s*bip\b", comment):
+            raise wrong_line(name, line, "a graph of KONECT with two kinds of nodes, whose numbers both count from 1: "
+                             "give the nodes of the second kind other names")
         edges = count_in(comment, EDGES, r"(?:m|\|e\|)", r"^%\s*(\d{1,9})(?:\s+\d+){1,2}\s*$")
         most = count_in(comment, NODES, r"(?:n|\|v\|)", r"^%\s*\d+\s+(\d{1,9})\s+\d+\s*$")
         if edges not in (None, len(found.edges), len(pairs)):

@@ -13,6 +13,8 @@ ENDS = {"source": "target", "from": "to", "src": "dst", "start": "end", "node": 
 # And headings that differ in their last letter, as `site_a` and `site_b`, or `Site 1` and `Site 2`.
 NOUN = "(site|node|station|transmitter|mast|cell|vertex|id|standort|sender|knoten|zelle|anlage)"
 SECOND = {"a": "b", "1": "2"}
+# What comes after such a noun in names of nodes.
+NUMBERED = r"([ _.-]\w{1,4}|\d{1,4}|[a-d])"
 # Words that make nobody think of a site, in a first row.
 TITLES = {*ENDS, *ENDS.values(), *NOUN[1:-1].split("|"), "name", "nodes", "sites", "edge", "edges", "other", "label",
           "graph", "network", "netz", "netzwerk", "links", "pairs", "list", "liste", "table", "tabelle", "kanten"}
@@ -117,7 +119,7 @@ def columns_named(row: tuple[int, list[str]], body: list, name: str) -> tuple[in
         return None
     wanted = [first[at].lower() for at in columns]
     below = [(number, [fields[at].lower() if at < len(fields) else "" for at in columns]) for number, fields in body]
-    if wanted[0] not in ENDS and any(re.fullmatch(NOUN + r"[ _.-]?\w{1,4}", end) for _, ends in below for end in ends):
+    if wanted[0] not in ENDS and any(re.fullmatch(NOUN + NUMBERED, end) for _, ends in below for end in ends):
         return None
     second = next((number for number, ends in below if ends == wanted), None)
     if second:

@@ -7,7 +7,7 @@ import unicodedata
 from collections import Counter
 
 from lab.networks.fields import is_number, shown, whole
-from lab.networks.headings import ENDS, MISSING, NOUN, OF_TABLES, ends_named
+from lab.networks.headings import ENDS, MISSING, NOUN, NUMBERED, OF_TABLES, ends_named
 from lab.wrong import wrong_line
 
 Pairs = list[tuple[int, str, str]]
@@ -46,7 +46,7 @@ TIME = re.compile(r"([01]?\d|2[0-3]):[0-5]\d")
 VALUE = re.compile(r"[-+]?\d[\d.,]*\s?(km|m|mi|[kmg]?hz|dbm?|%|ms|min|h|w)|([01]?\d|2[0-3]):[0-5]\d:[0-5]\d", re.I)
 
 
-def refuse_names(pairs: Pairs, separator: str | None, name: str) -> list[str]:
+def refuse_names(pairs: Pairs, separator: str | None, is_headed: bool, name: str) -> list[str]:
     """Refuses names that may be more than a name, or none; and rows that name two columns. Returns what is counted:
     words that may be a title, names that are another one and more, and those with a mark that lists have, too."""
     lines: dict[str, int] = {}
@@ -73,7 +73,7 @@ def refuse_names(pairs: Pairs, separator: str | None, name: str) -> list[str]:
         refuse_marks(ones, others, pairs[0], name)
     said = []
     if separator is None:
-        said = refuse_strays(pairs, times, name)
+        said = refuse_strays(pairs, times, is_headed, name)
         refuse_single(pairs, name)
     refuse_headings(pairs, lines, times, name)
     if more := next((end for end in lines if is_name_and_more(end, lines)), None):
@@ -196,16 +196,16 @@ def are_pairs(halves: list) -> bool:
         "-" in found[0] for found in halves)
 
 
-def refuse_strays(pairs: Pairs, times: Counter, name: str) -> list[str]:
+def refuse_strays(pairs: Pairs, times: Counter, is_headed: bool, name: str) -> list[str]:
     """Refuses a pair between blanks by itself with a name that looks like no other, as words do among names with
-    digits: it may be a title or a greeting; and a first pair with such a name. Words that look like the others are
-    counted."""
+    digits: it may be a title or a greeting; and a first pair with such a name, unless it is below a heading. Words that
+    look like the others are counted."""
     apart = [pair for pair in pairs if all(times[end] == 1 for end in pair[1:] if end)]
     if len(apart) == len(pairs):
         return []
     alone = {end for _, *ends in apart for end in ends}
     kinds = {look_of(end) for end in times if end and end not in alone and end not in pairs[0][1:]}
-    for line, *ends in sorted({pairs[0], *apart}) if kinds else ():
+    for line, *ends in sorted({*pairs[:not is_headed], *apart}) if kinds else ():
         if not kinds.issuperset(look_of(end) for end in ends if end and times[end] == 1):
             raise wrong_line(name, line, f"`{shown(' '.join(ends))}` may be no pair of nodes, beside the other lines "
                                          "(if it is one: --as pairs)")
@@ -241,6 +241,6 @@ def refuse_headings(pairs: Pairs, lines: dict[str, int], times: Counter, name: s
     line_of_tables = next((line for line, *ends in pairs if all(
         times[end] == 1 and end.lower() in OF_TABLES for end in ends)), 0)
     if line_of_tables or line and (words.intersection(map(str.lower, ends)) or not any(
-            re.fullmatch(NOUN + r"[ _.-]?\w{1,4}", end.lower()) for end in others)):
+            re.fullmatch(NOUN + NUMBERED, end.lower()) for end in others)):
         raise wrong_line(name, line or line_of_tables, "the heading of a second table: write both into one with the "
                          "same columns (if it is a pair: --as pairs)")

@@ -38,7 +38,7 @@ def read(text: str, name: str, form: str | None, heading: bool | None) -> Listed
         refuse_rows(table.rows, table.separator, text, name)
     found = read_table(table, name, form, heading)
     found.notes[:0], found.left_out[:0] = table.notes, table.left_out
-    found.left_out += said_by(table.comments, table.rows, found)
+    found.left_out += said_by(table.comments, table.rows, found, name)
     return found
 
 
@@ -96,11 +96,11 @@ def parts_of(fields: list[str], has_colon: bool) -> tuple[str, list[str]]:
 
 
 def may_be_weighted(rows: Rows) -> bool:
-    """Whether lines that could be nodes with their neighbours could be pairs with a weight, or paths, too: three fields
-    in each, and some line names a neighbour that doesn't name its node."""
+    """Whether lines that could be nodes with their neighbours could be pairs with a weight or a word, or paths, too:
+    each has two fields or three, and some line names a neighbour that doesn't name its node."""
     # A first row of two fields may be a heading over rows that are numbered.
     body = rows[len(rows[0][1]) == 2:]
-    return all(len(fields) == 3 and fields[0][-1] != ":" for _, fields in body) and not are_mutual(rows)
+    return all(1 < len(fields) < 4 for _, fields in body) and not have_colons(rows) and not are_mutual(rows)
 
 
 def are_mutual(rows: Rows) -> bool:
@@ -131,7 +131,7 @@ def read_pairs(table: Table, name: str, heading: bool | None, is_sure: bool) -> 
     if not is_sure:
         refuse_odd(pairs, name)
         refuse_alone(pairs, heading is None, is_closed(head.body), name)
-        found.left_out += refuse_names(pairs, table.separator, name)
+        found.left_out += refuse_names(pairs, table.separator, head.is_there, name)
         refuse_shape(pairs, head.columns is not None, name)
         refuse_columns(titles, head.body, columns, {end for _, *ends in pairs for end in ends}, name)
         refuse_signs(titles, head.body, columns, name)

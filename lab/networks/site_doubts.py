@@ -9,7 +9,7 @@ from lab.networks.places import WIDEST, Point, across_of, near
 from lab.wrong import Wrong, wrong_line
 
 # Marks of lists, comments and spreadsheets before a name, and of footnotes after it.
-BEFORE = re.compile(r"[=;,|/*>~+\u2022\u2013-]|\\")
+BEFORE = re.compile(r"[=;,|/*>~+!\u2022\u2013-]|\\|\(.*\)$|\[.*\]$")
 AFTER = re.compile(r"[*\u2020\u2021^~\u00b0\u00b9\u00b2\u00b3?!;,]$")
 # How programs write that a place isn't known.
 NO_PLACE = re.compile(r"[-+]?(9{3,}|9{2,}\.9+)(\.0*)?|[-+]?1(\.0*)?e\+?\d{2,3}", re.I)

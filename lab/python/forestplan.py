@@ -23,6 +23,10 @@ Message = collections.namedtuple("Message", "sender receiver word value")
 Entry = collections.namedtuple("Entry", "stamp node kind other wire")
 
 
+# Keys of a table, or of a graph in lists, that are no nodes.
+COLUMNS = {"source", "target", "from", "to", "weight", "nodes", "edges", "links", "V", "E"}
+
+
 class Refused(ValueError):
     """What a program refuses: `code`, as C4; `nodes`, those that it names; `words`, what it means and what to do."""
 
@@ -164,7 +168,28 @@ def _pairs(G):
     if not isinstance(G, collections.abc.Mapping) or isinstance(G, collections.abc.Set):
         raise TypeError(f"a {type(G).__name__} is no graph: a graph of networkx is wanted (Graph makes one of pairs, "
                         "from_pandas_adjacency of a matrix), or a dict with the neighbours of each node")
-    return [(one, other) for one in G for other in _items(G[one], f"neighbours of {one!r}")]
+    if G and COLUMNS.issuperset(G):
+        raise TypeError(f"a dict with {', '.join(map(repr, G))} is a table, and a dict with the neighbours of each node "
+                        "is wanted: networkx.Graph(zip(ONES, OTHERS)) is a graph of two columns")
+    pairs = [(one, other) for one in G for other in _items(G[one], f"neighbours of {one!r}")]
+    for one in G:
+        _see_neighbours(one, G[one], G)
+    return pairs
+
+
+def _see_neighbours(one, several, G):
+    """Refuses neighbours that may be none, or something else: a row of a matrix, pairs with a weight, or no name."""
+    values = several.values() if isinstance(several, collections.abc.Mapping) else ()
+    if any(not isinstance(value, collections.abc.Mapping) and (not value or value != value) for value in values):
+        raise TypeError(f"some neighbours of {one!r} have the value 0 or none, and may be none: leave them out")
+    found = list(several)
+    if len(found) == len(G) > 2 and all(isinstance(other, int) and other in (0, 1) for other in found):
+        raise TypeError(f"the neighbours of {one!r} may be a row of a matrix: networkx.from_numpy_array makes a graph")
+    for other in found:
+        if isinstance(other, tuple) and other not in G and other and other[0] in G:
+            raise TypeError(f"a neighbour of {one!r} is {other!r}, a node and a weight: leave the weight out")
+        if other is None or other == "" or other != other:
+            raise TypeError(f"a neighbour of {one!r} is {other!r}, which names no node: leave it out")
 
 
 def _items(several, what):
@@ -177,7 +202,7 @@ def _items(several, what):
 def _whole(value, what, is_counted):
     """A channel: a whole number, from 0 on, or if it `is_counted` from 1 on."""
     try:
-        number = operator.index(value)
+        number = operator.index(value if not isinstance(value, bool) else None)
     except TypeError:
         raise TypeError(f"{what} is {value!r}, and has to be a whole number") from None
     if not is_counted <= number <= 2048 + (not is_counted) * 10 ** 12:

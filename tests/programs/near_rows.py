@@ -231,6 +231,7 @@ REFUSED = (
     "start,end\n08:00,09:30\n10:00,11:15\n", "A B C\nB C D\nC D A\nD A B\n",
     "source,target\nfw1 (1),sw2 (8)\nsw2 (8),ap3 (1)\nap3 (2),fw1 (2)\n",
     "source,target\nUlm,Aue\nAue,Hof\nid,label\n1,Ulm\n",
+    "Ulm Aue\nAue Hof\nHof Ulm\nremoved Ulm Aue\n", "% bip unweighted\n1 2\n2 1\n2 3\n",
     "source,target\nUlm,Aue\nAue,10 km\n", "| source | target |\n|---|---|\n| Ulm | Aue |\n")
 # Texts of which something is counted, which may be another network.
 COUNTED = (
@@ -289,6 +290,9 @@ class NearRows(Case):
             found, left_out = found_in(text.encode())
             wanted = frozenset((frozenset(("Ulm", "Aue")), frozenset(("Aue", "Hof"))))
             self.note(f"written: {text!r}", found == (wanted, frozenset()) and len(left_out) == 1, (found, left_out))
+        for text in ("Site A,Site B\nCelle,Ulm\nUlm,Hof\n", "source target\n   sw3    sw2\n   sw3  rtr-b\n"):
+            found, left_out = found_in(text.encode())
+            self.note(f"written: {text!r}", found and len(found[0]) == 2 and not left_out, (found, left_out))
         named_twice = "source;target\nap18;sw2\ncore01;edge-1\nap18;edge-1\ncore01;rtr-a\n"
         self.note("names that come twice below a heading", found_in(named_twice.encode())[0] is not None)
 

@@ -171,7 +171,8 @@ TABLES = (
     ("two encodings", "site\nKöln\n".encode() + "Mörs\n".encode("cp1252"), b"site,channel\n"),
     *((f"a row {row!r}", f"site,x,y\nUlm,0,0\nAue,1,1\n{row}\n".encode(), b"site,channel\n") for row in (
         "Summe,5,5", "Average,5,5", "Hof,-9999,-9999", "Hof,1e20,1e20", "#Hof,1,1", "//Hof,1,1", "NA,0,0", "#N/A,0,0",
-        "====,0,0", "Ulm*,1,1", "- Hof,1,1", "Hof;Bonn,1,1", '="Hof",1,1', "KÃ¶ln,1,1", "«Hof,1,1")),
+        "====,0,0", "Ulm*,1,1", "- Hof,1,1", "!Hof,1,1", "(Hof),1,1",
+        "Hof;Bonn,1,1", '="Hof",1,1', "KÃ¶ln,1,1", "«Hof,1,1")),
     ("a place that isn't known", b"site,lat,lon\nUlm,48,10\nHof,0,0\n", b"site,channel\n"),
     ("names after numbers", b"site,x,y\n1. Ulm,0,0\n2. Aue,1,1\n", b"site,channel\n"),
     ("points of the compass", b"site,lat,N/S,lon,E/W\nA,48.1,N,0.2,W\nB,48.1,N,0.2,E\n", b"site,channel\n"),

@@ -495,9 +495,10 @@ class OwnNetworks(Case):
                 names = [name.replace(" ", "_") for name in names]
                 edges = {frozenset(name.replace(" ", "_") for name in edge) for edge in edges}
             text = in_form(source, form, names, edges)
-            # A first line of one name may be a title, unless it is said what it is.
-            may_be_title = form == "adjacency" and " " not in text.partition("\n")[0]
-            made, _ = read(text.encode(), "net", form if may_be_title else None,
+            # A first line of one name may be a title, and two names or three a line pairs, unless --as says.
+            widths = [len(line.split()) for line in text.splitlines()[:-1]]
+            may_be_other = form == "adjacency" and (widths[0] == 1 or set(widths) <= {2, 3})
+            made, _ = read(text.encode(), "net", form if may_be_other else None,
                            True if form == "csv" else False if form == "pairs" else None)
             lone = set(names) - set().union(*edges)
             if pairs_in(text_of(made).encode()) != (edges, lone if form != "csv" else set()):
