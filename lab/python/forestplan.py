@@ -169,8 +169,8 @@ def _pairs(G):
         raise TypeError(f"a {type(G).__name__} is no graph: a graph of networkx is wanted (Graph makes one of pairs, "
                         "from_pandas_adjacency of a matrix), or a dict with the neighbours of each node")
     if G and COLUMNS.issuperset(G):
-        raise TypeError(f"a dict with {', '.join(map(repr, G))} is a table, and a dict with the neighbours of each node "
-                        "is wanted: networkx.Graph(zip(ONES, OTHERS)) is a graph of two columns")
+        raise TypeError(f"a dict with {', '.join(map(repr, G))} is a table, and a dict with the neighbours of each "
+                        "node is wanted: networkx.Graph(zip(ONES, OTHERS)) is a graph of two columns")
     pairs = [(one, other) for one in G for other in _items(G[one], f"neighbours of {one!r}")]
     for one in G:
         _see_neighbours(one, G[one], G)
@@ -188,7 +188,7 @@ def _see_neighbours(one, several, G):
     for other in found:
         if isinstance(other, tuple) and other not in G and other and other[0] in G:
             raise TypeError(f"a neighbour of {one!r} is {other!r}, a node and a weight: leave the weight out")
-        if other is None or other == "" or other != other:
+        if other != other or other in (None, "") and other not in G:
             raise TypeError(f"a neighbour of {one!r} is {other!r}, which names no node: leave it out")
 
 
