@@ -5,8 +5,8 @@
 - Each excerpt of code, a fence whose first line names its file, has its lines in that file, in this order; a comment
   `..` means lines that are left out.
 - README.md or docs/work/LAYERS.md names each crate. No line of a page is wider than 150 columns.
-- Each file named in backquotes exists, each link leads to a page and a heading, and each function and clause that
-  docs/claim/PROMISES.md names is in the code. It names each public law.
+- Each file named in backquotes exists, also if it is named without its folder; each link leads to a page and a
+  heading, and each function and clause that docs/claim/PROMISES.md names is in the code. It names each public law.
 """
 import glob
 import os
@@ -89,6 +89,13 @@ def tutorial_table(title, rows):
     return None
 
 
+def last_names():
+    """The names of the files of the tree, without their folders, and of the sample of OWN_ALGORITHM."""
+    folders = ("crates", "lab", "build", "tests", "bench", "examples", "docs")
+    return {"flood.py"} | {name for folder in folders for _, _, names in os.walk(os.path.join(TOP, folder))
+                           for name in names}
+
+
 def heading_anchor(line):
     text = re.sub(r"[`*,.:;()?/+·']", "", line.lstrip("#").strip().lower())
     return text.replace(" ", "-")
@@ -139,6 +146,15 @@ class Pages(Case):
     def test_names(self):
         for page in PAGES:
             self.check_names(page)
+
+    def test_last_names(self):
+        there, count = last_names(), 0
+        for page in PAGES:
+            for number, line in enumerate(lines_of(page), 1):
+                for name in re.findall(r"`(?:[\w/]+/)?(\w*[a-z]\w*\.(?:py|rt|antt|js|sh))`", line):
+                    count += 1
+                    self.note(f"{page}:{number} {name}", name in there or "NAME" in name, "no file has this name")
+        self.note("files that pages name", count > 300, count)
 
     def test_excerpts(self):
         for page in PAGES:
