@@ -23,8 +23,7 @@ def draw(network, plan):
     left = (width - side) / 2
     svg = Svg(width, top + side + 24, f"Matrix of {network.name}")
     if wrong:
-        said = (f"Each red mark, in a block on the diagonal, is a pair on one channel: "
-                f"{counted(len(wrong), 'pair')}.")
+        said = (f"Each red mark, in a block on the diagonal, is a pair on one channel: {counted(len(wrong), 'pair')}.")
     else:
         said = ("No mark in a block on the diagonal: none interferes on its own channel." if network.edges
                 else "No pair interferes.")

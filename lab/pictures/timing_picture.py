@@ -28,8 +28,7 @@ def draw(run, vertex, pulses=None):
     step = max(7, min(15, 1080 / len(moments)))
     said = (
         "One step to the right is one entry of this node. A lane rises by half with a payload taken, to the next line "
-        "with a safe; "
-        "each pulse lowers all by one."
+        "with a safe; each pulse lowers all by one."
     )
     width = max(LEFT + len(moments) * step + 24, 40 + text_width(said, 11.5) * 0.95)
     svg = Svg(width, TOP + 58 + len(neighbours) * LANE + 26, f"Node {vertex} of {run.name}")

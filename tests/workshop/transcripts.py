@@ -22,9 +22,8 @@ ROWS = (
     (f"1 1 put 2 {HELLO_1}|2 1 put 2 safe 0|",
      f"line 3: NothingToPut: node 1 puts safe 0 for 2: list of 1 for 2; {SAFE}; {NO_ACK}"),
     (GREETED + "3 2 put 1 ack 1|",
-     "line 6: WrongWire: node 2 puts ack 1 for 1: expected ack 0; a payload is acknowledged with its own pulse as "
-     "soon as it "
-     "is taken, before anything else is put on that link"),
+     "line 6: WrongWire: node 2 puts ack 1 for 1: expected ack 0; a payload is acknowledged with its own pulse as soon "
+     "as it is taken, before anything else is put on that link"),
     ("1 1 put 2 payload 0 hello 7|",
      "line 2: WrongWire: node 1 puts payload 0 hello 7 for 2: expected payload 0 hello 1; the rounds have payload 0 "
      "hello 1 there"),
@@ -32,13 +31,11 @@ ROWS = (
      "line 2: WrongWire: node 1 puts safe 0 for 2: expected payload 0 hello 1; in pulse 0 it has to send payload 0 "
      "hello 1 for 2 first"),
     ("1 1 put 2 payload 1 label 0|",
-     "line 2: WrongWire: node 1 puts payload 1 label 0 for 2: expected payload 0 hello 1; the node is at pulse 0, "
-     "and a payload "
-     "of pulse P is put after pulse P is made"),
+     "line 2: WrongWire: node 1 puts payload 1 label 0 for 2: expected payload 0 hello 1; the node is at pulse 0, and "
+     "a payload of pulse P is put after pulse P is made"),
     (f"1 1 put 2 {HELLO_1}|2 1 put 2 close|",
      "line 3: NothingToPut: node 1 puts close for 2: list of 1 for 2; close is the last wire of a link, put as the "
-     "node makes "
-     "its last pulse, 18; it is at pulse 0"),
+     "node makes its last pulse, 18; it is at pulse 0"),
     (f"1 1 put 2 {HELLO_1}|2 1 put 2 ack 0|",
      "line 3: NothingToPut: node 1 puts ack 0 for 2: list of 1 for 2; each payload is acknowledged once, with the "
      "payload's own pulse"),
@@ -47,9 +44,8 @@ ROWS = (
      "in pulse P"),
     ("1 1 pulse 1|", f"line 2: NotReady: node 1 makes pulse 1: ack 0 of 2; safe 0 of 2; {PULSE}; {NO_ACK}"),
     (f"1 1 take 2 {HELLO_2}|1 2 put 1 {HELLO_2}|",
-     "line 2: LinkEmpty: node 1 takes payload 0 hello 2 from 2: link from 2 to 1; it is put in line 3, with stamp 1: "
-     "a take has "
-     "a greater stamp than its put"),
+     "line 2: LinkEmpty: node 1 takes payload 0 hello 2 from 2: link from 2 to 1; it is put in line 3, with stamp 1: a "
+     "take has a greater stamp than its put"),
     (f"1 1 take 2 {HELLO_2}|",
      "line 2: LinkEmpty: node 1 takes payload 0 hello 2 from 2: link from 2 to 1, and 2 never puts it"),
     # What is put there later is another wire.
@@ -62,8 +58,7 @@ ROWS = (
      "line 5: LinkEmpty: node 1 takes payload 0 hello 2 from 2: link from 2 to 1, and 2 never puts it again"),
     # Nothing is on its way: it isn't asked whether the text is cut.
     (GREETED, "line 5: NotWhole: after the last entry nothing is on its way, and not all is done: node 1 at pulse 0 "
-              "doesn't "
-              "put 2 ack 0; node 2 at pulse 0 doesn't put 1 ack 0"),
+              "doesn't put 2 ack 0; node 2 at pulse 0 doesn't put 1 ack 0"),
     # Something is.
     (f"1 1 put 2 {HELLO_1}|", "line 2: NotWhole: after the last entry node 1 is at pulse 0 of 18 (is the text cut?)"),
     # An entry before a line that is none comes first.
@@ -113,13 +108,11 @@ class Transcripts(unittest.TestCase):
              f"line 3: NothingToPut: node 1 puts safe 0 for 2, for which it has nothing; {SAFE}; {NO_ACK}"),
             (f"1 put 2 {HELLO_1}|1 take 2 {HELLO_2}|2 put 1 {HELLO_2}|2 take 1 {HELLO_1}|",
              "line 3: NotWhole: after the last entry nothing is on its way, and not all is done: node 1 at pulse 0 "
-             "doesn't put "
-             "2 ack 0; node 2 at pulse 0 doesn't put 1 ack 0"),
+             "doesn't put 2 ack 0; node 2 at pulse 0 doesn't put 1 ack 0"),
             (f"1 put 2 {HELLO_1}|1 pulse 2|1 put 2 odd|",
              f"line 3: NotReady: node 1 makes pulse 2, but it hasn't taken ack 0 from 2; {PULSE}; {NO_ACK}"),
-            (f"1 put 2 {HELLO_1}|1 take 2 {HELLO_2}|2 put 1 odd|", "line 4: X1: not an entry: `odd` is no wire, "
-                                                                   "which are payload, ack, "
-                                                                   "safe, close"),
+            (f"1 put 2 {HELLO_1}|1 take 2 {HELLO_2}|2 put 1 odd|", "line 4: X1: not an entry: `odd` is no wire, which "
+                                                                   "are payload, ack, safe, close"),
         ):
             with self.subTest(entries):
                 self.assertEqual(said("transcript 1 2|" + entries), line)
@@ -139,9 +132,8 @@ class Transcripts(unittest.TestCase):
 
     def test_a_text_that_ends_inside_a_line(self):
         self.assertEqual(said("transcript 2 2|1 1 put 2 pay"),
-                         "line 2: X1: not an entry: `pay` is no wire, which are payload, ack, safe, close, and no "
-                         "line feed after it "
-                         "(is the text cut?)")
+                         "line 2: X1: not an entry: `pay` is no wire, which are payload, ack, safe, close, and no line "
+                         "feed after it (is the text cut?)")
 
     def test_bars_that_a_program_ignores(self):
         """Each command that reads a network for another program says so once; the colouring minds bars."""

@@ -19,8 +19,7 @@ from tests.workshop.base import network
 ROW = Network("row", 3, [(1, 2), (1, 3)], {}, {}, {1: 7, 2: 2, 3: 11})
 OF_ROW = (
     (1, 1, 3, "its parents are the neighbours above its own identifier, 7, by ascending identifier: 11 (port 1) in "
-              "forest 0; "
-              "each gets the label of its forest"),
+              "forest 0; each gets the label of its forest"),
     (3, 1, 1, "no neighbour has an identifier above its own, 11: it has no parent, and labels nobody"),
 )
 OF_COLOURS = (
@@ -28,13 +27,11 @@ OF_COLOURS = (
     (1, 2, "in each forest a node begins with its identifier, 7, and sends it to its children there: port 0 in "
            "forest 0"),
     (2, 3, "bit step in forest 0: it had 2 (binary 10), and its parent, by port 0, sent 7 (binary 111); counted from "
-           "the right, "
-           "from 0, they differ first in digit 0, where its own is 0: 2*0 + 0 = 0; it has no child in forest 0, so "
-           "it sends 0 to nobody"),
+           "the right, from 0, they differ first in digit 0, where its own is 0: 2*0 + 0 = 0; it has no child in "
+           "forest 0, so it sends 0 to nobody"),
     (1, 3, "bit step in forest 0: it had 7 (binary 111), and its parent, by port 1, sent 11 (binary 1011); counted "
-           "from the right, "
-           "from 0, they differ first in digit 2, where its own is 1: 2*2 + 1 = 5; its children in forest 0 get it, "
-           "by port 0"),
+           "from the right, from 0, they differ first in digit 2, where its own is 1: 2*2 + 1 = 5; its children in "
+           "forest 0 get it, by port 0"),
     (3, 3, "bit step in forest 0: it had 11 (binary 1011), and is a root, so digit 0 counts, which is 1: 2*0 + 1 = 1; "
            "its children in forest 0 get it, by port 0"),
     (2, 7, "shift in forest 0: it takes the colour that its parent sent, by port 0: 5; it has no child in forest 0, "
@@ -42,9 +39,8 @@ OF_COLOURS = (
     (3, 7, "shift in forest 0: it is a root, and takes the least of 0, 1, 2 other than its own 1: 0; "
            "its children in forest 0 get it, by port 0"),
     (2, 8, "drop of 5 in forest 0: it has 5; its parent, by port 0, sent 1, and its children have 0, which it had "
-           "itself before "
-           "the shift; it takes the least of 0, 1, 2 that is neither: 2; it has no child in forest 0, so it sends 2 "
-           "to nobody"),
+           "itself before the shift; it takes the least of 0, 1, 2 that is neither: 2; it has no child in forest 0, so "
+           "it sends 2 to nobody"),
     (1, 8, "drop of 5 in forest 0: it has 1, and keeps it: 1; its children in forest 0 get it, by port 0"),
     (1, 12, "drop of 3 in forest 0: it has 1, and keeps it: 1; in pulse 12 nothing is sent"),
 )
