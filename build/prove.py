@@ -1,14 +1,14 @@
 """Proves crates, each as soon as those below it are proved, several side by side, builds the programs, and shows how
 far that is.
 
-  prove.py [--kept] [--jobs N] [CRATE ..]      default: every crate of crates.txt
+  python3 build prove [--jobs N] [CRATE ..]      default: every crate of crates.txt
 
 Those below a crate are proved with it, each from nothing, as the gate does it (what is left to the gate:
 docs/work/DECISIONS.md, 93 and 99). What is proved is kept for all checkouts of this user (in ~/.cache/forestplan), so a
 call that was interrupted goes on where it was, and nothing is proved twice. A program goes into its crate's out/.
 
 What is proved is offered to `rt check` of every checkout, which then builds none of the libraries below a crate
-(offered.py). With --kept the crates are built in their out/ instead, over what earlier checks kept there.
+(offered.py).
 
 Standard error shows how far it is; the log of a crate is out/build/CRATE.log. Two calls at once wait for each other.
 What has to be proved is decided by what the sources say, not by the times of files. The status is 0 if all is proved, 1
@@ -219,7 +219,7 @@ def prove_anew(crates, below, jobs, shown):
     return failed
 
 
-def proved(crates, jobs, is_kept=False, name="prove"):
+def proved(crates, jobs, name="prove"):
     """Proves what isn't proved yet, and returns the status."""
     below = listed()
     unknown = [crate for crate in crates if crate not in below]
@@ -229,13 +229,8 @@ def proved(crates, jobs, is_kept=False, name="prove"):
     wanted = with_below(crates or below, below)
     shown = Shown(name, len(wanted))
     try:
-        if is_kept:
-            _lock = wait_for_turn(name, LOGS)
-            failed = Proving(wanted, below, jobs, shown,
-                             lambda crate, processes: ["--kept", crate, str(processes)]).run()
-        else:
-            _lock = wait_for_turn(name, kit.store())
-            failed = prove_anew(wanted, below, jobs, shown)
+        _lock = wait_for_turn(name, kit.store())
+        failed = prove_anew(wanted, below, jobs, shown)
     except KeyboardInterrupt:
         shown.end(f"interrupted after {shown.time()}; what is proved is kept, so the next call goes on from here")
         return 130
@@ -252,11 +247,10 @@ def main():
                                     formatter_class=argparse.RawDescriptionHelpFormatter)
     words.add_argument("-j", "--jobs", type=int, default=jobs_with_room(),
                        help="how many crates are proved side by side")
-    words.add_argument("--kept", action="store_true", help="build in out/, over kept work, for `rt check`")
     words.add_argument("--name", default="prove", help="the name at the head of each line of progress")
     words.add_argument("crates", nargs="*", metavar="CRATE")
     asked = words.parse_args()
     if not kit.is_there(asked.name):
         return 2
     signal.signal(signal.SIGTERM, signal.default_int_handler)
-    return proved(asked.crates, max(1, asked.jobs), asked.kept, asked.name)
+    return proved(asked.crates, max(1, asked.jobs), asked.name)

@@ -1,11 +1,10 @@
 """Proves one crate; prove.py calls it for each, once those below it are proved, and reads its status and its log.
 
-  prove_crate.py [--kept] CRATE PROCESSES [KEY ..]
+  python3 build prove-crate CRATE PROCESSES [KEY ..]
 
 The crate is proved from nothing over the statements of the libraries below it, by the gate's functions of the
 toolchain's command, and what it states, or the program, goes into the store (kit.py) under the key of it that prove.py
-found. There is a KEY for each crate, as NAME=KEY. With --kept the library is built in the crate's out/ over what
-earlier checks kept there, and keeps its work for `rt check`.
+found. There is a KEY for each crate, as NAME=KEY.
 
 It ends as soon as its standard input does, and what it has started with it. The status is 0 if the crate is proved,
 else 1.
@@ -14,7 +13,6 @@ import argparse
 import os
 import resource
 import shutil
-import subprocess
 import tempfile
 import threading
 
@@ -31,25 +29,6 @@ def end_with_input():
         os._exit(130)
 
     threading.Thread(target=wait, daemon=True).start()
-
-
-def prove_kept(rt, name, flags):
-    """Builds a crate in its own out/, for `rt check`."""
-    if os.path.isfile(os.path.join(TOP, "crates", name, "src", "main.rt")):
-        folder = os.path.join(TOP, "crates", name)
-        return subprocess.run(["rt", "run", *flags, "--", "--help"], cwd=folder, stdin=subprocess.DEVNULL,
-                              check=False).returncode
-    rt.Crate.cuts_libraries = False
-    # A sum of a crate takes one of each crate below it, which is asked for once here and not once for every path to it.
-    known, stamp = {}, rt.Crate.__mro__[1].stamp
-
-    def stamp_once(crate):
-        if crate.folder not in known:
-            known[crate.folder] = stamp(crate)
-        return known[crate.folder]
-
-    rt.Crate.stamp = stamp_once
-    return rt.Crate(os.path.join(TOP, "crates", name), TOP, {}).build_rlib(flags, anew=False)
 
 
 def without_empty_contracts(rt):
@@ -110,7 +89,6 @@ def main():
     summary, _, more = __doc__.partition("\n")
     words = argparse.ArgumentParser(description=summary, epilog=more,
                                     formatter_class=argparse.RawDescriptionHelpFormatter)
-    words.add_argument("--kept", action="store_true", help="build the library in out/, for `rt check`")
     words.add_argument("crate", metavar="CRATE")
     words.add_argument("processes", metavar="PROCESSES", type=int)
     words.add_argument("keys", metavar="KEY", nargs="*")
@@ -119,10 +97,7 @@ def main():
     rt, flags = kit.toolchain(), ["--jobs", str(asked.processes)]
     # Its first call takes over a signal, which only this thread can.
     rt.rtlib.guarded()
-    if asked.kept:
-        status = prove_kept(rt, asked.crate, flags)
-    else:
-        status = prove_anew(rt, asked.crate, flags, dict(key.split("=") for key in asked.keys))
+    status = prove_anew(rt, asked.crate, flags, dict(key.split("=") for key in asked.keys))
     used = resource.getrusage(resource.RUSAGE_CHILDREN)
     print(f"processor seconds: {used.ru_utime + used.ru_stime:.0f}", flush=True)
     return 1 if status else 0
