@@ -7,6 +7,7 @@ from lab.definitions.nodes import NetState, last_pulse
 from lab.definitions.rounds import rounds_text
 from lab.transcripts.check import find_order
 from lab.transcripts.reading import read
+from lab.transcripts.stamps import Clock
 from tests.cases import example
 from tests.pictures.base import EDGE, PictureCase, circle_of, transcript, transcript_by
 from tests.pictures.marks import ends, gap, marks, number, parsed, texts, title, titles
@@ -38,15 +39,11 @@ def times_of(network, text):
     """{(vertex, pulse): length of the longest chain of entries that ends with it}, along an order that the text can
     have."""
     net = network_of(network)
-    last, puts, found = Counter(), {}, {(v, 0): 0 for v in net.neighbours}
+    clock, found = Clock(net.neighbours), {(v, 0): 0 for v in net.neighbours}
     for entry in find_order(net, read(text)[1]).made:
-        v, w = entry.vertex, entry.neighbour
-        before = puts[w, v].pop(0) if entry.kind == "Take" else 0
-        last[v] = 1 + max(last[v], before)
-        if entry.kind == "Put":
-            puts.setdefault((v, w), []).append(last[v])
-        elif entry.kind == "Pulse":
-            found[v, entry.what] = last[v]
+        time = clock.next(entry.kind, entry.vertex, entry.neighbour)
+        if entry.kind == "Pulse":
+            found[entry.vertex, entry.what] = time
     return found
 
 

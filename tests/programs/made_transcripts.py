@@ -3,9 +3,9 @@ mistake.
 
 A transcript is held as its entries' lines without line feeds, each node's in its own order."""
 import re
-from collections import deque
 
 from lab.definitions.nodes import NetState, wire_words
+from lab.transcripts.stamps import Clock
 
 MOST_LOOKS = 10_000_000
 MISTAKES = ("changed", "doubled", "left out", "swapped")
@@ -74,26 +74,18 @@ def transcript_text(nodes, lines):
 def stamped_rows(lines):
     """(stamp, vertex, line) of each entry, in the order of edition 2. A node is looked at again once a neighbour has
     put more."""
-    rows, at, counter, puts = [], dict.fromkeys(lines, 0), dict.fromkeys(lines, 0), {}
-    work = list(lines)
+    rows, at, clock, work = [], dict.fromkeys(lines, 0), Clock(lines), list(lines)
     while work:
         v = work.pop()
         for line in lines[v][at[v]:]:
             _, kind, *others = line.split(" ", 3)
-            link = (
-                puts.setdefault((v, others[0]) if kind == "put" else (int(others[0]), str(v)), deque())
-                if kind != "pulse"
-                else None
-            )
-            if kind == "take":
-                if not link:
-                    break
-                counter[v] = max(counter[v], link.popleft())
-            at[v], counter[v] = at[v] + 1, counter[v] + 1
-            rows.append((counter[v], v, line))
+            w = None if kind == "pulse" else int(others[0])
+            if kind == "take" and not clock.links.get((w, v)):
+                break
+            at[v] += 1
+            rows.append((clock.next(kind.title(), v, w), v, line))
             if kind == "put":
-                link.append(counter[v])
-                work.append(int(others[0]))
+                work.append(w)
     assert len(rows) == sum(map(len, lines.values())), "no order of the entries"
     return sorted(rows, key=lambda row: row[:2])
 

@@ -7,14 +7,13 @@ import re
 import subprocess
 
 from lab.definitions.colours import network_of
-from lab.transcripts.check import run_read_with_care, whole_run
-from lab.transcripts.reading import Wrong
+from lab.transcripts.check import run_read_with_care
 from tests.cases import Case, text
 from tests.programs.made_transcripts import made_transcript, merged_text, odd, transcript_text
 from tests.programs.one_worker import Run
 from tests.programs.plain_networks import cycle, path, random_of, star, text_of, tree, two_sided
 from tests.programs.transcripts import (CAPACITIES, EDGE, EDGE_LINES, EDGE_WHOLE, LIMIT, SEED, is_counted, networks,
-                                        transcript_by)
+                                        said_of, transcript_by)
 from tests.settings import PLAN, PLAY, setting
 
 GREATEST = 2**64 - 1
@@ -73,14 +72,6 @@ WORKED = (
         (EDGE, f"transcript 2 2|1 1 put 2 {HELLO_1}|2 1 put 2 safe 0|", "line 3: NothingToPut"),
     ]
 )
-
-
-def verdict_of(net, data):
-    """The verdict, or the line and the code of the refusal."""
-    try:
-        return whole_run(net, data)[1]
-    except Wrong as wrong:
-        return f"line {wrong.line}: {wrong.code}"
 
 
 def said_by(play, network, data):
@@ -153,18 +144,18 @@ def networks_of_runs(source):
 class Merged(Case):
     def test_worked(self):
         for network, transcript, said in WORKED:
-            got = verdict_of(network_of(text(network)), text(transcript))
+            got = said_of(network_of(text(network)), text(transcript))[0]
             self.note(f"{said} of {transcript[:60]!r}", got == said, got)
             if not said.endswith("Nodes"):
                 got = said_by(PLAY, text(network), text(transcript))
                 self.note(f"{said} by replay of {transcript[:60]!r}",
                           got == (None if said.startswith("whole") else said), got)
         whole, edge = merged_text(2, EDGE_LINES), network_of(text(EDGE))
-        self.note("a merged run of an edge worked by hand", verdict_of(edge, whole) == EDGE_WHOLE,
-                  verdict_of(edge, whole))
+        self.note("a merged run of an edge worked by hand", said_of(edge, whole)[0] == EDGE_WHOLE,
+                  said_of(edge, whole)[0])
         self.note("it begins as both greet", whole.startswith(text(GREETED)), whole[:200])
         accepted = [end for end in range(0, len(whole) - 1, 11)
-                    if not verdict_of(edge, whole[:end]).startswith("line ")]
+                    if not said_of(edge, whole[:end])[0].startswith("line ")]
         self.note("no beginning of that run is whole", not accepted, accepted)
 
     def test_made(self):
@@ -175,9 +166,9 @@ class Merged(Case):
             merged = merged_text(len(lines), lines)
             first, *rows = merged.decode().splitlines()
             strange = "\n".join([first] + [odd(source, row) for row in rows]).encode()
-            said = verdict_of(net, transcript_text(len(lines), lines))
-            if [verdict_of(net, merged), verdict_of(net, strange), run_read_with_care(net, merged)[1]] != [said] * 3:
-                wrong.append((data, merged, verdict_of(net, merged)))
+            said = said_of(net, transcript_text(len(lines), lines))[0]
+            if [said_of(net, merged)[0], said_of(net, strange)[0], run_read_with_care(net, merged)[1]] != [said] * 3:
+                wrong.append((data, merged, said_of(net, merged)[0]))
         self.note(f"merged runs of {i + 1} networks by the definitions", not wrong, wrong[:1])
 
     def test_spoiled(self):
@@ -192,7 +183,7 @@ class Merged(Case):
                 lines = made_transcript(source, net, CAPACITIES[i % 3])
                 merged = merged_text(len(lines), lines)
             data, least = spoiled(source, kind, merged)
-            said = verdict_of(net, data)
+            said = said_of(net, data)[0]
             got = said_by(PLAY, network, data)
             is_refused = said.startswith("line ")
             codes.add(said.rpartition(": ")[2])
@@ -230,10 +221,10 @@ class Merged(Case):
             words = ["--workers", str(source.choice((4, 5, 8, 16, 64))), "--capacity",
                      str(source.choice((1, 2, 4, 64)))]
             status, data, fault = transcript_by(PLAN, words, network)
-            good = (status, fault) == (0, b"") and is_counted(net, data, verdict_of(net, data))
+            good = (status, fault) == (0, b"") and is_counted(net, data, said_of(net, data)[0])
             got = said_by(PLAY, network, data) if good else None
             if not good or got:
-                wrong.append((network, words, status, fault, verdict_of(net, data), got))
+                wrong.append((network, words, status, fault, said_of(net, data)[0], got))
             entries, most = entries + data.count(b"\n") - 1, max(most, nodes)
         self.note(f"{count} whole runs on networks of up to {most} nodes, {entries} entries", not wrong,
                   f"{len(wrong)}: {wrong[:1]}")
