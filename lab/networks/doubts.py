@@ -13,7 +13,7 @@ from lab.wrong import Wrong, wrong_line
 
 PAIRS, NEIGHBOURS = "--as pairs (the first two fields are a pair)", "--as adjacency (a node and its neighbours)"
 PORT = re.compile(r"(.+?)(?:[:/.#@_-]|\s?[(\[])[\w/.:]*\d+[)\]]?")
-PORT_IN_BRACKETS = re.compile(r"(.+?)(?:\s?[(\[][\w/.:]*\d+[)\]]|:[\w/.]*\d+)")
+PORT_IN_BRACKETS = re.compile(r"([^:]+?)(?:\s?[(\[][\w/.: ]+[)\]]|:[\w/.]+)")
 # Titles of a column whose zeros say that a pair doesn't count.
 WEIGHTS = re.compile(r"(weight|value|val|w|freq|frequency|gewicht|wert|adj|adjacent|edge|kante|link|there|present)s?")
 # Kinds of columns, as some programs write them below the heading.

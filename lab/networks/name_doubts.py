@@ -76,6 +76,10 @@ def refuse_names(pairs: Pairs, separator: str | None, is_headed: bool, name: str
         said = refuse_strays(pairs, times, is_headed, name)
         refuse_single(pairs, name)
     refuse_headings(pairs, lines, times, name)
+    looks = Counter(look_of(end)[:3] for end in lines)
+    odd = next((end for end in lines if times[end] == looks[look_of(end)[:3]] == 1 and len(lines) > 3), None)
+    if odd is not None:
+        said.append(f"line {lines[odd]}: `{shown(odd)}` looks like no other name: is it one?")
     if more := next((end for end in lines if is_name_and_more(end, lines)), None):
         said.append(f"line {lines[more]}: `{shown(more)}` is another node and more: is it meant to be that one?")
     loose = [end for end in lines if len(list(filter(None, WORDS.split(end)[::2]))) > 1]

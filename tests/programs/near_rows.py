@@ -229,12 +229,13 @@ REFUSED = (
     "source,target\nfw1[Gi0/1],sw2[Gi0/8]\nsw2[Gi0/2],fw1[Gi0/3]\n", "WARN fw1\nINFO ap3\nWARN sw2\n",
     "Access denied\n", "F,T\nT,F\n", "source,target,interference\nUlm,Aue,0.5\nAue,Hof,0\n",
     "start,end\n08:00,09:30\n10:00,11:15\n", "A B C\nB C D\nC D A\nD A B\n",
-    "source,target\nfw1 (1),sw2 (8)\nsw2 (8),ap3 (1)\nap3 (2),fw1 (2)\n",
+    "source,target\nfw1 (1),sw2 (8)\nsw2 (8),ap3 (1)\nap3 (2),fw1 (2)\n", "source,target\nfw1:a,sw2:b\nsw2:a,fw1:b\n",
     "source,target\nUlm,Aue\nAue,Hof\nid,label\n1,Ulm\n",
     "Ulm Aue\nAue Hof\nHof Ulm\nremoved Ulm Aue\n", "% bip unweighted\n1 2\n2 1\n2 3\n",
     "source,target\nUlm,Aue\nAue,10 km\n", "| source | target |\n|---|---|\n| Ulm | Aue |\n")
 # Texts of which something is counted, which may be another network.
 COUNTED = (
+    *(f"source,target\nUlm,Aue\nAue,Hof\nHof,{word}\n" for word in ("removed", "x", "5km", "Kanal 6", "prepared by")),
     "# edges: 4\n1 2\n2 3\n", "# n=3 m=4\n1 2\n2 3\n", "# Nodes: 5 Edges: 2\n1\t2\n2\t3\n",
     "Ulm,Aue\n# removed:\nAue,Hof\n", "# pairs that DON'T interfere\n1 2\n2 3\n", "Ulm,Aue\nAue,\nHof,Ulm\n",
     "6,3\n6,4\n5,\n", "source,target\nUlm,Aue\nAue,Hof old\nHof,Ulm\n",
