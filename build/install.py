@@ -2,7 +2,6 @@
 
 All is made in a folder inside the target and moved file by file, so that a full disk leaves nothing half; SHA256SUMS
 says what may be removed later."""
-import argparse
 import os
 import shutil
 import subprocess
@@ -12,6 +11,7 @@ import tempfile
 from build import completion, kit, manuals, readme
 from lab import checksums, version
 from lab.door import SIGNALS
+from lab.words import parser_of
 from lab.workshop.class_files import IS_CLASS, class_files, finish_class, write_scripts
 
 TOP = os.path.dirname(os.path.dirname(os.path.realpath(__file__)))
@@ -169,9 +169,7 @@ def install(folder, is_class=False):
 
 
 def main():
-    words = argparse.ArgumentParser(prog="python3 build install", usage="python3 build install [--class] DIR",
-                                    description=HELP, epilog=MORE_HELP,
-                                    formatter_class=argparse.RawDescriptionHelpFormatter)
+    words = parser_of("install", "[--class] DIR", HELP, MORE_HELP, "python3 build")
     words.add_argument("dir", metavar="DIR", help="a folder; it is made if it isn't there")
     words.add_argument("--class", dest="is_class", action="store_true", help="what students may see, and nothing else")
     given = words.parse_args()

@@ -1,5 +1,4 @@
 """Packs an installed folder into one archive with its sum, so that a class needs no build."""
-import argparse
 import filecmp
 import gzip
 import os
@@ -8,6 +7,7 @@ import sys
 import tarfile
 
 from lab import checksums
+from lab.words import parser_of
 from lab.workshop.class_files import IS_CLASS
 
 HELP = """\
@@ -67,9 +67,7 @@ def write(folder, name, to):
 
 
 def main():
-    words = argparse.ArgumentParser(prog="python3 build pack", usage="python3 build pack FOLDER [TO]",
-                                    description=HELP, epilog=MORE_HELP,
-                                    formatter_class=argparse.RawDescriptionHelpFormatter)
+    words = parser_of("pack", "FOLDER [TO]", HELP, MORE_HELP, "python3 build")
     words.add_argument("folder", metavar="FOLDER", help="a folder that python3 build install made")
     words.add_argument("to", metavar="TO", nargs="?", default=".", help="the folder of the archive; default: this one")
     asked = words.parse_args()

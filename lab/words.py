@@ -29,10 +29,10 @@ def in_words(things) -> str:
     return " and ".join(filter(None, [", ".join(words[:-1]), *words[-1:]]))
 
 
-def parser_of(name: str, words: str, what: str, more: str) -> argparse.ArgumentParser:
+def parser_of(name: str, words: str, what: str, more: str | None, door: str = "forestlab") -> argparse.ArgumentParser:
     """The parser of `forestlab NAME WORDS`, whose help begins with `what` and ends with `more`, as they stand."""
-    return Parser(prog=f"forestlab {name}", usage=f"forestlab {name} {words}", description=what,
-                                   epilog=more, formatter_class=argparse.RawDescriptionHelpFormatter)
+    return Parser(prog=f"{door} {name}", usage=f"{door} {name} {words}", description=what, epilog=more,
+                  formatter_class=argparse.RawDescriptionHelpFormatter)
 
 
 def bytes_at(path: str) -> bytes:

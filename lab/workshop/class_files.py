@@ -1,6 +1,5 @@
 """The folder of a class: what students may see. The slow definitions, and all that is written with them, are solutions
 of the assignment; so are the right nodes. `workshop class DIR` makes it from an installed folder or a built tree."""
-import argparse
 import os
 import re
 import shutil
@@ -9,7 +8,7 @@ from typing import Iterator
 
 from lab import checksums, version
 from lab.programs import FIRST, SCRIPT, TOP, program_file
-from lab.words import Parser
+from lab.words import parser_of
 from lab.wrong import Wrong
 
 # Files and whole folders, each at the path that it has here; a folder means all files below it.
@@ -102,8 +101,7 @@ tar czf class.tar.gz DIR.
 
 
 def main(words: list[str]) -> int:
-    line = Parser(prog="forestlab workshop class", usage="forestlab workshop class DIR",
-                  description=HELP, formatter_class=argparse.RawDescriptionHelpFormatter)
+    line = parser_of("workshop class", "DIR", HELP, None)
     line.add_argument("dir", metavar="DIR", help="the folder that is made")
     folder = os.path.abspath(line.parse_args(words).dir)
     if os.path.exists(folder) and not (os.path.isdir(folder) and not os.listdir(folder)):

@@ -25,7 +25,7 @@ from lab.workshop.options import count, parsed, seconds
 from lab.workshop.playing import played
 from lab.workshop.protocol import shown
 from lab.workshop.report import aligned, as_json, report
-from lab.words import Parser
+from lab.words import parser_of
 from lab.wrong import Wrong
 
 # Of each assignment how many runs are played, and the most points. For another scale change these lines.
@@ -410,10 +410,7 @@ def remove(room: str) -> None:
 
 
 def command_line() -> argparse.ArgumentParser:
-    words = Parser(prog="forestlab workshop grade",
-                   usage="forestlab workshop grade FOLDER [options] [-- WORDS ..]",
-                   description=HELP, epilog=MORE_HELP,
-                   formatter_class=argparse.RawDescriptionHelpFormatter)
+    words = parser_of("workshop grade", "FOLDER [options] [-- WORDS ..]", HELP, MORE_HELP)
     words.add_argument("folder", metavar="FOLDER", help="has a folder for each student")
     words.add_argument("--seed", metavar="S", help="of the runs; without it one by chance, which is printed")
     words.add_argument("--runs", type=count, metavar="N", help="of each assignment, to try it; default: as above")

@@ -5,7 +5,7 @@ from lab.schedules.policies import POLICIES
 from lab.transcripts.fields import PAYLOADS
 from lab.workshop.cases import NETWORKS
 from lab.workshop.protocol import COLOURING, program_of
-from lab.words import Parser, add_seed
+from lab.words import add_seed, parser_of
 from lab.wrong import Wrong
 
 HELP = """\
@@ -43,10 +43,8 @@ Examples:
 
 
 def command_line() -> argparse.ArgumentParser:
-    words = Parser(
-        prog="forestlab workshop",
-        usage="forestlab workshop {rounds,alpha,open} [NETWORK ..] [options] -- COMMAND .. [-- COMMAND ..]",
-        description=HELP, epilog=MORE_HELP, formatter_class=argparse.RawDescriptionHelpFormatter)
+    words = parser_of("workshop", "{rounds,alpha,open} [NETWORK ..] [options] -- COMMAND .. [-- COMMAND ..]", HELP,
+                      MORE_HELP)
     words.add_argument("assignment", choices=["rounds", "alpha", "open"],
                        help="with a clock, without one, or your own algorithm")
     words.add_argument("networks", nargs="*", metavar="NETWORK", help=f"default: {NETWORKS.replace(',', ' ')}")
