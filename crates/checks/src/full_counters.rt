@@ -42,7 +42,7 @@ fn lone_node(alloc: Global, network: &Network) -> Result<Box<Node<Alone, Greates
 }
 
 // The pulse and the counter of the one node.
-fn end_of(nodes: &[Node<Alone, Greatest<2>>]) -> Result<(u32, u64), NodesFault> {
+fn end_of(nodes: &[Box<Node<Alone, Greatest<2>>>]) -> Result<(u32, u64), NodesFault> {
     match nodes {
         [node] => Ok((node.alpha.pulse_number(), node.counter.value())),
         _ => Err(NodesFault::Memory),

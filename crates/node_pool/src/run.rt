@@ -33,8 +33,8 @@ fn are_in_range(options: Options) -> bool
 }
 
 // Whether a node set a wire aside since the stamp of its take would be too great: that is the fault of the run.
-fn unless_full<J: Wiring, P: NodeProgram>(nodes: &[Node<J, P>]) -> Result<(), NodesFault>
-    ensures full { result ≡ full_after tt (map (λ n. n.aside) nodes.now) }
+fn unless_full<J: Wiring, P: NodeProgram>(nodes: &[Box<Node<J, P>>]) -> Result<(), NodesFault>
+    ensures full { result ≡ full_after tt (map (λ b. b.value.aside) nodes.now) }
 {
     if some_full(nodes) {
         return Err(NodesFault::StampFull);

@@ -5,7 +5,7 @@ use Rattle.gather_laws.specs.Outcome.{Gathered}
 -- a node after the run
 abbrev pub gathered_of : {P T : Type 0} → Actor P T → Gathered P T
 gathered_of actor = record {
-  vertex = actor.vertex;
-  alpha = actor.alpha;
-  entries = actor.entries.items;
+  vertex = actor.left.value.vertex;
+  alpha = actor.left.value.alpha;
+  entries = actor.left.value.entries.items;
 }

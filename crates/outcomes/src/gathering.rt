@@ -28,11 +28,11 @@ pub fn gathered<J: Wiring, P: NodeProgram, R: Wait>(
     alloc: Global,
     net: &Network,
     links: &Links<J, P>,
-    nodes: Vec<Node<J, P>>,
+    nodes: Vec<Box<Node<J, P>>>,
 ) -> Result<Outcome<P>, Memory>
     requires network { J.net ≡ net.now }
-    requires nodes { map (λ n. n.vertex) nodes.items ≡ vertices J.net }
-    requires stamps { some_full (map (λ n. n.aside) nodes.items) ≡ false }
+    requires nodes { map (λ b. b.value.vertex) nodes.items ≡ vertices J.net }
+    requires stamps { some_full (map (λ b. b.value.aside) nodes.items) ≡ false }
     ensures outcome { IfOk result (λ outcome. (capacity : ℕ)
         → All (λ link. link_capacity link ≤ capacity) links.now.list.items
         → IsOutcome P.program net.now capacity J.transcript outcome) }

@@ -13,6 +13,14 @@ use std::alloc::{AllocError, Global};
 /// A node after the run, with its vertex and its entries.
 #[derive(Drop)]
 pub struct Actor<P: NodeProgram> {
+    // In a box, which takes the memory that the box of the node has just freed: a list of these values themselves would
+    // take as much memory again as all nodes.
+    left: Box<Left<P>>,
+}
+
+// What is left of a node that was taken apart.
+#[derive(Drop)]
+struct Left<P: NodeProgram> {
     vertex: u32,
     alpha: AlphaNode<P>,
     entries: Entries<P::Payload>,
@@ -21,23 +29,23 @@ pub struct Actor<P: NodeProgram> {
 impl<P: NodeProgram> Actor<P> {
     /// Its vertex, from 1.
     pub fn node(&self) -> u32
-        ensures vertex { result ≡ self.now.vertex }
+        ensures vertex { result ≡ self.now.left.value.vertex }
     {
-        self.vertex
+        self.left.vertex
     }
 
     /// Its node under the synchroniser.
     pub fn alpha(&self) -> &AlphaNode<P>
-        ensures alpha { result.now ≡ self.now.alpha }
+        ensures alpha { result.now ≡ self.now.left.value.alpha }
     {
-        &self.alpha
+        &self.left.alpha
     }
 
     /// What it did, in order, each entry with its stamp; empty without a transcript.
     pub fn entries(&self) -> &Entries<P::Payload>
-        ensures entries { result.now ≡ self.now.entries }
+        ensures entries { result.now ≡ self.now.left.value.entries }
     {
-        &self.entries
+        &self.left.entries
     }
 }
 
@@ -63,8 +71,8 @@ fn is_full<M>(aside: &Option<Aside<M>>) -> bool
 }
 
 /// Whether one of the nodes has set a wire aside since the stamp of its take would be too great.
-pub fn some_full<J: Wiring, P: NodeProgram>(nodes: &[Node<J, P>]) -> bool
-    ensures { result ≡ some_full (map (λ n. n.aside) nodes.now) }
+pub fn some_full<J: Wiring, P: NodeProgram>(nodes: &[Box<Node<J, P>>]) -> bool
+    ensures { result ≡ some_full (map (λ b. b.value.aside) nodes.now) }
 {
     nodes.iter().any(|node| is_full(&node.aside))
 }
@@ -95,18 +103,19 @@ fn none_yet<J: Wiring, P: NodeProgram>(
 /// `AllocError` if memory is refused.
 pub fn apart<J: Wiring, P: NodeProgram>(
     alloc: Global,
-    nodes: Vec<Node<J, P>>,
+    nodes: Vec<Box<Node<J, P>>>,
 ) -> Result<NodesAndEnds<J, P>, AllocError>
     ensures vertices { IfOk result
-        (λ both. map (λ a. a.vertex) both.actors.items ≡ map (λ n. n.vertex) nodes.items) }
+        (λ both. map (λ a. a.left.value.vertex) both.actors.items ≡ map (λ b. b.value.vertex) nodes.items) }
     ensures alphas { IfOk result
-        (λ both. map (λ a. a.alpha) both.actors.items ≡ map (λ n. n.alpha) nodes.items) }
+        (λ both. map (λ a. a.left.value.alpha) both.actors.items ≡ map (λ b. b.value.alpha) nodes.items) }
     ensures entries { IfOk result
-        (λ both. map (λ a. a.entries.items) both.actors.items ≡ map (λ n. entries_by n.recorder) nodes.items) }
+        (λ both. map (λ a. a.left.value.entries.items) both.actors.items
+        ≡ map (λ b. entries_by b.value.recorder) nodes.items) }
     ensures puts { IfOk result
-        (λ both. map (λ row. row.items) both.puts.items ≡ map (λ n. n.puts.items) nodes.items) }
+        (λ both. map (λ row. row.items) both.puts.items ≡ map (λ b. b.value.puts.items) nodes.items) }
     ensures takes { IfOk result
-        (λ both. map (λ row. row.items) both.takes.items ≡ map (λ n. n.takes.items) nodes.items) }
+        (λ both. map (λ row. row.items) both.takes.items ≡ map (λ b. b.value.takes.items) nodes.items) }
 {
     let mut all = none_yet(alloc, nodes.len())?;
     for node in nodes {
@@ -117,13 +126,17 @@ pub fn apart<J: Wiring, P: NodeProgram>(
             takes,
             recorder,
             ..
-        } = node;
+        } = Box::into_inner(node);
         let entries = recorder.into_entries(alloc);
-        all.actors.push_reserved(Actor {
-            vertex,
-            alpha,
-            entries,
-        });
+        let left = Box::new(
+            alloc,
+            Left {
+                vertex,
+                alpha,
+                entries,
+            },
+        )?;
+        all.actors.push_reserved(Actor { left });
         all.puts.push_reserved(puts);
         all.takes.push_reserved(takes);
     }

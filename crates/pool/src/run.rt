@@ -44,10 +44,10 @@ fn run_all<J: Wiring + Send + Sync, P: NodeProgram, G: Gate + Sync, R: Threads +
     nodes: Vec<Box<Node<J, P>>>,
     workers: u32,
     turns: u64,
-) -> Result<Vec<Node<J, P>>, ThreadsFault>
+) -> Result<Vec<Box<Node<J, P>>>, ThreadsFault>
     requires nodes { map (λ b. b.value.vertex) nodes.items ≡ reverse (vertices J.net) }
     requires workers { (1 ≤ workers) × (workers ≤ MAX_WORKERS) }
-    ensures order { IfOk result (λ all. map (λ n. n.vertex) all.items ≡ vertices J.net) }
+    ensures order { IfOk result (λ all. map (λ b. b.value.vertex) all.items ≡ vertices J.net) }
 {
     let count = nodes.len();
     let places = make_places(alloc, count)?;
@@ -98,11 +98,11 @@ pub fn run_nodes<J: Wiring + Send + Sync, P: NodeProgram, G: Gate + Sync, R: Thr
     nodes: Vec<Box<Node<J, P>>>,
     workers: u32,
     turns: u64,
-) -> Result<Vec<Node<J, P>>, NodesFault>
+) -> Result<Vec<Box<Node<J, P>>>, NodesFault>
     requires nodes { map (λ b. b.value.vertex) nodes.items ≡ reverse (vertices J.net) }
     requires workers { (1 ≤ workers) × (workers ≤ MAX_WORKERS) }
-    ensures order { IfOk result (λ all. map (λ n. n.vertex) all.items ≡ vertices J.net) }
-    ensures none_refused { IfOk result (λ all. All (λ n. refusal_of n ≡ None) all.items) }
+    ensures order { IfOk result (λ all. map (λ b. b.value.vertex) all.items ≡ vertices J.net) }
+    ensures none_refused { IfOk result (λ all. All (λ b. refusal_of b.value ≡ None) all.items) }
 {
     let nodes = run_all(rt, alloc, links, gate, nodes, workers, turns)?;
     told(nodes.as_slice())?;

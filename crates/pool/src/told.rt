@@ -12,8 +12,8 @@ use node_api::NodeProgram;
 /// # Errors
 ///
 /// `Memory` if a node was refused memory; `StampFull` if none was, and a stamp of one would pass 18446744073709551615.
-pub fn told<J: Wiring, P: NodeProgram>(nodes: &[Node<J, P>]) -> Result<(), TurnRefused>
-    ensures told { result ≡ told_after tt (map (λ n. refusal_of n) nodes.now) false }
+pub fn told<J: Wiring, P: NodeProgram>(nodes: &[Box<Node<J, P>>]) -> Result<(), TurnRefused>
+    ensures told { result ≡ told_after tt (map (λ b. refusal_of b.value) nodes.now) false }
 {
     let mut full = false;
     for node in nodes {

@@ -186,13 +186,14 @@ pub fn gather<T: Task, R: Wait>(
     places: Places<T>,
     dealt: Vec<Guest<T>>,
     done: Vec<Desk<T>>,
-) -> Result<Vec<T>, AllocError>
+) -> Result<Vec<Box<T>>, AllocError>
     requires deques { map (λ g. deque_of g.pass) dealt.items ≡ map (λ d. worker_deque d.own) done.items }
     requires guests { All (λ d. map (λ g. deque_of g.pass) d.guests.items
         ≡ map (λ g. deque_of g.pass) dealt.items) done.items }
     requires few { vec_len dealt ≤ MAX_WORKERS }
     requires dealt { AreDealt (map (λ g. view g.pass) dealt.items) (range_with_len 0 (vec_len places.slots)) }
-    ensures order { IfOk result (λ all. map T.number_of all.items ≡ range_with_len 0 (vec_len places.slots)) }
+    ensures order { IfOk result
+        (λ all. map (λ b. T.number_of b.value) all.items ≡ range_with_len 0 (vec_len places.slots)) }
 {
     let tasks = gather_boxes(rt, alloc, dealt, done)?;
     by_number(alloc, places, tasks)

@@ -17,9 +17,10 @@ pub fn by_number<T: Task>(
     alloc: Global,
     places: Places<T>,
     tasks: Vec<Box<T>>,
-) -> Result<Vec<T>, AllocError>
+) -> Result<Vec<Box<T>>, AllocError>
     requires once { AreSame (map (λ b. T.number_of b.value) tasks.items) (range_with_len 0 (vec_len places.slots)) }
-    ensures order { IfOk result (λ all. map T.number_of all.items ≡ range_with_len 0 (vec_len places.slots)) }
+    ensures order { IfOk result
+        (λ all. map (λ b. T.number_of b.value) all.items ≡ range_with_len 0 (vec_len places.slots)) }
 {
     let Places { slots } = places;
     in_order(alloc, slots, tasks)

@@ -28,8 +28,8 @@ not_full done x told false e is = refl
 
 pub gathered-requires-clause-stamps : goal.gathered-requires-clause-stamps
 gathered-requires-clause-stamps g c κs within =
-    not_full (tt {0}) (tt {0}) c.unless_full.result (some_full (map (λ n. n.aside) c.in_ok-nodes-2.nodes.items))
-    (c.unless_full.ensures.full ∙ ap (λ nodes. full_after (tt {0}) (map (λ n. n.aside) nodes)) c.as_slice.ensures.value) c.in_ok-unless_full.was
+    not_full (tt {0}) (tt {0}) c.unless_full.result (some_full (map (λ b. b.value.aside) c.in_ok-nodes-2.nodes.items))
+    (c.unless_full.ensures.full ∙ ap (λ nodes. full_after (tt {0}) (map (λ b. b.value.aside) nodes)) c.as_slice.ensures.value) c.in_ok-unless_full.was
 
 -- the links that are gathered are those that were made
 pub returns : goal.returns

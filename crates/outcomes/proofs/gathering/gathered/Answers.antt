@@ -28,8 +28,8 @@ crossed-requires g c =
     let nodes = c.args.nodes.items in
     record {
       shape = subst (λ rows. HasShape c.args.net.now rows) (sym c.in_ok-actors.ensures.takes)
-          (subst (λ net. HasShape net (map (λ n. n.takes.items) nodes)) c.requires.network
-          (shape_of net (λ n. n.vertex) nodes c.requires.nodes (λ n. n.takes.items) (λ n. as_long _ _ n.takes.items _ n.kept.ins)));
+          (subst (λ net. HasShape net (map (λ b. b.value.takes.items) nodes)) c.requires.network
+          (shape_of net (λ b. b.value.vertex) nodes c.requires.nodes (λ b. b.value.takes.items) (λ b. as_long _ _ b.value.takes.items _ b.value.kept.ins)));
     }
 
 pub meet_rows-requires-clause-takes : goal.meet_rows-requires-clause-takes
@@ -42,8 +42,8 @@ meet_rows-requires-clause-takes g c κs within =
     (subst (λ net. AreCrossed net (map (λ row. row.items) c.in_ok-actors.field-0.takes.items) crossed) (sym c.requires.network)
     c.in_ok-takes.ensures.crossed) in
     of_items (λ row. row.items) c.in_ok-takes.takes.items (λ e. (e.vertex, e.port)) _ refl
-    ∙ ends_meet net ok (λ n. n.vertex) nodes c.requires.nodes (λ n. n.puts.items) (λ e. (e.vertex, e.port)) (λ n. n.kept.outs)
-    (λ n. n.takes.items) (λ e. (e.vertex, e.port)) (λ n. n.kept.ins) crossed crosses
+    ∙ ends_meet net ok (λ b. b.value.vertex) nodes c.requires.nodes (λ b. b.value.puts.items) (λ e. (e.vertex, e.port)) (λ b. b.value.kept.outs)
+    (λ b. b.value.takes.items) (λ e. (e.vertex, e.port)) (λ b. b.value.kept.ins) crossed crosses
     ∙ sym (of_items (λ row. row.items) c.in_ok-actors.field-0.puts.items (λ e. (e.vertex, e.port)) _ c.in_ok-actors.ensures.puts)
 
 pub returns : goal.returns
@@ -57,22 +57,23 @@ returns g c =
     let actors = c.in_ok-actors.field-0.actors.items in
     let met = c.in_ok-links.ensures.met in
     let outcome : Outcome _ _ = record { nodes = map gathered_of actors; links = map (λ row. map history_of_met row.items) mets } in
-    let gathered : AreGathered program net nodes (λ n. n.vertex) (λ n. n.alpha) (λ n. n.aside) (λ n. n.counter) (λ n. n.puts.items)
-    (λ e. put_stamped e.end) (λ n. n.takes.items) (λ e. taken_stamped e.end) (λ n. entries_by n.recorder) crossed g.J.Wiring.transcript outcome = record {
+    let gathered : AreGathered program net nodes (λ b. b.value.vertex) (λ b. b.value.alpha) (λ b. b.value.aside) (λ b. b.value.counter)
+    (λ b. b.value.puts.items) (λ e. put_stamped e.end) (λ b. b.value.takes.items) (λ e. taken_stamped e.end)
+    (λ b. entries_by b.value.recorder) crossed g.J.Wiring.transcript outcome = record {
       laws = g.P.NodeProgram.laws;
       network = ok;
-      last = λ n. n.kept.last_is;
-      keeps = λ n. n.kept.keeps;
-      set_aside = λ n x e. n.kept.set_aside x e;
-      by_refusal = all_refused (λ n. n.aside) nodes c.requires.stamps;
-      writes = λ n.
+      last = λ b. b.value.kept.last_is;
+      keeps = λ b. b.value.kept.keeps;
+      set_aside = λ b x e. b.value.kept.set_aside x e;
+      by_refusal = all_refused (λ b. b.value.aside) nodes c.requires.stamps;
+      writes = λ b. let n = b.value in
           subst (λ t. IsTranscript program net n.vertex t n.alpha.node (by_port (map (λ e. put_list e.end) n.puts.items))
           (by_port (reacted_to n.aside (map (λ e. taken_list e.end) n.takes.items))) (bare_of (entries_by n.recorder))) n.kept.recorded n.kept.writes;
-      stamps = λ n.
+      stamps = λ b. let n = b.value in
           subst (λ t. HasStamps net n.vertex t n.counter (by_port (map (λ e. put_stamped e.end) n.puts.items))
           (by_port (map (λ e. taken_stamped e.end) n.takes.items)) (entries_by n.recorder)) n.kept.recorded n.kept.stamps;
-      outs = λ n. as_long _ _ n.puts.items _ n.kept.outs;
-      ins = λ n. as_long _ _ n.takes.items _ n.kept.ins;
+      outs = λ b. as_long _ _ b.value.puts.items _ b.value.kept.outs;
+      ins = λ b. as_long _ _ b.value.takes.items _ b.value.kept.ins;
       order = c.requires.nodes;
       crosses = subst (λ rows. AreCrossed net rows crossed) c.in_ok-actors.ensures.takes
           (subst (λ net. AreCrossed net (map (λ row. row.items) c.in_ok-actors.field-0.takes.items) crossed) (sym c.requires.network)
@@ -82,7 +83,7 @@ returns g c =
       entries_are = map-map (λ g. g.entries) gathered_of actors ∙ c.in_ok-actors.ensures.entries;
       puts_are = of_fields (λ row. row.items) mets history_of_met (λ h. h.put) ∙ met.puts_are
           ∙ of_items (λ row. row.items) c.in_ok-actors.field-0.puts.items (λ e. put_stamped e.end) _ c.in_ok-actors.ensures.puts
-          ∙ map-map (λ row. map (λ e. put_stamped e.end) row) (λ n. n.puts.items) nodes;
+          ∙ map-map (λ row. map (λ e. put_stamped e.end) row) (λ b. b.value.puts.items) nodes;
       takens_are = of_fields (λ row. row.items) mets history_of_met (λ h. h.taken) ∙ met.takens_are
           ∙ of_items (λ row. row.items) c.in_ok-takes.takes.items (λ e. taken_stamped e.end) _ refl;
       splits = all_rows (λ row. row.items) mets (λ h. h.put ≡ h.taken ++ h.held) history_of_met

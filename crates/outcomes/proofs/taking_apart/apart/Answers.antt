@@ -1,5 +1,5 @@
 -- There is room for what is taken off each node; at the end all nodes were taken apart.
-use Rattle.std.proofs.Common.{◌<◌, length, map, refl, sym, ap, ◌∙◌, arith, rules, map-id}
+use Rattle.std.proofs.Common.{◌<◌, length, map, sym, ap, ◌∙◌, arith, rules, map-id}
 use Rattle.std.proofs.lemmas.Iterator.Consumers.{YieldsList-end, YieldsList-turn}
 use Rattle.std.proofs.lemmas.Iterator.Adapters.{YieldsList-from_vec}
 use Rattle.entries.specs.Recorded.{entries_by}
@@ -20,9 +20,9 @@ loop-node-init g c =
     let none = c.in_ok-all.ensures in
     record {
       room = (omega (arith, none.actors.1, c.len.ensures), omega (arith, none.puts.1, c.len.ensures), omega (arith, none.takes.1, c.len.ensures));
-      vertices = ap (map (λ a. a.vertex)) none.actors.0;
-      alphas = ap (map (λ a. a.alpha)) none.actors.0;
-      entries = ap (map (λ a. a.entries.items)) none.actors.0;
+      vertices = ap (map (λ a. a.left.value.vertex)) none.actors.0;
+      alphas = ap (map (λ a. a.left.value.alpha)) none.actors.0;
+      entries = ap (map (λ a. a.left.value.entries.items)) none.actors.0;
       puts = ap (map (λ row. row.items)) none.puts.0;
       takes = ap (map (λ row. row.items)) none.takes.0;
     }
@@ -36,7 +36,7 @@ push_reserved-requires g c =
       inv.room.0,
       c.args.nodes.ok.0,
       c.loop-node.all.actors.ok.0,
-      as_many (λ n. n.vertex) (λ a. a.vertex) c.loop-node.yielded c.loop-node.all.actors.items inv.vertices,
+      as_many (λ b. b.value.vertex) (λ a. a.left.value.vertex) c.loop-node.yielded c.loop-node.all.actors.items inv.vertices,
     )
 
 pub push_reserved-requires-in-loop-node : goal.push_reserved-requires-in-loop-node
@@ -48,7 +48,7 @@ push_reserved-requires-in-loop-node g c =
       inv.room.1,
       c.args.nodes.ok.0,
       c.loop-node.all.puts.ok.0,
-      as_many (λ n. n.puts.items) (λ row. row.items) c.loop-node.yielded c.loop-node.all.puts.items inv.puts,
+      as_many (λ b. b.value.puts.items) (λ row. row.items) c.loop-node.yielded c.loop-node.all.puts.items inv.puts,
     )
 
 pub push_reserved-requires-in-loop-node-2 : goal.push_reserved-requires-in-loop-node-2
@@ -60,7 +60,7 @@ push_reserved-requires-in-loop-node-2 g c =
       inv.room.2,
       c.args.nodes.ok.0,
       c.loop-node.all.takes.ok.0,
-      as_many (λ n. n.takes.items) (λ row. row.items) c.loop-node.yielded c.loop-node.all.takes.items inv.takes,
+      as_many (λ b. b.value.takes.items) (λ row. row.items) c.loop-node.yielded c.loop-node.all.takes.items inv.takes,
     )
 
 pub loop-node-preserved : goal.loop-node-preserved
@@ -71,14 +71,18 @@ loop-node-preserved g c =
     let actors = c.push_reserved.ensures in
     let puts = c.push_reserved-in-loop-node.ensures in
     let takes = c.push_reserved-in-loop-node-2.ensures in
+    let out = c.into_inner-vertex.ensures in
+    let kept = c.in_ok-left.ensures.ok in
     record {
       room = (omega (arith, actors.capacity, inv.room.0), omega (arith, puts.capacity, inv.room.1), omega (arith, takes.capacity, inv.room.2));
-      vertices = both_pushed (λ a. a.vertex) (λ n. n.vertex) _ _ yielded _ node actors.items refl inv.vertices;
-      alphas = both_pushed (λ a. a.alpha) (λ n. n.alpha) _ _ yielded _ node actors.items refl inv.alphas;
-      entries = both_pushed (λ a. a.entries.items) (λ n. entries_by n.recorder) _ _ yielded _ node actors.items
-          c.into_entries-entries.ensures.entries inv.entries;
-      puts = both_pushed (λ row. row.items) (λ n. n.puts.items) _ _ yielded _ node puts.items refl inv.puts;
-      takes = both_pushed (λ row. row.items) (λ n. n.takes.items) _ _ yielded _ node takes.items refl inv.takes;
+      vertices = both_pushed (λ a. a.left.value.vertex) (λ b. b.value.vertex) _ _ yielded _ node actors.items
+          (ap (λ l. l.vertex) kept ∙ ap (λ n. n.vertex) out) inv.vertices;
+      alphas = both_pushed (λ a. a.left.value.alpha) (λ b. b.value.alpha) _ _ yielded _ node actors.items
+          (ap (λ l. l.alpha) kept ∙ ap (λ n. n.alpha) out) inv.alphas;
+      entries = both_pushed (λ a. a.left.value.entries.items) (λ b. entries_by b.value.recorder) _ _ yielded _ node actors.items
+          (ap (λ l. l.entries.items) kept ∙ c.into_entries-entries.ensures.entries ∙ ap (λ n. entries_by n.recorder) out) inv.entries;
+      puts = both_pushed (λ row. row.items) (λ b. b.value.puts.items) _ _ yielded _ node puts.items (ap (λ n. n.puts.items) out) inv.puts;
+      takes = both_pushed (λ row. row.items) (λ b. b.value.takes.items) _ _ yielded _ node takes.items (ap (λ n. n.takes.items) out) inv.takes;
     }
 
 pub returns : goal.returns
@@ -88,9 +92,9 @@ returns g c =
     let all = sym (map-id c.loop-node.yielded) ∙ end.0 in
     let inv = c.loop-node.invariant in
     record {
-      vertices = inv.vertices ∙ ap (map (λ n. n.vertex)) all;
-      alphas = inv.alphas ∙ ap (map (λ n. n.alpha)) all;
-      entries = inv.entries ∙ ap (map (λ n. entries_by n.recorder)) all;
-      puts = inv.puts ∙ ap (map (λ n. n.puts.items)) all;
-      takes = inv.takes ∙ ap (map (λ n. n.takes.items)) all;
+      vertices = inv.vertices ∙ ap (map (λ b. b.value.vertex)) all;
+      alphas = inv.alphas ∙ ap (map (λ b. b.value.alpha)) all;
+      entries = inv.entries ∙ ap (map (λ b. entries_by b.value.recorder)) all;
+      puts = inv.puts ∙ ap (map (λ b. b.value.puts.items)) all;
+      takes = inv.takes ∙ ap (map (λ b. b.value.takes.items)) all;
     }

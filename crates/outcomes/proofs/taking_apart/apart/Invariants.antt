@@ -6,9 +6,9 @@ abbrev pub invariant-loop-node : goal.invariant-loop-node
 invariant-loop-node g l = record {
   room : (vec_len l.fn.nodes ≤ vec_capacity l.all.actors) × (vec_len l.fn.nodes ≤ vec_capacity l.all.puts)
       × (vec_len l.fn.nodes ≤ vec_capacity l.all.takes);
-  vertices : map (λ a. a.vertex) l.all.actors.items ≡ map (λ n. n.vertex) l.yielded;
-  alphas : map (λ a. a.alpha) l.all.actors.items ≡ map (λ n. n.alpha) l.yielded;
-  entries : map (λ a. a.entries.items) l.all.actors.items ≡ map (λ n. entries_by n.recorder) l.yielded;
-  puts : map (λ row. row.items) l.all.puts.items ≡ map (λ n. n.puts.items) l.yielded;
-  takes : map (λ row. row.items) l.all.takes.items ≡ map (λ n. n.takes.items) l.yielded;
+  vertices : map (λ a. a.left.value.vertex) l.all.actors.items ≡ map (λ b. b.value.vertex) l.yielded;
+  alphas : map (λ a. a.left.value.alpha) l.all.actors.items ≡ map (λ b. b.value.alpha) l.yielded;
+  entries : map (λ a. a.left.value.entries.items) l.all.actors.items ≡ map (λ b. entries_by b.value.recorder) l.yielded;
+  puts : map (λ row. row.items) l.all.puts.items ≡ map (λ b. b.value.puts.items) l.yielded;
+  takes : map (λ row. row.items) l.all.takes.items ≡ map (λ b. b.value.takes.items) l.yielded;
 }

@@ -7,5 +7,5 @@ use Rattle.outcomes.proofs.taking_apart.some_full.Goals as goal
 
 pub returns : goal.returns
 returns g c =
-    any_from_yields_List (λ n. is_full n.aside) _ _ _ c.any.ensures.ran (YieldsList-from_slice c.args.nodes.now cc) (λ x b q k. search (rules, tests))
-    ∙ some_full-any (λ n. n.aside) c.args.nodes.now
+    any_from_yields_List (λ b. is_full b.value.aside) _ _ _ c.any.ensures.ran (YieldsList-from_slice c.args.nodes.now cc) (λ x b q k. search (rules, tests))
+    ∙ some_full-any (λ b. b.value.aside) c.args.nodes.now

@@ -6,5 +6,5 @@ use Rattle.pool.proofs.run.run_nodes.Goals as goal
 -- none of them remembers a refusal, since none was reported
 pub returns-clause-none_refused : goal.returns-clause-none_refused
 returns-clause-none_refused g c =
-    none_refused (tt {0}) (λ n. n.refusal) c.in_ok-nodes.nodes.items (tt {0})
-    (ap (λ nodes. told_after (tt {0}) (map (λ n. n.refusal) nodes) false) (sym c.as_slice.ensures.value) ∙ sym c.told.ensures.told ∙ c.in_ok-told.was)
+    none_refused (tt {0}) (λ b. b.value.refusal) c.in_ok-nodes.nodes.items (tt {0})
+    (ap (λ nodes. told_after (tt {0}) (map (λ b. b.value.refusal) nodes) false) (sym c.as_slice.ensures.value) ∙ sym c.told.ensures.told ∙ c.in_ok-told.was)

@@ -8,9 +8,6 @@ use Rattle.outcomes.proofs.outcome.Outcome.all_drained.Goals as goal
 pub loop-actor-init : goal.loop-actor-init
 loop-actor-init g c = refl
 
-pub offset_bounds-actor-items-actor-index : goal.offset_bounds-actor-items-actor-index
-offset_bounds-actor-items-actor-index g c = c.loop-actor.auto.actor-index-end
-
 pub bounds-actor-items-actor-index : goal.bounds-actor-items-actor-index
 bounds-actor-items-actor-index g c = c.loop-actor-test.true
 
