@@ -6,36 +6,43 @@ from lab.definitions.sequel import Sequel
 
 
 class Recolouring(Sequel):
-    """A node that chooses its colour twice: `colour` is its second colour, None before, and `held` has the second
-    colours of the neighbours that have chosen."""
+    """A node that chooses its colour anew, once in each pass: `old` is the colour with which it came into the pass,
+    `colour` the one that it chose last, None before it has chosen, and `held` has the colours of the neighbours that
+    have chosen in this pass."""
 
     name = "recolouring"
     kinds = ("Anew",)
     cut_of = staticmethod(last_pulse)
+    # How many passes there are, 1 to 3.
+    passes: int = 1
 
     span: int
+    old: int | None
     colour: int | None
     held: set[int]
 
     def __init__(self, net: Network, v: int):
         super().__init__(net, v)
-        self.span, self.colour, self.held = net.span, None, set()
+        self.span, self.old, self.colour, self.held = net.span, None, None, set()
 
-    @staticmethod
-    def last_pulse(net: Network) -> int:
-        """After the colouring each colour has a pulse."""
-        return last_pulse(net) + 1 + net.span
+    @classmethod
+    def last_pulse(cls, net: Network) -> int:
+        """After the colouring each colour has a pulse, in each pass."""
+        return last_pulse(net) + cls.passes * (1 + net.span)
 
     def go_on(self, pulse: int, inbox: list[Slot]) -> list[Slot]:
-        """The pulse of the nodes of a colour, the greatest first."""
+        """The pulse of the nodes of a colour, the greatest first. When that comes again, a pass begins."""
+        later = pulse % (1 + self.span)
+        if not later:
+            self.old, self.held = self.present(), set()
         self.held |= {slot[1] for slot in inbox if slot}
-        if self.first.merged != self.span - pulse:
+        if self.old != self.span - later:
             return [None] * self.degree
         self.colour = self.first.least_free(self.held)
-        return [("Anew", self.colour) if pulse < self.span else None] * self.degree
+        return [("Anew", self.colour) if later < self.span else None] * self.degree
 
     def present(self) -> int:
-        """The colour that it has: that of the colouring until it chooses anew."""
+        """The colour that it has: that of the colouring until it chooses anew, and then what it chose last."""
         return self.first.merged if self.colour is None else self.colour
 
     def result(self) -> str:
@@ -43,3 +50,8 @@ class Recolouring(Sequel):
 
     def drawn(self) -> tuple[int | None, int | None]:
         return self.present(), None
+
+
+def with_passes(passes: int) -> type:
+    """The program that makes as many passes."""
+    return type("Recolouring", (Recolouring,), {"passes": passes})

@@ -535,9 +535,9 @@ def tallies_rounds(given, network, program):
 def options_of(given):
     """The options of a kind as the command line has them."""
     found = {field.name: getattr(given, field.name) for field in fields(Options) if hasattr(given, field.name)}
-    name, lots, root = (getattr(given, option, default)
-                        for option, default in (("program", Colouring.name), ("lots", "1"), ("root", None)))
-    return Options(**found | {"program": program_at(name, lots, root),
+    named = (getattr(given, option, default) for option, default in (
+        ("program", Colouring.name), ("lots", "1"), ("root", None), ("passes", None)))
+    return Options(**found | {"program": program_at(*named),
                               "progress": progress if sys.stderr.isatty() else None})
 
 

@@ -38,7 +38,7 @@ def film_of(rounds):
         pulses.append(row)
     parents = sorted(rounds.parents.items()) if is_colouring else []
     return {"last": rounds.last, "forests": rounds.forests, "pulses": pulses, "first": list(rounds.first.values()),
-            "channels": not is_colouring and rounds.program is Recolouring,
+            "channels": not is_colouring and issubclass(rounds.program, Recolouring),
             "parents": [[v, f, w] for (v, f), w in parents]}
 
 

@@ -185,7 +185,7 @@ def searched(given, net):
         sys.stderr.write(f"\r\033[Kexplore: {states:,} states of at most {given.limit:,}, {depth} events far")
         sys.stderr.flush()
 
-    program = program_at(given.program, given.lots, given.root)
+    program = program_at(given.program, given.lots, given.root, given.passes)
     check_root(program, len(net.neighbours))
     note_ignored_bars("explore", net.barred, program)
     check_repeats(net, program)

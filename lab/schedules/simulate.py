@@ -267,7 +267,7 @@ def main(words):
         line.error("standard input is one file, not two")
     name, net = network_at(given.network)
     check_names(name, net, given)
-    program = program_at(given.program, given.lots, given.root)
+    program = program_at(given.program, given.lots, given.root, given.passes)
     check_root(program, len(net.neighbours))
     write(given, text_of_rows(len(net.neighbours), rows_asked(net, given, program), program))
     return 0

@@ -325,7 +325,7 @@ def texts_of(given):
         raise WrongNetwork("standard input has one text: name a file for the network or for the transcript")
     network = network_bytes(given.network)
     net = network_in(network, called(given.network))
-    program = program_at(given.program, given.lots, given.root)
+    program = program_at(given.program, given.lots, given.root, given.passes)
     check_root(program, len(net.neighbours))
     return net, network, bytes_at(given.transcript), program
 
