@@ -62,16 +62,16 @@ COMMANDS = (
             is_reader=True),
     Command("forestplay", "events", EDGE + "put 1 0|",
             "node 1 pulse 0|link 1 2 taken 0 payload 0 hello 1|node 2 pulse 0|link 2 1 taken 0|",
-            odd=EDGE + "i 1 3|put 1 0|take 2 0|", share=20, options=("root",), is_reader=True),
+            odd=EDGE + "i 1 3|put 1 0|take 2 0|", share=20, options=("root", "passes"), is_reader=True),
     Command("forestplay", "replay", ALONE + "transcript 1 1|1 pulse 1|1 pulse 2|", "node 1 pulse 2|",
-            odd=EDGE + "transcript 1 2|1 put 2 payload 0 hello 1|", share=20, options=("root",), is_reader=True),
+            odd=EDGE + "transcript 1 2|1 put 2 payload 0 hello 1|", share=20, options=("root", "passes"), is_reader=True),
     Command("forestplay", "rounds", ALONE,
             "rounds 1 1 0 0 12|" + "".join(f"pulse {p} {step}|" for p, step in enumerate(STEPS)),
-            odd="p edge 1 0|n 1|i 1 9|b 1 1|", share=3, options=("root",)),
+            odd="p edge 1 0|n 1|i 1 9|b 1 1|", share=3, options=("root", "passes")),
     # 30 is 12 + 3 U (D + B + 1), with U = D = 2 and B = 0.
     Command("forestplay", "run", TRIANGLE,
             "node 1 pulse 30 channel 2|node 2 pulse 30 channel 3|node 3 pulse 30 channel 1|",
-            odd="p edge 2 1|b 1 2|e 2 1|", share=3, options=("root", "workers", "capacity", "turns"),
+            odd="p edge 2 1|b 1 2|e 2 1|", share=3, options=("root", "passes", "workers", "capacity", "turns"),
             words=("--workers", "2")),
 )
 PROGRAM_OF = {command.name: command.program for command in COMMANDS}

@@ -9,9 +9,10 @@ chromatic number of a graph, 1967) and greedy by number take the nodes in a fixe
 networkx is there, its own numbers of the first two are in the last column. The networks are made anew each time, by
 seeds.
 
-The plan comes from `forestplan plain`; where that isn't built, from the slow definitions, which is said. Once and twice
-are the plan whose classes have chosen anew, the greatest channel first, once and twice. (`forestplay --program
-recolouring` does it once; where it is built and knows the program, its channels are compared with those found here.)
+The plan comes from `forestplan plain`; where that isn't built, from the slow definitions, which is said. Once, twice and
+thrice are the plan whose classes have chosen anew, the greatest channel first, in as many passes. (`forestplay --program
+recolouring --passes N` does it, too; where it is built and knows the option, its channels are compared with those found
+here.)
 """
 import argparse
 import heapq
@@ -25,6 +26,8 @@ from lab.networks.texts import Made, text_of
 from lab.programs import built, called
 
 Neighbours = dict[int, set[int]]
+# How many passes are made, one after the other.
+PASSES = 3
 
 
 def preferential(nodes: int, edges: int, seed: int) -> Made:
@@ -173,13 +176,14 @@ def anew(network: Made, neighbours: Neighbours, plan: dict[int, int]) -> dict[in
     return proper(network, chosen)
 
 
-def is_played(network: Made, plan: dict[int, int]) -> bool:
-    """Whether `forestplay` finds this plan by choosing anew; so it is, too, if it isn't built or doesn't know how."""
+def is_played(network: Made, passes: int, plan: dict[int, int]) -> bool:
+    """Whether `forestplay` finds this plan in as many passes; so it is, too, if it isn't built or doesn't know how."""
     if not built("forestplay"):
         return True
-    done = called("forestplay", ["rounds", "--program", "recolouring"], text_of(network).encode())
+    words = ["rounds", "--program", "recolouring", "--passes", str(passes)]
+    done = called("forestplay", words, text_of(network).encode())
     if done.returncode == 2:
-        print("quality: forestplay doesn't know recolouring, so it isn't compared", file=sys.stderr)
+        print("quality: forestplay doesn't know --passes, so it isn't compared", file=sys.stderr)
         return True
     lines = done.stdout.decode().split("\n")[-network.nodes - 1:-1]
     return done.returncode == 0 and lines == [f"{v} channel {channel}" for v, channel in sorted(plan.items())]
@@ -207,19 +211,20 @@ def main() -> int:
     unknown = [name for name in asked.names if name not in NETWORKS]
     if unknown:
         words.error(f"there is no network {unknown[0]}; there are {', '.join(NETWORKS)}")
-    row = "| {:32} | {:>6} | {:>6} | {:>5} | {:>5} | {:>5} | {:>5} | {:>6} | {:>13} | {:>13} | {:>9} |{}"
-    print(row.format("network", "nodes", "edges", "most", "plan", "once", "twice", "DSATUR", "smallest last",
+    row = "| {:32} | {:>6} | {:>6} | {:>5} | {:>5} | {:>5} | {:>5} | {:>6} | {:>6} | {:>13} | {:>13} | {:>9} |{}"
+    print(row.format("network", "nodes", "edges", "most", "plan", "once", "twice", "thrice", "DSATUR", "smallest last",
                      "largest first", "by number", " networkx |"))
-    print("|---|---|---|---|---|---|---|---|---|---|---|---|")
+    print("|---|---|---|---|---|---|---|---|---|---|---|---|---|")
     for name in asked.names or NETWORKS:
         network = NETWORKS[name]()
         neighbours = neighbours_of(network)
         most = max(map(len, neighbours.values()))
-        plan = plan_of(network)
-        once = anew(network, neighbours, plan)
-        if not is_played(network, once):
-            raise SystemExit(f"quality: {name}: forestplay chooses other channels")
-        counts = [max(found.values(), default=0) for found in (plan, once, anew(network, neighbours, once))]
+        plans = [plan_of(network)]
+        for passes in range(1, PASSES + 1):
+            plans.append(anew(network, neighbours, plans[-1]))
+            if not is_played(network, passes, plans[-1]):
+                raise SystemExit(f"quality: {name}: forestplay chooses other channels in {passes} passes")
+        counts = [max(found.values(), default=0) for found in plans]
         greedy = [way(neighbours) for way in (dsatur, smallest_last, largest_first, by_number)]
         print(row.format(name, network.nodes, len(network.edges), most, *counts, *greedy,
                          f" {' '.join(map(str, by_networkx(network)))} |"), flush=True)

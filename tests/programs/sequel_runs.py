@@ -9,7 +9,7 @@ import random
 import re
 
 from lab.definitions.colours import network_of
-from lab.definitions.programs import PROGRAMS
+from lab.definitions.programs import PROGRAMS, program_at, program_words
 from lab.networks.network_text import Network
 from lab.networks.texts import plain_text
 from lab.pictures.program_rounds import ProgramRounds
@@ -26,6 +26,8 @@ THREADS = [(1, 4), (2, 1), (3, 2), (4, 4), (2, 3), (8, 1)]
 # The result of a node, and what `run` adds to it.
 RESULT = {"matching": r"partner (?:none|(\d+))(?: to (\d+))?", "independent-set": "(in|out)",
           "recolouring": r"channel (\d+)"}
+# What is played: a program, and how often it chooses anew.
+PLAYED = [("matching", None), ("independent-set", None), ("recolouring", None), ("recolouring", 2), ("recolouring", 3)]
 
 
 def networks(count):
@@ -91,16 +93,18 @@ class SequelRuns(Case):
             text = plain_text(network).encode()
             plan = run_program(PLAN, ["plain"], text).stdout.decode().split("\n")[1:-1]
             plan = dict(tuple(map(int, line.split())) for line in plan)
-            for program in RESULT:
-                done = run_program(PLAY, ["rounds", "--program", program], text)
-                rounds = ProgramRounds(network, network.identifiers, PROGRAMS[program])
+            for program, passes in PLAYED:
+                made = program_at(program, passes=passes)
+                name, asked = f"{program}, passes {passes}", program_words(made)
+                done = run_program(PLAY, ["rounds", *asked], text)
+                rounds = ProgramRounds(network, network.identifiers, made)
                 wanted = "".join(f"{line}\n" for line in rounds.lines()).encode()
-                self.note(f"rounds of {program} on {network.name}",
+                self.note(f"rounds of {name} on {network.name}",
                           (done.returncode, done.stdout) == (0, wanted), (text, wanted, done))
                 for workers, capacity in (next(threads), next(threads)):
-                    words = ["run", "--program", program, f"--workers={workers}", f"--capacity={capacity}"]
+                    words = ["run", *asked, f"--workers={workers}", f"--capacity={capacity}"]
                     done = run_program(PLAY, words, text)
-                    self.run_rows(f"{program} on {network.name} by {workers} workers, capacity {capacity}", network,
+                    self.run_rows(f"{name} on {network.name} by {workers} workers, capacity {capacity}", network,
                                   program, rounds, done, plan)
 
     def run_rows(self, name, network, program, rounds, done, plan):

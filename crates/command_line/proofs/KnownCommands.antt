@@ -10,7 +10,7 @@ use Rattle.clap.specs.Faults.{entered_fault, fault_of, is_simple_and_free, level
 use Rattle.clap.proofs.OnLiterals.{clap_on_literals}
 use Rattle.run_options.specs.declared.Options.{Options}
 use Rattle.command_line.specs.Line.{line}
-use Rattle.command_line.specs.NodePrograms.{NamesNoProgram, root_of, rooted_program_with, shown_of}
+use Rattle.command_line.specs.NodePrograms.{NamesNoProgram, given_program, passed_program, passes_of, root_of, rooted_program_with, shown_of}
 use Rattle.command_line.specs.RunOptions.{edition_of, options_of}
 use Rattle.command_line.proofs.Passing.{split}
 use Rattle.command_line.proofs.Played.{HasWord, play_found, play_rules}
@@ -85,14 +85,17 @@ transcript_has_request s name rules words none =
 
 -- what is asked of the program of rows, if their word names one
 by_word : (play : Played) (rows : List Row) → HasWord rows → IsPlayInRange play → IsKnown (played play rows) rows
-by_word play rows has range = go (rooted_program_with (root_of rows) has.0) refl
+by_word play rows has range = go (given_program rows has.0) refl
   where
     make : NodeProgramName → Request
     make program = Play program play
 
-    go : (o : Option NodeProgramName) → rooted_program_with (root_of rows) has.0 ≡ o → IsKnown (played play rows) rows
-    go None e = inr (ap (option_map make) (ap (option_and_then (rooted_program_with (root_of rows))) has.1 ∙ e), (has.0, has.1, e))
-    go (Some p) e = inl (make p, ap (option_map make) (ap (option_and_then (rooted_program_with (root_of rows))) has.1 ∙ e), range)
+    given : Option Text → Option NodeProgramName
+    given word = option_and_then (passed_program (passes_of rows)) (option_and_then (rooted_program_with (root_of rows)) word)
+
+    go : (o : Option NodeProgramName) → given_program rows has.0 ≡ o → IsKnown (played play rows) rows
+    go None e = inr (ap (option_map make) (ap given has.1 ∙ e), (has.0, has.1, e))
+    go (Some p) e = inl (make p, ap (option_map make) (ap given has.1 ∙ e), range)
 
 play_has_request : (s : Shape) (play : Played) → s.rules ≡ play_rules → IsPlayInRange play
     → ((rows : List Row) → named s.name rows ≡ played play rows) → HasRequest s

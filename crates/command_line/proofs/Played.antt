@@ -8,7 +8,7 @@ use Rattle.clap.specs.Walk.{Row, Rule, Text, first_of, has_row, nothing_held, ro
 use Rattle.run_options.specs.Ranges.{AreInRange}
 use Rattle.run_options.specs.declared.Options.{Options}
 use Rattle.command_line.specs.Line.{play_command, run_command}
-use Rattle.command_line.specs.NodePrograms.{program_rule, root_rule, transcript_rule}
+use Rattle.command_line.specs.NodePrograms.{passes_rule, program_rule, root_rule, transcript_rule}
 use Rattle.command_line.specs.RunOptions.{options_of}
 use Rattle.command_line.proofs.Defaults.{default_comes, default_keeps, row_found}
 use Rattle.command_line.proofs.Passing.{AllPassed, Expected}
@@ -23,7 +23,7 @@ abbrev pub run_rules : List Rule
 run_rules = filled_from 1 (run_command.top.rules ++ help_rule ∷ [])
 
 play_expected : AllByRecursion (Expected parser_at) play_rules
-play_expected = ((refl, refl, inl (refl, refl)), ((refl, refl, inl (refl, refl)), ((refl, refl, inr (inl refl)), tt)))
+play_expected = ((refl, refl, inl (refl, refl)), ((refl, refl, inl (refl, refl)), ((refl, refl, inl (refl, refl)), ((refl, refl, inr (inl refl)), tt))))
 
 run_expected : AllByRecursion (Expected parser_at) run_rules
 run_expected = (
@@ -34,7 +34,10 @@ run_expected = (
       (refl, refl, inl (refl, refl)),
       (
         (refl, refl, inl (refl, refl)),
-        ((refl, refl, inl (refl, refl)), ((refl, refl, inr (inr (refl, refl, refl))), ((refl, refl, inr (inl refl)), tt))),
+        (
+          (refl, refl, inl (refl, refl)),
+          ((refl, refl, inl (refl, refl)), ((refl, refl, inr (inr (refl, refl, refl))), ((refl, refl, inr (inl refl)), tt))),
+        ),
       ),
     ),
   ),
@@ -62,9 +65,11 @@ play_found s words is none =
     let all : AllPassed parser_at rows = level_all parser_at s (subst (AllByRecursion (Expected parser_at)) (sym is) play_expected) words none in
     let one = with_default before (filled program_rule) in
     let two = with_default one (filled root_rule) in
+    let passed = with_default two (filled passes_rule) in
     let has : has_row (codes "program") rows ≡ true = subst (λ rules. has_row (codes "program") (fold with_default before rules) ≡ true) (sym is)
-    (default_keeps (filled help_rule) (codes "program") two
-    (default_keeps (filled root_rule) (codes "program") one (default_comes (filled program_rule) before refl))) in
+    (default_keeps (filled help_rule) (codes "program") passed
+    (default_keeps (filled passes_rule) (codes "program") two
+    (default_keeps (filled root_rule) (codes "program") one (default_comes (filled program_rule) before refl)))) in
     word_in rows all has
 
 -- a run has its options besides
@@ -77,12 +82,15 @@ run_found s words is none =
     let all : AllPassed parser_at rows = level_all parser_at s (subst (AllByRecursion (Expected parser_at)) (sym is) run_expected) words none in
     let one = with_default before (filled program_rule) in
     let two = with_default one (filled root_rule) in
-    let four = three two in
+    let passed = with_default two (filled passes_rule) in
+    let four = three passed in
     let last : (k : Text) → has_row k four ≡ true → has_row k rows ≡ true =
     λ k h. subst (λ rules. has_row k (fold with_default before rules) ≡ true) (sym is)
     (default_keeps (filled help_rule) k (with_default four (filled transcript_rule)) (default_keeps (filled transcript_rule) k four h)) in
-    let program : has_row (codes "program") four ≡ true = keep two (codes "program")
-    (default_keeps (filled root_rule) (codes "program") one (default_comes (filled program_rule) before refl)) in (
+    let program : has_row (codes "program") four ≡ true = keep passed (codes "program")
+    (default_keeps (filled passes_rule) (codes "program") two
+    (default_keeps (filled root_rule) (codes "program") one (default_comes (filled program_rule) before refl))) in (
       word_in rows all (last (codes "program") program),
-      with_options rows all (last (codes "workers") (has_workers two)) (last (codes "capacity") (has_capacity two)) (last (codes "turns") (has_turns two)),
+      with_options rows all (last (codes "workers") (has_workers passed)) (last (codes "capacity") (has_capacity passed))
+          (last (codes "turns") (has_turns passed)),
     )

@@ -12,6 +12,7 @@ use Rattle.run_options.specs.Ranges.{AreInRange}
 use Rattle.run_options.specs.declared.Options.{Options}
 use Rattle.run_options.specs.declared.TheConstants.{MAX_CAPACITY, MAX_EDITION, MAX_TURNS, MAX_WORKERS}
 use Rattle.run_options.specs.declared.Edition.{Edition}
+use Rattle.command_line.specs.declared.programs.TheConstants.{MAX_PASSES}
 use Rattle.command_line.specs.RunOptions.{capacity_rule, edition_of, edition_rule, edition_with, options_of, turns_rule, with_edition, with_run_options}
 use Rattle.command_line.specs.RunOptions.{workers_rule}
 use Rattle.command_line.proofs.Defaults.{default_comes, default_keeps, number_found}
@@ -26,7 +27,8 @@ parser_at id =
     (cond (bytes_eq id (codes "turns")) (vp.Unsigned 0 MAX_TURNS)
     (cond (bytes_eq id (codes "edition")) (vp.Unsigned 1 MAX_EDITION)
     (cond (bytes_eq id (codes "root")) (vp.Unsigned 1 MAX_NODES)
-    (cond (bytes_eq id (codes "transcript")) vp.Bool vp.String)))))
+    (cond (bytes_eq id (codes "passes")) (vp.Unsigned 1 MAX_PASSES)
+    (cond (bytes_eq id (codes "transcript")) vp.Bool vp.String))))))
 
 -- the rules of a command with the options of a run, once it is built; and those of a transcript
 abbrev pub run_rules : List Rule

@@ -91,8 +91,8 @@ abbrev pub FoundNamesNoProgram : Option (Text × List Row) → Type 0
 FoundNamesNoProgram None = ⊥
 FoundNamesNoProgram (Some command) = NamesNoProgram command.1
 
--- clap's first fault in the words is any other; or it finds none, and the words name no program of nodes, or give a root
--- to one that takes none
+-- clap's first fault in the words is any other; or it finds none, and the words name no program of nodes, or give a
+-- root or passes to one that takes none
 abbrev pub AreRefused : Program → List Text → Type 0
 AreRefused program words =
     ((kind : ErrorKind) × (kind ≢ DisplayHelp) × IsAmong kind (fault_of (line program) words))

@@ -1,7 +1,7 @@
 -- The command lines in clap's own words: a program, and its commands.
 use Rattle.std.specs.Prelude.{true, codes}
 use Rattle.clap.specs.Words.{App, Text, new_app, with_subcommand}
-use Rattle.command_line.specs.NodePrograms.{with_program, with_root, with_transcript}
+use Rattle.command_line.specs.NodePrograms.{with_passes, with_program, with_root, with_transcript}
 use Rattle.command_line.specs.RunOptions.{with_edition, with_run_options}
 use Rattle.command_line.specs.declared.program.Program.{Program}
 use Rattle.command_line.specs.declared.program.Program.TheVariants.{Forestplan, Forestplay}
@@ -42,7 +42,7 @@ with_plan_commands program =
 
 -- a command for lessons, which plays a program
 abbrev pub play_command : Text → App
-play_command name = with_root (with_program (new_app name))
+play_command name = with_passes (with_root (with_program (new_app name)))
 
 -- the command for lessons that runs workers, which has their options too
 abbrev pub run_command : App

@@ -1,6 +1,7 @@
--- The option that names a program of nodes, and the one that asks for a transcript, in clap's own words, and what they
--- read from the rows of a command.
-use Rattle.std.specs.Prelude.{◌≡◌, ◌^◌, ℕ, List, [], ◌∷◌, Option, Some, None, if◌then◌else◌, codes, option_and_then}
+-- The options that say what the nodes of a command run, and the one that asks for a transcript, in clap's own words,
+-- and what they read from the rows of a command.
+use Rattle.std.specs.Prelude.{◌≡◌, ◌==◌, ◌^◌, ℕ, List, [], ◌∷◌, Option, Some, None, if◌then◌else◌, codes}
+use Rattle.std.specs.Prelude.{option_and_then, option_map}
 use Rattle.std.specs.Str.{bytes_eq}
 use Rattle.clap.specs.Words.{App, Row, Rule, Text, first_of, new_rule, with_rule}
 use Rattle.clap.specs.declared.builder.action.ArgAction.TheVariants.{SetTrue}
@@ -10,8 +11,11 @@ use Rattle.command_line.specs.RunOptions.{number_of}
 use Rattle.command_line.specs.declared.programs.NodeProgramName.{NodeProgramName}
 use Rattle.command_line.specs.declared.programs.NodeProgramName.TheVariants.{Colouring, IndependentSet, Layers, Leader}
 use Rattle.command_line.specs.declared.programs.NodeProgramName.TheVariants.{Matching, Recolouring}
+use Rattle.command_line.specs.declared.programs.Passes.{Passes}
+use Rattle.command_line.specs.declared.programs.Passes.TheVariants as passes
 use Rattle.command_line.specs.declared.programs.Shown.{Shown}
 use Rattle.command_line.specs.declared.programs.Shown.TheVariants as shown
+use Rattle.command_line.specs.declared.programs.TheConstants.{MAX_PASSES}
 
 -- the option that names a program; without it, the colouring
 abbrev pub program_rule : Rule
@@ -29,6 +33,14 @@ root_rule = record (new_rule (codes "root")) {
   parser = Some (Unsigned 1 MAX_NODES);
 }
 
+-- the option that says how often the classes of a plan choose anew; it has no default
+abbrev pub passes_rule : Rule
+passes_rule = record (new_rule (codes "passes")) {
+  long = Some (codes "passes");
+  value_names = 1;
+  parser = Some (Unsigned 1 MAX_PASSES);
+}
+
 -- the option that asks for a transcript, which has no value
 abbrev pub transcript_rule : Rule
 transcript_rule = record (new_rule (codes "transcript")) {
@@ -44,6 +56,10 @@ with_program command = with_rule command program_rule
 abbrev pub with_root : App → App
 with_root command = with_rule command root_rule
 
+-- a command with the option that gives a number of passes
+abbrev pub with_passes : App → App
+with_passes command = with_rule command passes_rule
+
 -- a command with the option that asks for a transcript, after its others
 abbrev pub with_transcript : App → App
 with_transcript command = with_rule command transcript_rule
@@ -56,7 +72,7 @@ program_with word =
     else if bytes_eq word (codes "layers") then Some (Layers None)
     else if bytes_eq word (codes "matching") then Some Matching
     else if bytes_eq word (codes "independent-set") then Some IndependentSet
-    else if bytes_eq word (codes "recolouring") then Some Recolouring
+    else if bytes_eq word (codes "recolouring") then Some (Recolouring passes.One)
     else None
 
 -- the root that a command is given, if it is given one
@@ -74,13 +90,39 @@ abbrev pub rooted_program_with : Option ℕ → Text → Option NodeProgramName
 rooted_program_with root word = option_and_then (rooted_program root) (program_with word)
 
 -- the program that a command has, from the words or by default, if its word names one that takes the root
-abbrev pub program_of : List Row → Option NodeProgramName
-program_of rows = option_and_then (rooted_program_with (root_of rows)) (first_of (codes "program") rows)
+abbrev pub rooted_of : List Row → Option NodeProgramName
+rooted_of rows = option_and_then (rooted_program_with (root_of rows)) (first_of (codes "program") rows)
 
--- a word is given for a program, and names none; or it names one that takes no root, and a root is given
+-- the number of passes that a command is given, if it is given one
+abbrev pub passes_of : List Row → Option ℕ
+passes_of rows = number_of (2 ^ 32) (codes "passes") rows
+
+-- as many passes
+abbrev pub passes_with : ℕ → Option Passes
+passes_with number =
+    if number == 1 then Some passes.One
+    else if number == 2 then Some passes.Two
+    else if number == 3 then Some passes.Three
+    else None
+
+-- a program with the passes that are given, if they are; only the recolouring takes them
+abbrev pub passed_program : Option ℕ → NodeProgramName → Option NodeProgramName
+passed_program None program = Some program
+passed_program (Some number) (Recolouring before) = option_map Recolouring (passes_with number)
+passed_program (Some number) _ = None
+
+-- the program that a word names, with the root and the passes that are given
+abbrev pub given_program : List Row → Text → Option NodeProgramName
+given_program rows word = option_and_then (passed_program (passes_of rows)) (rooted_program_with (root_of rows) word)
+
+-- the program that a command has, if its word names one that takes the root and the passes
+abbrev pub program_of : List Row → Option NodeProgramName
+program_of rows = option_and_then (passed_program (passes_of rows)) (rooted_of rows)
+
+-- a word is given for a program, and names none; or it names one that takes no root or no passes, and they are given
 abbrev pub NamesNoProgram : List Row → Type 0
 NamesNoProgram rows =
-    (word : Text) × (first_of (codes "program") rows ≡ Some word) × (rooted_program_with (root_of rows) word ≡ None)
+    (word : Text) × (first_of (codes "program") rows ≡ Some word) × (given_program rows word ≡ None)
 
 -- what the value of the option `transcript` asks for
 abbrev pub shown_with : Option Text → Shown

@@ -243,6 +243,8 @@ pub const PROGRAM: &'static str = "The nodes' program: see `forestplay --help`";
 
 pub const ROOT: &'static str = "The node that is the root of layers";
 
+pub const PASSES: &'static str = "How often recolouring chooses anew, 1 to 3; else once";
+
 pub const SHOW_TRANSCRIPT: &'static str = "Print the transcript, not the last states";
 
 pub const CHECK: Help = Help {
@@ -305,7 +307,8 @@ With --program NAME the nodes of any command run another program:
   independent-set  finds nodes of which no two are neighbours, so that each other
                    node has a neighbour among them
   recolouring      finds the channels of colouring; then they choose anew, the
-                   greatest first, and mostly fewer are left",
+                   greatest first, and mostly fewer are left; with --passes N
+                   they do so N times, 1 to 3, and without --passes once",
     format: "The graph is read as forestplan reads it, with the same faults, reported as
 `forestplay: F6 line 2`: see `forestplan --help`. If --root V is given and the graph
 has fewer nodes, it is reported as `forestplay: NoRoot vertex V`.
@@ -384,7 +387,7 @@ the order of their lines, by the machine that plays events. Nothing is taken on
 trust: each entry has to be possible, and its pulse or wire has to be the one that
 the node comes to there. In editions 2 and 3 each stamp has to be right too, and all
 nodes have to be done at the end. Edition 3 has to be of the program of --program.
-A run with --root is replayed with the same --root.",
+A run with --root or --passes is replayed with the same option.",
     format: "Input: a graph in the DIMACS format, as `p edge NODES EDGES` and then `e V W`, and
 then a transcript, a line each:
   transcript 2 NODES   the first line
@@ -487,8 +490,8 @@ With --transcript, a line each, as `forestplan transcript` writes them:
   S V pulse P              node V made pulse P
   S V put W WIRE           V put a wire on its link to its neighbour W
   S V take W WIRE          V took a wire from the link of its neighbour W
-`forestplay replay` with the same --program and --root accepts these lines after
-the graph.
+`forestplay replay` with the same --program, --root and --passes accepts these
+lines after the graph.
 
 If it reports `forestplay: stopped` (status 3), the workers had looked for nodes
 as often as --turns says before all nodes were done.

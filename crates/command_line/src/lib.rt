@@ -30,5 +30,5 @@ mod programs;
 mod request;
 
 pub use program::Program;
-pub use programs::{NodeProgramName, Shown};
+pub use programs::{MAX_PASSES, NodeProgramName, Passes, Shown};
 pub use request::{Declined, Play, Request, parse};

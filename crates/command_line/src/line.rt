@@ -12,7 +12,7 @@ use crate::help;
 use crate::help::Help;
 use crate::options::{with_edition, with_run_options};
 use crate::program::Program;
-use crate::programs::{with_program, with_root, with_transcript};
+use crate::programs::{with_passes, with_program, with_root, with_transcript};
 use clap::Command;
 use std::alloc::{AllocError, Global};
 
@@ -124,7 +124,8 @@ fn play_command<'a>(alloc: Global, name: &'a str, help: Help) -> Result<Command<
     ensures local { IfOk result (λ c. (out-Command c).has_globals ≡ false) }
 {
     let play = with_program(alloc, command(alloc, name, help))?;
-    with_root(alloc, play)
+    let play = with_root(alloc, play)?;
+    with_passes(alloc, play)
 }
 
 // A program with one more command for lessons.

@@ -3,15 +3,31 @@
 ghost use Rattle.std.specs.Prelude.{◌≡◌, [], IfOk, codes, false, is_some, option_map, unwrap_or};
 ghost use Rattle.clap.specs.Words.{app_of, first_of, found_of, rows_of, rule_of};
 ghost use Rattle.clap.specs.declared.builder.command.Command.TheViews.{out-Command};
-ghost use Rattle.command_line.specs.NodePrograms.{program_of, program_rule, program_with, root_of, root_rule, rooted_program};
-ghost use Rattle.command_line.specs.NodePrograms.{shown_of, transcript_rule, with_program, with_root, with_transcript};
+ghost use Rattle.command_line.specs.NodePrograms.{passed_program, passes_of, passes_rule, passes_with, program_of};
+ghost use Rattle.command_line.specs.NodePrograms.{program_rule, program_with, root_of, root_rule, rooted_of};
+ghost use Rattle.command_line.specs.NodePrograms.{rooted_program, shown_of, transcript_rule, with_passes, with_program};
+ghost use Rattle.command_line.specs.NodePrograms.{with_root, with_transcript};
 
-use crate::help::{PROGRAM, ROOT, SHOW_TRANSCRIPT};
+use crate::help::{PASSES, PROGRAM, ROOT, SHOW_TRANSCRIPT};
 use crate::options::small_number;
 use clap::builder::ValueParser;
 use clap::{Arg, ArgAction, ArgMatches, Command};
 use graph_limits::MAX_NODES;
 use std::alloc::{AllocError, Global};
+
+/// The most passes of the recolouring.
+pub const MAX_PASSES: u32 = 3;
+
+/// How often the classes of a plan choose anew.
+#[derive(Clone, Copy, Debug, PartialEq, Eq)]
+pub enum Passes {
+    /// Once.
+    One,
+    /// Once, and then again.
+    Two,
+    /// Once, and then twice again.
+    Three,
+}
 
 /// The name of a program of nodes.
 #[derive(Clone, Copy, Debug, PartialEq, Eq)]
@@ -26,8 +42,8 @@ pub enum NodeProgramName {
     Matching,
     /// Each node finds whether it is in a maximal independent set.
     IndependentSet,
-    /// Each node finds its channel, and then chooses anew.
-    Recolouring,
+    /// Each node finds its channel, and then chooses anew, in as many passes.
+    Recolouring(Passes),
 }
 
 /// What a run of nodes prints.
@@ -61,6 +77,18 @@ fn root<'a>(alloc: Global) -> Arg<'a>
         .value_name("V")
         .value_parser(ValueParser::unsigned(1, u64::from(MAX_NODES)))
         .help(ROOT)
+}
+
+// The option that gives a number of passes.
+fn number_of_passes<'a>(alloc: Global) -> Arg<'a>
+    ensures rule { rule_of result ≡ passes_rule }
+    ensures local { result.global ≡ false }
+{
+    Arg::new(alloc, "passes")
+        .long("passes")
+        .value_name("N")
+        .value_parser(ValueParser::unsigned(1, u64::from(MAX_PASSES)))
+        .help(PASSES)
 }
 
 // The option that asks for a transcript.
@@ -98,6 +126,18 @@ pub fn with_root<'a>(alloc: Global, command: Command<'a>) -> Result<Command<'a>,
     command.arg(root(alloc))
 }
 
+/// A command with the option `--passes`.
+///
+/// # Errors
+/// If memory ran out.
+pub fn with_passes<'a>(alloc: Global, command: Command<'a>) -> Result<Command<'a>, AllocError>
+    requires { (out-Command command).has_globals ≡ false }
+    ensures shape { IfOk result (λ c. app_of c ≡ with_passes (app_of command.entry)) }
+    ensures local { IfOk result (λ c. (out-Command c).has_globals ≡ false) }
+{
+    command.arg(number_of_passes(alloc))
+}
+
 /// A command with the option `--transcript` after its others.
 ///
 /// # Errors
@@ -117,7 +157,7 @@ fn first_word<'a>(matches: &ArgMatches<'a>, name: &str) -> Option<&'a str>
     matches.get_str(name)
 }
 
-// The program that a word names, without a root.
+// The program that a word names, without a root and with one pass.
 fn program_with(word: &str) -> Option<NodeProgramName>
     ensures { result ≡ program_with word.now }
 {
@@ -127,7 +167,7 @@ fn program_with(word: &str) -> Option<NodeProgramName>
         "layers" => Some(NodeProgramName::Layers(None)),
         "matching" => Some(NodeProgramName::Matching),
         "independent-set" => Some(NodeProgramName::IndependentSet),
-        "recolouring" => Some(NodeProgramName::Recolouring),
+        "recolouring" => Some(NodeProgramName::Recolouring(Passes::One)),
         _ => None,
     }
 }
@@ -150,15 +190,62 @@ fn rooted_program(root: Option<u32>, program: NodeProgramName) -> Option<NodePro
     }
 }
 
-/// The program that a command has, from the words or by default, if there is one of this name that takes the root which
-/// is given.
-pub fn program_of(matches: &ArgMatches<'_>) -> Option<NodeProgramName>
-    ensures { result ≡ program_of (rows_of (found_of matches.now)) }
+// The program that a command has, from the words or by default, if there is one of this name that takes the root which
+// is given.
+fn rooted_of(matches: &ArgMatches<'_>) -> Option<NodeProgramName>
+    ensures { result ≡ rooted_of (rows_of (found_of matches.now)) }
 {
     rooted_program(
         root_of(matches),
         program_with(first_word(matches, "program")?)?,
     )
+}
+
+// The number of passes that a command is given.
+fn passes_of(matches: &ArgMatches<'_>) -> Option<u32>
+    ensures { result ≡ passes_of (rows_of (found_of matches.now)) }
+{
+    small_number(matches, "passes")
+}
+
+// As many passes.
+fn passes_with(number: u32) -> Option<Passes>
+    ensures { result ≡ passes_with number }
+{
+    match number {
+        1 => Some(Passes::One),
+        2 => Some(Passes::Two),
+        3 => Some(Passes::Three),
+        _ => None,
+    }
+}
+
+// A program with the passes that are given, if it takes them.
+fn passed_program(passes: Option<u32>, program: NodeProgramName) -> Option<NodeProgramName>
+    ensures { result ≡ passed_program passes program }
+{
+    match (passes, program) {
+        (None, program) => Some(program),
+        (Some(number), NodeProgramName::Recolouring(_)) => {
+            Some(NodeProgramName::Recolouring(passes_with(number)?))
+        }
+        (Some(_), _) => None,
+    }
+}
+
+/// The program that a command has, from the words or by default, if there is one of this name that takes the root and
+/// the passes which are given.
+pub fn program_of(matches: &ArgMatches<'_>) -> Option<NodeProgramName>
+    ensures { result ≡ program_of (rows_of (found_of matches.now)) }
+{
+    passed_program(passes_of(matches), rooted_of(matches)?)
+}
+
+/// Whether the program of a command takes the root that is given, if one is.
+pub fn takes_root(matches: &ArgMatches<'_>) -> bool
+    ensures { result ≡ is_some (rooted_of (rows_of (found_of matches.now))) }
+{
+    rooted_of(matches).is_some()
 }
 
 /// Whether a word names a program.

@@ -8,7 +8,9 @@ ghost use Rattle.command_line.specs.Asked.{choice_of, has_transcript, hint_of, n
 use crate::line::whole_line;
 use crate::options::{edition_of, options_of};
 use crate::program::Program;
-use crate::programs::{NodeProgramName, Shown, is_program, program_of, program_word, shown_of};
+use crate::programs::{
+    NodeProgramName, Shown, is_program, program_of, program_word, shown_of, takes_root,
+};
 use clap::error::ErrorKind;
 use clap::{ArgMatches, Error};
 use run_options::{Edition, Options};
@@ -19,6 +21,8 @@ const PROGRAM_NAMES: &'static str =
     "[possible values: colouring, leader, layers, matching, independent-set, recolouring]";
 
 const ROOT_TAKER: &'static str = "[only with: --program layers]";
+
+const PASSES_TAKER: &'static str = "[only with: --program recolouring]";
 
 const TRY_HELP: &'static str = "For more information, try '--help'.";
 
@@ -146,12 +150,17 @@ fn declined_by(alloc: Global, program: Program, error: &Error) -> Declined
     }
 }
 
-// The text that refuses a word for a program: with a root, if it names one; else in the words of clap for a value that
-// isn't one of a list.
-fn refusal_of_program(alloc: Global, word: &str) -> Result<String, AllocError> {
+// The text that refuses a word for a program: if it names one, with the root, or else with the passes; and in the words
+// of clap for a value that isn't one of a list if it names none.
+fn refusal_of_program(alloc: Global, word: &str, takes_root: bool) -> Result<String, AllocError> {
     if is_program(word) {
+        let (option, taker) = if takes_root {
+            ("--passes <N>", PASSES_TAKER)
+        } else {
+            ("--root <V>", ROOT_TAKER)
+        };
         format!(in alloc;
-            "error: the argument '--root <V>' cannot be used with '--program {word}'\n  {ROOT_TAKER}\n\n{TRY_HELP}\n"
+            "error: the argument '{option}' cannot be used with '--program {word}'\n  {taker}\n\n{TRY_HELP}\n"
         )
     } else {
         format!(in alloc;
@@ -160,15 +169,15 @@ fn refusal_of_program(alloc: Global, word: &str) -> Result<String, AllocError> {
     }
 }
 
-// The refusal of words that name no program of nodes, or give a root to one that takes none.
+// The refusal of words that name no program of nodes, or give a root or passes to one that takes none.
 fn no_program(alloc: Global, matches: &ArgMatches<'_>) -> Declined
     ensures { IsRefusal result }
 {
-    let word = match matches.subcommand() {
-        Some((_, inner)) => program_word(inner),
-        None => "",
+    let (word, takes_root) = match matches.subcommand() {
+        Some((_, inner)) => (program_word(inner), takes_root(inner)),
+        None => ("", false),
     };
-    match refusal_of_program(alloc, word) {
+    match refusal_of_program(alloc, word, takes_root) {
         Ok(text) => Declined::Refused(text),
         Err(_) => Declined::Memory,
     }
@@ -178,7 +187,8 @@ fn no_program(alloc: Global, matches: &ArgMatches<'_>) -> Declined
 ///
 /// # Errors
 /// `Help` or `Refused` by the first fault that clap meets in the words. `Refused` if there is none, and the word of
-/// `--program` names no program of nodes, or one that takes no root beside `--root`. Any call may instead fail with `Memory`.
+/// `--program` names no program of nodes, or one that takes no root beside `--root`, or no passes beside `--passes`.
+/// Any call may instead fail with `Memory`.
 pub fn parse<'a>(alloc: Global, program: Program, words: &'a [&'a str]) -> Result<Request, Declined>
     ensures ok { IfOk result (λ request. request_of program (map (λ word. word.now) words.entry.now) ≡ Some request) }
     ensures in_range { IfOk result IsInRange }

@@ -1,3 +1,4 @@
 pub mod Coming
 pub mod Run
 pub mod Plans
+pub mod Passes

@@ -1,9 +1,10 @@
--- The colours that are chosen anew: a node's is the least that isn't barred at it and that no neighbour of a class before
--- has. From this alone it follows what they are.
-use Rattle.std.proofs.Common.{◌≡◌, ◌≢◌, ℕ, zero, suc, ◌+◌, ◌-◌, ◌<◌, ◌≤◌, ◌++◌, ◌==◌, Bool, true, false, List, [], ◌∷◌, length, ap, sym, ◌∙◌, arith, subst}
-use Rattle.std.proofs.Common.{get_or, inl, inr}
+-- The colours that are chosen anew in a pass: a node's is the least that isn't barred at it and that no neighbour of a
+-- class before has. From this alone it follows what they are.
+use Rattle.std.proofs.Common.{◌≡◌, ◌≢◌, ℕ, zero, suc, ◌+◌, ◌-◌, ◌*◌, ◌<◌, ◌≤◌, ◌++◌, ◌==◌, Bool, true, false, List, [], ◌∷◌, length, ap, sym, ◌∙◌}
+use Rattle.std.proofs.Common.{arith, get_or, inl, inr, subst}
 use Rattle.std.specs.Prelude.{◌⊎◌, map, not, nat_le, Contains}
-use Rattle.std.specs.FinSet.{contains}
+use Rattle.std.specs.FinSet.{FinSet, contains}
+use Rattle.std.specs.Ordering.{nat_cmp}
 use Rattle.std.proofs.lemmas.Bool.Decides.{nat_tests}
 use Rattle.std.proofs.lemmas.Bool.{cases_order, or_cases, or_left, or_right, not-false, cases_Bool, not-true, and_parts}
 use Rattle.std.proofs.lemmas.List.{get_or-map, length-append, length-map}
@@ -18,13 +19,13 @@ use Rattle.interference.specs.Net.{Net, IsBarred, IsNetwork, IsVertex, bars_of, 
 use Rattle.interference.specs.Net.{greatest_bars_of, greatest_degree_of, span_of}
 use Rattle.interference.proofs.Neighbours.{both-ways, greatest_bars-within, greatest_degree-within, port-of}
 use Rattle.colour_rules.proofs.Barring.{contains-up_to, contains-up_to_low}
-use Rattle.colour_laws.specs.Colours.{colours}
 use Rattle.colour_rules.specs.Node.{up_to}
+use Rattle.node_api.specs.Boxes.{nothing}
 use Rattle.colour_laws.proofs.Expected.{IsForest}
 use Rattle.colour_laws.proofs.Forests.{has_forest}
-use Rattle.colour_laws.proofs.Proper.{colours_proper}
 use Rattle.recolouring.specs.Knowing.{is_taken}
-use Rattle.recolouring.proofs.Run.{heard, heard-from, heard-has, low-colour, new, new-is, place}
+use Rattle.recolouring.specs.Lawful.{at, cut}
+use Rattle.recolouring.proofs.Run as run
 
 among-left : (xs ys : List ℕ) (c : ℕ) → is_among xs c ≡ true → is_among (xs ++ ys) c ≡ true
 among-left [] ys c e = absurd cc
@@ -44,35 +45,49 @@ among-Contains (x ∷ xs) c e = elim (or_cases (x == c) (is_among xs c) e) [
   | inr there ↦ let more = among-Contains xs c there in (suc more.0, omega (arith, more.1), more.2)
 ]
 
-module _ (net : Net) (ok : IsNetwork net) where
+module _ (again : ℕ) (net : Net) (ok : IsNetwork net) (k : ℕ) (low : (v : ℕ) → IsVertex net v → run.old again net ok k v ≤ span_of net)
+    (differ : (v w : ℕ) → IsVertex net v → Contains (neighbours net v) w → run.old again net ok k v ≢ run.old again net ok k w)
+    (quiet : (v : ℕ) → IsVertex net v → (at again net ok (cut net ok + (k * (span_of net + 1) + 0)) v).1 ≡ nothing (degree_of net v)) where
   forest : IsForest net
   forest = has_forest net ok
 
   abbrev span : ℕ
   span = span_of net
 
+  -- the colour with which a node comes into the pass, and the one that it chooses
+  abbrev pub old : ℕ → ℕ
+  old v = run.old again net ok k v
+
   abbrev pub colour : ℕ → ℕ
-  colour v = new net ok v
+  colour v = run.new again net ok k v
+
+  abbrev place : ℕ → ℕ
+  place v = run.place again net ok k v
+
+  abbrev heard : ℕ → ℕ → FinSet nat_cmp
+  heard q v = run.heard again net ok k q v
 
   -- what is taken for a node when it chooses
   abbrev taken : ℕ → ℕ → Bool
-  taken v = is_taken (heard net ok (place net ok v) v) (up_to span (bars_of net v))
+  taken v = is_taken (heard (place v) v) (up_to span (bars_of net v))
 
   abbrev test : ℕ → ℕ → Bool
   test v c = not (taken v c)
 
   is : (v : ℕ) → IsVertex net v → colour v ≡ least_free_colour span (taken v)
-  is v is_vertex = new-is net ok v is_vertex
+  is v is_vertex = run.new-is again net ok k low quiet v is_vertex
 
   -- a colour that is taken is barred, or a neighbour's of a class before
   by : (v c : ℕ) → IsVertex net v → taken v c ≡ true →
       (is_among (bars_of net v) c ≡ true) ⊎
-      ((k : ℕ) × (k < degree_of net v) × (colours net v < colours net (neighbour_of net v k)) × (colour (neighbour_of net v k) ≡ c))
+      ((j : ℕ) × (j < degree_of net v) × (old v < old (neighbour_of net v j)) × (colour (neighbour_of net v j) ≡ c))
   by v c is_vertex e =
-      let q : ℕ = place net ok v in
-      let low : colours net v ≤ span = low-colour net ok v in
-      elim (or_cases (contains (heard net ok q v) c) (contains (up_to span (bars_of net v)) c) e) [
-        | inl near ↦ let there = heard-from net ok q v c is_vertex near in inr (there.0, there.1, omega (arith, there.2, low), there.3)
+      let q : ℕ = place v in
+      let here : old v ≤ span = low v is_vertex in
+      elim (or_cases (contains (heard q v) c) (contains (up_to span (bars_of net v)) c) e) [
+        | inl near ↦
+            let there = run.heard-from again net ok k low quiet q v c is_vertex (omega arith) near in
+            inr (there.0, there.1, omega (arith, there.2, here), there.3)
         | inr barred ↦ inl (and_parts (is_among (bars_of net v) c) (nat_le c span) (sym (contains-up_to span (bars_of net v) c) ∙ barred)).0
       ]
 
@@ -106,7 +121,7 @@ module _ (net : Net) (ok : IsNetwork net) where
       let least : least_free_colour span (taken v) ≤ some.0 = least-at_most (test v) (suc span) some.0 (ap not some.2) in
       omega (arith, is v is_vertex, some.1, least)
 
-  few : (v : ℕ) → degree_of net v + bar_count_of net v ≤ span
+  pub few : (v : ℕ) → degree_of net v + bar_count_of net v ≤ span
   few v = omega (arith, forest.few v, forest.few_bars v)
 
   untaken : (v : ℕ) → IsVertex net v → taken v (colour v) ≡ false
@@ -122,30 +137,30 @@ module _ (net : Net) (ok : IsNetwork net) where
       omega (arith, within v is_vertex, few v, most, bars)
 
   -- the colour of a neighbour of a class before is taken
-  before-taken : (v k : ℕ) → IsVertex net v → k < degree_of net v → colours net v < colours net (neighbour_of net v k) →
-      taken v (colour (neighbour_of net v k)) ≡ true
-  before-taken v k is_vertex below less =
-      let low : colours net v ≤ span = low-colour net ok v in
-      let c : ℕ = colour (neighbour_of net v k) in
-      or_left (contains (heard net ok (place net ok v) v) c) (contains (up_to span (bars_of net v)) c)
-      (heard-has net ok (place net ok v) v k is_vertex below (omega arith) (omega (arith, less, low))
-      (in_room (neighbour_of net v k) (ok.vertices v k is_vertex below)))
+  before-taken : (v j : ℕ) → IsVertex net v → j < degree_of net v → old v < old (neighbour_of net v j) →
+      taken v (colour (neighbour_of net v j)) ≡ true
+  before-taken v j is_vertex below less =
+      let here : old v ≤ span = low v is_vertex in
+      let c : ℕ = colour (neighbour_of net v j) in
+      or_left (contains (heard (place v) v) c) (contains (up_to span (bars_of net v)) c)
+      (run.heard-has again net ok k low quiet (place v) v j is_vertex below (omega arith) (omega (arith, less, here))
+      (in_room (neighbour_of net v j) (ok.vertices v j is_vertex below)))
 
-  apart : (v k : ℕ) → IsVertex net v → k < degree_of net v → colours net v < colours net (neighbour_of net v k) → colour v ≢ colour (neighbour_of net v k)
-  apart v k is_vertex below less same =
-      let wrong : false ≡ true = sym (untaken v is_vertex) ∙ (ap (taken v) same ∙ before-taken v k is_vertex below less) in cc
+  apart : (v j : ℕ) → IsVertex net v → j < degree_of net v → old v < old (neighbour_of net v j) → colour v ≢ colour (neighbour_of net v j)
+  apart v j is_vertex below less same =
+      let wrong : false ≡ true = sym (untaken v is_vertex) ∙ (ap (taken v) same ∙ before-taken v j is_vertex below less) in cc
 
   pub proper : (v w : ℕ) → IsVertex net v → Contains (neighbours net v) w → colour v ≢ colour w
   proper v w is_vertex near same =
       let port = port-of net ok v w near in
       let inside : IsVertex net w = subst (IsVertex net) port.2 (ok.vertices v port.0 is_vertex port.1) in
       let back = port-of net ok w v (both-ways net ok v w is_vertex near) in
-      let differ : colours net v ≢ colours net w = colours_proper net ok v w is_vertex near in
-      elim (cases_order (colours net v) (colours net w)) [
-        | inl equal ↦ differ equal
+      let apart_before : old v ≢ old w = differ v w is_vertex near in
+      elim (cases_order (old v) (old w)) [
+        | inl equal ↦ apart_before equal
         | inr side ↦ elim side [
-          | inl less ↦ apart v port.0 is_vertex port.1 (subst (λ (u : ℕ). colours net v < colours net u) (sym port.2) less) (same ∙ ap colour (sym port.2))
-          | inr more ↦ apart w back.0 inside back.1 (subst (λ (u : ℕ). colours net w < colours net u) (sym back.2) more) (sym same ∙ ap colour (sym back.2))
+          | inl less ↦ apart v port.0 is_vertex port.1 (subst (λ (u : ℕ). old v < old u) (sym port.2) less) (same ∙ ap colour (sym port.2))
+          | inr more ↦ apart w back.0 inside back.1 (subst (λ (u : ℕ). old w < old u) (sym back.2) more) (sym same ∙ ap colour (sym back.2))
         ]
       ]
 
@@ -155,7 +170,7 @@ module _ (net : Net) (ok : IsNetwork net) where
       let among : is_among (bars_of net v) (colour v) ≡ true = is_among-at (bars_of net v) barred.0 (colour v) barred.1 barred.2 in
       let held : contains (up_to span (bars_of net v)) (colour v) ≡ true = contains-up_to_low span (bars_of net v) (colour v) low ∙ among in
       let wrong : false ≡ true = sym (untaken v is_vertex)
-      ∙ or_right (contains (heard net ok (place net ok v) v) (colour v)) (contains (up_to span (bars_of net v)) (colour v)) held in
+      ∙ or_right (contains (heard (place v) v) (colour v)) (contains (up_to span (bars_of net v)) (colour v)) held in
       cc
 
   pub lowest : (v c : ℕ) → IsVertex net v → c < colour v → (IsBarred net v c → ⊥) → (w : ℕ) × Contains (neighbours net v) w × (colour w ≡ c)
@@ -167,30 +182,30 @@ module _ (net : Net) (ok : IsNetwork net) where
       ]
 
   -- without bars a node's new colour is at most as far from 0 as its old one from the greatest
-  module _ (none : (w : ℕ) → IsVertex net w → bars_of net w ≡ []) (greatest : ℕ) (most : (w : ℕ) → IsVertex net w → colours net w ≤ greatest) where
-    step : (v : ℕ) → IsVertex net v → ((w : ℕ) → IsVertex net w → colours net v < colours net w → colour w + colours net w ≤ greatest) →
-        colour v + colours net v ≤ greatest
+  module _ (none : (w : ℕ) → IsVertex net w → bars_of net w ≡ []) (greatest : ℕ) (most : (w : ℕ) → IsVertex net w → old w ≤ greatest) where
+    step : (v : ℕ) → IsVertex net v → ((w : ℕ) → IsVertex net w → old v < old w → colour w + old w ≤ greatest) →
+        colour v + old v ≤ greatest
     step v is_vertex others =
-        let c : ℕ = greatest - colours net v in
-        let low : colours net v ≤ greatest = most v is_vertex in
+        let c : ℕ = greatest - old v in
+        let low : old v ≤ greatest = most v is_vertex in
         let free_there : taken v c ≡ false = elim (cases_Bool (taken v c)) [
           | inr none_there ↦ none_there
           | inl held ↦ elim (by v c is_vertex held) [
             | inl barred ↦ let wrong : false ≡ true = ap (λ (bars : List ℕ). is_among bars c) (sym (none v is_vertex)) ∙ barred in absurd cc
             | inr there ↦
                 let w : ℕ = neighbour_of net v there.0 in
-                let bound : colour w + colours net w ≤ greatest = others w (ok.vertices v there.0 is_vertex there.1) there.2 in
+                let bound : colour w + old w ≤ greatest = others w (ok.vertices v there.0 is_vertex there.1) there.2 in
                 absurd (omega (arith, low, bound, there.2, there.3))
           ]
         ] in
         let least : least_free_colour span (taken v) ≤ c = least-at_most (test v) (suc span) c (ap not free_there) in
         omega (arith, is v is_vertex, least, low)
 
-    mirrored : (n v : ℕ) → IsVertex net v → greatest - colours net v ≤ n → colour v + colours net v ≤ greatest
-    mirrored zero v is_vertex h = step v is_vertex (λ w inside less. let bound : colours net w ≤ greatest = most w inside in
+    mirrored : (n v : ℕ) → IsVertex net v → greatest - old v ≤ n → colour v + old v ≤ greatest
+    mirrored zero v is_vertex h = step v is_vertex (λ w inside less. let bound : old w ≤ greatest = most w inside in
         absurd (omega (arith, h, bound, less)))
     mirrored (suc n) v is_vertex h = step v is_vertex (λ w inside less.
-        let bound : colours net w ≤ greatest = most w inside in mirrored n w inside (omega (arith, h, bound, less)))
+        let bound : old w ≤ greatest = most w inside in mirrored n w inside (omega (arith, h, bound, less)))
 
-    pub no_more : (v : ℕ) → IsVertex net v → colour v + colours net v ≤ greatest
-    no_more v is_vertex = mirrored (greatest - colours net v) v is_vertex (omega arith)
+    pub no_more : (v : ℕ) → IsVertex net v → colour v + old v ≤ greatest
+    no_more v is_vertex = mirrored (greatest - old v) v is_vertex (omega arith)

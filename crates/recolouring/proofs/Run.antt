@@ -1,35 +1,29 @@
--- The run of the classes that choose anew: who has chosen after each pulse, and what each has heard of.
-use Rattle.std.proofs.Common.{◌≡◌, ℕ, zero, suc, ◌+◌, ◌-◌, ◌<◌, ◌≤◌, ◌==◌, ◌&&◌, Bool, true, false, List, refl, ap, sym, ◌∙◌, arith, subst, inl, inr}
-use Rattle.std.specs.Prelude.{map, replicate, nat_le, nat_lt, Option, Some, None}
+-- The run of the classes that choose anew in a pass: who has chosen after each pulse, and what each has heard of.
+use Rattle.std.proofs.Common.{◌≡◌, ℕ, zero, suc, ◌+◌, ◌-◌, ◌*◌, ◌%◌, ◌<◌, ◌≤◌, ◌==◌, ◌&&◌, Bool, true, false, List, length, refl, ap, sym}
+use Rattle.std.proofs.Common.{◌∙◌, arith, subst, inl, inr}
+use Rattle.std.specs.Prelude.{if◌then◌else◌, replicate, nat_le, nat_lt, Option, Some, None}
 use Rattle.std.specs.Ordering.{nat_cmp}
 use Rattle.std.specs.FinSet.{FinSet, contains, contains-empty, empty}
 use Rattle.std.proofs.lemmas.Bool.Decides.{nat_tests}
-use Rattle.std.proofs.lemmas.Bool.{le-leb, lt-ltb, eq-eqb, false_from_ne_true, and_parts, and_from}
+use Rattle.std.proofs.lemmas.Bool.{le-leb, lt-ltb, eq-eqb, ne_eqb, false_from_ne_true, and_parts, and_from}
 use Rattle.std.proofs.lemmas.List.{get_or-map, get_or-replicate}
 use native.Mathlib.Decide.{dec_lt}
 use Prim.{yes, no}
 use Rattle.forest_merge.specs.Free.{least_free_colour}
 use Rattle.forest_merge.specs.declared.chosen.TheConstants.{COLOURS}
-use Rattle.interference.specs.Net.{Net, IsNetwork, IsVertex, bars_of, degree_of, neighbours, neighbour_of, port_to, forest_count_of, span_of}
+use Rattle.interference.specs.Net.{Net, IsNetwork, IsVertex, bars_of, degree_of, neighbours, neighbour_of, port_to, span_of}
 use Rattle.node_api.specs.Boxes.{at_port, nothing}
 use Rattle.node_api.specs.Run.{inbox_from}
-use Rattle.colour_rules.proofs.Greets.{same-for_all}
 use Rattle.node_api.proofs.Runs.{length-inbox, node_at-ports}
 use Rattle.node_api.proofs.Slots.{at_port-nothing}
 use Rattle.followed.specs.Followed.{Both, beside_of}
-use Rattle.followed.specs.Said.{said}
-use Rattle.followed.specs.Lemmas.{kept_beside, said-nothing, same_run}
+use Rattle.followed.specs.Lemmas.{kept_beside}
 use Rattle.colour_rules.proofs.KeptPorts.{keeps}
-use Rattle.colour_laws.specs.Colours.{colours}
-use Rattle.colour_rules.specs.declared.payload.Payload.{Payload}
 use Rattle.colour_rules.specs.Node.{Node, ports, up_to}
 use Rattle.colour_rules.specs.Program.{colouring}
-use Rattle.colour_laws.proofs.Choices.{colours_within}
-use Rattle.colour_laws.proofs.Forests.{has_forest, has_start}
-use Rattle.colour_laws.proofs.Starts.{colour_at_last}
-use Rattle.recolouring.specs.declared.anew.Anew.{Anew}
-use Rattle.recolouring.specs.Knowing.{Recoloured, Wire, anew_next, chose, colour_after, is_taken, is_turn, recolours, says, told, with_anew}
-use Rattle.recolouring.specs.Lawful.{at, at-class, coloured, cut, has_greatest, recolours_cut}
+use Rattle.recolouring.specs.Knowing.{Recoloured, Wire, class_next, colour_after, entering, is_taken, is_turn, ready, recoloured, recolours}
+use Rattle.recolouring.specs.Knowing.{says, told, with_anew}
+use Rattle.recolouring.specs.Lawful.{at, at-pass, class-of, coloured, cut, has_greatest, ready-as, recolours_cut}
 use Rattle.recolouring.proofs.Coming.{anew-from, anew-has, anew-keeps, number}
 
 turn-then : (colour greatest q : ℕ) → is_turn colour greatest q ≡ true → colour + q ≡ greatest
@@ -61,185 +55,231 @@ told-some node k true c x e = elim (dec_lt k (ports node)) [
 ]
 told-some node k false c x e = let none : None ≡ Some x = sym (at_port-nothing (ports node) k) ∙ e in absurd cc
 
-module _ (net : Net) (ok : IsNetwork net) where
-  abbrev start : ℕ
-  start = cut net ok
+module _ (again : ℕ) (net : Net) (ok : IsNetwork net) (k : ℕ) where
+  -- the pulses of the passes before this one, and the last pulse before it
+  abbrev past : ℕ
+  past = k * (span_of net + 1)
 
-  -- what a node has beside its first colour when q classes have chosen anew
+  abbrev pub start : ℕ
+  start = cut net ok + past
+
+  -- what a node has beside its first colour when pulse q of the pass begins
   abbrev pub mine : ℕ → ℕ → Recoloured
-  mine q v = (at net ok (start + q) v).0.beside
+  mine q v = ready (coloured net ok v) (at again net ok (cut net ok + (past + q)) v).0.beside (past + q)
 
   abbrev inbox : ℕ → ℕ → List (Option Wire)
-  inbox q v = inbox_from net (at net ok (start + q)) v
+  inbox q v = inbox_from net (at again net ok (cut net ok + (past + q))) v
 
   -- what it has heard of when the next class chooses
   abbrev pub heard : ℕ → ℕ → FinSet nat_cmp
   heard q v = with_anew (mine q v).chosen (inbox q v)
 
   abbrev turn : ℕ → ℕ → Bool
-  turn q v = is_turn (coloured net ok v).merged (mine q v).greatest q
+  turn q v = is_turn (mine q v).before (mine q v).greatest q
 
-  -- the colours are those of the network
-  own-colour : (v : ℕ) → IsVertex net v → (coloured net ok v).merged ≡ colours net v
-  own-colour v is_vertex = (colour_at_last net ok (has_forest net ok) (has_start net ok) v is_vertex).0
+  -- the colour with which a node comes into the pass
+  abbrev pub old : ℕ → ℕ
+  old v = (mine 0 v).before
 
-  pub low-colour : (v : ℕ) → colours net v ≤ span_of net
-  low-colour v = colours_within net (has_forest net ok) (forest_count_of net) v
+  more : (q v : ℕ) → IsVertex net v → q ≤ span_of net →
+      at again net ok (cut net ok + (past + suc q)) v ≡ beside_of (coloured net ok v) (class_next (coloured net ok v) (mine q v) q (inbox q v))
+  more q v is_vertex h =
+      subst (λ (n : ℕ). at again net ok n v ≡ beside_of (coloured net ok v) (class_next (coloured net ok v) (mine q v) q (inbox q v)))
+      (let e : suc (cut net ok + (past + q)) ≡ cut net ok + (past + suc q) = omega arith in e)
+      (at-pass again net ok k q v is_vertex h)
 
-  more : (q v : ℕ) → IsVertex net v →
-      at net ok (start + suc q) v ≡ beside_of (coloured net ok v) (chose (coloured net ok v) (mine q v) q (heard q v) (turn q v))
-  more q v is_vertex =
-      subst (λ (n : ℕ). at net ok n v ≡ beside_of (coloured net ok v) (chose (coloured net ok v) (mine q v) q (heard q v) (turn q v)))
-      (let e : suc (start + q) ≡ start + suc q = omega arith in e)
-      (at-class net ok (start + q) v is_vertex (omega arith)
-      ∙ ap (λ (d : ℕ). beside_of (coloured net ok v) (anew_next (coloured net ok v) (mine q v) d (inbox q v)))
-      (let e : start + q - start ≡ q = omega arith in e))
+  beside-more : (q v : ℕ) → IsVertex net v → q ≤ span_of net → (at again net ok (cut net ok + (past + suc q)) v).0.beside
+      ≡ recoloured (mine q v) (heard q v) (turn q v)
+  beside-more q v is_vertex h = ap (λ (next : Both Node Recoloured × List (Option Wire)). next.0.beside) (more q v is_vertex h)
 
-  chosen-more : (q v : ℕ) → IsVertex net v → (mine (suc q) v).chosen ≡ heard q v
-  chosen-more q v is_vertex = ap (λ (next : Both Node Recoloured × List (Option Wire)). next.0.beside.chosen) (more q v is_vertex)
+  -- within the pass nothing begins anew
+  within : (q v : ℕ) → suc q ≤ span_of net → mine (suc q) v ≡ (at again net ok (cut net ok + (past + suc q)) v).0.beside
+  within q v h =
+      let s : Recoloured = (at again net ok (cut net ok + (past + suc q)) v).0.beside in
+      let class : (past + suc q) % (s.greatest + 1) ≡ suc q =
+      ap (λ (n : ℕ). (past + suc q) % (n + 1)) (has_greatest again net ok (cut net ok + (past + suc q)) v) ∙ class-of (span_of net) k (suc q) h in
+      ap (λ (n : ℕ). if n == 0 then entering (coloured net ok v) s (past + suc q) else s) class
+      ∙ ap (λ (b : Bool). if b then entering (coloured net ok v) s (past + suc q) else s) (ne_eqb (suc q) 0 (λ none. omega (arith, none)))
 
-  colour-more : (q v : ℕ) → IsVertex net v → (mine (suc q) v).colour ≡ colour_after (mine q v) (heard q v) (turn q v)
-  colour-more q v is_vertex = ap (λ (next : Both Node Recoloured × List (Option Wire)). next.0.beside.colour) (more q v is_vertex)
+  chosen-more : (q v : ℕ) → IsVertex net v → suc q ≤ span_of net → (mine (suc q) v).chosen ≡ heard q v
+  chosen-more q v is_vertex h = ap (λ (s : Recoloured). s.chosen) (within q v h ∙ beside-more q v is_vertex (omega arith))
 
-  sent : (q v : ℕ) → IsVertex net v → (at net ok (start + suc q) v).1
+  old-more : (q v : ℕ) → IsVertex net v → suc q ≤ span_of net → (mine (suc q) v).before ≡ (mine q v).before
+  old-more q v is_vertex h = ap (λ (s : Recoloured). s.before) (within q v h ∙ beside-more q v is_vertex (omega arith))
+
+  old-is : (q v : ℕ) → IsVertex net v → q ≤ span_of net → (mine q v).before ≡ old v
+  old-is zero v is_vertex h = refl
+  old-is (suc q) v is_vertex h = old-more q v is_vertex h ∙ old-is q v is_vertex (omega arith)
+
+  -- a pass begins with the colours to which the one before led
+  pub kept-colour : (q v : ℕ) → (mine q v).colour ≡ (at again net ok (cut net ok + (past + q)) v).0.beside.colour
+  kept-colour q v =
+      let s : Recoloured = (at again net ok (cut net ok + (past + q)) v).0.beside in
+      ready-as (λ t. t.colour) ((past + q) % (s.greatest + 1) == 0) s (entering (coloured net ok v) s (past + q)) refl
+
+  colour-more : (q v : ℕ) → IsVertex net v → q ≤ span_of net → (mine (suc q) v).colour ≡ colour_after (mine q v) (heard q v) (turn q v)
+  colour-more q v is_vertex h = kept-colour (suc q) v ∙ ap (λ (t : Recoloured). t.colour) (beside-more q v is_vertex h)
+
+  sent : (q v : ℕ) → IsVertex net v → q ≤ span_of net → (at again net ok (cut net ok + (past + suc q)) v).1
       ≡ told (coloured net ok v) (turn q v && nat_lt q (mine q v).greatest) (colour_after (mine q v) (heard q v) (turn q v))
-  sent q v is_vertex = ap (λ (next : Both Node Recoloured × List (Option Wire)). next.1) (more q v is_vertex)
+  sent q v is_vertex h = ap (λ (next : Both Node Recoloured × List (Option Wire)). next.1) (more q v is_vertex h)
 
   greatest_is : (q v : ℕ) → (mine q v).greatest ≡ span_of net
-  greatest_is q v = has_greatest net ok (start + q) v
+  greatest_is q v =
+      let p : ℕ = cut net ok + (past + q) in
+      let s : Recoloured = (at again net ok p v).0.beside in
+      ready-as (λ t. t.greatest) ((past + q) % (s.greatest + 1) == 0) s (entering (coloured net ok v) s (past + q)) refl
+      ∙ has_greatest again net ok p v
 
   barred_is : (q v : ℕ) → (mine q v).barred ≡ up_to (span_of net) (bars_of net v)
-  barred_is q v = kept_beside colouring recolours recolours_cut net ok (λ s. s.barred) (λ node s q inbox. refl) (start + q) v
+  barred_is q v =
+      let p : ℕ = cut net ok + (past + q) in
+      let s : Recoloured = (at again net ok p v).0.beside in
+      ready-as (λ t. t.barred) ((past + q) % (s.greatest + 1) == 0) s (entering (coloured net ok v) s (past + q)) refl
+      ∙ kept_beside colouring (recolours again) (recolours_cut again) net ok (λ t. t.barred)
+      (λ node t q inbox. ready-as (λ r. r.barred) (q % (t.greatest + 1) == 0) t (entering node t q) refl) p v
 
-  first : (v : ℕ) → IsVertex net v → (mine 0 v).chosen ≡ empty
-  first v is_vertex =
-      subst (λ (n : ℕ). (at net ok n v).0.beside.chosen ≡ empty) (let e : start ≡ start + 0 = omega arith in e)
-      (ap (λ (next : Both Node Recoloured × List (Option Wire)). next.0.beside.chosen)
-      (same_run colouring recolours recolours_cut net ok start v is_vertex (omega arith)))
+  -- as the pass begins
+  pub entered : (v : ℕ) → mine 0 v ≡ entering (coloured net ok v) (at again net ok (cut net ok + (past + 0)) v).0.beside (past + 0)
+  entered v =
+      let s : Recoloured = (at again net ok (cut net ok + (past + 0)) v).0.beside in
+      let class : (past + 0) % (s.greatest + 1) ≡ 0 =
+      ap (λ (n : ℕ). (past + 0) % (n + 1)) (has_greatest again net ok (cut net ok + (past + 0)) v) ∙ class-of (span_of net) k 0 (omega arith) in
+      ap (λ (n : ℕ). if n == 0 then entering (coloured net ok v) s (past + 0) else s) class
 
-  first_sent : (v : ℕ) → IsVertex net v → (at net ok (start + 0) v).1 ≡ nothing (degree_of net v)
-  first_sent v is_vertex =
-      subst (λ (n : ℕ). (at net ok n v).1 ≡ nothing (degree_of net v)) (let e : start ≡ start + 0 = omega arith in e)
-      (ap (λ (next : Both Node Recoloured × List (Option Wire)). next.1)
-      (same_run colouring recolours recolours_cut net ok start v is_vertex (omega arith))
-      ∙ (ap (map (said {A = Payload} {B = Anew}))
-      ((colour_at_last net ok (has_forest net ok) (has_start net ok) v is_vertex).1 ∙ sym (same-for_all None (neighbours net v)))
-      ∙ said-nothing {A = Payload} {B = Anew} (degree_of net v)))
+  first : (v : ℕ) → (mine 0 v).chosen ≡ empty
+  first v = ap (λ (s : Recoloured). s.chosen) (entered v)
 
-  slot : (q v k : ℕ) → k < degree_of net v → at_port (inbox q v) k
-      ≡ at_port (at net ok (start + q) (neighbour_of net v k)).1 (port_to net (neighbour_of net v k) v)
-  slot q v k below = get_or-map (λ (u : ℕ). at_port (at net ok (start + q) u).1 (port_to net u v)) (neighbours net v) k 0 None below
+  slot : (q v j : ℕ) → j < degree_of net v → at_port (inbox q v) j
+      ≡ at_port (at again net ok (cut net ok + (past + q)) (neighbour_of net v j)).1 (port_to net (neighbour_of net v j) v)
+  slot q v j below =
+      get_or-map (λ (u : ℕ). at_port (at again net ok (cut net ok + (past + q)) u).1 (port_to net u v)) (neighbours net v) j 0 None below
 
   -- a node's turn is that of its colour
-  turn-is : (q v : ℕ) → IsVertex net v → turn q v ≡ true → colours net v + q ≡ span_of net
-  turn-is q v is_vertex e =
-      omega (arith, turn-then (coloured net ok v).merged (mine q v).greatest q e, own-colour v is_vertex, greatest_is q v)
+  turn-is : (q v : ℕ) → IsVertex net v → q ≤ span_of net → turn q v ≡ true → old v + q ≡ span_of net
+  turn-is q v is_vertex h e = omega (arith, turn-then (mine q v).before (mine q v).greatest q e, old-is q v is_vertex h, greatest_is q v)
 
-  its-turn : (q v : ℕ) → IsVertex net v → colours net v + q ≡ span_of net → turn q v ≡ true
+  its-turn : (q v : ℕ) → IsVertex net v → old v + q ≡ span_of net → turn q v ≡ true
   its-turn q v is_vertex e =
-      turn-if (coloured net ok v).merged (mine q v).greatest q (omega (arith, e, own-colour v is_vertex, greatest_is q v))
+      turn-if (mine q v).before (mine q v).greatest q (omega (arith, e, old-is q v is_vertex (omega (arith, e)), greatest_is q v))
 
   -- the classes that choose before a node's
   abbrev pub place : ℕ → ℕ
-  place v = span_of net - colours net v
+  place v = span_of net - old v
 
   -- the colour that a node chooses anew
   abbrev pub new : ℕ → ℕ
   new v = (mine (suc (place v)) v).colour
 
-  pub new-is : (v : ℕ) → IsVertex net v → new v ≡ least_free_colour (span_of net) (is_taken (heard (place v) v) (up_to (span_of net) (bars_of net v)))
-  new-is v is_vertex =
-      let q : ℕ = place v in
-      let low : colours net v ≤ span_of net = low-colour v in
-      colour-more q v is_vertex
-      ∙ (ap (colour_after (mine q v) (heard q v)) (its-turn q v is_vertex (omega (arith, low)))
-      ∙ (ap (λ (n : ℕ). least_free_colour n (is_taken (heard q v) (mine q v).barred)) (greatest_is q v)
-      ∙ ap (λ (barred : FinSet nat_cmp). least_free_colour (span_of net) (is_taken (heard q v) barred)) (barred_is q v)))
+  -- if the colours with which they come are within the span, and nothing is on its way
+  module _ (low : (v : ℕ) → IsVertex net v → old v ≤ span_of net)
+      (quiet : (v : ℕ) → IsVertex net v → (at again net ok (cut net ok + (past + 0)) v).1 ≡ nothing (degree_of net v)) where
+    pub new-is : (v : ℕ) → IsVertex net v → new v ≡ least_free_colour (span_of net) (is_taken (heard (place v) v) (up_to (span_of net) (bars_of net v)))
+    new-is v is_vertex =
+        let q : ℕ = place v in
+        let here : old v ≤ span_of net = low v is_vertex in
+        colour-more q v is_vertex (omega arith)
+        ∙ (ap (colour_after (mine q v) (heard q v)) (its-turn q v is_vertex (omega (arith, here)))
+        ∙ (ap (λ (n : ℕ). least_free_colour n (is_taken (heard q v) (mine q v).barred)) (greatest_is q v)
+        ∙ ap (λ (barred : FinSet nat_cmp). least_free_colour (span_of net) (is_taken (heard q v) barred)) (barred_is q v)))
 
-  -- it keeps it
-  stays : (d v : ℕ) → IsVertex net v → (mine (suc (place v) + d) v).colour ≡ new v
-  stays zero v is_vertex = ap (λ (n : ℕ). (mine n v).colour) (let e : suc (place v) + 0 ≡ suc (place v) = omega arith in e)
-  stays (suc d) v is_vertex =
-      let q : ℕ = suc (place v) + d in
-      let low : colours net v ≤ span_of net = low-colour v in
-      let over : turn q v ≡ false = false_from_ne_true (turn q v)
-      (λ is. let when : colours net v + q ≡ span_of net = turn-is q v is_vertex is in omega (arith, when, low)) in
-      ap (λ (n : ℕ). (mine n v).colour) (let e : suc (place v) + suc d ≡ suc q = omega arith in e)
-      ∙ (colour-more q v is_vertex ∙ (ap (colour_after (mine q v) (heard q v)) over ∙ stays d v is_vertex))
+    -- it keeps it
+    stays : (d v : ℕ) → IsVertex net v → suc (place v) + d ≤ suc (span_of net) → (mine (suc (place v) + d) v).colour ≡ new v
+    stays zero v is_vertex h = ap (λ (n : ℕ). (mine n v).colour) (let e : suc (place v) + 0 ≡ suc (place v) = omega arith in e)
+    stays (suc d) v is_vertex h =
+        let q : ℕ = suc (place v) + d in
+        let here : old v ≤ span_of net = low v is_vertex in
+        let early : q ≤ span_of net = omega (arith, h) in
+        let over : turn q v ≡ false = false_from_ne_true (turn q v)
+        (λ is. let when : old v + q ≡ span_of net = turn-is q v is_vertex early is in omega (arith, when, here)) in
+        ap (λ (n : ℕ). (mine n v).colour) (let e : suc (place v) + suc d ≡ suc q = omega arith in e)
+        ∙ (colour-more q v is_vertex early ∙ (ap (colour_after (mine q v) (heard q v)) over ∙ stays d v is_vertex (omega (arith, early))))
 
-  pub later : (q v : ℕ) → IsVertex net v → span_of net < colours net v + q → (mine q v).colour ≡ new v
-  later q v is_vertex past =
-      let low : colours net v ≤ span_of net = low-colour v in
-      ap (λ (n : ℕ). (mine n v).colour) (let e : q ≡ suc (place v) + (q - suc (place v)) = omega (arith, past, low) in e)
-      ∙ stays (q - suc (place v)) v is_vertex
+    pub later : (q v : ℕ) → IsVertex net v → q ≤ suc (span_of net) → span_of net < old v + q → (mine q v).colour ≡ new v
+    later q v is_vertex h past_it =
+        let here : old v ≤ span_of net = low v is_vertex in
+        let same : q ≡ suc (place v) + (q - suc (place v)) = omega (arith, past_it, here) in
+        ap (λ (n : ℕ). (mine n v).colour) same ∙ stays (q - suc (place v)) v is_vertex (omega (arith, h, same))
 
-  -- what comes was chosen by a neighbour at the pulse before
-  came : (q v k c : ℕ) → IsVertex net v → k < degree_of net v → at_port (inbox (suc q) v) k ≡ Some (says c) →
-      (colours net (neighbour_of net v k) + q ≡ span_of net) × (new (neighbour_of net v k) ≡ c)
-  came q v k c is_vertex below is =
-      let w : ℕ = neighbour_of net v k in
-      let inside : IsVertex net w = ok.vertices v k is_vertex below in
-      let colour : ℕ = colour_after (mine q w) (heard q w) (turn q w) in
-      let there : at_port (told (coloured net ok w) (turn q w && nat_lt q (mine q w).greatest) colour) (port_to net w v) ≡ Some (says c) =
-      sym (ap (λ (out : List (Option Wire)). at_port out (port_to net w v)) (sent q w inside)) ∙ (sym (slot (suc q) v k below) ∙ is) in
-      let facts = told-some (coloured net ok w) (port_to net w v) (turn q w && nat_lt q (mine q w).greatest) colour (says c) there in
-      let when : colours net w + q ≡ span_of net = turn-is q w inside (and_parts (turn q w) (nat_lt q (mine q w).greatest) facts.0).0 in
-      let same : colour ≡ c = ap number facts.1 in
-      (when, sym (later (suc q) w inside (omega (arith, when))) ∙ (colour-more q w inside ∙ same))
+    -- with it a node ends the pass
+    pub last-colour : (v : ℕ) → IsVertex net v → (at again net ok (cut net ok + (past + suc (span_of net))) v).0.beside.colour ≡ new v
+    last-colour v is_vertex = sym (kept-colour (suc (span_of net)) v) ∙ later (suc (span_of net)) v is_vertex (omega arith) (omega arith)
 
-  first_none : (v k c : ℕ) → IsVertex net v → k < degree_of net v → at_port (inbox 0 v) k ≡ Some (says c) → ⊥
-  first_none v k c is_vertex below is =
-      let w : ℕ = neighbour_of net v k in
-      let none : None ≡ Some (says c) =
-      sym (ap (λ (out : List (Option Wire)). at_port out (port_to net w v)) (first_sent w (ok.vertices v k is_vertex below))
-      ∙ at_port-nothing (degree_of net w) (port_to net w v))
-      ∙ (sym (slot 0 v k below) ∙ is) in
-      cc
+    -- what comes was chosen by a neighbour at the pulse before
+    came : (q v j c : ℕ) → IsVertex net v → q ≤ span_of net → j < degree_of net v → at_port (inbox (suc q) v) j ≡ Some (says c) →
+        (old (neighbour_of net v j) + q ≡ span_of net) × (new (neighbour_of net v j) ≡ c)
+    came q v j c is_vertex h below is =
+        let w : ℕ = neighbour_of net v j in
+        let inside : IsVertex net w = ok.vertices v j is_vertex below in
+        let colour : ℕ = colour_after (mine q w) (heard q w) (turn q w) in
+        let there : at_port (told (coloured net ok w) (turn q w && nat_lt q (mine q w).greatest) colour) (port_to net w v) ≡ Some (says c) =
+        sym (ap (λ (out : List (Option Wire)). at_port out (port_to net w v)) (sent q w inside h)) ∙ (sym (slot (suc q) v j below) ∙ is) in
+        let facts = told-some (coloured net ok w) (port_to net w v) (turn q w && nat_lt q (mine q w).greatest) colour (says c) there in
+        let when : old w + q ≡ span_of net = turn-is q w inside h (and_parts (turn q w) (nat_lt q (mine q w).greatest) facts.0).0 in
+        let same : colour ≡ c = ap number facts.1 in
+        (when, sym (later (suc q) w inside (omega (arith, h)) (omega (arith, when))) ∙ (colour-more q w inside h ∙ same))
 
-  -- what a node has heard of is the new colour of a neighbour of a class before
-  pub heard-from : (q v c : ℕ) → IsVertex net v → contains (heard q v) c ≡ true →
-      (k : ℕ) × (k < degree_of net v) × (span_of net < colours net (neighbour_of net v k) + q) × (new (neighbour_of net v k) ≡ c)
-  heard-from zero v c is_vertex is = elim (anew-from (inbox 0 v) (mine 0 v).chosen 0 c is) [
-    | inl before ↦
-        let none : false ≡ true = sym (contains-empty nat_cmp c) ∙ (ap (λ (set : FinSet nat_cmp). contains set c) (sym (first v is_vertex)) ∙ before) in
-        absurd cc
-    | inr there ↦ absurd (first_none v there.0 c is_vertex (omega (arith, there.1, length-inbox net (at net ok (start + 0)) v)) there.2)
-  ]
-  heard-from (suc q) v c is_vertex is = elim (anew-from (inbox (suc q) v) (mine (suc q) v).chosen 0 c is) [
-    | inl before ↦
-        let there = heard-from q v c is_vertex (ap (λ (set : FinSet nat_cmp). contains set c) (sym (chosen-more q v is_vertex)) ∙ before) in
-        (there.0, there.1, omega (arith, there.2), there.3)
-    | inr now ↦
-        let below : now.0 < degree_of net v = omega (arith, now.1, length-inbox net (at net ok (start + suc q)) v) in
-        let facts = came q v now.0 c is_vertex below now.2 in
-        (now.0, below, omega (arith, facts.0), facts.1)
-  ]
+    first_none : (v j c : ℕ) → IsVertex net v → j < degree_of net v → at_port (inbox 0 v) j ≡ Some (says c) → ⊥
+    first_none v j c is_vertex below is =
+        let w : ℕ = neighbour_of net v j in
+        let none : None ≡ Some (says c) =
+        sym (ap (λ (out : List (Option Wire)). at_port out (port_to net w v)) (quiet w (ok.vertices v j is_vertex below))
+        ∙ at_port-nothing (degree_of net w) (port_to net w v))
+        ∙ (sym (slot 0 v j below) ∙ is) in
+        cc
 
-  -- and of all of them
-  pub heard-has : (q v k : ℕ) → IsVertex net v → k < degree_of net v → q ≤ span_of net → span_of net < colours net (neighbour_of net v k) + q →
-      new (neighbour_of net v k) < COLOURS → contains (heard q v) (new (neighbour_of net v k)) ≡ true
-  heard-has zero v k is_vertex below low past few = let within : colours net (neighbour_of net v k) ≤ span_of net = low-colour (neighbour_of net v k) in
-      absurd (omega (arith, within, past))
-  heard-has (suc q) v k is_vertex below low past few =
-      let w : ℕ = neighbour_of net v k in
-      let inside : IsVertex net w = ok.vertices v k is_vertex below in
-      elim (dec_lt (span_of net) (colours net w + q)) [
-        | yes before ↦
-            anew-keeps (inbox (suc q) v) (mine (suc q) v).chosen 0 (new w)
-            (ap (λ (set : FinSet nat_cmp). contains set (new w)) (chosen-more q v is_vertex) ∙ heard-has q v k is_vertex below (omega arith) before few)
-        | no now ↦
-            let when : colours net w + q ≡ span_of net = omega (arith, past) in
-            let turns : turn q w ≡ true = its-turn q w inside when in
-            let early : nat_lt q (mine q w).greatest ≡ true = lt-ltb q (mine q w).greatest (omega (arith, low, greatest_is q w)) in
-            let colour : ℕ = colour_after (mine q w) (heard q w) (turn q w) in
-            let is : colour ≡ new w = sym (colour-more q w inside) ∙ later (suc q) w inside (omega (arith, when)) in
-            let many : ports (coloured net ok w) ≡ degree_of net w = (node_at-ports colouring net keeps start w).0 in
-            let port : port_to net w v < degree_of net w = ok.symmetric v k is_vertex below in
-            let here : at_port (inbox (suc q) v) k ≡ Some (says (new w)) =
-            slot (suc q) v k below
-            ∙ (ap (λ (out : List (Option Wire)). at_port out (port_to net w v)) (sent q w inside
-            ∙ (ap (λ (b : Bool). told (coloured net ok w) b colour) (and_from (turn q w) (nat_lt q (mine q w).greatest) turns early)
-            ∙ ap (told (coloured net ok w) true) is))
-            ∙ get_or-replicate (ports (coloured net ok w)) (port_to net w v) (Some (says (new w))) None (omega (arith, many, port))) in
-            anew-has (inbox (suc q) v) (mine (suc q) v).chosen 0 k (new w) (omega (arith, below, length-inbox net (at net ok (start + suc q)) v)) few here
-      ]
+    -- what a node has heard of is the new colour of a neighbour of a class before
+    pub heard-from : (q v c : ℕ) → IsVertex net v → q ≤ span_of net → contains (heard q v) c ≡ true →
+        (j : ℕ) × (j < degree_of net v) × (span_of net < old (neighbour_of net v j) + q) × (new (neighbour_of net v j) ≡ c)
+    heard-from zero v c is_vertex h is = elim (anew-from (inbox 0 v) (mine 0 v).chosen 0 c is) [
+      | inl before ↦
+          let none : false ≡ true = sym (contains-empty nat_cmp c) ∙ (ap (λ (set : FinSet nat_cmp). contains set c) (sym (first v)) ∙ before) in
+          absurd cc
+      | inr there ↦
+          let below : there.0 < degree_of net v = omega (arith, there.1, length-inbox net (at again net ok (cut net ok + (past + 0))) v) in
+          absurd (first_none v there.0 c is_vertex below there.2)
+    ]
+    heard-from (suc q) v c is_vertex h is = elim (anew-from (inbox (suc q) v) (mine (suc q) v).chosen 0 c is) [
+      | inl before ↦
+          let there = heard-from q v c is_vertex (omega (arith, h))
+          (ap (λ (set : FinSet nat_cmp). contains set c) (sym (chosen-more q v is_vertex h)) ∙ before) in
+          (there.0, there.1, omega (arith, there.2), there.3)
+      | inr now ↦
+          let below : now.0 < degree_of net v = omega (arith, now.1, length-inbox net (at again net ok (cut net ok + (past + suc q))) v) in
+          let facts = came q v now.0 c is_vertex (omega (arith, h)) below now.2 in
+          (now.0, below, omega (arith, facts.0), facts.1)
+    ]
+
+    -- and of all of them
+    pub heard-has : (q v j : ℕ) → IsVertex net v → j < degree_of net v → q ≤ span_of net → span_of net < old (neighbour_of net v j) + q →
+        new (neighbour_of net v j) < COLOURS → contains (heard q v) (new (neighbour_of net v j)) ≡ true
+    heard-has zero v j is_vertex below h past_it few =
+        let within_it : old (neighbour_of net v j) ≤ span_of net = low (neighbour_of net v j) (ok.vertices v j is_vertex below) in
+        absurd (omega (arith, within_it, past_it))
+    heard-has (suc q) v j is_vertex below h past_it few =
+        let w : ℕ = neighbour_of net v j in
+        let inside : IsVertex net w = ok.vertices v j is_vertex below in
+        elim (dec_lt (span_of net) (old w + q)) [
+          | yes before ↦
+              anew-keeps (inbox (suc q) v) (mine (suc q) v).chosen 0 (new w)
+              (ap (λ (set : FinSet nat_cmp). contains set (new w)) (chosen-more q v is_vertex h)
+              ∙ heard-has q v j is_vertex below (omega (arith, h)) before few)
+          | no now ↦
+              let when : old w + q ≡ span_of net = omega (arith, past_it) in
+              let turns : turn q w ≡ true = its-turn q w inside when in
+              let early : nat_lt q (mine q w).greatest ≡ true = lt-ltb q (mine q w).greatest (omega (arith, h, greatest_is q w)) in
+              let colour : ℕ = colour_after (mine q w) (heard q w) (turn q w) in
+              let is : colour ≡ new w =
+              sym (colour-more q w inside (omega (arith, h))) ∙ later (suc q) w inside (omega (arith, h)) (omega (arith, when)) in
+              let many : ports (coloured net ok w) ≡ degree_of net w = (node_at-ports colouring net keeps (cut net ok) w).0 in
+              let port : port_to net w v < degree_of net w = ok.symmetric v j is_vertex below in
+              let here : at_port (inbox (suc q) v) j ≡ Some (says (new w)) =
+              slot (suc q) v j below
+              ∙ (ap (λ (out : List (Option Wire)). at_port out (port_to net w v)) (sent q w inside (omega (arith, h))
+              ∙ (ap (λ (b : Bool). told (coloured net ok w) b colour) (and_from (turn q w) (nat_lt q (mine q w).greatest) turns early)
+              ∙ ap (told (coloured net ok w) true) is))
+              ∙ get_or-replicate (ports (coloured net ok w)) (port_to net w v) (Some (says (new w))) None (omega (arith, many, port))) in
+              let size : j < length (inbox (suc q) v) =
+              omega (arith, below, length-inbox net (at again net ok (cut net ok + (past + suc q))) v) in
+              anew-has (inbox (suc q) v) (mine (suc q) v).chosen 0 j (new w) size few here
+        ]

@@ -1,7 +1,8 @@
 -- The classes of a colouring choose anew, the greatest colour first, a class a pulse: a node takes the least colour
--- that isn't barred at it and that no neighbour which has chosen anew has, and says so.
-use Rattle.std.specs.Prelude.{ℕ, ◌+◌, ◌-◌, ◌==◌, ◌&&◌, ◌||◌, Bool, if◌then◌else◌, nat_le, nat_lt, List, replicate}
-use Rattle.std.specs.Prelude.{Option, Some, Ok}
+-- that isn't barred at it and that no neighbour which has chosen anew has, and says so. That is a pass; it may be made
+-- again, from the colours to which it led.
+use Rattle.std.specs.Prelude.{ℕ, ◌+◌, ◌-◌, ◌*◌, ◌%◌, ◌==◌, ◌&&◌, ◌||◌, Bool, if◌then◌else◌, nat_le, nat_lt, List}
+use Rattle.std.specs.Prelude.{Option, Some, Ok, replicate}
 use Rattle.std.specs.Ordering.{nat_cmp}
 use Rattle.std.specs.FinSet.{FinSet, contains, empty, insert}
 use Rattle.forest_merge.specs.Free.{least_free_colour}
@@ -22,10 +23,11 @@ pub record Recoloured : Type 0 where
   -- the last pulse of the colouring, and the greatest colour that there may be
   pub until : ℕ
   pub greatest : ℕ
-  -- the colours that neighbours have chosen anew, and those that are barred at the node
+  -- the colours that neighbours have chosen in this pass, and those that are barred at the node
   pub chosen : FinSet nat_cmp
   pub barred : FinSet nat_cmp
-  -- the colour that it has chosen anew
+  -- the colour with which it came into this pass, and the colour that it has chosen last
+  pub before : ℕ
   pub colour : ℕ
 
 -- what is sent: a payload of the colouring, or a colour that was chosen anew
@@ -69,25 +71,38 @@ abbrev pub chose : Node → Recoloured → ℕ → FinSet nat_cmp → Bool → R
 chose node s q chosen turn =
     (recoloured s chosen turn, told node (turn && nat_lt q s.greatest) (colour_after s chosen turn))
 
+-- a node comes into a pass: its colour is the one before it, and no neighbour has chosen
+abbrev pub entering : Node → Recoloured → ℕ → Recoloured
+entering node s q = record s { chosen = empty; before = if q == 0 then node.merged else s.colour }
+
+-- it does so at the first pulse of a pass
+abbrev pub ready : Node → Recoloured → ℕ → Recoloured
+ready node s q = if q % (s.greatest + 1) == 0 then entering node s q else s
+
+-- the pulse of class q of a pass
+abbrev pub class_next : Node → Recoloured → ℕ → List (Option Wire) → Recoloured × List (Option Wire)
+class_next node s q inbox = chose node s q (with_anew s.chosen inbox) (is_turn s.before s.greatest q)
+
 -- a pulse, from 0
 abbrev pub anew_next : Node → Recoloured → ℕ → List (Option Wire) → Recoloured × List (Option Wire)
-anew_next node s q inbox = chose node s q (with_anew s.chosen inbox) (is_turn node.merged s.greatest q)
+anew_next node s q inbox = class_next node (ready node s q) (q % (s.greatest + 1)) inbox
 
--- what follows the colouring
-abbrev pub recolours : Sequel Node Recoloured Payload Anew
-recolours = record {
+-- what follows the colouring: a pass, and as many again
+abbrev pub recolours : ℕ → Sequel Node Recoloured Payload Anew
+recolours again = record {
   until = λ s. s.until;
-  last = λ sizes. last sizes + 1 + span sizes;
+  last = λ sizes. last sizes + (again + 1) * (span sizes + 1);
   begin = λ own. record {
     until = last own.sizes;
     greatest = span own.sizes;
     chosen = empty;
     barred = up_to (span own.sizes) own.bars;
+    before = 0;
     colour = 0;
   };
   next = λ node s q inbox. Ok (anew_next node s q inbox);
 }
 
 -- the program
-abbrev pub recolouring : Program (Both Node Recoloured) Wire Refused
-recolouring = followed colouring recolours
+abbrev pub recolouring : ℕ → Program (Both Node Recoloured) Wire Refused
+recolouring again = followed colouring (recolours again)

@@ -1,9 +1,11 @@
 -- The classes may choose anew after the colouring.
-use Rattle.std.proofs.Common.{◌≡◌, ℕ, suc, ◌+◌, ◌-◌, ◌≤◌, ◌&&◌, Bool, true, false, List, length, refl, ap, ◌∙◌, arith}
-use Rattle.std.proofs.Common.{subst}
+use Rattle.std.proofs.Common.{◌≡◌, ℕ, suc, ◌+◌, ◌-◌, ◌*◌, ◌%◌, ◌≤◌, ◌&&◌, ◌==◌, Bool, true, false, List, length}
+use Rattle.std.proofs.Common.{◌∙◌, ap, arith, refl, subst}
 use Rattle.std.proofs.lemmas.List.{length-replicate}
 use Rattle.std.proofs.lemmas.Bool.{le-ltb}
-use Rattle.std.specs.Prelude.{nat_lt, Option, Some, None}
+use Rattle.std.proofs.lemmas.Nat.{mod-mul-add}
+use Rattle.std.proofs.Math.Nat.{suc-mul}
+use Rattle.std.specs.Prelude.{if◌then◌else◌, nat_lt, Option, Some, None}
 use Rattle.interference.specs.Net.{Net, IsNetwork, IsVertex, degree_of, span_of}
 use Rattle.node_api.specs.Boxes.{nothing}
 use Rattle.node_api.specs.Program.{sizes_of}
@@ -14,8 +16,8 @@ use Rattle.followed.specs.Lemmas.{at-more, kept_beside}
 use Rattle.colour_rules.proofs.KeptPorts.{keeps}
 use Rattle.colour_rules.specs.Node.{Node, last, ports}
 use Rattle.colour_rules.specs.Program.{colouring}
-use Rattle.recolouring.specs.Knowing.{Recoloured, Wire, anew_next, colour_after, is_turn, recolouring, recolours, says}
-use Rattle.recolouring.specs.Knowing.{told, with_anew}
+use Rattle.recolouring.specs.Knowing.{Recoloured, Wire, anew_next, class_next, colour_after, entering, is_turn, ready}
+use Rattle.recolouring.specs.Knowing.{recolouring, recolours, says, told, with_anew}
 
 length-told : (node : Node) (b : Bool) (c : ℕ) → length (told node b c) ≡ ports node
 length-told node true c = length-replicate (ports node) (Some (says c))
@@ -25,52 +27,102 @@ no-and : (a b : Bool) → b ≡ false → (a && b) ≡ false
 no-and true b e = e
 no-and false b e = refl
 
-abbrev pub recolours_cut : IsCut colouring recolours
-recolours_cut = record {
+-- what the beginning of a pass leaves as it is
+pub ready-as : {A : Type 0} (f : Recoloured → A) (b : Bool) (s t : Recoloured) → f t ≡ f s
+    → f (if b then t else s) ≡ f s
+ready-as f true s t e = e
+ready-as f false s t e = refl
+
+abbrev pub recolours_cut : (again : ℕ) → IsCut colouring (recolours again)
+recolours_cut again = record {
   cut = last;
   within = λ sizes. omega arith;
   begins = λ own. refl;
-  keeps = λ node s q inbox. refl;
+  keeps = λ node s q inbox. ready-as (λ t. t.until) (q % (s.greatest + 1) == 0) s (entering node s q) refl;
 }
 
-module _ (net : Net) (ok : IsNetwork net) where
-  abbrev pub at : ℕ → ℕ → Both Node Recoloured × List (Option Wire)
-  at p v = node_at recolouring net p v
+pub one-more : (k n : ℕ) → (k + 1) * n ≡ k * n + n
+one-more k n = ap (λ (m : ℕ). m * n) (let e : k + 1 ≡ suc k = omega arith in e) ∙ suc-mul k n
 
+pass-end : (cut a b span : ℕ) → b ≡ a + (span + 1) → suc (cut + (a + span)) ≡ cut + b
+pass-end cut a b span e = omega (arith, e)
+
+-- the class of a pulse of a pass
+pub class-of : (greatest k q : ℕ) → q ≤ greatest → (k * (greatest + 1) + q) % (greatest + 1) ≡ q
+class-of greatest k q h = mod-mul-add k (greatest + 1) q (omega arith)
+
+module _ (net : Net) (ok : IsNetwork net) where
   abbrev pub cut : ℕ
   cut = last (sizes_of net)
 
   abbrev pub coloured : ℕ → Node
   coloured v = state_at colouring net cut v
 
-  pub at-class : (p v : ℕ) → IsVertex net v → cut ≤ p →
-      at (suc p) v ≡ beside_of (coloured v)
-      (anew_next (coloured v) (at p v).0.beside (p - cut) (inbox_from net (at p) v))
-  at-class p v is_vertex h = at-more colouring recolours recolours_cut net ok p v is_vertex h
-      (anew_next (coloured v) (at p v).0.beside (p - cut) (inbox_from net (at p) v)) refl
+module _ (again : ℕ) (net : Net) (ok : IsNetwork net) where
+  abbrev pub at : ℕ → ℕ → Both Node Recoloured × List (Option Wire)
+  at p v = node_at (recolouring again) net p v
+
+  pub at-class : (p v : ℕ) → IsVertex net v → cut net ok ≤ p →
+      at (suc p) v ≡ beside_of (coloured net ok v)
+      (anew_next (coloured net ok v) (at p v).0.beside (p - cut net ok) (inbox_from net (at p) v))
+  at-class p v is_vertex h = at-more colouring (recolours again) (recolours_cut again) net ok p v is_vertex h
+      (anew_next (coloured net ok v) (at p v).0.beside (p - cut net ok) (inbox_from net (at p) v)) refl
 
   pub has_greatest : (p v : ℕ) → (at p v).0.beside.greatest ≡ span_of net
-  has_greatest p v = kept_beside colouring recolours recolours_cut net ok (λ s. s.greatest) (λ node s q inbox. refl) p v
+  has_greatest p v = kept_beside colouring (recolours again) (recolours_cut again) net ok (λ s. s.greatest)
+      (λ node s q inbox. ready-as (λ t. t.greatest) (q % (s.greatest + 1) == 0) s (entering node s q) refl) p v
 
-  silent_last : (v : ℕ) → IsVertex net v → (at (cut + 1 + span_of net) v).1 ≡ nothing (degree_of net v)
-  silent_last v is_vertex =
-      let p : ℕ = cut + span_of net in
+  -- pulse q of pass k, from 0
+  pub at-pass : (k q v : ℕ) → IsVertex net v → q ≤ span_of net →
+      at (suc (cut net ok + (k * (span_of net + 1) + q))) v ≡ beside_of (coloured net ok v)
+      (class_next (coloured net ok v)
+      (ready (coloured net ok v) (at (cut net ok + (k * (span_of net + 1) + q)) v).0.beside
+      (k * (span_of net + 1) + q)) q
+      (inbox_from net (at (cut net ok + (k * (span_of net + 1) + q))) v))
+  at-pass k q v is_vertex h =
+      let d : ℕ = k * (span_of net + 1) + q in
+      let p : ℕ = cut net ok + d in
+      let node : Node = coloured net ok v in
       let s : Recoloured = (at p v).0.beside in
-      let turn : Bool = is_turn (coloured v).merged s.greatest (p - cut) in
-      let colour : ℕ = colour_after s (with_anew s.chosen (inbox_from net (at p) v)) turn in
-      let late : nat_lt (p - cut) s.greatest ≡ false = le-ltb (p - cut) s.greatest (omega (arith, has_greatest p v)) in
-      let last_one : suc p ≡ cut + 1 + span_of net = omega arith in
-      subst (λ (n : ℕ). (at n v).1 ≡ nothing (degree_of net v)) last_one
-      (ap (λ (next : Both Node Recoloured × List (Option Wire)). next.1) (at-class p v is_vertex (omega arith))
-      ∙ (ap (λ (b : Bool). told (coloured v) b colour) (no-and turn (nat_lt (p - cut) s.greatest) late)
-      ∙ ap (λ (n : ℕ). nothing n) (node_at-ports colouring net keeps cut v).0))
+      let class : d % (s.greatest + 1) ≡ q =
+      ap (λ (n : ℕ). d % (n + 1)) (has_greatest p v) ∙ class-of (span_of net) k q h in
+      at-class p v is_vertex (omega arith)
+      ∙ (ap (λ (n : ℕ). beside_of node (anew_next node s n (inbox_from net (at p) v)))
+      (let e : p - cut net ok ≡ d = omega arith in e)
+      ∙ ap (λ (n : ℕ). beside_of node (class_next node (ready node s d) n (inbox_from net (at p) v))) class)
 
-pub recolours_laws : IsSequel colouring recolours
-recolours_laws = record {
-  cut = recolours_cut;
+  -- nothing is sent at the last pulse of a pass
+  pub silent_pass : (k v : ℕ) → IsVertex net v
+      → (at (cut net ok + (k + 1) * (span_of net + 1)) v).1 ≡ nothing (degree_of net v)
+  silent_pass k v is_vertex =
+      let d : ℕ = k * (span_of net + 1) + span_of net in
+      let p : ℕ = cut net ok + d in
+      let node : Node = coloured net ok v in
+      let first : Recoloured = (at p v).0.beside in
+      let s : Recoloured = ready node first d in
+      let turn : Bool = is_turn s.before s.greatest (span_of net) in
+      let colour : ℕ = colour_after s (with_anew s.chosen (inbox_from net (at p) v)) turn in
+      let greatest : s.greatest ≡ span_of net =
+      ready-as (λ t. t.greatest) (d % (first.greatest + 1) == 0) first (entering node first d) refl
+      ∙ has_greatest p v in
+      let late : nat_lt (span_of net) s.greatest ≡ false =
+      le-ltb (span_of net) s.greatest (omega (arith, greatest)) in
+      let last_one : suc p ≡ cut net ok + (k + 1) * (span_of net + 1) =
+      pass-end (cut net ok) (k * (span_of net + 1)) _ (span_of net) (one-more k (span_of net + 1)) in
+      subst (λ (n : ℕ). (at n v).1 ≡ nothing (degree_of net v)) last_one
+      (ap (λ (next : Both Node Recoloured × List (Option Wire)). next.1)
+      (at-pass k (span_of net) v is_vertex (omega arith))
+      ∙ (ap (λ (b : Bool). told node b colour) (no-and turn (nat_lt (span_of net) s.greatest) late)
+      ∙ ap (λ (n : ℕ). nothing n) (node_at-ports colouring net keeps (cut net ok) v).0))
+
+pub recolours_laws : (again : ℕ) → IsSequel colouring (recolours again)
+recolours_laws again = record {
+  cut = recolours_cut again;
   shape = λ node s q inbox h.
-      let turn : Bool = is_turn node.merged s.greatest q in
-      length-told node (turn && nat_lt q s.greatest) (colour_after s (with_anew s.chosen inbox) turn);
+      let r : Recoloured = ready node s q in
+      let class : ℕ = q % (s.greatest + 1) in
+      let turn : Bool = is_turn r.before r.greatest class in
+      length-told node (turn && nat_lt class r.greatest) (colour_after r (with_anew r.chosen inbox) turn);
   accepts = λ net ok p v is_vertex late below. refl;
-  silent = λ net ok v is_vertex. silent_last net ok v is_vertex;
+  silent = λ net ok v is_vertex. silent_pass again net ok again v is_vertex;
 }

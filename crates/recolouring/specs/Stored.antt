@@ -6,18 +6,18 @@ use Rattle.std.specs.FinSet as set
 use Rattle.recolouring.specs.Knowing.{Recoloured}
 
 abbrev Fields : Type 0
-Fields = ℕ × (ℕ × (ℕ × (set.FinSet nat_cmp × set.FinSet nat_cmp)))
+Fields = ℕ × (ℕ × (ℕ × (ℕ × (set.FinSet nat_cmp × set.FinSet nat_cmp))))
 
 abbrev fields_of : Recoloured → Fields
-fields_of s = (s.until, (s.greatest, (s.colour, (s.chosen, s.barred))))
+fields_of s = (s.until, (s.greatest, (s.before, (s.colour, (s.chosen, s.barred)))))
 
 abbrev recoloured_of : Fields → Recoloured
-recoloured_of (until, (greatest, (colour, (chosen, barred)))) =
-    record { until = until; greatest = greatest; chosen = chosen; barred = barred; colour = colour }
+recoloured_of (until, (greatest, (before, (colour, (chosen, barred))))) =
+    record { until = until; greatest = greatest; chosen = chosen; barred = barred; before = before; colour = colour }
 
 -- how it is stored
 abbrev pub recoloured_code : Coded Recoloured
 recoloured_code =
     code_by Fields
-    (coded× coded_ℕ (coded× coded_ℕ (coded× coded_ℕ (coded× (set.code coded_ℕ) (set.code coded_ℕ)))))
+    (coded× coded_ℕ (coded× coded_ℕ (coded× coded_ℕ (coded× coded_ℕ (coded× (set.code coded_ℕ) (set.code coded_ℕ))))))
     fields_of recoloured_of (λ _. refl)

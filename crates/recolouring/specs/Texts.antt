@@ -1,45 +1,55 @@
 -- The words of the colours that are chosen anew in texts.
-use Rattle.std.specs.Prelude.{◌≡◌, ◌≢◌, ℕ, ◌+◌, ◌<◌, ◌≤◌, [], Contains, codes}
+use Rattle.std.specs.Prelude.{◌≡◌, ◌≢◌, ℕ, zero, suc, ◌+◌, ◌<◌, ◌≤◌, [], Contains, codes}
 use Rattle.std.proofs.Common.{refl}
 use Rattle.interference.specs.Net.{Net, IsBarred, IsEdge, IsVertex, bars_of, bar_count_of, degree_of, neighbours}
 use Rattle.number_rows.specs.Row.{numbered}
 use Rattle.number_rows.proofs.Feeds.{no-feed-numbered}
 use Rattle.program_texts.specs.Named.{AreNamed, NamedTexts, texts_of}
 use Rattle.program_texts.specs.Texts.{ProgramTexts}
+use Rattle.node_api.specs.Run.{last_state}
 use Rattle.followed.specs.Followed.{Both}
 use Rattle.colour_rules.specs.Node.{Node}
 use Rattle.colour_laws.specs.Colours.{colours}
 use Rattle.recolouring.specs.Knowing.{Recoloured, recolouring}
 
--- The new colours are a plan that no node can lower alone: they differ on every edge, none is barred at its node, each
--- is at most the degree and the bars of its node, and each lower colour is barred there or a neighbour's. If nothing is
--- barred, a node's new colour and its first one are together at most the greatest first one: there are no more colours.
-pub record AreLowest (net : Net) (states : ℕ → Both Node Recoloured) : Type 0 where
+-- the colour of a node after as many passes: after none, that of the plan
+abbrev pub plan_of_passes : ℕ → Net → ℕ → ℕ
+plan_of_passes zero net v = colours net v
+plan_of_passes (suc k) net v = (last_state (recolouring k) net v).beside.colour
+
+-- After a pass, and as many again, the colours are a plan that no node can lower alone: they differ on every edge, none
+-- is barred at its node, each is at most the degree and the bars of its node, and each lower colour is barred there or
+-- a neighbour's. If nothing is barred, a node's colours before and after the last pass are together at most the
+-- greatest one before it, so that a pass leads to no more colours, and none is above the greatest one of the plan.
+pub record AreLowest (again : ℕ) (net : Net) (states : ℕ → Both Node Recoloured) : Type 0 where
   pub proper : (v w : ℕ) → IsEdge net v w → (states v).beside.colour ≢ (states w).beside.colour
   pub unbarred : (v : ℕ) → IsVertex net v → IsBarred net v (states v).beside.colour → ⊥
   pub within : (v : ℕ) → IsVertex net v → (states v).beside.colour ≤ degree_of net v + bar_count_of net v
   pub lowest : (v colour : ℕ) → IsVertex net v → colour < (states v).beside.colour → (IsBarred net v colour → ⊥)
       → (w : ℕ) × Contains (neighbours net v) w × ((states w).beside.colour ≡ colour)
   pub no_more : ((w : ℕ) → IsVertex net w → bars_of net w ≡ []) → (greatest : ℕ)
+      → ((w : ℕ) → IsVertex net w → plan_of_passes again net w ≤ greatest)
+      → (v : ℕ) → IsVertex net v → (states v).beside.colour + plan_of_passes again net v ≤ greatest
+  pub never_more : ((w : ℕ) → IsVertex net w → bars_of net w ≡ []) → (greatest : ℕ)
       → ((w : ℕ) → IsVertex net w → colours net w ≤ greatest)
-      → (v : ℕ) → IsVertex net v → (states v).beside.colour + colours net v ≤ greatest
+      → (v : ℕ) → IsVertex net v → (states v).beside.colour ≤ greatest
 
 -- ` channel C`: one more than the new colour
-abbrev pub recolouring_words : NamedTexts (Both Node Recoloured)
-recolouring_words = record {
+abbrev pub recolouring_words : ℕ → NamedTexts (Both Node Recoloured)
+recolouring_words again = record {
   name = codes "recolouring";
   found = λ s. numbered (codes " channel ") (s.beside.colour + 1);
   more = λ net v s. [];
-  Solves = AreLowest;
+  Solves = AreLowest again;
 }
 
 -- all texts of the recolouring
-abbrev pub recolouring_texts : ProgramTexts (Both Node Recoloured)
-recolouring_texts = texts_of recolouring recolouring_words
+abbrev pub recolouring_texts : ℕ → ProgramTexts (Both Node Recoloured)
+recolouring_texts again = texts_of (recolouring again) (recolouring_words again)
 
 -- no line feed is in them
-pub recolouring_named : AreNamed recolouring_words
-recolouring_named = record {
+pub recolouring_named : (again : ℕ) → AreNamed (recolouring_words again)
+recolouring_named again = record {
   name = refl;
   found = λ s. no-feed-numbered (codes " channel ") (s.beside.colour + 1) refl;
   more = λ net v s. refl;

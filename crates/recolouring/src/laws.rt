@@ -6,22 +6,27 @@ ghost use Rattle.interference.specs.Net.{neighbours};
 ghost use Rattle.node_api.specs.Run.{last_state};
 ghost use Rattle.colour_laws.specs.Colours.{colours};
 ghost use Rattle.recolouring.specs.Knowing.{recolouring};
+ghost use Rattle.recolouring.specs.Texts.{plan_of_passes};
 
-/// In the last state of the synchronous run the new colours differ on every edge, none is barred at its node, and each
-/// is at most the degree and the bars of its node; each lower colour is barred at the node or is a neighbour's; and if
-/// nothing is barred, the sum of a node's new colour and its colour is at most the greatest colour, so that there are
-/// no more than before.
+/// In the last state of the synchronous run, after a pass and any number again, the new colours differ on every edge,
+/// none is barred at its node, and each is at most the degree and the bars of its node; each lower colour is barred at
+/// the node or is a neighbour's. If nothing is barred, the sum of a node's colours before and after the last pass is at
+/// most the greatest one before it, so that there are no more than before; nor are there more than in the first plan.
 pub fn rounds_end_with_a_plan_that_none_can_lower()
-    ensures proper { (net : Net) → IsNetwork net → (v w : ℕ) → IsEdge net v w
-        → (last_state recolouring net v).beside.colour ≢ (last_state recolouring net w).beside.colour }
-    ensures unbarred { (net : Net) → IsNetwork net → (v : ℕ) → IsVertex net v
-        → IsBarred net v (last_state recolouring net v).beside.colour → ⊥ }
-    ensures within { (net : Net) → IsNetwork net → (v : ℕ) → IsVertex net v
-        → (last_state recolouring net v).beside.colour ≤ degree_of net v + bar_count_of net v }
-    ensures lowest { (net : Net) → IsNetwork net → (v colour : ℕ) → IsVertex net v
-        → colour < (last_state recolouring net v).beside.colour → (IsBarred net v colour → ⊥)
-        → (w : ℕ) × Contains (neighbours net v) w × ((last_state recolouring net w).beside.colour ≡ colour) }
-    ensures no_more { (net : Net) → IsNetwork net → ((w : ℕ) → IsVertex net w → bars_of net w ≡ [])
+    ensures proper { (again : ℕ) (net : Net) → IsNetwork net → (v w : ℕ) → IsEdge net v w
+        → (last_state (recolouring again) net v).beside.colour ≢ (last_state (recolouring again) net w).beside.colour }
+    ensures unbarred { (again : ℕ) (net : Net) → IsNetwork net → (v : ℕ) → IsVertex net v
+        → IsBarred net v (last_state (recolouring again) net v).beside.colour → ⊥ }
+    ensures within { (again : ℕ) (net : Net) → IsNetwork net → (v : ℕ) → IsVertex net v
+        → (last_state (recolouring again) net v).beside.colour ≤ degree_of net v + bar_count_of net v }
+    ensures lowest { (again : ℕ) (net : Net) → IsNetwork net → (v colour : ℕ) → IsVertex net v
+        → colour < (last_state (recolouring again) net v).beside.colour → (IsBarred net v colour → ⊥)
+        → (w : ℕ) × Contains (neighbours net v) w × ((last_state (recolouring again) net w).beside.colour ≡ colour) }
+    ensures no_more { (again : ℕ) (net : Net) → IsNetwork net → ((w : ℕ) → IsVertex net w → bars_of net w ≡ [])
+        → (greatest : ℕ) → ((w : ℕ) → IsVertex net w → plan_of_passes again net w ≤ greatest)
+        → (v : ℕ) → IsVertex net v
+        → (last_state (recolouring again) net v).beside.colour + plan_of_passes again net v ≤ greatest }
+    ensures never_more { (again : ℕ) (net : Net) → IsNetwork net → ((w : ℕ) → IsVertex net w → bars_of net w ≡ [])
         → (greatest : ℕ) → ((w : ℕ) → IsVertex net w → colours net w ≤ greatest)
-        → (v : ℕ) → IsVertex net v → (last_state recolouring net v).beside.colour + colours net v ≤ greatest }
+        → (v : ℕ) → IsVertex net v → (last_state (recolouring again) net v).beside.colour ≤ greatest }
 {}

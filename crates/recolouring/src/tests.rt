@@ -10,7 +10,7 @@ static IDS: [u128; 3] = [1, 2, 3];
 
 static EDGES: [(u32, u32); 2] = [(1, 2), (2, 3)];
 
-fn colours_are(nodes: &[Recolouring], wanted: &[u16]) -> bool {
+fn colours_are<const AGAIN: u8>(nodes: &[Recolouring<AGAIN>], wanted: &[u16]) -> bool {
     if nodes.len() != wanted.len() {
         return false;
     }
@@ -22,20 +22,21 @@ fn colours_are(nodes: &[Recolouring], wanted: &[u16]) -> bool {
     true
 }
 
-fn run_of_a_path(alloc: Global) -> bool {
+fn path_ends_with<const AGAIN: u8>(alloc: Global, wanted: &[u16]) -> bool {
     if !edges_fit(3, &EDGES) || !bars_fit(3, &[]) {
         return false;
     }
     let Ok(net) = Network::new(alloc, 3, &IDS, &EDGES, &[]) else {
         return false;
     };
-    match run_rounds::<Recolouring>(alloc, &net) {
-        Ok(nodes) => colours_are(nodes.as_slice(), &[1, 0, 1]),
+    match run_rounds::<Recolouring<AGAIN>>(alloc, &net) {
+        Ok(nodes) => colours_are::<AGAIN>(nodes.as_slice(), wanted),
         Err(_) => false,
     }
 }
 
 #[test]
 fn a_path_ends_with_its_colours(rt: HostRuntime) {
-    assert!(rt; run_of_a_path(rt.alloc()));
+    assert!(rt; path_ends_with::<0>(rt.alloc(), &[1, 0, 1]));
+    assert!(rt; path_ends_with::<1>(rt.alloc(), &[0, 1, 0]));
 }

@@ -8,12 +8,12 @@ use interference::Network;
 use number_rows::push_numbered;
 use std::alloc::AllocError;
 
-impl SequelText<Colouring> for Recolours {
+impl<const AGAIN: u8> SequelText<Colouring> for Recolours<AGAIN> {
     ghost use Rattle.recolouring.specs.Texts.{recolouring_named, recolouring_words};
 
-    ghost words = { recolouring_words };
+    ghost words = { recolouring_words AGAIN };
 
-    ghost are_named = { recolouring_named };
+    ghost are_named = { recolouring_named AGAIN };
 
     fn rounds_end() {
         rounds_end_with_a_plan_that_none_can_lower();

@@ -10,7 +10,7 @@ use Rattle.command_line.specs.declared.programs.NodeProgramName.TheVariants.{Mat
 use Rattle.command_line.specs.declared.request.Play.{Play as Played}
 use Rattle.command_line.specs.declared.request.Play.TheVariants.{Events, Replay, Rounds, Run}
 use Rattle.serving.specs.Answers.{MayAnswer}
-use Rattle.serving.specs.Plays.{MayPlay, MayPlayNamed, layers_root}
+use Rattle.serving.specs.Plays.{MayPlay, MayPlayNamed, again_of, layers_root}
 use Rattle.colour_program.specs.ColoursText.{colouring_texts}
 use Rattle.independent_set.specs.Texts.{independent_set_texts}
 use Rattle.layers.specs.Texts.{layers_texts, layers_texts_from}
@@ -49,7 +49,7 @@ named-memory (Layers None) play input = play-memory _ layers_texts _ _ _ None pl
 named-memory (Layers (Some v)) play input = play-memory _ (layers_texts_from v) _ _ _ (Some (layers_root v)) play input
 named-memory Matching play input = play-memory _ matching_texts _ _ _ None play input
 named-memory IndependentSet play input = play-memory _ independent_set_texts _ _ _ None play input
-named-memory Recolouring play input = play-memory _ recolouring_texts _ _ _ None play input
+named-memory (Recolouring passes) play input = play-memory _ (recolouring_texts (again_of passes)) _ _ _ None play input
 
 memory-may : (request : Request) (input : List ℕ) → MayAnswer request input (Err Memory)
 memory-may Forests input = tt

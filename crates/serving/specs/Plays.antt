@@ -20,6 +20,8 @@ use Rattle.run_faults.specs.declared.fault.PoolFault.TheVariants.{BadOptions}
 use Rattle.command_line.specs.declared.programs.NodeProgramName.{NodeProgramName}
 use Rattle.command_line.specs.declared.programs.NodeProgramName.TheVariants.{Colouring, IndependentSet, Layers, Leader}
 use Rattle.command_line.specs.declared.programs.NodeProgramName.TheVariants.{Matching, Recolouring}
+use Rattle.command_line.specs.declared.programs.Passes.{Passes}
+use Rattle.command_line.specs.declared.programs.Passes.TheVariants.{One, Three, Two}
 use Rattle.command_line.specs.declared.programs.Shown.TheVariants as shown
 use Rattle.command_line.specs.declared.request.Play.{Play}
 use Rattle.command_line.specs.declared.request.Play.TheVariants.{Events, Replay, Rounds, Run}
@@ -69,6 +71,17 @@ module _ {S M E : Type 0} (program : Program S M E) (texts : ProgramTexts S) (wo
 abbrev pub layers_root : ℕ → Root
 layers_root v = record { vertex = v; id = ROOT_ID }
 
+-- how often a pass is made again
+abbrev pub again_of : Passes → ℕ
+again_of One = 0
+again_of Two = 1
+again_of Three = 2
+
+-- the same of the recolouring, with so many passes
+abbrev pub MayRecolour : Passes → Play → List ℕ → Result (List ℕ) PlanFault → Type 0
+MayRecolour passes = MayPlay (recolouring (again_of passes)) (recolouring_texts (again_of passes))
+    (of_either word_in (λ x. codes "anew")) (of_either number_in (λ x. x.0)) (read_first payload_from anew_from) None
+
 -- the same of the program of a name, each a line; layers with a root are the distances from this vertex
 abbrev pub MayPlayNamed : NodeProgramName → Play → List ℕ → Result (List ℕ) PlanFault → Type 0
 MayPlayNamed Colouring = MayPlay colouring colouring_texts word_in number_in payload_from None
@@ -80,5 +93,4 @@ MayPlayNamed Matching = MayPlay matching matching_texts (of_either word_in propo
     (of_either number_in proposal.number_in) (read_first payload_from proposal.proposal_from) None
 MayPlayNamed IndependentSet = MayPlay independent_set independent_set_texts (of_either word_in (λ x. codes "joined"))
     (of_either number_in (λ x. x.0)) (read_first payload_from joined_from) None
-MayPlayNamed Recolouring = MayPlay recolouring recolouring_texts (of_either word_in (λ x. codes "anew"))
-    (of_either number_in (λ x. x.0)) (read_first payload_from anew_from) None
+MayPlayNamed (Recolouring passes) = MayRecolour passes

@@ -5,13 +5,13 @@ ghost use Rattle.command_line.specs.Asked.{IsPlayInRange};
 ghost use Rattle.layers.specs.Layering.{layering};
 ghost use Rattle.layers.specs.Texts.{layers_texts_from};
 ghost use Rattle.layers.specs.Words.{hops_from};
-ghost use Rattle.serving.specs.Plays.{MayPlay, MayPlayNamed, layers_root};
+ghost use Rattle.serving.specs.Plays.{MayPlay, MayPlayNamed, MayRecolour, layers_root};
 
 use actor::OpenGate;
 use answers::{PlanFault, Root, events_bytes, replay_bytes, rounds_bytes};
 use byte_functions::{run_bytes, run_transcript_bytes};
 use colour_program::Colouring;
-use command_line::{NodeProgramName, Play, Shown};
+use command_line::{NodeProgramName, Passes, Play, Shown};
 use independent_set::IndependentSet;
 use layers::laws::rounds_end_with_the_distances_from_a_root;
 use layers::{Layers, ROOT_ID};
@@ -80,6 +80,25 @@ fn layers_bytes<T: Threads + Wait + Sync>(
     play_bytes::<Layers, T>(rt, alloc, Some(root), play, input)
 }
 
+// What the recolouring answers to an input, with so many passes.
+fn recolouring_bytes<T: Threads + Wait + Sync>(
+    rt: &T,
+    alloc: Global,
+    passes: Passes,
+    play: Play,
+    input: &[u8],
+) -> Result<Vec<u8>, PlanFault>
+    requires in_range { IsPlayInRange play }
+    ensures ok { IfOk result (λ bytes. MayRecolour passes play input.now (Ok bytes.items)) }
+    ensures fault { IfErr result (λ fault. MayRecolour passes play input.now (Err fault)) }
+{
+    match passes {
+        Passes::One => play_bytes::<Recolouring<0>, T>(rt, alloc, None, play, input),
+        Passes::Two => play_bytes::<Recolouring<1>, T>(rt, alloc, None, play, input),
+        Passes::Three => play_bytes::<Recolouring<2>, T>(rt, alloc, None, play, input),
+    }
+}
+
 /// What nodes of the program of a name answer to an input; each program is a line. `Play::Run` starts threads, and
 /// isn't promised to return.
 ///
@@ -105,6 +124,6 @@ pub fn named_bytes<T: Threads + Wait + Sync>(
         NodeProgramName::IndependentSet => play_bytes::<IndependentSet, T>(
             rt, alloc, None, play, input,
         ),
-        NodeProgramName::Recolouring => play_bytes::<Recolouring, T>(rt, alloc, None, play, input),
+        NodeProgramName::Recolouring(passes) => recolouring_bytes(rt, alloc, passes, play, input),
     }
 }
