@@ -67,9 +67,9 @@ class Sites(Case):
         said = (f"6 lines left out, with a site that isn't in {sites}: Kölln (line 1, is it Köln?), "
                 "hof am wald (line 3, is it Hof am Wald?), Prag (line 4), Koln (line 5, is it Köln?), and 2 more\n")
         self.note("misspelt sites", (status, edges_of(wrote)) == (0, {(2, 3)}) and said.encode() in told, told)
-        said = ("asked for: line 3: `hof am wald` looks like no other name: is it one?; 1 column not read: number 3 (if "
-                "it says nothing of edges: --as pairs); Hof am Wald and hof am wald are two nodes: are they meant to be "
-                "one?; 6 lines left out, with a site")
+        said = ("asked for: line 3: `hof am wald` looks like no other name: is it one?; 1 column not read: number 3 "
+                "(if it says nothing of edges: --as pairs); Hof am Wald and hof am wald are two nodes: are they meant "
+                "to be one?; 6 lines left out, with a site")
         self.refused("misspelt sites, if that is asked for", said, pairs, "--sites", sites, "--strict")
         self.refused("sites of another table", "none of its names is in the pairs",
                      self.file("other.csv", "A,B\nB,C\n"), "--sites", sites)
