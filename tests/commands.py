@@ -52,12 +52,9 @@ COMMANDS = (
     Command("forestplan", "plain", TRIANGLE, "plan|1 2|2 3|3 1|", odd="c|p col 2 1|e 1 2|i 1 5|b 2 1|", share=3),
     Command("forestplan", "plan", TRIANGLE, "plan|1 2|2 3|3 1|", odd="p edge 2 1|b 1 2|e 2 1|b 2 1|", share=3,
             options=("workers", "capacity", "turns"), words=("--workers", "2")),
-    Command(
-        "forestplan", "transcript", APART,
-        "transcript 2 2|" + "".join(f"{p} {v} pulse {p}|" for p in PULSES for v in (1, 2)),
-        odd="p edges 2 1|e 1 2|", share=3,
-        options=("workers", "capacity", "turns", "edition"), words=("--workers", "2"),
-    ),
+    Command("forestplan", "transcript", APART, "transcript 2 2|"
+            + "".join(f"{p} {v} pulse {p}|" for p in PULSES for v in (1, 2)), odd="p edges 2 1|e 1 2|", share=3,
+            options=("workers", "capacity", "turns", "edition"), words=("--workers", "2")),
     Command("forestplan", "check", EDGE + "plan|1 2|2 1|", "proper 2|", odd=EDGE + "b 2 1|plan|2 2|1 1|", share=20,
             is_reader=True),
     Command("forestplay", "events", EDGE + "put 1 0|",

@@ -16,11 +16,10 @@ from lab.definitions.programs import add_program, check_root, note_ignored_bars,
 from lab.networks.named import network_text
 from lab.networks.network_text import read_network, stem
 from lab.networks.plan_text import read_plan
-from lab.pictures import (
-    adversary_page, automaton_picture, bits_picture, broken_picture, forests_picture, map_picture, matrix_picture,
-    overview_picture, plan_picture, player_page, program_picture, results_picture, rounds_picture, run_picture,
-    schedules_picture, schedules_space, tally_picture, timing_picture, watch_page, why_picture, wrong_run,
-)
+from lab.pictures import (adversary_page, automaton_picture, bits_picture, broken_picture, forests_picture, map_picture,
+                          matrix_picture, overview_picture, plan_picture, player_page, program_picture, results_picture,
+                          rounds_picture, run_picture, schedules_picture, schedules_space, tally_picture,
+                          timing_picture, watch_page, why_picture, wrong_run)
 from lab.pictures.places import unused_places
 from lab.pictures.program_rounds import ProgramRounds, is_own, read_rounds, rounds_of
 from lab.pictures.sizes import MANY_WIRES, check_run, check_size, last_pulse, least_wires
@@ -75,16 +74,11 @@ line is refused; if a program refuses, its own line and status.
 
 # What each kind draws: a line of help, more of it, and its example.
 KINDS = {
-    "map": (
-        "The network alone, without a plan.",
-        "At most 400 nodes. Identifiers that differ from the numbers are written beside them.",
-        "forestlab picture map examples/petersen.col > petersen-map.svg",
-    ),
-    "plan": (
-        "Who has which channel.",
-        "At most 400 nodes. A plan that is not proper is refused; matrix draws it.",
-        "forestlab picture plan examples/petersen.col > petersen-plan.svg",
-    ),
+    "map": ("The network alone, without a plan.",
+            "At most 400 nodes. Identifiers that differ from the numbers are written beside them.",
+            "forestlab picture map examples/petersen.col > petersen-map.svg"),
+    "plan": ("Who has which channel.", "At most 400 nodes. A plan that is not proper is refused; matrix draws it.",
+             "forestlab picture plan examples/petersen.col > petersen-plan.svg"),
     "results": (
         "What the nodes of a program have found at their last pulse, on the map.",
         "At most 400 nodes. A thick line is an edge that a node has chosen, with an arrow if the other end hasn't;\n"
@@ -92,73 +86,52 @@ KINDS = {
         "was before. All other results are written beside the nodes.",
         "forestlab picture results examples/petersen.col --program matching > petersen-pairs.svg",
     ),
-    "matrix": (
-        "Who interferes with whom, sorted by channel.",
-        "Pairs on one channel are red. At most 2,000 nodes.",
-        "forestlab picture matrix examples/queen5_5.col > queen5_5-matrix.svg",
-    ),
-    "forests": (
-        "Each forest with its three colours, and the plan after each merge.",
-        "At most 400 nodes; of more than six forests the first four and the last, or up to\n"
-        "six others with --forest.",
-        "forestlab picture forests examples/four_cycle.col > four_cycle-forests.svg",
-    ),
-    "rounds": (
-        "The colours of each node in each forest, and when it chooses which channel.",
-        "At most 100 nodes. A row for each node of each forest: without --forest the first\n"
-        "forests, as many as have 40 rows together, and with it at most 400 rows.",
-        "forestlab picture rounds examples/triangle.col > triangle-rounds.svg",
-    ),
-    "bits": (
-        "One node above its parent, digit by digit, over the four bit steps.",
-        "Without --vertex, the least one that has a parent. A vertex without a line `i V NUMBER`\n"
-        "has its own number as its name, of few digits.",
-        "forestlab picture bits examples/petersen.col --vertex 6 > petersen-bits.svg",
-    ),
-    "why": (
-        "Which messages decided the channel of --vertex, back to identifiers; all others are faded.",
-        "At most 400 rows, a row for each node of each forest that mattered. With --text the same in\n"
-        "words, of any network: each choice, who had taken the lower channels, the colours that gave the\n"
-        "turns, and each message. What wasn't heard is left out: that a channel is free, and, of the\n"
-        "greetings, who is whose parent.",
-        "forestlab picture why examples/triangle.col --vertex 2 > triangle-why.svg\n"
-        "  forestlab picture why examples/petersen.col --vertex 6 --text",
-    ),
-    "run": (
-        "Above, what each node put, took and did; below, the same payloads as rounds.",
-        "At most 12 nodes; above 6, payloads alone unless --only says more. Without a\n"
-        "stored text two calls differ, as the runs do, but for --workers 1. With --wrong, a text\n"
-        "that is refused, up to what is wrong.",
-        "forestlab picture run examples/chain6.col --pulses 3..5 --transcript \\\n"
-        "    examples/chain6_slow.transcript > chain6_slow-spacetime.svg",
-    ),
-    "overview": (
-        "The pulses of a run without a clock, from beginning to end.",
-        "At most 100 nodes. Of a run of more than 100 pulses the first 40, or others with\n"
-        "--pulses; of a long text only what they depend on is read, and checked.",
-        "forestlab picture overview examples/petersen.col > petersen-overview.svg\n"
-        "  forestlab picture overview examples/queen5_5.col --pulses 100..139 > queen5_5-overview.svg",
-    ),
-    "node": (
-        "How a node knows that a round is over: how often each step is made.",
-        "With --vertex V: what node V knew, entry by entry (at most 14 ports). Of a long run\n"
-        "the steps of the first 40 pulses, or of others with --pulses.",
-        "forestlab picture node examples/petersen.col > petersen-automaton.svg\n"
-        "  forestlab picture node examples/petersen.col --vertex 1 > petersen-timing.svg",
-    ),
-    "tally": (
-        "The wires of a run by pulse, under the identity that counts them.",
-        "Any network; the run has to be whole. Of more than 100 pulses the bars of the first 40,\n"
-        "or of others with --pulses; the identity is the whole run's. If a run would be long,\n"
-        "its wires are counted by the rounds: each whole run has the same.",
-        "forestlab picture tally examples/petersen.col > petersen-tally.svg",
-    ),
-    "player": (
-        "A page with a slider and a play button: the network at each pulse.",
-        "At most 40 nodes. Add #pulse-P to the page's address for a link to pulse P, and\n"
-        "#pulse-P-forest-F for one of its forests.",
-        "forestlab picture player examples/petersen.col > petersen.html",
-    ),
+    "matrix": ("Who interferes with whom, sorted by channel.", "Pairs on one channel are red. At most 2,000 nodes.",
+               "forestlab picture matrix examples/queen5_5.col > queen5_5-matrix.svg"),
+    "forests": ("Each forest with its three colours, and the plan after each merge.",
+                "At most 400 nodes; of more than six forests the first four and the last, or up to\n"
+                "six others with --forest.",
+                "forestlab picture forests examples/four_cycle.col > four_cycle-forests.svg"),
+    "rounds": ("The colours of each node in each forest, and when it chooses which channel.",
+               "At most 100 nodes. A row for each node of each forest: without --forest the first\n"
+               "forests, as many as have 40 rows together, and with it at most 400 rows.",
+               "forestlab picture rounds examples/triangle.col > triangle-rounds.svg"),
+    "bits": ("One node above its parent, digit by digit, over the four bit steps.",
+             "Without --vertex, the least one that has a parent. A vertex without a line `i V NUMBER`\n"
+             "has its own number as its name, of few digits.",
+             "forestlab picture bits examples/petersen.col --vertex 6 > petersen-bits.svg"),
+    "why": ("Which messages decided the channel of --vertex, back to identifiers; all others are faded.",
+            "At most 400 rows, a row for each node of each forest that mattered. With --text the same in\n"
+            "words, of any network: each choice, who had taken the lower channels, the colours that gave the\n"
+            "turns, and each message. What wasn't heard is left out: that a channel is free, and, of the\n"
+            "greetings, who is whose parent.",
+            "forestlab picture why examples/triangle.col --vertex 2 > triangle-why.svg\n"
+            "  forestlab picture why examples/petersen.col --vertex 6 --text"),
+    "run": ("Above, what each node put, took and did; below, the same payloads as rounds.",
+            "At most 12 nodes; above 6, payloads alone unless --only says more. Without a\n"
+            "stored text two calls differ, as the runs do, but for --workers 1. With --wrong, a text\n"
+            "that is refused, up to what is wrong.",
+            "forestlab picture run examples/chain6.col --pulses 3..5 --transcript \\\n"
+            "    examples/chain6_slow.transcript > chain6_slow-spacetime.svg"),
+    "overview": ("The pulses of a run without a clock, from beginning to end.",
+                 "At most 100 nodes. Of a run of more than 100 pulses the first 40, or others with\n"
+                 "--pulses; of a long text only what they depend on is read, and checked.",
+                 "forestlab picture overview examples/petersen.col > petersen-overview.svg\n"
+                 "  forestlab picture overview examples/queen5_5.col --pulses 100..139 > queen5_5-overview.svg"),
+    "node": ("How a node knows that a round is over: how often each step is made.",
+             "With --vertex V: what node V knew, entry by entry (at most 14 ports). Of a long run\n"
+             "the steps of the first 40 pulses, or of others with --pulses.",
+             "forestlab picture node examples/petersen.col > petersen-automaton.svg\n"
+             "  forestlab picture node examples/petersen.col --vertex 1 > petersen-timing.svg"),
+    "tally": ("The wires of a run by pulse, under the identity that counts them.",
+              "Any network; the run has to be whole. Of more than 100 pulses the bars of the first 40,\n"
+              "or of others with --pulses; the identity is the whole run's. If a run would be long,\n"
+              "its wires are counted by the rounds: each whole run has the same.",
+              "forestlab picture tally examples/petersen.col > petersen-tally.svg"),
+    "player": ("A page with a slider and a play button: the network at each pulse.",
+               "At most 40 nodes. Add #pulse-P to the page's address for a link to pulse P, and\n"
+               "#pulse-P-forest-F for one of its forests.",
+               "forestlab picture player examples/petersen.col > petersen.html"),
     "watch": (
         "A page that plays a run without a clock: messages move, and each node shows what it waits for.",
         "At most 40 nodes, and 20,000 entries: of a longer run the first pulses, or others with\n"
@@ -169,14 +142,12 @@ KINDS = {
         "  forestlab picture watch examples/chain6.col slow.transcript > slow.html\n"
         "  forestlab picture watch examples/chain6.col slow.transcript examples/chain6_slow.transcript > two.html",
     ),
-    "schedules": (
-        "Every order of events of a tiny network: its states as a lattice, one column an event.",
-        "At most four nodes and 200,000 states. Of long ones the first columns, or others with --columns.\n"
-        "With a rule left out, up to the first event that goes wrong, which is red; with --columns what\n"
-        "comes after it, too.",
-        "forestlab picture schedules examples/triangle.col --columns 0..24 > triangle-schedules.svg\n"
-        "  forestlab picture schedules examples/path.col --without safes > path-without-safes.svg",
-    ),
+    "schedules": ("Every order of events of a tiny network: its states as a lattice, one column an event.",
+                  "At most four nodes and 200,000 states. Of long ones the first columns, or others with --columns.\n"
+                  "With a rule left out, up to the first event that goes wrong, which is red; with --columns what\n"
+                  "comes after it, too.",
+                  "forestlab picture schedules examples/triangle.col --columns 0..24 > triangle-schedules.svg\n"
+                  "  forestlab picture schedules examples/path.col --without safes > path-without-safes.svg"),
     "adversary": (
         "A page on which you are the network: you choose which message comes next.",
         "At most four nodes and 200,000 states. With a rule left out, what goes wrong is there too, in a table that\n"
@@ -236,13 +207,8 @@ def rules_of_rounds(text):
 
 def command_line():
     """The parser, and the one of each kind."""
-    words = Parser(
-        prog="forestlab picture",
-        usage="forestlab picture KIND NETWORK [options]",
-        description=HELP,
-        epilog=MORE_HELP,
-        formatter_class=argparse.RawDescriptionHelpFormatter,
-    )
+    words = Parser(prog="forestlab picture", usage="forestlab picture KIND NETWORK [options]", description=HELP,
+                   epilog=MORE_HELP, formatter_class=argparse.RawDescriptionHelpFormatter)
     kinds = words.add_subparsers(dest="kind", metavar="KIND", required=True, help="one of those above")
     for name, (what, more, example) in KINDS.items():
         kind = kinds.add_parser(name, prog=f"forestlab picture {name}", usage=usage_of(name),

@@ -6,16 +6,13 @@ from lab.pictures.pages import net_of, page
 from lab.pictures.program_picture import is_new
 from lab.pictures.svg import counted
 
-SAY = {
-    "greet": "Every node tells its neighbours its identifier.",
-    "orient": "Each numbers its higher neighbours and tells each its forest: the edges are parted.",
-    "seed": "Each begins, in every forest, with its identifier as colour, and sends it to its children.",
-    "step": "Bit step: i is the lowest place in which its binary digits differ from its parent’s; its new colour is "
-            "2·i plus its own digit there.",
-    "shift": "Shift: each takes its parent’s colour, a root another one.",
-    "drop": "Drop: who has colour {} takes the least of 0, 1, 2 that is free.",
-    "merge": "Merge: those whose turn it is choose the least free channel and tell it.",
-}
+SAY = {"greet": "Every node tells its neighbours its identifier.",
+       "orient": "Each numbers its higher neighbours and tells each its forest: the edges are parted.",
+       "seed": "Each begins, in every forest, with its identifier as colour, and sends it to its children.",
+       "step": "Bit step: i is the lowest place in which its binary digits differ from its parent’s; its new colour is "
+       "2·i plus its own digit there.", "shift": "Shift: each takes its parent’s colour, a root another one.",
+       "drop": "Drop: who has colour {} takes the least of 0, 1, 2 that is free.",
+       "merge": "Merge: those whose turn it is choose the least free channel and tell it."}
 
 
 def draw(rounds):

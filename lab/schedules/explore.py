@@ -81,16 +81,12 @@ def command_line():
     words = parser_of("explore", "[NETWORK] [options]", HELP, MORE_HELP)
     words.add_argument("network", metavar="NETWORK", nargs="?",
                        help="a file, - for standard input, or a name, as triangle or path3")
-    words.add_argument(
-        "--without", type=rules_of, default=[], metavar="RULES", help="the rules to leave out, with commas between"
-    )
-    words.add_argument(
-        "--limit", type=positive, default=LIMIT, metavar="STATES",
-        help=f"give up after this many states; default: {LIMIT}"
-    )
-    words.add_argument(
-        "--list", action="store_true", help="write one list of events alone, as `forestplay events` reads it"
-    )
+    words.add_argument("--without", type=rules_of, default=[], metavar="RULES",
+                       help="the rules to leave out, with commas between")
+    words.add_argument("--limit", type=positive, default=LIMIT, metavar="STATES",
+                       help=f"give up after this many states; default: {LIMIT}")
+    words.add_argument("--list", action="store_true",
+                       help="write one list of events alone, as `forestplay events` reads it")
     words.add_argument("--reduce", action="store_true",
                        help="take a safe or a close that comes next on its link at once and alone: far fewer states")
     words.add_argument("--puts", action="store_true", help="count puts as events of their own, made at any time")
@@ -155,9 +151,8 @@ def said_of_rounds(given, rounds, where, what):
 
 def refused_words(without):
     """The wrong bodies that take these rules away."""
-    return "".join(
-        f"wrong body of `{ALL[word].crate}`, which the prover refuses: {ALL[word].edit}\n" for word in without
-    )
+    return "".join(f"wrong body of `{ALL[word].crate}`, which the prover refuses: {ALL[word].edit}\n"
+                   for word in without)
 
 
 # The schedules.

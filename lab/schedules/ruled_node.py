@@ -71,10 +71,8 @@ class RuledNode(AlphaNode):
             self.said,
             self.wrong,
             key_of_program(self.program),
-            tuple(
-                (port.waits, port.safe, port.early_safe, port.closed, port.present, port.early, tuple(port.out))
-                for port in self.ports
-            ),
+            tuple((port.waits, port.safe, port.early_safe, port.closed, port.present, port.early, tuple(port.out))
+                  for port in self.ports),
         )
 
 

@@ -18,18 +18,12 @@ from lab.transcripts.stamps import Clock, unfinished
 from lab.words import add_output, add_seed, called, parser_of, text_at, write
 from lab.wrong import Wrong, wrong_line
 
-HABITS = {
-    "random": "any step that is possible, each as likely as any other",
-    "slow-link": "what goes over one edge, in either direction, waits",
-    "slow-node": "what one node does waits",
-    "fast-node": "what one node does comes first",
-    "bursts": "one link until nothing is possible on it, then another",
-    "newest": "the link that was put on last",
-    "oldest": "the step that has been possible for longest: the friendliest order",
-    "in-turn": "each link in turn",
-    "late-acks": "acknowledgements wait",
-    "late-safes": "safes wait",
-}
+HABITS = {"random": "any step that is possible, each as likely as any other",
+          "slow-link": "what goes over one edge, in either direction, waits", "slow-node": "what one node does waits",
+          "fast-node": "what one node does comes first",
+          "bursts": "one link until nothing is possible on it, then another", "newest": "the link that was put on last",
+          "oldest": "the step that has been possible for longest: the friendliest order",
+          "in-turn": "each link in turn", "late-acks": "acknowledgements wait", "late-safes": "safes wait"}
 HELP = """\
 Writes the transcript of a run without a clock that no thread made: step by step, a
 policy chooses what happens next among all that is possible. The same network, policy
