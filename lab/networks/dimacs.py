@@ -5,7 +5,7 @@ import re
 from lab.networks.listed import Listed, clean
 from lab.networks.network_text import (
     IDENTIFIERS, MAX_BARS, MAX_CHANNEL, SKIPPED, fields_of, name_of, place_of, shown, whole)
-from lab.networks.fields import is_number, refuse_zero
+from lab.networks.fields import Unread, is_number, refuse_zero
 from lab.wrong import wrong_line
 
 BEGINS = re.compile(
@@ -59,7 +59,7 @@ def read(text: str, name: str) -> Listed:
     if passed:
         found.left_out.append(f"lines `n`, `d`, `v` and `x` not read: {passed}")
     if weights:
-        found.left_out.append(f"weights of lines `a` not read: {weights}")
+        found.left_out.append(Unread(["weights"], "", "", f" of lines `a` not read: {weights}"))
     there = len({frozenset(ends) for _, *ends in found.edges})
     if head[1] not in (None, there, 2 * there, len(found.edges)):
         found.left_out.append(f"the `p` line says {head[1]:,} edges, and the text has {there:,}: is it cut?")

@@ -40,11 +40,31 @@ def why_no_number(fields, names):
     return None
 
 
-def columns_left(titles: list[str], rows: list[tuple[int, list[str]]], read: set[int | None]) -> str:
-    """What is said of the columns that aren't `read` and have something in some row; empty if there is none."""
+class Unread(str):
+    """What is said of columns or keys that aren't read, by their `names`; empty if there is none. Without a kind of
+    them, what is said is the first name and what comes `after` it."""
+
+    names: list[str]
+
+    def __new__(cls, names: list[str], what: str, before: str = "", after: str = "") -> "Unread":
+        kind, _, more = what.partition(" ")
+        said = f"{len(names)} {kind}{'s' * (len(names) > 1)}{more and ' ' + more} not read: {shown(', '.join(names))}"
+        said = before + (said if what else names[0]) + after if names else ""
+        unread = super().__new__(cls, said)
+        unread.names, unread.parts = names, (what, before, after)
+        return unread
+
+    def without(self, ignored: set[str]) -> "Unread":
+        """The same without those that the caller ignores."""
+        return Unread([name for name in self.names if name not in ignored], *self.parts)
+
+
+def columns_left(titles: list[str], rows: list[tuple[int, list[str]]], read: set[int | None], before: str = "",
+                 after: str = "") -> Unread:
+    """What is said of the columns that aren't `read` and have something in some row."""
     there = {at for _, fields in rows for at, field in enumerate(fields) if field} - read
     named = [titles[at] if at < len(titles) and titles[at] else f"number {at + 1}" for at in sorted(there)]
-    return f"{len(named)} column{'s' * (len(named) > 1)} not read: {shown(', '.join(named))}" if named else ""
+    return Unread(named, "column", before, after)
 
 
 @lru_cache(1 << 16)

@@ -1,7 +1,7 @@
 """A network in GraphML, as networkx, yEd, Gephi and igraph write it."""
 from xml.etree import ElementTree
 
-from lab.networks.fields import refuse_zero, shown
+from lab.networks.fields import Unread, refuse_zero, shown
 from lab.networks.listed import Listed, leave_keys, refuse_flags
 from lab.wrong import Wrong
 
@@ -43,7 +43,7 @@ def read(text: str, name: str) -> Listed:
         read_element(found, name, at, element, words, said)
     refuse_flags(found, flags_of(root, graphs[0], words), name)
     if any(plain(part.tag) == "EdgeLabel" and (part.text or "").strip() for part in graphs[0].iter()):
-        found.left_out.append("labels of edges not read")
+        found.left_out.append(Unread(["labels"], "", "", " of edges not read"))
     leave_keys(found, {words.get(data.get("key"), "") for node in graphs[0].iter() if plain(node.tag) == "node"
                        for data in node if plain(data.tag) == "data"} - {*LABELS, *ACROSS, *DOWN}, "nodes")
     listed = {node for _, node in found.alone}

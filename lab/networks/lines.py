@@ -3,7 +3,7 @@ row or a comment is left out, and counted."""
 import re
 from dataclasses import dataclass, field
 
-from lab.networks.fields import shown
+from lab.networks.fields import Unread, shown
 from lab.networks.headings import ends_named
 from lab.wrong import wrong_line
 
@@ -97,7 +97,7 @@ def table_of(text: str, name: str, is_headed: bool = False) -> Table:
     if comments:
         found.notes.append("1 line is a comment" if comments == 1 else f"{comments:,} lines are comments")
     if any(line.data.strip("{ }") for line in kept):
-        found.left_out.append("data in braces not read, as weights are")
+        found.left_out.append(Unread(["data"], "", "", " in braces not read, as weights are"))
     found.has_data = any(line.data for line in kept)
     if OPENED.search(text):
         found.notes.append("quotes around whole fields, as \u00ab \u00bb, aren't part of them")

@@ -6,7 +6,7 @@ import unicodedata
 from collections.abc import Callable, Iterable
 from dataclasses import dataclass, field
 
-from lab.networks.fields import shown
+from lab.networks.fields import Unread, shown
 from lab.wrong import Wrong, wrong_line
 
 # More bytes than a network within the limits needs in any form.
@@ -107,8 +107,8 @@ def refuse_flags(found: Listed, said: dict[str, set[str]], name: str) -> None:
 
 def leave_keys(found: Listed, keys: Iterable[str], what: str) -> None:
     """Counts keys of nodes or edges that aren't read, whatever they say."""
-    if left := sorted(set(keys) - {""}):
-        found.left_out.append(f"{len(left)} key{'s' * (len(left) > 1)} of {what} not read: {shown(', '.join(left))}")
+    if left := Unread(sorted(set(keys) - {""}), f"key of {what}"):
+        found.left_out.append(left)
 
 
 def clean(name: str) -> str:

@@ -1,4 +1,5 @@
 """A network as a sparse matrix in the form Matrix Market: an entry in row V and column W joins V and W."""
+from lab.networks.fields import Unread
 from lab.networks.listed import Listed
 from lab.networks.network_text import MAX_NODES, shown, whole
 from lab.networks.unread import unread
@@ -48,7 +49,7 @@ def read(text: str, name: str) -> Listed:
     if found.edges and all(str(sizes[0]) not in ends for _, *ends in found.edges):
         found.left_out.append("the last node has no edge: do the edges count from 0? The form counts from 1")
     if words[3] != "pattern":
-        found.left_out.append("values not read, as weights are")
+        found.left_out.append(Unread(["values"], "", "", " not read, as weights are"))
     return found
 
 

@@ -11,6 +11,7 @@ from lab.networks.channels import table_of
 from lab.networks.codes import code_of, is_like_a_code, tell_code
 from lab.networks.command_line import SIZES, command_line
 from lab.networks.costs import NotMeasured
+from lab.networks.fields import Unread, shown
 from lab.networks.listed import Listed
 from lab.networks.named import network_bytes, network_text, path_of
 from lab.networks.network_text import read_network
@@ -102,8 +103,11 @@ def was_read(given):
     if given.bars:
         sites.with_bars(found, bytes_of_file(given.bars), one_line(given.bars), licence)
     network, said, left_out = made_of(found, name)
+    left_out = without_ignored(left_out, said, given, name)
     if given.strict and left_out:
-        raise Wrong(f"{name}: refused, since --strict is asked for: {'; '.join(left_out)}")
+        keys = ",".join(key for what in left_out if isinstance(what, Unread) for key in what.names)
+        raise Wrong(f"{name}: refused, since --strict is asked for: {'; '.join(left_out)}"
+                    + f" (--ignore {shown(keys)} if they say nothing of nodes and edges)" * bool(keys))
     for what in said + left_out:
         say(f"{name}: {what}")
     if left_out:
@@ -111,6 +115,16 @@ def was_read(given):
     if licence:
         network.head = [f"Channel {channel} is {number}" for channel, number in enumerate(licence, 1)]
     return text_of(network)
+
+
+def without_ignored(left_out, notes, given, name):
+    """What is left out, without the columns and keys of --ignore, each of which has to be one that isn't read."""
+    ignored = set(given.ignore.split(",")) if given.ignore is not None else set()
+    unread = {key for what in left_out + notes if isinstance(what, Unread) for key in what.names}
+    if ignored - unread:
+        raise Wrong(f"{name}: --ignore {shown(min(ignored - unread))}: that is no column or key that is left out"
+                    + (f", as {shown(', '.join(sorted(unread)))}" if unread else ""))
+    return [rest for what in left_out if (rest := what.without(ignored) if isinstance(what, Unread) else what)]
 
 
 def was_told(given):

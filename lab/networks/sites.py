@@ -41,8 +41,8 @@ def read_sites(data: bytes, name: str) -> Sites:
         of_places += [words.index(word) for word in plane[:2]]
     if found.pair:
         refuse_maps(words, rows, {*columns, *of_places, own}, name)
-    if left := columns_left(words, rows, {*columns, *of_places, own}):
-        found.left_out.append(f"{name}: {left}")
+    if left := columns_left(words, rows, {*columns, *of_places, own}, f"{name}: "):
+        found.left_out.append(left)
     say_of_places(found, name)
     if len(found.lines) > MAX_NODES:
         raise Wrong(f"{name}: {len(found.lines)} sites, and a network has at most {MAX_NODES} nodes")
@@ -169,8 +169,8 @@ def with_bars(found: Listed, data: bytes, name: str, licence: list[int] | None) 
     if len(barred) > 1:
         raise Wrong(f"{name}: {len(barred)} columns of channels, {' and '.join(barred)}: leave that of barred ones")
     channel = words.index(barred[0])
-    if left := columns_left(words, rows, {site, channel}):
-        found.left_out.append(f"{name}: {left}")
+    if left := columns_left(words, rows, {site, channel}, f"{name}: "):
+        found.left_out.append(left)
     known = {end for _, *ends in found.edges + found.alone for end in ends} | set(found.order or ())
     if found.nodes is not None:
         known |= set(numbered_by_text(found, name)[0].values())

@@ -240,6 +240,20 @@ class ForeignForms(Case):
             good = status == 0 and b"\np edge " in b"\n" + wrote and wrote.count(b"\ne ") == edges
             self.note(f"{words} {data}", good, (wrote, told))
 
+    def test_ignored(self):
+        """A column or key that the caller says to ignore isn't counted, and what else is left out is; one that isn't
+        left out is refused, and so is one that may say which edges count, whatever the caller says."""
+        link = '{"nodes": [{"id": "A"}, {"id": "B"}], "links": [{"source": "A", "target": "B", "km": 3, "of": "x"}]}'
+        for names, data, status in (
+            ("km", "source,target,km\nA,B,3\n", 0), ("km", "source,target,km,dB\nA,B,3,7\n", 1),
+            ("dB,km", "source,target,km,dB\nA,B,3,7\n", 0), ("k", "source,target,km\nA,B,3\n", 1),
+            ("km", link, 1), ("km,of", link, 0), ("data", "A B {'weight': 2}\n", 0),
+            ("len", "graph { a -- b [len=2] }\n", 0), ("len", "graph { a -- b [len=2]; a -- a }\n", 1),
+            ("on", "graph { a -- b [on=no]; b -- c [on=yes] }\n", 1), ("", "A,B\nB,C\n", 1),
+        ):
+            found = call("read", "-", "--strict", "--ignore", names, data=data.encode())
+            self.note(f"{names} of {data}", found[0] == status and (not found[1]) == bool(status), found)
+
     def test_strict(self):
         """Something that would be left out is a refusal if that is asked for; nothing is, if nothing would be."""
         loop = b"1 2\n2 2\n"
