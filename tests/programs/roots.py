@@ -5,7 +5,7 @@ from lab.definitions.nodes import synchronous_run
 from tests import FORESTLAB
 from tests.cases import Case, run_program, text
 from tests.programs.node_programs import APART, EDGE, PATH, ROW, TAIL, network
-from tests.settings import PLAY
+from tests.settings import PLAN, PLAY
 
 LONG = network([9, 1, 20, 5, 8, 6], PATH)
 # By root and network: the last pulse, and of each node what it ends with, and the neighbour to which its port leads.
@@ -115,7 +115,7 @@ class Roots(Case):
                 good = (done.returncode, done.stdout) == (2, b"") and (done.stderr.startswith(begins) or not root)
                 self.note(f"{command} from {root!r}", good, done)
         for words in (["plan", "--root", "1"], ["plain", "--root", "1"]):
-            done = run_program(PLAY.replace("forestplay", "forestplan"), words, text(EDGE))
+            done = run_program(PLAN, words, text(EDGE))
             self.note(f"forestplan {words}", (done.returncode, done.stdout) == (2, b""), done)
 
 
