@@ -144,9 +144,8 @@ def read_pairs(table: Table, name: str, heading: bool | None, is_sure: bool) -> 
                                           "it is a node: --as pairs)")
     if found.alone and found.edges and table.separator and not is_sure:
         found.left_out.append(f"a node alone, first at line {found.alone[0][0]}: is its cell merged with that above?")
-    how = "--heading yes" if head.columns else "--as pairs"
-    if left := columns_left(titles, head.body, set(columns), "", f" (if it says nothing of edges: {how})"):
-        (found.notes if is_sure or heading and head.columns else found.left_out).append(left)
+    if left := columns_left(titles, head.body, set(columns)):
+        (found.notes if is_sure else found.left_out).append(left)
     return found
 
 

@@ -233,7 +233,7 @@ class ForeignForms(Case):
             (["--as", "adjacency"], b"Ulm Aue Hof\nBonn Kiel Jena\n", 4),
             (["--as", "adjacency"], b"     1 2\n     2 1 3\n     3 2\n", 2),
             (["--heading", "no"], b"one,other\nUlm,Aue\nAue,Hof\nHof,Ulm\n", 4),
-            (["--heading", "yes", "--strict"], b"source,target,weight\nUlm,Aue,1\nAue,Hof,2\n", 2),
+            (["--heading", "yes", "--ignore", "km", "--strict"], b"source,target,km\nUlm,Aue,1\nAue,Hof,2\n", 2),
             (["--as", "pairs"], b"1 -> 2\n2 -> 3\n", 2),
         ):
             status, wrote, told = call("read", "-", *words, data=data)
@@ -253,6 +253,8 @@ class ForeignForms(Case):
         ):
             found = call("read", "-", "--strict", "--ignore", names, data=data.encode())
             self.note(f"{names} of {data}", found[0] == status and (not found[1]) == bool(status), found)
+        headed = call("read", "-", "--strict", "--heading", "yes", data=b"source,target,of\nA,B,x\n")
+        self.note("a heading doesn't say that its other columns are none", headed[:2] == (1, b""), headed)
 
     def test_strict(self):
         """Something that would be left out is a refusal if that is asked for; nothing is, if nothing would be."""

@@ -54,8 +54,8 @@ class Sites(Case):
         self.note("north is on top, and east is right",
                   places[1][1] > places[3][1] > places[4][1] and places[4][0] < places[1][0] < places[2][0], places)
         self.note("the program reads it", run_program(PLAN, ["forests"], wrote).stdout.startswith(b"forests 4 1\n"))
-        self.refused("what is left out, if that is asked for", "--strict is asked for: 1 column not read: km (if it "
-                     "says nothing of edges: --heading yes); 1 line left out, with a site", pairs, "--sites", sites,
+        self.refused("what is left out, if that is asked for", "--strict is asked for: 1 column not read: km; "
+                     "1 line left out, with a site", pairs, "--sites", sites,
                      "--strict")
 
     def test_misspelt(self):
@@ -67,9 +67,8 @@ class Sites(Case):
         said = (f"6 lines left out, with a site that isn't in {sites}: Kölln (line 1, is it Köln?), "
                 "hof am wald (line 3, is it Hof am Wald?), Prag (line 4), Koln (line 5, is it Köln?), and 2 more\n")
         self.note("misspelt sites", (status, edges_of(wrote)) == (0, {(2, 3)}) and said.encode() in told, told)
-        said = ("asked for: line 3: `hof am wald` looks like no other name: is it one?; 1 column not read: number 3 "
-                "(if it says nothing of edges: --as pairs); Hof am Wald and hof am wald are two nodes: are they meant "
-                "to be one?; 6 lines left out, with a site")
+        said = ("asked for: line 3: `hof am wald` looks like no other name: is it one?; 1 column not read: number 3; "
+                "Hof am Wald and hof am wald are two nodes: are they meant to be one?; 6 lines left out, with a site")
         self.refused("misspelt sites, if that is asked for", said, pairs, "--sites", sites, "--strict")
         self.refused("sites of another table", "none of its names is in the pairs",
                      self.file("other.csv", "A,B\nB,C\n"), "--sites", sites)
