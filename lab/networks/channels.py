@@ -5,6 +5,7 @@ import re
 import sys
 
 from lab.networks import site_tables
+from lab.networks.fields import value_of
 from lab.networks.listed import FLAGS, NOT, clean
 from lab.networks.network_text import MAX_CHANNEL, shown, whole
 from lab.words import Parser, add_output, text_at, write
@@ -70,7 +71,8 @@ def numbers_in(path: str) -> list[int]:
     column = words.index(named[0])
     for at, word in enumerate(words):
         said = {fields[at].casefold() if at < len(fields) else "" for _, fields in rows}
-        if at != column and said <= FLAGS and said & NOT:
+        values = set(map(value_of, said))
+        if at != column and (said <= FLAGS and said & NOT or 0 in values or len(said) > 1 and None in values):
             raise Wrong(f"{path}: the column {shown(word)} may say which channels may be used: leave out the others, "
                         "and this column")
     for line, fields in rows:

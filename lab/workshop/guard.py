@@ -7,8 +7,8 @@ reach the workshop, its judge, or what others have written.
   Linux 6.12 on it can't signal one either, except what it has started itself.
 - In a folder of its own, as for grading, it also writes there alone, sees nothing below the paths that are hidden from
   it and nothing of other processes, and has no connections (TCP, Linux 6.7). There a filter of calls (x86-64) keeps it
-  from what Landlock has no rules for: rights and times of files, sockets of any kind, limits of other processes, and
-  memory and queues that outlive it."""
+  from what Landlock has no rules for: rights, times and locks of files, sockets of any kind, limits of other processes,
+  and memory and queues that outlive it."""
 import contextlib
 import ctypes
 import os
@@ -16,6 +16,7 @@ import platform
 import resource
 import shutil
 import signal
+import stat
 import struct
 import time
 from dataclasses import dataclass
@@ -42,13 +43,14 @@ CREATE_RULESET, ADD_RULE, RESTRICT_SELF = 444, 445, 446
 EXECUTE, WRITE, READ, LIST, MAKE_BLOCK, TRUNCATE = (1 << bit for bit in (0, 1, 2, 3, 11, 14))
 OF_FILES, LOOKS = EXECUTE | WRITE | READ | TRUNCATE, EXECUTE | READ | LIST
 TCP, SIGNALS_AND_SOCKETS = 3, 3
-# Numbers of Linux on x86-64. Refused are calls that change rights, owners, marks and times of files, or watch folders;
-# memory, semaphores, queues and keys by name; sockets, but for pairs of them, and calls by way of a ring; priorities;
+# Numbers of Linux on x86-64. Refused are calls that change rights, owners, marks and times of files, lock them, or watch
+# folders; memory, semaphores, queues and keys by name; sockets, but for pairs of them, and calls by way of a ring; priorities;
 # and of limits and schedules those of other processes.
 SECCOMP, FILTER, X86_64, OTHER_NUMBERS = 22, 2, 0xC000003E, 0x40000000
 REFUSED = (90, 91, 92, 93, 94, 260, 268, 452, 188, 189, 190, 463, 132, 235, 261, 280, 254, 301, 29, 64, 68, 240, 248,
-           249, 250, 41, 425, 141, 251)
+           249, 250, 41, 425, 141, 251, 73)
 OF_ITSELF = (142, 144, 203, 302, 314)
+FCNTL, LOCKS = 72, (5, 6, 7, 36, 37, 38)
 SYSTEM = ctypes.CDLL(None, use_errno=True)
 
 
@@ -188,11 +190,11 @@ class Guard:
         started; looks now and then."""
         if self.is_open or time.monotonic() - self.looked <= LOOK:
             return
-        if self.folder and kept_in(self.folder) > MOST_KEPT:
+        running = [process for process in below_this(self.programs - {program}) if not process.is_over]
+        if (kept_in(self.folder) if self.folder else 0) + unnamed(running) > MOST_KEPT:
             raise Fault("flood", f"it wrote more than {MOST_KEPT >> 20} megabytes or {MOST_FILES} files, or folders "
                                  f"deeper than {DEEPEST}")
-        others = self.programs - {program}
-        if sum(process.memory for process in below_this(others) if not process.is_over) > memory:
+        if sum(process.memory for process in running) > memory:
             raise Fault("flood", f"it takes more than {memory >> 20} megabytes of memory")
         self.looked = time.monotonic()
 
@@ -210,12 +212,13 @@ def give(folder: str, user: int) -> None:
 
 
 def call_filter() -> bytes:
-    """The program by which Linux judges each call: the machine's kind, the call's number, and of some the process that
-    they are about."""
+    """The program by which Linux judges each call: the machine's kind, the call's number, of `fcntl` what it does, and of
+    some the process that they are about."""
     load, is_equal, is_least, answer = 0x20, 0x15, 0x35, 0x06
     rows = [(load, 0, 0, 4), (is_equal, 0, "no", X86_64), (load, 0, 0, 0), (is_least, "no", 0, OTHER_NUMBERS),
             *((is_equal, "no", 0, number) for number in REFUSED),
-            *((is_equal, "own", 0, number) for number in OF_ITSELF),
+            *((is_equal, "own", 0, number) for number in OF_ITSELF), (is_equal, 1, 0, FCNTL),
+            (answer, 0, 0, 0x7FFF0000), (load, 0, 0, 24), *((is_equal, "no", 0, number) for number in LOCKS),
             (answer, 0, 0, 0x7FFF0000), (load, 0, 0, 16), (is_equal, 0, "no", 0), (answer, 0, 0, 0x7FFF0000),
             (answer, 0, 0, 0x50001)]
     places = {"own": len(rows) - 4, "no": len(rows) - 1}
@@ -246,6 +249,19 @@ def kept_in(folder: str) -> int:
         except OSError:
             return MOST_KEPT + 1
     return size
+
+
+def unnamed(running: "list[Running]") -> int:
+    """The bytes of all files that processes have open and that no folder has, some of them in memory alone."""
+    sizes = {}
+    for process in running:
+        with contextlib.suppress(OSError):      # it has ended meanwhile
+            for entry in os.scandir(f"/proc/{process.number}/fd"):
+                with contextlib.suppress(OSError):
+                    file = entry.stat()
+                    if stat.S_ISREG(file.st_mode) and not file.st_nlink:
+                        sizes[file.st_dev, file.st_ino] = 512 * file.st_blocks
+    return sum(sizes.values())
 
 
 def control(what: int, value: int) -> None:

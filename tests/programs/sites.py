@@ -225,12 +225,15 @@ class Channels(Case):
         path = os.path.join(folder, "my licence.csv")
         for text, wanted in (
             ("Channel,Frequency (MHz)\r\n36,5180\r\n40,5200\r\n", (0, "plan\n1 40\n2 36\n", "")),
-            ("Bemerkung;Kanal\r\ngut;36\r\n;40\r\n;;\r\n", (0, "plan\n1 40\n2 36\n", "")),
+            ("Bemerkung;Kanal\r\ngut;36\r\ngut;40\r\n;;\r\n", (0, "plan\n1 40\n2 36\n", "")),
+            ("Bemerkung;Kanal\r\ngut;36\r\n;40\r\n;;\r\n", "column bemerkung may say which channels"),
             ("channel\n36\n40\n", (0, "plan\n1 40\n2 36\n", "")),
             ("Frequency\n5180\n", "no column is named channel"),
             ("channel,power\n36,1\nforty,1\n", "line 3: no channel: `forty,1`"),
             ("channel,power\n36,1\n36,2\n", "names a channel twice"),
             ("channel,allowed\n36,yes\n40,no\n", "column allowed may say which channels"),
+            ("channel,status\n1,ok\n6,radar\n11,ok\n", "column status may say which channels"),
+            ("channel,power\n1,20\n6,0\n11,20\n", "column power may say which channels"),
             ("channel\n", "or it has no row"),
         ):
             with open(path, "w", encoding="utf-8", newline="") as file:

@@ -189,6 +189,21 @@ class Guards(unittest.TestCase):
         self.assertEqual(got(" ".join(case.finding.text())), {"met": "1", "kept": "'ours'"}, case.finding.text())
         self.assertEqual(sorted(os.listdir(room)), ["submission", "submission-0", "submission-1"])
 
+    def test_files_without_a_name(self):
+        """They take as much room, on the disk or in memory, and no folder has them."""
+        for opened in ("os.open('file', os.O_CREAT | os.O_RDWR)\n    os.unlink('file')", "os.memfd_create('')"):
+            more = (f"for _ in range(20):\n    file = {opened}\n    for _ in range(15):\n"
+                    "        os.write(file, bytes(1 << 20))\ntime.sleep(60)\n")
+            folder = os.path.realpath(self.enterContext(tempfile.TemporaryDirectory()))
+            guard = Guard(folder, [])
+            if guard.user is not None:
+                give(folder, guard.user)
+            player = Player("rounds", [["python3", "-S", "-c", program({}, more)]], 30.0, 2048, False, None, guard=guard)
+            case = Case(0, network("path1"), "", "1")
+            player.play(case)
+            said = " ".join(case.finding.text())
+            self.assertIn("it wrote more than 256 megabytes", said, (opened, said))
+
     def test_a_full_folder(self):
         with tempfile.TemporaryDirectory() as folder:
             guard = Guard(folder)

@@ -110,8 +110,10 @@ class Grades(unittest.TestCase):
                     "sockets": "socket.socket(socket.AF_UNIX)",
                     "udp": "socket.socket(socket.AF_INET, socket.SOCK_DGRAM)",
                     "watches": "SYSTEM.inotify_add_watch(SYSTEM.inotify_init(), b'..', 0xFFF) >= 0",
-                    "mine": "resource.setrlimit(resource.RLIMIT_CORE, (0, 0))"}
-        self.submit("anna", rounds_node_py=program(attacks, "import resource\n"))
+                    "lock": "fcntl.flock(os.open('rounds_node.py', os.O_RDONLY), fcntl.LOCK_SH)",
+                    "range": "fcntl.lockf(os.open('rounds_node.py', os.O_RDONLY), fcntl.LOCK_SH)",
+                    "flags": "fcntl.fcntl(0, fcntl.F_GETFD) >= 0", "mine": "resource.setrlimit(resource.RLIMIT_CORE, (0, 0))"}
+        self.submit("anna", rounds_node_py=program(attacks, "import fcntl, resource\n"))
         self.submit("cleo", rounds_node_py=program({}, deep))
         self.submit("ben", rounds_node_py=ZERO)
         before, room = kept(), os.path.join(self.folder, "room")
@@ -126,7 +128,8 @@ class Grades(unittest.TestCase):
         self.assertEqual((kept(), os.listdir(room)), (before, []))
         with open(os.path.join(reports, "anna.txt"), encoding="utf-8") as text:
             found = got(text.read())
-        self.assertEqual((found.pop("mine"), found.keys()), ("None", attacks.keys() - {"mine"}), found)
+        self.assertEqual((found.pop("mine"), found.pop("flags"), found.keys()),
+                         ("None", "True", attacks.keys() - {"mine", "flags"}), found)
         if platform.machine() == "x86_64":
             self.assertLessEqual(set(found.values()), {"PermissionError", "False"}, found)
 
