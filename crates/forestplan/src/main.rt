@@ -1,5 +1,5 @@
-//! The program `forestplan`: a channel plan for an interference graph, its forests, or the check of a
-//! plan, from standard input to standard output.
+//! The program `forestplan`: a channel plan for an interference graph, the transcript of a run that finds it, its
+//! forests, or the check of a plan, from standard input to standard output.
 //!
 //! ```sh
 //! printf 'p edge 3 3\ne 1 2\ne 1 3\ne 2 3\n' | forestplan plain
