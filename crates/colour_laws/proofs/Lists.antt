@@ -8,27 +8,6 @@ use Rattle.interference.proofs.Members.{place_of-is}
 use Rattle.node_api.specs.Boxes.{at_port}
 use Rattle.node_api.specs.Run.{inbox_from}
 
-pub map-members : {X : Type 0} (f g : ℕ → X) (ws : List ℕ) → ((k : ℕ) → k < length ws → f (get_or ws k 0) ≡ g (get_or ws k 0)) → map f ws ≡ map g ws
-map-members f g [] same = refl
-map-members f g (w ∷ ws) same =
-    let now : f w ≡ g w = same 0 (omega arith) in
-    let rest : map f ws ≡ map g ws = map-members f g ws (λ k h. same (suc k) (omega arith)) in
-    cc
-
--- What stands in an inbox where each node's outbox is by its neighbours.
-module _ {S M : Type 0} (net : Net) (ok : IsNetwork net) (nodes : ℕ → S × List (Option M)) (sent : ℕ → ℕ → Option M) (out : (w : ℕ) → IsVertex net w →
-    (nodes w).1 ≡ map (sent w) (neighbours net w)) where
-  slot_is : (v k : ℕ) → IsVertex net v → k < degree_of net v → at_port (nodes (neighbour_of net v k)).1 (port_to net (neighbour_of net v k) v)
-      ≡ sent (neighbour_of net v k) v
-  slot_is v k is_vertex below =
-      let w : ℕ = neighbour_of net v k in
-      let place : port_to net w v < length (neighbours net w) = ok.symmetric v k is_vertex below in
-      ap (λ slots. at_port slots (port_to net w v)) (out w (ok.vertices v k is_vertex below))
-      ∙ (get_or-map (sent w) (neighbours net w) (port_to net w v) 0 None place ∙ ap (sent w) (place_of-is v (neighbours net w) 0 place))
-
-  pub inbox_is : (v : ℕ) → IsVertex net v → inbox_from net nodes v ≡ map (λ w. sent w v) (neighbours net v)
-  inbox_is v is_vertex = map-members (λ w. at_port (nodes w).1 (port_to net w v)) (λ w. sent w v) (neighbours net v) (λ k below. slot_is v k is_vertex below)
-
 pub range-members : {X : Type 0} (f g : ℕ → X) (a n : ℕ) → ((k : ℕ) → a ≤ k → k < a + n → f k ≡ g k) → map f (range_with_len a n) ≡ map g (range_with_len a n)
 range-members f g a zero same = refl
 range-members f g a (suc n) same =

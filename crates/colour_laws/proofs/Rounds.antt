@@ -5,7 +5,7 @@ use Rattle.interference.specs.Net.{neighbours}
 use Rattle.node_api.specs.Laws.{IsProgram}
 use Rattle.colour_rules.specs.Program.{colouring}
 use Rattle.colour_rules.proofs.KeptPorts.{keeps}
-use Rattle.colour_rules.proofs.Greets.{same-for_all}
+use Rattle.node_api.proofs.Outboxes.{same-for_all}
 use Rattle.colour_laws.proofs.Forests.{has_forest, has_start}
 use Rattle.colour_laws.proofs.Starts.{fine_all, colour_at_last}
 

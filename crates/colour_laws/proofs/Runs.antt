@@ -13,7 +13,7 @@ use Rattle.colour_rules.specs.declared.payload.Payload.{Payload}
 use Rattle.colour_rules.specs.Node.{Node, steps, last}
 use Rattle.colour_laws.specs.Colours.{colours_after, colours}
 use Rattle.colour_laws.proofs.Expected.{state_while_reducing, tells, state_after_choice, chose, IsForest}
-use Rattle.colour_laws.proofs.Lists.{map-members}
+use Rattle.node_api.proofs.Inboxes.{map-members}
 use Rattle.colour_laws.proofs.Steps.{all_merged}
 use Rattle.colour_laws.proofs.Stands.{at, HoldsAfter, NextIs, NothingRefused, stand_next, fine_next}
 use Rattle.colour_laws.proofs.Turns.{work_goes, further_goes, first_goes, silent_at_last, forest_goes}

@@ -7,7 +7,7 @@ use Rattle.node_api.proofs.Runs.{node_at-more}
 use Rattle.colour_rules.specs.declared.payload.Payload.{Payload}
 use Rattle.colour_rules.specs.Node.{Node}
 use Rattle.colour_rules.specs.Program.{colouring, next}
-use Rattle.colour_laws.proofs.Lists.{inbox_is}
+use Rattle.node_api.proofs.Inboxes.{inbox_is}
 
 abbrev pub at : Net → ℕ → ℕ → Node × List (Option Payload)
 at net p v = node_at colouring net p v

@@ -19,11 +19,11 @@ use Rattle.colour_rules.proofs.Barring.{contains-up_to_low}
 use Rattle.colour_rules.specs.Refusals.{ports_refusal, port_rule, own_rule, ids_in}
 use Rattle.colour_rules.specs.Program.{colouring, next, oriented_slot, tells_label, labelled, all_labelled, tells_colour, with_orient}
 use Rattle.colour_rules.specs.declared.phase.Phase.TheVariants.{Orient, Seed}
-use Rattle.colour_rules.proofs.Greets.{same-for_all}
+use Rattle.node_api.proofs.Outboxes.{same-for_all}
 use Rattle.colour_laws.specs.Colours.{colours, colours_after, is_barred}
 use Rattle.colour_laws.proofs.Expected.{barred_of, stages, by_forest, state_while_reducing, tells, IsForest, IsOriented, Fresh}
 use Rattle.forests.specs.Forests.{role_of, role_by, number, up}
-use Rattle.colour_laws.proofs.Lists.{map-members}
+use Rattle.node_api.proofs.Inboxes.{map-members}
 use Rattle.std.proofs.lemmas.Simd.{map-map}
 use Rattle.colour_laws.proofs.Forests.{role_by-is}
 use Rattle.colour_laws.proofs.Ports.{accepted, ports_none}

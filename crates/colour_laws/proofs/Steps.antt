@@ -16,7 +16,7 @@ use Rattle.colour_rules.specs.declared.phase.Phase.TheVariants.{Merge}
 use Rattle.colour_laws.specs.Colours.{colours_after}
 use Rattle.colour_laws.proofs.Expected.{step_in, merged_by, state_before_choice, state_after_choice, chose, IsForest}
 use Rattle.forests.specs.Forests.{number, role_of}
-use Rattle.colour_laws.proofs.Lists.{map-members}
+use Rattle.node_api.proofs.Inboxes.{map-members}
 use Rattle.colour_laws.proofs.Ports.{ports_none}
 use Rattle.std.proofs.lemmas.Bool.{lt-ltb, le-ltb}
 use Rattle.colour_laws.proofs.Choices.{step_within, colours_within, merged_is, number-same}

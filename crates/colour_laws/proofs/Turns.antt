@@ -16,7 +16,7 @@ use Rattle.colour_rules.specs.Program.{next, tells_chosen}
 use Rattle.forests.specs.Forests.{role_of}
 use Rattle.colour_laws.specs.Colours.{colours_after}
 use Rattle.colour_laws.proofs.Expected.{step_in, state_while_reducing, tells, state_before_choice, state_after_choice, chose, IsForest}
-use Rattle.colour_laws.proofs.Lists.{map-members}
+use Rattle.node_api.proofs.Inboxes.{map-members}
 use Rattle.colour_laws.proofs.Work.{work_step}
 use Rattle.colour_laws.proofs.Steps.{first_next, further_next, nothing_merged, all_merged}
 use Rattle.colour_laws.proofs.Heard.{empty_set}

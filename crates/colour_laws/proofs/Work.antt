@@ -20,7 +20,8 @@ use Rattle.colour_rules.specs.Program.{done, next, is_last, is_up, colour_in, fr
 use Rattle.colour_rules.specs.declared.phase.Phase.TheVariants.{Work}
 use Rattle.colour_laws.proofs.Expected.{stages, by_forest, state_while_reducing, tells, IsForest}
 use Rattle.forests.specs.Forests.{role_of, parent}
-use Rattle.colour_laws.proofs.Lists.{map-members, inbox_is, range-members, any-none}
+use Rattle.node_api.proofs.Inboxes.{map-members, inbox_is}
+use Rattle.colour_laws.proofs.Lists.{range-members, any-none}
 use Rattle.colour_laws.proofs.Sound.{Sound, sound}
 use Rattle.colour_laws.proofs.Ports.{ports_none, from_nobody, from_somebody, port_up, same_forest, in_forest, phase_work, sent_if, no_own_rule, accepted}
 use Rattle.colour_rules.proofs.Working.{up-is}

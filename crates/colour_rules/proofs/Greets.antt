@@ -3,14 +3,10 @@ use Rattle.std.proofs.Common.{◌≡◌, ℕ, List, [], ◌∷◌, length, refl,
 use Rattle.std.specs.Prelude.{map, replicate, Option, Some}
 use Rattle.std.proofs.lemmas.List.{length-replicate}
 use Rattle.node_api.specs.Boxes.{nothing}
+use Rattle.node_api.proofs.Outboxes.{same-for_all}
 use Rattle.colour_rules.specs.declared.payload.Payload.{Payload}
 use Rattle.colour_rules.specs.declared.payload.Payload.TheVariants.{Hello}
 use Rattle.colour_rules.specs.Node.{Node, greet, ports}
-
--- one thing for each entry of a list
-pub same-for_all : {X Y : Type 0} (y : Y) (xs : List X) → replicate (length xs) y ≡ map (λ x. y) xs
-same-for_all y [] = refl
-same-for_all y (x ∷ xs) = ap (λ rest. y ∷ rest) (same-for_all y xs)
 
 -- one payload at each port
 pub greets : (node : Node) (id : ℕ) (before after : List (Option Payload)) → id ≡ node.id → before ≡ nothing (ports node) →

@@ -5,7 +5,7 @@ use Rattle.colour_rules.specs.declared.payload.Payload.{Payload}
 use Rattle.colour_rules.specs.declared.phase.Phase.{Phase}
 use Rattle.colour_rules.specs.Node.{Node, ports}
 use Rattle.colour_rules.specs.Program.{done, silent}
-use Rattle.colour_rules.proofs.Greets.{same-for_all}
+use Rattle.node_api.proofs.Outboxes.{same-for_all}
 use Rattle.node_api.specs.Boxes.{nothing}
 
 -- where there is nothing to do, nothing is done

@@ -7,7 +7,7 @@ use Rattle.colour_rules.specs.declared.phase.Phase.TheVariants.{Merge}
 use Rattle.colour_rules.specs.Node.{Node, ports, steps}
 use Rattle.colour_rules.specs.Choice.{chooses, free_for, gathered}
 use Rattle.colour_rules.specs.Program.{done, silent, tells_chosen}
-use Rattle.colour_rules.proofs.Greets.{same-for_all}
+use Rattle.node_api.proofs.Outboxes.{same-for_all}
 
 abbrev Sent : Type 0
 Sent = List (Option Payload)

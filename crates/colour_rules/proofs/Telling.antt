@@ -13,19 +13,6 @@ use Rattle.colour_rules.specs.Node.{Node, ports}
 use Rattle.colour_rules.specs.Program.{tells_chosen}
 use Rattle.colour_rules.specs.Table.{is_merged}
 
--- The ports before i have been told what `tell` says of their roles, the others nothing.
-pub record Told (tell : Role → Option Payload) (roles : List Role) (i : ℕ) (out : List (Option Payload)) : Type 0 where
-  pub size : length out ≡ length roles
-  pub before : (k : ℕ) → k < i → at_port out k ≡ tell (get_or roles k Unknown)
-  pub after : (k : ℕ) → i ≤ k → k < length roles → at_port out k ≡ None
-
--- past the last port all have been told
-pub told-all : {tell : Role → Option Payload} {roles : List Role} {i : ℕ} {out : List (Option Payload)} → Told tell roles i out → length roles ≤ i →
-    out ≡ map tell roles
-told-all {tell = tell} {roles = roles} {out = out} told past =
-    ext_get_or None out (map tell roles) (told.size ∙ sym (length-map roles tell))
-    (λ k h. let within : k < length roles = omega (arith, told.size) in told.before k (omega arith) ∙ sym (get_or-map tell roles k Unknown None within))
-
 -- ports that are all of a forest up to f are all told a colour that is chosen there
 all-told : (f c : ℕ) (roles : List Role) → list_all (is_merged f) roles ≡ true →
     replicate (length roles) (Some (Chosen c)) ≡ map (tells_chosen f c) roles

@@ -7,7 +7,7 @@ use Rattle.colour_rules.specs.declared.phase.Reduction.{Reduction}
 use Rattle.colour_rules.specs.declared.payload.Payload.{Payload}
 use Rattle.colour_rules.specs.Node.{Node, ports}
 use Rattle.colour_rules.specs.Program.{from_parent, is_last, kept, kept_all, next_colours, next_kept, silent, tells_colour, turned, turned_all, with_colours}
-use Rattle.colour_rules.proofs.Greets.{same-for_all}
+use Rattle.node_api.proofs.Outboxes.{same-for_all}
 
 module _ (node : Node) (reduction : Reduction) (size : length node.colours ≡ node.sizes.forests) where
   -- the colours are the next ones

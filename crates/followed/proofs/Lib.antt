@@ -1,2 +1,1 @@
 mod HeardTo
-pub mod Outboxes

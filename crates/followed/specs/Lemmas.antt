@@ -11,21 +11,13 @@ use Rattle.node_api.specs.Boxes.{at_port, fold_slots, nothing}
 use Rattle.node_api.specs.Program.{own_of, Program, RestsUntil, sizes_of}
 use Rattle.node_api.specs.Run.{after, inbox_from, node_at, state_at}
 use Rattle.node_api.specs.declared.program.Refused.{Refused}
+use Rattle.node_api.proofs.Inboxes.{map-members}
 use Rattle.node_api.proofs.Runs.{node_at-none, node_at-more}
 use Rattle.followed.specs.declared.said.Said.{Said}
 use Rattle.followed.specs.Said.{and_misplaced, firsts, misplaced, said, told_by}
 use Rattle.followed.specs.Followed.{Both, Sequel, IsCut, beside_of, followed, followed_next, heard_next, keeping}
 use Rattle.followed.specs.Followed.{through}
 use Rattle.followed.specs.Followed.{told_next, unless_early, with_beside}
-
--- two functions that agree on the members of a list
-map-members : {X : Type 0} (f g : ℕ → X) (ws : List ℕ)
-    → ((k : ℕ) → k < length ws → f (get_or ws k 0) ≡ g (get_or ws k 0)) → map f ws ≡ map g ws
-map-members f g [] same = refl
-map-members f g (w ∷ ws) same =
-    let now : f w ≡ g w = same 0 (omega arith) in
-    let rest : map f ws ≡ map g ws = map-members f g ws (λ k h. same (suc k) (omega arith)) in
-    cc
 
 -- what is told of nothing is nothing
 pub said-nothing : {A B : Type 0} (n : ℕ) → map (said {A = A} {B = B}) (nothing n) ≡ nothing n

@@ -1,3 +1,2 @@
-mod Firsts
 pub mod OneTurn
 pub mod Partners

@@ -17,17 +17,17 @@ use Rattle.followed.specs.Followed.{Both, beside_of}
 use Rattle.forests.specs.Forests.{parent, role_of}
 use Rattle.forests.specs.declared.numbering.Role.{Role}
 use Rattle.forests.specs.declared.numbering.Role.TheVariants.{Unknown, Up, Down}
-use Rattle.colour_rules.proofs.Greets.{same-for_all}
+use Rattle.node_api.proofs.Outboxes.{same-for_all}
 use Rattle.colour_laws.specs.Colours.{three}
 use Rattle.colour_rules.specs.Node.{Node, ports}
 use Rattle.colour_laws.proofs.Expected.{stages, state_while_reducing}
-use Rattle.colour_laws.proofs.Lists.{inbox_is}
+use Rattle.node_api.proofs.Inboxes.{inbox_is}
 use Rattle.colour_laws.proofs.Ports.{in_forest, same_forest}
 use Rattle.colour_laws.proofs.Sound.{stages_are_three}
-use Rattle.matching.specs.First.{first_came}
+use Rattle.node_api.specs.First.{first_came}
 use Rattle.matching.specs.Knowing.{Wire, chooses, is_turn, offers, offered, takes, tells_free, told_free, told_taken, took, unless_matched}
 use Rattle.matching.specs.Lawful.{at, at-turn, turn-even, turn-odd}
-use Rattle.matching.proofs.Firsts.{comes-none, first-comes}
+use Rattle.node_api.proofs.Firsts.{comes-none, first-comes}
 
 -- the colour of a node in a forest
 abbrev pub colour : Net → ℕ → ℕ → ℕ

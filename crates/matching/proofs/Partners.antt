@@ -12,15 +12,15 @@ use Rattle.forests.specs.declared.numbering.Role.TheVariants.{Unknown, Up, Down}
 use Rattle.colour_laws.proofs.Choices.{three_within}
 use Rattle.colour_laws.proofs.Expected.{IsForest}
 use Rattle.colour_laws.proofs.Forests.{has_forest}
-use Rattle.colour_laws.proofs.Lists.{inbox_is}
-use Rattle.colour_rules.proofs.Greets.{same-for_all}
+use Rattle.node_api.proofs.Inboxes.{inbox_is}
+use Rattle.node_api.proofs.Outboxes.{same-for_all}
 use Rattle.colour_laws.proofs.Proper.{three_proper}
-use Rattle.matching.specs.First.{first_came}
+use Rattle.node_api.specs.First.{first_came}
 use Rattle.followed.specs.Followed.{Both}
 use Rattle.colour_rules.specs.Node.{Node}
 use Rattle.matching.specs.Knowing.{Wire}
 use Rattle.matching.specs.Lawful.{at, at-first, at-turn}
-use Rattle.matching.proofs.Firsts.{first-comes}
+use Rattle.node_api.proofs.Firsts.{first-comes}
 use Rattle.matching.proofs.OneTurn.{Turn, child, colour, one_turn}
 
 -- each partner is a neighbour whose partner this is

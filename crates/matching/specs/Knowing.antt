@@ -6,7 +6,7 @@ use Rattle.std.specs.Prelude.{ℕ, ◌+◌, ◌-◌, ◌*◌, ◌/◌, ◌%◌, 
 use Rattle.std.specs.Prelude.{List, length, map, slice_index, slice_set, Option, Some, None, Ok}
 use Rattle.std.specs.Option.{option_or}
 use Rattle.node_api.specs.Boxes.{nothing}
-use Rattle.matching.specs.First.{first_came}
+use Rattle.node_api.specs.First.{first_came}
 use Rattle.node_api.specs.Program.{Program}
 use Rattle.node_api.specs.declared.program.Refused.{Refused}
 use Rattle.followed.specs.Followed.{Both, Sequel, followed}

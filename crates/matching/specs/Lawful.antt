@@ -17,16 +17,16 @@ use Rattle.followed.specs.Said.{told_by}
 use Rattle.followed.specs.Followed.{Both, IsCut, IsSequel, beside_of, with_beside}
 use Rattle.followed.specs.Lemmas.{at-more, said-nothing, same_run}
 use Rattle.colour_rules.specs.declared.phase.TheConstants.{FIRST_MERGE}
-use Rattle.colour_rules.proofs.Greets.{same-for_all}
+use Rattle.node_api.proofs.Outboxes.{same-for_all}
 use Rattle.colour_rules.specs.declared.payload.Payload.{Payload}
 use Rattle.colour_rules.specs.Node.{Node, ports}
 use Rattle.colour_rules.specs.Program.{colouring}
 use Rattle.colour_laws.proofs.Expected.{state_while_reducing}
 use Rattle.colour_laws.proofs.Forests.{has_forest, has_start}
-use Rattle.colour_laws.proofs.Lists.{map-members}
+use Rattle.node_api.proofs.Inboxes.{map-members}
 use Rattle.colour_laws.proofs.Runs.{work_stands}
 use Rattle.colour_laws.proofs.Starts.{seeded}
-use Rattle.matching.specs.First.{first_came}
+use Rattle.node_api.specs.First.{first_came}
 use Rattle.matching.specs.declared.proposal.Proposal.{Proposal}
 use Rattle.matching.specs.Knowing.{Wire, matching, offered, takes, tells_free, told_free, told_taken, took, turned}
 use Rattle.matching.specs.Knowing.{turns}

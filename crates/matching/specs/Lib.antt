@@ -1,4 +1,3 @@
-pub mod First
 pub mod Words
 pub mod Knowing
 pub mod Lawful

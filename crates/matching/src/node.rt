@@ -3,7 +3,7 @@
 ghost use Rattle.std.specs.Prelude.{◌≡◌, ◌<◌, ◌^◌, IfSome, IsTrue, length, map};
 ghost use Rattle.std.specs.Option.{option_or};
 ghost use Rattle.node_api.specs.Boxes.{nothing};
-ghost use Rattle.matching.specs.First.{first_came};
+ghost use Rattle.node_api.specs.First.{first_came};
 ghost use Rattle.colour_rules.specs.Node.{ports};
 ghost use Rattle.matching.specs.Knowing.{is_turn, offered, takes, tells_free, took, turned};
 

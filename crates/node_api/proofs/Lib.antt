@@ -8,3 +8,6 @@ pub mod Filled
 pub mod Keeping
 pub mod Runs
 pub mod Reading
+pub mod Inboxes
+pub mod Outboxes
+pub mod Firsts

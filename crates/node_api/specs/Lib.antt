@@ -1,4 +1,5 @@
 pub mod Boxes
+pub mod First
 pub mod Marks
 pub mod Slots
 pub mod Sending

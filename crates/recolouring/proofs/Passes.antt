@@ -11,14 +11,14 @@ use Rattle.node_api.proofs.Runs.{node_at-more, node_at-none}
 use Rattle.followed.specs.Followed.{Both}
 use Rattle.followed.specs.Said.{said}
 use Rattle.followed.specs.Lemmas.{said-nothing, same_run}
-use Rattle.colour_rules.proofs.Greets.{same-for_all}
+use Rattle.node_api.proofs.Outboxes.{same-for_all}
 use Rattle.colour_rules.specs.declared.payload.Payload.{Payload}
 use Rattle.colour_rules.specs.Node.{Node}
 use Rattle.colour_rules.specs.Program.{colouring}
 use Rattle.colour_laws.specs.Colours.{colours}
 use Rattle.colour_laws.proofs.Choices.{colours_within}
 use Rattle.colour_laws.proofs.Forests.{has_forest, has_start}
-use Rattle.colour_laws.proofs.Lists.{map-members}
+use Rattle.node_api.proofs.Inboxes.{map-members}
 use Rattle.colour_laws.proofs.Proper.{colours_proper}
 use Rattle.colour_laws.proofs.Starts.{colour_at_last}
 use Rattle.recolouring.specs.declared.anew.Anew.{Anew}

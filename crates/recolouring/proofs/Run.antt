@@ -14,6 +14,7 @@ use Rattle.forest_merge.specs.declared.chosen.TheConstants.{COLOURS}
 use Rattle.interference.specs.Net.{Net, IsNetwork, IsVertex, bars_of, degree_of, neighbours, neighbour_of, port_to, span_of}
 use Rattle.node_api.specs.Boxes.{at_port, nothing}
 use Rattle.node_api.specs.Run.{inbox_from}
+use Rattle.node_api.proofs.Inboxes.{at_port-inbox}
 use Rattle.node_api.proofs.Runs.{length-inbox, node_at-ports}
 use Rattle.node_api.proofs.Slots.{at_port-nothing}
 use Rattle.followed.specs.Followed.{Both, beside_of}
@@ -153,7 +154,7 @@ module _ (again : ℕ) (net : Net) (ok : IsNetwork net) (k : ℕ) where
   slot : (q v j : ℕ) → j < degree_of net v → at_port (inbox q v) j
       ≡ at_port (at again net ok (cut net ok + (past + q)) (neighbour_of net v j)).1 (port_to net (neighbour_of net v j) v)
   slot q v j below =
-      get_or-map (λ (u : ℕ). at_port (at again net ok (cut net ok + (past + q)) u).1 (port_to net u v)) (neighbours net v) j 0 None below
+      at_port-inbox net (at again net ok (cut net ok + (past + q))) v j below
 
   -- a node's turn is that of its colour
   turn-is : (q v : ℕ) → IsVertex net v → q ≤ span_of net → turn q v ≡ true → old v + q ≡ span_of net

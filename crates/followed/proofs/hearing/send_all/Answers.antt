@@ -1,5 +1,5 @@
 use Rattle.std.proofs.Common.{arith}
-use Rattle.followed.proofs.Outboxes.{told-all}
+use Rattle.node_api.proofs.Outboxes.{told-all}
 use Rattle.followed.proofs.hearing.send_all.Goals as goal
 
 pub returns : goal.returns

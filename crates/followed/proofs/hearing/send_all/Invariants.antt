@@ -1,5 +1,5 @@
 use Rattle.std.specs.Prelude.{None}
-use Rattle.followed.proofs.Outboxes.{Told}
+use Rattle.node_api.proofs.Outboxes.{Told}
 use Rattle.followed.specs.Said.{said}
 use Rattle.followed.proofs.hearing.send_all.Given as goal
 

@@ -1,5 +1,5 @@
 use Rattle.std.proofs.Common.{◌≤◌, length, rules}
-use Rattle.followed.proofs.Outboxes.{told-all}
+use Rattle.node_api.proofs.Outboxes.{told-all}
 use Rattle.matching.proofs.node.tell_free.Goals as goal
 
 pub returns : goal.returns

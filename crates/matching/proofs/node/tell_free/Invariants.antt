@@ -1,5 +1,5 @@
 use Rattle.forests.specs.declared.numbering.Role.TheVariants.{Unknown}
-use Rattle.followed.proofs.Outboxes.{Told}
+use Rattle.node_api.proofs.Outboxes.{Told}
 use Rattle.matching.specs.Knowing.{tells_free}
 use Rattle.matching.proofs.node.tell_free.Given as goal
 

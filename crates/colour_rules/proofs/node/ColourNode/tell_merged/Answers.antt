@@ -2,7 +2,7 @@ use Rattle.std.proofs.Common.{◌≤◌, length, ap, ◌∙◌, rules}
 use Rattle.std.specs.Prelude.{map}
 use Rattle.colour_rules.specs.Node.{Node}
 use Rattle.colour_rules.specs.Program.{tells_chosen}
-use Rattle.colour_rules.proofs.Telling.{told-all}
+use Rattle.node_api.proofs.Outboxes.{told-all}
 use Rattle.colour_rules.proofs.node.ColourNode.tell_merged.Goals as goal
 
 pub returns : goal.returns

@@ -3,7 +3,7 @@ use Rattle.std.proofs.Common.{◌≡◌, ℕ, zero, suc, ◌+◌, ◌<◌, List,
 use Rattle.std.specs.Prelude.{map, Option, Some, None}
 use Rattle.node_api.specs.Boxes.{Mail, Reads, HasFrom, at_port, nothing}
 use Rattle.node_api.proofs.Reading.{nothing-came}
-use Rattle.matching.specs.First.{first_came, first_from}
+use Rattle.node_api.specs.First.{first_came, first_from}
 
 first_from-nothing : (M : Type 0) (n i : ℕ) → first_from {M = M} i (nothing n) ≡ None
 first_from-nothing M zero i = refl

@@ -1,6 +1,6 @@
--- An outbox that is told port by port.
-use Rattle.std.proofs.Common.{◌≡◌, ℕ, ◌<◌, ◌≤◌, List, length, sym, ◌∙◌, arith, get_or}
-use Rattle.std.specs.Prelude.{map, Option, None}
+-- An outbox that is told port by port, and one that has the same at each port.
+use Rattle.std.proofs.Common.{◌≡◌, ℕ, ◌<◌, ◌≤◌, List, [], ◌∷◌, length, refl, ap, sym, ◌∙◌, arith, get_or}
+use Rattle.std.specs.Prelude.{map, replicate, Option, None}
 use Rattle.std.proofs.lemmas.List.{ext_get_or, get_or-map, length-map}
 use Rattle.node_api.specs.Boxes.{at_port}
 
@@ -17,3 +17,8 @@ pub told-all : {A M : Type 0} {tell : A → Option M} {d : A} {entries : List A}
 told-all {tell = tell} {d = d} {entries = entries} {out = out} told past =
     ext_get_or None out (map tell entries) (told.size ∙ sym (length-map entries tell))
     (λ k h. let within : k < length entries = omega (arith, told.size) in told.before k (omega arith) ∙ sym (get_or-map tell entries k d None within))
+
+-- one thing for each entry of a list
+pub same-for_all : {X Y : Type 0} (y : Y) (xs : List X) → replicate (length xs) y ≡ map (λ x. y) xs
+same-for_all y [] = refl
+same-for_all y (x ∷ xs) = ap (λ rest. y ∷ rest) (same-for_all y xs)
