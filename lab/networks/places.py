@@ -64,9 +64,11 @@ def say_of_places(found: Sites, name: str) -> None:
         (west, east), (south, north) = ((min(parts), max(parts)) for parts in zip(*there))
         found.notes.append(f"the sites of {name} are at {south:g} to {north:g} degrees north, {west:g} to {east:g} "
                            "east")
-    if there and found.pair[0] == "rechtswert" and len({int(x // 1000) for x, _ in there}) > 1:
-        raise Wrong(f"{name}: places in several strips of Gauss and Krüger have no common map; latitude and "
-                    "longitude have one")
+    # A strip of Gauss and Krüger, or a zone of UTM, is in front of the digits that say where in it.
+    are_in_zones = there and (found.pair[0] == "rechtswert" or not found.is_globe and max(x for x, _ in there) > 10_000)
+    if are_in_zones and len({int(x // 1000) for x, _ in there}) > 1:
+        raise Wrong(f"{name}: places in several strips of Gauss and Krüger, or zones of UTM, have no common map; "
+                    "latitude and longitude have one")
 
 
 def on_map(places: list[tuple[float, float] | None], is_globe: bool) -> dict[int, tuple[float, float]]:

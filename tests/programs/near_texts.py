@@ -176,6 +176,8 @@ TABLES = (
     ("a place that isn't known", b"site,lat,lon\nUlm,48,10\nHof,0,0\n", b"site,channel\n"),
     ("names after numbers", b"site,x,y\n1. Ulm,0,0\n2. Aue,1,1\n", b"site,channel\n"),
     ("points of the compass", b"site,lat,N/S,lon,E/W\nA,48.1,N,0.2,W\nB,48.1,N,0.2,E\n", b"site,channel\n"),
+    ("zones in front", b"site,easting,northing\nA,32500000,5300000\nB,33100000,5300000\n", b"site,channel\n"),
+    ("strips in front", b"name;rechtswert;hochwert\nA;3500000;5300000\nB;4500000;5300000\n", b"site,channel\n"),
     ("two zones", b"site,zone,easting,northing\nA,32U,500000,5300000\nB,33U,500100,5300000\n", b"site,channel\n"),
     ("two channels or a fraction", b"site;x;y\nUlm;0;0\n", b"site;channel\nUlm;6,5\n"),
     ("two sites a row", b"site,x,y,site 2,x 2,y 2\nUlm,0,0,Aue,1,1\n", b"site,channel\n"),
