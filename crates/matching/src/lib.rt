@@ -14,8 +14,6 @@
 pub mod laws;
 mod node;
 mod proposal;
-#[cfg(test)]
-mod tests;
 mod texts;
 
 pub use node::{Matching, Turns};

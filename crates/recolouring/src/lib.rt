@@ -20,8 +20,6 @@
 mod anew;
 pub mod laws;
 mod node;
-#[cfg(test)]
-mod tests;
 mod texts;
 
 pub use anew::Anew;
