@@ -1,11 +1,11 @@
-"""Measures the same run by programs in Go, Erlang, Java and Python beside `plan` and `plain`, by turns.
+"""Measures the same run by programs in Go, Erlang and Java beside `plan` and `plain`, by turns.
 
   python3 -S -m bench.peers.run [--turns N] [--networks NAME,..] [--processors N,..] [--limit SECONDS]
                                 [--only NAME,..] [PROGRAM]
 
 Default: 5 turns, every network of bench.plan.run, on one processor and on four, 120 seconds a run, PROGRAM as
-`./forestplan` builds it. A language whose compiler isn't there is left out, and named. Programs of one thread run on
-one processor alone.
+`./forestplan` builds it. A language whose compiler isn't there is left out, and named. `plain`, which has one thread,
+runs on one processor alone.
 
 Each program is built in a folder of its own, which is removed. What it writes has to be what `PROGRAM plain` writes.
 Prints for each network, number of processors and program the least and the median seconds, the least processor
@@ -35,12 +35,8 @@ LANGUAGES = {
            {"go inbox": ["./plan"], "go links": ["./plan", "-links"]}),
     "erlang": (["erl", "erlc"], ["erlc", "+inline", "-o", "{folder}", "alpha.erl"], {"erlang": ERLANG}),
     "java": (["java", "javac"], ["javac", "-d", "{folder}", "Alpha.java"],
-             {f"java {mode}": JAVA + [mode] for mode in ("actors", "links", "fifo", "sim")}),
-    "python": ([sys.executable], ["cp", "alpha.py", "{folder}"],
-               {"python fifo": [sys.executable, "alpha.py"],
-                "python random": [sys.executable, "alpha.py", "--random", "1"]}),
+             {f"java {mode}": JAVA + [mode] for mode in ("actors", "links")}),
 }
-SINGLE = {"plain", "java fifo", "java sim", "python fifo", "python random"}
 
 
 def build(folder, program):
@@ -88,7 +84,7 @@ class Runs:
 
 def words_on(name, words, processors):
     """The words that run a program on a number of processors, or None if it has one thread and there are more."""
-    if processors > 1 and name in SINGLE:
+    if processors > 1 and name == "plain":
         return None
     if name == "plan":
         words = words + ["--workers", str(processors)]

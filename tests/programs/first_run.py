@@ -348,11 +348,10 @@ class FirstRun(Case):
             for at, _, files in os.walk(os.path.join(top, name)):
                 found += [os.path.join(at, file) for file in files if is_called(os.path.join(at, file))]
         for script in sorted(found):
-            # Those of a package are called as its modules; a program of bench/peers needs nothing beside it.
             name = os.path.relpath(script, top).removesuffix(".py").removesuffix("/__main__")
-            words = [script] if name.startswith("bench/peers/python") else ["-m", name.replace("/", ".")]
-            done = subprocess.run([sys.executable, *words, "--help"], stdin=subprocess.DEVNULL, capture_output=True,
-                                  text=True, timeout=LIMIT, cwd=top, env=dict(os.environ, COLUMNS="120"))
+            done = subprocess.run([sys.executable, "-m", name.replace("/", "."), "--help"], stdin=subprocess.DEVNULL,
+                                  capture_output=True, text=True, timeout=LIMIT, cwd=top,
+                                  env=dict(os.environ, COLUMNS="120"))
             good = done.returncode == 0 and len(done.stdout) > 60 and not done.stderr
             self.note(f"{name} --help", good, done)
         self.note("no script has made anything", not os.path.exists(os.path.join(top, "crates")))

@@ -1,15 +1,12 @@
 import java.io.BufferedReader;
 import java.io.InputStreamReader;
 import java.math.BigInteger;
-import java.util.ArrayDeque;
 import java.util.ArrayList;
 import java.util.Arrays;
 import java.util.BitSet;
 import java.util.Comparator;
 import java.util.List;
-import java.util.PriorityQueue;
 import java.util.Queue;
-import java.util.Random;
 import java.util.TreeSet;
 import java.util.concurrent.ArrayBlockingQueue;
 import java.util.concurrent.ConcurrentLinkedQueue;
@@ -20,12 +17,10 @@ import java.util.concurrent.atomic.AtomicBoolean;
 /**
  * The colouring under synchroniser alpha, in Java 17: what {@code forestplan plan} writes.
  *
- * <pre>javac -d out Alpha.java && java -XX:+UseParallelGC -cp out Alpha MODE [SEED] &lt; network.col</pre>
+ * <pre>javac -d out Alpha.java && java -XX:+UseParallelGC -cp out Alpha MODE &lt; network.col</pre>
  *
- * MODE is {@code actors}: nodes are tasks of a work-stealing pool, with one concurrent inbox each; {@code links}: the
- * same with an ArrayBlockingQueue of capacity 4 for each directed link; {@code fifo}: one thread and events in an
- * ArrayDeque, so each delay is the same; {@code sim}: one thread and events with random delays in a priority queue,
- * first in, first out on each link, as simulators of networks have it.
+ * MODE is {@code actors}: nodes are tasks of a work-stealing pool, with one concurrent inbox each; or {@code links}:
+ * the same with an ArrayBlockingQueue of capacity 4 for each directed link.
  */
 public class Alpha {
     enum Kind { PAYLOAD, ACK, SAFE, CLOSE }
@@ -36,17 +31,14 @@ public class Alpha {
 
     record Parcel(int port, Wire wire) {}
 
-    interface Transport { void send(Node from, int port, Wire wire); }
-
     /** A node under synchroniser alpha. */
     static class Node {
-        final Transport net;
+        final Actors net;
         final Colouring program;
         final int degree, last;
         Node[] peers;
         int[] back;             // my port at the neighbour
-        Actors.Task task;       // of the actors
-        double[] latest;        // of the simulation: when the last wire on the link of a port arrives
+        Actors.Task task;
         int pulse, waiting, closed;
         boolean said;
         final int[] safes = new int[2];     // taken safes of an even and of an odd pulse
@@ -54,7 +46,7 @@ public class Alpha {
         final List<Item>[] boxes = new List[] {new ArrayList<Item>(), new ArrayList<Item>()};
         List<Item> spare = new ArrayList<>();
 
-        Node(Transport net, BigInteger id, int degree, int delta, int forests) {
+        Node(Actors net, BigInteger id, int degree, int delta, int forests) {
             this.net = net;
             this.degree = degree;
             last = 12 + 3 * forests * (delta + 1);
@@ -211,7 +203,7 @@ public class Alpha {
     }
 
     /** Nodes as tasks of a pool: a node is scheduled when something comes for it, and at most once at a time. */
-    static class Actors implements Transport {
+    static class Actors {
         final ForkJoinPool pool = new ForkJoinPool(
             Runtime.getRuntime().availableProcessors(), ForkJoinPool.defaultForkJoinWorkerThreadFactory, null, true);
         final boolean links;
@@ -264,7 +256,7 @@ public class Alpha {
             }
         }
 
-        public void send(Node from, int port, Wire wire) {
+        void send(Node from, int port, Wire wire) {
             Task to = from.peers[port].task;
             // At most two wires of a link are under way, so no link is ever full.
             if (links) to.in[from.back[port]].add(wire);
@@ -282,40 +274,6 @@ public class Alpha {
             for (Node node : nodes) node.task.wake();
             running.await();
             pool.shutdown();
-        }
-    }
-
-    /** One thread: events with random delays (each link keeps its order), or all delays alike. */
-    static class Simulation implements Transport {
-        record Event(double time, long number, Node to, int port, Wire wire) {}
-
-        final Queue<Event> events;
-        final Random random;
-        double now;
-        long number;
-
-        Simulation(Long seed) {
-            random = seed == null ? null : new Random(seed);
-            events = seed == null ? new ArrayDeque<>()
-                : new PriorityQueue<>(Comparator.comparingDouble(Event::time).thenComparingLong(Event::number));
-        }
-
-        public void send(Node from, int port, Wire wire) {
-            double at = 0;
-            if (random != null) {
-                if (from.latest == null) from.latest = new double[from.degree];
-                at = from.latest[port] = Math.max(from.latest[port], now + random.nextDouble());
-            }
-            events.add(new Event(at, number++, from.peers[port], from.back[port], wire));
-        }
-
-        void run(Node[] nodes) {
-            for (Node node : nodes) node.start();
-            for (Event e; (e = events.poll()) != null; ) {
-                now = e.time;
-                e.to.take(e.port, e.wire);
-                e.to.advance();
-            }
         }
     }
 
@@ -344,12 +302,7 @@ public class Alpha {
             delta = Math.max(delta, near.get(v).size());
             forests = Math.max(forests, higher);
         }
-        String mode = words[0];
-        Transport net = switch (mode) {
-            case "sim" -> new Simulation(words.length > 1 ? Long.parseLong(words[1]) : 1L);
-            case "fifo" -> new Simulation(null);
-            default -> new Actors(mode.equals("links"));
-        };
+        Actors net = new Actors(words[0].equals("links"));
         Node[] nodes = new Node[n];
         for (int v = 0; v < n; v++) nodes[v] = new Node(net, ids[v], near.get(v).size(), delta, forests);
         for (int v = 0; v < n; v++) {
@@ -357,8 +310,7 @@ public class Alpha {
             int self = v;
             nodes[v].back = near.get(v).stream().mapToInt(w -> near.get(w).headSet(self).size()).toArray();
         }
-        if (net instanceof Simulation sim) sim.run(nodes);
-        else ((Actors) net).run(nodes);
+        net.run(nodes);
         StringBuilder plan = new StringBuilder("plan\n");
         for (int v = 0; v < n; v++)
             plan.append(v + 1).append(' ').append(nodes[v].program.merged + 1).append('\n');
