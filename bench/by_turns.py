@@ -1,15 +1,20 @@
 """Runs forestplan and another program by turns on the same networks, and measures time and peak memory.
 
-bench.plain.run, bench.plan.run and bench.transcript.run print what it finds. The other program of the first two is in
-baseline/, with array queues as links and a deque of nodes for each worker, which is what forestplan has."""
+bench.compare, bench.plain.run, bench.plan.run, bench.transcript.run and bench.peers.run print what it finds. The other
+program of bench.plain.run and bench.plan.run is in baseline/, with array queues as links and a deque of nodes for each
+worker, which is what forestplan has."""
 import argparse
+import hashlib
 import os
+import signal
 import statistics
 import subprocess
 import sys
+import threading
+import time
+from typing import NamedTuple
 
 from bench import graphs
-from bench.compare import once
 from lab.networks import kinds
 
 BENCH = os.path.dirname(os.path.abspath(__file__))
@@ -30,16 +35,29 @@ def networks():
     }
 
 
+class Run(NamedTuple):
+    """Seconds, processor seconds, peak memory in MiB, and what was written (as a sum) with the status; None for these
+    after the limit."""
+    seconds: float
+    used: float
+    memory: float
+    answer: tuple | None
+
+
 class Runs:
-    """The runs of one program on one network with one number of workers and one capacity."""
+    """The runs of one program with the same words on one network."""
 
     def __init__(self):
-        self.seconds, self.memory, self.answers = [], 0.0, set()
+        self.seconds, self.used, self.memory, self.answers = [], [], 0.0, set()
 
-    def add(self, seconds, memory, answer):
-        self.seconds.append(seconds)
-        self.memory = max(self.memory, memory)
-        self.answers.add(answer)
+    def add(self, run):
+        self.seconds.append(run.seconds)
+        self.used.append(run.used)
+        self.memory = max(self.memory, run.memory)
+        self.answers.add(run.answer)
+
+    def is_late(self):
+        return None in self.answers
 
     def least(self):
         return min(self.seconds) * 1e3
@@ -55,15 +73,36 @@ def build_peak(folder):
     return peak
 
 
-def run_once(peak, program, words, path, limit, output=subprocess.PIPE):
-    """Seconds, peak memory in MiB, and what was written with the status, or None for these after the limit. With a
-    file as `output` the bytes go there, and only the status counts."""
-    counted, (binary, environment) = peak + ".count", program
-    seconds, _, answer = once(peak, [counted, binary] + words, path, environment, limit, output)
-    if answer is None:
-        return seconds, 0.0, None
+def once(words, path, limit, environment=None, output=subprocess.PIPE, folder=None):
+    """A run of a program with its words on a network, in a folder. With a file as `output` the bytes go there, and the
+    sum is of no bytes."""
+    begun = time.perf_counter()
+    with open(path, "rb") as text:
+        child = subprocess.Popen(words, stdin=text, stdout=output, stderr=subprocess.DEVNULL, env=environment,
+                                 cwd=folder)
+    timer = threading.Timer(limit, child.kill)
+    timer.start()
+    total = hashlib.sha256()
+    if child.stdout:
+        with child.stdout:
+            for part in iter(lambda: child.stdout.read(1 << 16), b""):
+                total.update(part)
+    _, status, use = os.wait4(child.pid, 0)
+    timer.cancel()
+    child.returncode = os.waitstatus_to_exitcode(status)
+    seconds = time.perf_counter() - begun
+    answer = None if child.returncode == -signal.SIGKILL else (total.hexdigest(), child.returncode)
+    return Run(seconds, use.ru_utime + use.ru_stime, use.ru_maxrss / 1024, answer)
+
+
+def run_once(peak, words, path, limit, **more):
+    """The same, with the memory of the program itself."""
+    counted = peak + ".count"
+    run = once([peak, counted, *words], path, limit, **more)
+    if run.answer is None:
+        return run._replace(memory=0.0)
     with open(counted, encoding="ascii") as file:
-        return seconds, int(file.read()) / 1024, answer
+        return run._replace(memory=int(file.read()) / 1024)
 
 
 def timed(programs, turns, run):
@@ -71,8 +110,8 @@ def timed(programs, turns, run):
     runs = [Runs() for _ in programs]
     for _ in range(turns):
         for program, own in zip(programs, runs):
-            if None not in own.answers:
-                own.add(*run(program))
+            if not own.is_late():
+                own.add(run(program))
     return runs
 
 
@@ -83,7 +122,7 @@ def agree(runs):
 
 
 def mark(runs):
-    return "yes" if agree(runs) else "too long" if any(None in own.answers for own in runs) else "NO"
+    return "yes" if agree(runs) else "too long" if any(own.is_late() for own in runs) else "NO"
 
 
 def times(runs):

@@ -15,15 +15,12 @@ Ends with status 1 if a program wrote something else, failed, or took longer tha
 import argparse
 import os
 import shutil
-import statistics
 import subprocess
 import sys
 import tempfile
-import threading
-import time
 
 from bench import graphs
-from bench.by_turns import PROGRAM, build_peak, networks, numbers
+from bench.by_turns import PROGRAM, agree, build_peak, networks, numbers, once, run_once, timed
 
 HERE = os.path.dirname(os.path.abspath(__file__))
 
@@ -56,32 +53,6 @@ def build(folder, program):
     return built, missing
 
 
-class Runs:
-    """The runs of one program on one network with a number of processors."""
-
-    def __init__(self):
-        self.seconds, self.used, self.memory, self.is_right = [], [], 0.0, True
-
-    def run(self, peak, folder, words, path, wanted, limit):
-        counted, begun = peak + ".count", time.perf_counter()
-        with open(path, "rb") as text:
-            child = subprocess.Popen([peak, counted] + words, cwd=folder, stdin=text, stdout=subprocess.PIPE,
-                                     stderr=subprocess.DEVNULL, start_new_session=True)
-        timer = threading.Timer(limit, lambda: os.killpg(child.pid, 9))
-        timer.start()
-        with child.stdout:
-            written = child.stdout.read()
-        _, status, use = os.wait4(child.pid, 0)
-        timer.cancel()
-        child.returncode = os.waitstatus_to_exitcode(status)
-        self.seconds.append(time.perf_counter() - begun)
-        self.used.append(use.ru_utime + use.ru_stime)
-        self.is_right = self.is_right and child.returncode == 0 and written == wanted
-        if child.returncode == 0:
-            with open(counted, encoding="ascii") as file:
-                self.memory = max(self.memory, int(file.read()) / 1024)
-
-
 def words_on(name, words, processors):
     """The words that run a program on a number of processors, or None if it has one thread and there are more."""
     if processors > 1 and name == "plain":
@@ -92,22 +63,17 @@ def words_on(name, words, processors):
 
 
 def measured(given, peak, built, path, processors):
-    """The runs of all programs, by turns."""
-    with open(path, "rb") as text:
-        wanted = subprocess.run([given.program, "plain"], stdin=text, stdout=subprocess.PIPE, check=True).stdout
+    """The runs of all programs by name, by turns."""
     pinned = {name: words_on(name, words, processors) for name, (_, words) in built.items()}
-    runs = {name: Runs() for name, words in pinned.items() if words}
-    for _ in range(given.turns):
-        for name, own in runs.items():
-            if own.is_right:
-                own.run(peak, built[name][0], pinned[name], path, wanted, given.limit)
-    return runs
+    names = [name for name, words in pinned.items() if words]
+    return dict(zip(names, timed(names, given.turns, lambda name: run_once(
+        peak, pinned[name], path, given.limit, folder=built[name][0]))))
 
 
-def row(name, processors, program, own, plan):
-    return (f"{name:10s} {processors:10d} {program:13s} {min(own.seconds):8.3f} {statistics.median(own.seconds):8.3f}"
+def row(name, processors, program, own, plan, is_right):
+    return (f"{name:10s} {processors:10d} {program:13s} {own.least() / 1e3:8.3f} {own.median() / 1e3:8.3f}"
             f" {min(own.used):8.3f} {min(own.used) / (min(plan.used) or 1):6.2f} {own.memory:9.1f}"
-            f"  {'yes' if own.is_right else 'NO'}")
+            f"  {'yes' if is_right else 'NO'}")
 
 
 def main():
@@ -134,11 +100,13 @@ def main():
               f" {'peak MiB':>9s}  same bytes")
         for name in given.networks:
             path = graphs.write(name, *networks()[name], folder)
+            wanted = once([given.program, "plain"], path, given.limit).answer
             for processors in sorted(given.processors):
                 runs = measured(given, peak, built, path, processors)
                 for program, own in runs.items():
-                    good = good and own.is_right
-                    print(row(name, processors, program, own, runs["plan"]), flush=True)
+                    is_right = own.answers == {wanted} and agree([own])
+                    good = good and is_right
+                    print(row(name, processors, program, own, runs["plan"], is_right), flush=True)
     return 0 if good else 1
 
 

@@ -13,8 +13,7 @@ import sys
 import tempfile
 
 from bench import graphs
-from bench.by_turns import BASELINE, PROGRAM, agree, mark, programs_of, timed, times
-from bench.compare import once
+from bench.by_turns import BASELINE, PROGRAM, agree, mark, once, programs_of, timed, times
 from lab.networks import kinds
 
 LIMIT = 60.0
@@ -57,7 +56,7 @@ def main():
     with tempfile.TemporaryDirectory() as folder:
         for name, (nodes, edges) in networks().items():
             path = graphs.write(name, nodes, edges, folder)
-            runs = timed(programs, given.turns, lambda program: once(program[0], ["plain"], path, program[1], LIMIT))
+            runs = timed(programs, given.turns, lambda program: once([program[0], "plain"], path, LIMIT, program[1]))
             print(f"{name:11s} {nodes:5d} {len(edges):6d} {last_pulse(nodes, edges):6d} {times(runs)}  {mark(runs)}",
                   flush=True)
             good = good and agree(runs)

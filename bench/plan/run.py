@@ -48,7 +48,8 @@ def row(name, workers, capacity, runs, alone):
 def pair_timed(peak, programs, path, pair, given):
     """The runs of both programs with one number of workers and one capacity."""
     words = ["plan", "--workers", str(pair[0]), "--capacity", str(pair[1])]
-    return timed(programs, given.turns, lambda program: run_once(peak, program, words, path, given.limit))
+    return timed(programs, given.turns, lambda program: run_once(peak, [program[0], *words], path, given.limit,
+                                                                 environment=program[1]))
 
 
 def main():

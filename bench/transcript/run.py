@@ -59,20 +59,24 @@ class Case:
         self.entries, self.verdicts = 0, {}
 
     def run(self, program):
-        """Seconds, peak memory, and the number of entries, the payloads and the status."""
-        transcript, words = self.path + ".transcript", ["transcript"] + self.options
+        """A run of `transcript`, whose answer is the number of entries, the payloads and the status."""
+        transcript = self.path + ".transcript"
         with open(transcript, "wb") as output:
-            seconds, memory, answer = run_once(self.peak, program, words, self.path, self.limit, output)
-        if answer is None:
-            return seconds, memory, None
+            run = self.run_of("transcript", program, output)
+        if run.answer is None:
+            return run
         self.entries = entries(transcript)
         if self.entries <= SMALL and program[0] not in self.verdicts:
             self.verdicts[program[0]] = is_whole_run(self.path, transcript)
-        return seconds, memory, (self.entries, payloads(transcript), answer[-1])
+        return run._replace(answer=(self.entries, payloads(transcript), run.answer[-1]))
+
+    def run_of(self, command, program, output=subprocess.PIPE):
+        binary, environment = program
+        return run_once(self.peak, [binary, command, *self.options], self.path, self.limit, environment=environment,
+                        output=output)
 
     def bytes_an_entry(self, program, memory):
-        plan = run_once(self.peak, program, ["plan"] + self.options, self.path, self.limit)[1]
-        return (memory - plan) * 2**20 / max(self.entries, 1)
+        return (memory - self.run_of("plan", program).memory) * 2**20 / max(self.entries, 1)
 
     def row(self, name, programs, turns):
         """Prints a row, and returns whether all is well."""
