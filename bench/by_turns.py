@@ -148,9 +148,8 @@ def words_of_command(names, workers):
 
 
 def programs_of(program, other):
-    """Both programs with their environments, the baseline's with its links and its pool; ends if one isn't there."""
+    """Both programs with their environments, the baseline's with its pool; ends if one isn't there."""
     for path in (program, other):
         if not os.path.exists(path):
             sys.exit(f"{path} isn't there: build it first")
-    deques = {"BASE_LINK": "array", "BASE_POOL": "deque"}
-    return [(program, dict(os.environ)), (other, {**os.environ, **deques})]
+    return [(program, dict(os.environ)), (other, {**os.environ, "BASE_POOL": "deque"})]

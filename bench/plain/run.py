@@ -1,4 +1,4 @@
-"""Times `plain` on networks of every kind beside the Rust program of baseline/ with its sparse engine, by turns.
+"""Times `plain` on networks of every kind beside the Rust program of baseline/, by turns.
 
   python3 -S -m bench.plain.run [--turns N] [PROGRAM [BASELINE]]
 
