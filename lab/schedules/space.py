@@ -34,9 +34,8 @@ neighbours are apart and how much a link holds don't.
     space.first_fault()   the key of a fault that the fewest events lead to
     space.path(s)         a shortest list of events from the start to state s; space.path_to_fault() one that ends with
                           the event of the first fault
-    space.lines(events, eager)
-                          the events as lines for `forestplay events`, with puts: as soon as they can be made (eager),
-                          so that the state is s, or only those that are needed
+    space.with_puts(events)
+                          the events of a list, and between them the puts that they need
     space.schedules       how many lists of events lead from the start to an end; None if events are possible in
                           different numbers, which they are not if no rule is left out
     space.farthest        the most pulses that two neighbours are apart in any state
@@ -44,7 +43,7 @@ neighbours are apart and how much a link holds don't.
 """
 import time
 from array import array
-from collections import namedtuple
+from collections import Counter, namedtuple
 
 from lab.definitions.nodes import Colouring, Refused, wire_words
 from lab.definitions.own_program import OwnNode, what_is_wrong
@@ -54,6 +53,9 @@ PHASES = ["greet", "orient", "seed"] + ["step"] * 4 + ["shift", "drop"] * 3
 REFUSED = 2 ** 32 - 1
 
 Node = namedtuple("Node", "pulse stage waits wrong colour phase result")
+# An event that is possible: its number, the node's value after it or None, the link that it takes from or None, what
+# that holds then, the wires that go on links by slot, and what goes wrong.
+Move = namedtuple("Move", "event value link rest gone fault")
 
 
 class Event(namedtuple("Event", "kind v port w wire place")):
@@ -78,6 +80,7 @@ class Space:
         self.vertices, self.ports, self.last = sorted(net.neighbours), self.rounds.ports, self.rounds.last
         self.links = [(v, w) for v in self.vertices for w in self.ports[v]]
         self.slot = {link: k for k, link in enumerate(self.links, len(self.vertices))}
+        self.arriving = [[self.slot[w, v] for w in self.ports[v]] for v in self.vertices]
         self.locals = [[] for _ in self.vertices]
         self.known = [{} for _ in self.vertices]
         self.made = {}
@@ -156,12 +159,11 @@ class Space:
         return *self.after(a, node), None
 
     def moves_of(self, a, i, arriving):
-        """The events possible at a node with this value and these contents of the links to it: (event, value after or
-        None, link that it takes from or None, what that holds then, wires by slot, fault)."""
+        """The moves of a node with this value and these contents of the links to it."""
         v, node, moves = self.vertices[a], self.locals[a][i], []
         if node.can_pulse():
             j, gone, fault = self.pulse(a, i)
-            moves.append((self.number_of_event("pulse", v, None, None, None, 0), j, None, 0, gone, fault))
+            moves.append(Move(self.number_of_event("pulse", v, None, None, None, 0), j, None, 0, gone, fault))
         for p, (w, c) in enumerate(zip(self.ports[v], arriving)):
             if node.ports[p].out:
                 moves.append(self.put_move(a, i, p))
@@ -172,14 +174,14 @@ class Space:
                     self.made[key] = self.take(a, i, p, wires[place])
                 j, gone, fault = self.made[key]
                 e = self.number_of_event("take", v, p, w, wire_words(wires[place]), place)
-                moves.append((e, j, self.slot[w, v], self.without_wire(c, place), gone, fault))
+                moves.append(Move(e, j, self.slot[w, v], self.without_wire(c, place), gone, fault))
         return moves
 
     def put_move(self, a, i, p):
         v, node = self.vertices[a], self.locals[a][i].copied()
         w, wire = self.ports[v][p], node.ports[p].out.pop(0)
         e = self.number_of_event("put", v, p, w, wire_words(wire), 0)
-        return e, self.local(a, node), None, 0, ((self.slot[v, w], (wire,)),), None
+        return Move(e, self.local(a, node), None, 0, ((self.slot[v, w], (wire,)),), None)
 
     def cut(self, moves):
         """With `reduce`, the take of a safe or a close that comes next on its link, alone, if the node has one.
@@ -190,66 +192,75 @@ class Space:
         comes first, by exchanging neighbours that don't depend on each other, and what each pulse finds and whatever
         is refused stays as it is. Without `safes` or `fifo` that isn't so. (A take that is refused isn't cut to.)"""
         for move in moves:
-            event = self.events[move[0]]
-            if event.kind == "take" and event.wire.split()[0] in ("safe", "close") and move[1] is not None:
+            event = self.events[move.event]
+            if event.kind == "take" and event.wire.split()[0] in ("safe", "close") and move.value is not None:
                 return Alone([move])
         return moves
 
     # The search.
 
     def start(self):
-        state = [0] * (len(self.vertices) + len(self.links))
+        """The first state; `first_puts` are the wires that are put by then."""
+        state, self.first_puts = [0] * (len(self.vertices) + len(self.links)), []
         for a, v in enumerate(self.vertices):
             state[a], gone = self.after(a, RuledNode(self.net, v, self.without, self.program))
-            for slot, wires in gone:
-                state[slot] = self.with_wires(0, wires)
+            self.first_puts += gone
+        return self.with_all(state, self.first_puts)
+
+    def with_all(self, state, gone):
+        """The state with these wires on its links."""
+        for slot, wires in gone:
+            state[slot] = self.with_wires(state[slot], wires)
         return tuple(state)
 
     def search(self, progress):
         start = self.start()
         self.states, self.number = [start], {start: 0}
         self.depth, self.from_state, self.from_event = array("I", [0]), array("I", [0]), array("I", [0])
-        arrive = [tuple(self.slot[w, v] for w in self.ports[v]) for v in self.vertices]
         said, s = time.monotonic(), 0
         while s < len(self.states):
             if self.faults and not self.beyond and self.depth[s] > self.depth[next(iter(self.faults))[0]]:
                 break
-            self.expand(s, arrive)
+            self.expand(s)
             s += 1
             if progress and s % 1024 == 0 and time.monotonic() - said > 0.5:
                 said = time.monotonic()
                 progress(len(self.states), self.depth[s - 1])
         self.expanded = s
 
-    def expand(self, s, arrive):
+    def moves_in(self, state, a):
+        """The moves of a node in a state."""
+        key = (state[a], *[state[k] for k in self.arriving[a]])
+        if key not in self.moves[a]:
+            moves = self.moves_of(a, key[0], key[1:])
+            self.moves[a][key] = self.cut(moves) if self.reduce else moves
+        return self.moves[a][key]
+
+    def moved(self, state, a, move):
+        """The state after a move of a node."""
+        after = list(state)
+        after[a] = move.value
+        if move.link is not None:
+            after[move.link] = move.rest
+        return self.with_all(after, move.gone)
+
+    def expand(self, s):
         """Notes the steps of a state, and the new states that they lead to."""
         state, some, possible = self.states[s], False, []
-        for a, slots in enumerate(arrive):
-            key = (state[a], *[state[k] for k in slots])
-            moves = self.moves[a].get(key)
-            if moves is None:
-                moves = self.moves_of(a, key[0], key[1:])
-                moves = self.moves[a][key] = self.cut(moves) if self.reduce else moves
+        for a in range(len(self.vertices)):
+            moves = self.moves_in(state, a)
             if isinstance(moves, Alone):
                 possible = [(a, moves)]
                 break
             possible.append((a, moves))
         for a, moves in possible:
-            for e, j, link, rest, gone, fault in moves:
+            for move in moves:
                 some = True
-                if fault:
-                    self.faults[s, len(self.target) - self.first[s]] = fault
-                self.event_of.append(e)
-                if j is None:
-                    self.target.append(REFUSED)
-                    continue
-                after = list(state)
-                after[a] = j
-                if link is not None:
-                    after[link] = rest
-                for k, wires in gone:
-                    after[k] = self.with_wires(after[k], wires)
-                self.target.append(self.reached(tuple(after), s, e))
+                if move.fault:
+                    self.faults[s, len(self.target) - self.first[s]] = move.fault
+                self.event_of.append(move.event)
+                is_refused = move.value is None
+                self.target.append(REFUSED if is_refused else self.reached(self.moved(state, a, move), s, move.event))
         self.first.append(len(self.target))
         if not some:
             self.ends.append(s)
@@ -374,67 +385,25 @@ class Space:
         s, e = self.first_fault()
         return self.path(s) + ([] if e is None else [self.events[self.event_of[self.first[s] + e]]])
 
-    def lines(self, events, eager=False):
-        return [str(event) for event in self.with_puts(events, eager)]
-
-    def with_puts(self, events, eager=False):
-        """The events with the puts between them: each one as soon as it can be made, or only as a take needs its
-        wire."""
+    def with_puts(self, events):
+        """The events with the puts between them, each only as a take needs its wire."""
         if self.puts:
             return list(events)
-        sent, put, held, state, listed = {}, {}, {}, list(self.start_unput()), []
-        for link in self.links:
-            sent[link], put[link], held[link] = [], 0, []
-
-        def emit(a):
-            node = state[a]
-            for w, port in zip(self.ports[node.v], node.ports):
-                for wire in port.out:
-                    held[node.v, w].append(len(sent[node.v, w]))
-                    sent[node.v, w].append(wire)
-                port.out = []
-
-        def put_until(link, count):
-            while put[link] < count:
-                v, w = link
-                listed.append(Event("put", v, self.ports[v].index(w), w, wire_words(sent[link][put[link]]), 0))
-                put[link] += 1
-
-        for a in range(len(self.vertices)):
-            emit(a)
+        sent, held, put = {link: [] for link in self.links}, {link: [] for link in self.links}, Counter()
+        state, gone, listed = self.states[0], self.first_puts, []
         for event in events:
-            if eager:
-                for link in self.links:
-                    put_until(link, len(sent[link]))
-            a = self.vertices.index(event.v)
+            for slot, wires in gone:
+                link = self.links[slot - len(self.vertices)]
+                held[link] += range(len(sent[link]), len(sent[link]) + len(wires))
+                sent[link] += wires
             if event.kind == "take":
-                link = (event.w, event.v)
+                v, w = link = event.w, event.v
                 number = held[link].pop(event.place)
-                put_until(link, number + 1)
-                self.take_or_refuse(state[a], event.port, sent[link][number])
-            elif event.kind == "pulse":
-                self.pulse_or_refuse(state[a])
+                listed += [Event("put", v, self.ports[v].index(w), w, wire_words(wire), 0)
+                           for wire in sent[link][put[link]:number + 1]]
+                put[link] = max(put[link], number + 1)
             listed.append(event)
-            emit(a)
-        if eager:
-            for link in self.links:
-                put_until(link, len(sent[link]))
+            a = self.vertices.index(event.v)
+            move = next(move for move in self.moves_in(state, a) if self.events[move.event] == event)
+            state, gone = self.moved(state, a, move), move.gone
         return listed
-
-    def start_unput(self):
-        for v in self.vertices:
-            node = RuledNode(self.net, v, self.without, self.program)
-            node.v = v
-            yield node
-
-    @staticmethod
-    def take_or_refuse(node, port, wire):
-        try:
-            node.on_wire(port, wire)
-        except Refused:
-            pass
-
-    @staticmethod
-    def pulse_or_refuse(node):
-        if not program_refuses(node.program, node.pulse_number + 1, [port.present for port in node.ports]):
-            node.pulse()

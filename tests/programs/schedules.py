@@ -66,11 +66,14 @@ def net_key(state):
 
 
 def put_all(state):
+    """Makes all puts that are possible, and returns their lines."""
+    lines = []
     for v, node in state.nodes.items():
         for port, other in enumerate(node.ports):
             while other.out:
                 state.step("Put", v, port)
-    return state
+                lines.append(f"put {v} {port}")
+    return lines
 
 
 def key_in_table(space, s):
@@ -288,12 +291,12 @@ class Schedules(Case):
         spaces = {name: Space(net_of(name), limit=MOST) for name in ("two", "path", "triangle")}
         for name in ["two"] * 30 + ["path"] * 30 + ["triangle"] * 40:
             space = spaces[name]
-            state, s, events, taken = put_all(NetState(space.net)), 0, [], dict.fromkeys(space.links, 0)
-            length = source.randrange(0, 400)
+            state, s, events, taken = NetState(space.net), 0, [], dict.fromkeys(space.links, 0)
+            length, lines = source.randrange(0, 400), put_all(state)
             while space.steps(s) and len(events) < length:
                 event, s = source.choice(space.steps(s))
                 state.step(event.kind.title(), event.v, event.port)
-                put_all(state)
+                lines += [str(event), *put_all(state)]
                 events.append(event)
                 if event.kind == "take":
                     taken[event.w, event.v] += 1
@@ -302,11 +305,12 @@ class Schedules(Case):
                 if (net_key(state) != key_in_table(space, s) or seen != {v: shown(state, v) for v in space.vertices}
                         or may != {str(event) for event, _ in space.steps(s)}):
                     wrong.append((name, [str(event) for event in events]))
-            kinds = Counter(line.split()[0] for line in space.lines(events))
+            needed = space.with_puts(events)
+            kinds = Counter(event.kind for event in needed)
             if kinds["put"] != kinds["take"]:
-                needless.append((name, space.lines(events)))
-            if played(PLAY, text_of(name), space.lines(events, eager=True)) != (0, state_text(space, s, taken), b""):
-                differ.append((name, space.lines(events, eager=True)))
+                needless.append((name, needed))
+            if played(PLAY, text_of(name), lines) != (0, state_text(space, s, taken), b""):
+                differ.append((name, lines))
         self.note("a hundred random walks, state by state", not wrong, wrong[:1])
         self.note("a hundred random walks by forestplay events", not differ, differ[:1])
         self.note("a put only as a take needs it", not needless, needless[:1])

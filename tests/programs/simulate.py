@@ -12,6 +12,7 @@ from lab.definitions.nodes import NetState, wire_words
 from lab.schedules.policies import POLICIES
 from lab.schedules.simulate import HABITS, played
 from lab.schedules.space import Space
+from lab.schedules.stepwise import Stepwise
 from lab.transcripts.reading import read
 from lab.transcripts.stamps import check_stamped
 from tests.cases import Case, example, forestlab, run_program
@@ -184,9 +185,9 @@ class Lists(Case):
     def test_lists_of_the_page(self):
         """A list to the end as the adversary's page writes it, with puts as soon as they can be, is a whole run."""
         for name, net in (("two", network_of(example("two"))), ("path", network_of(example("path")))):
-            space = Space(net)
-            lines = space.lines(space.path(space.ends[0]), True)
-            events = "".join(f"{line}\n" for line in map(str, lines)).encode()
+            space, run = Space(net), Stepwise(net)
+            run.follow(f"{event.v}-{event.w}" if event.w else str(event.v) for event in space.path(space.ends[0]))
+            events = "".join(f"{line}\n" for line in run.lines).encode()
             status, text, fault = simulate(name, "--events", "-", data=events)
             self.note(f"{name}: the list is a run", (status, fault) == (0, b""), fault)
             head, rows = read(text)
