@@ -45,6 +45,15 @@ class RuledNode(AlphaNode):
         else:
             super().on_wire(at, wire)
 
+    def fault_of_pulse(self, v, rounds):
+        """What is wrong with its next pulse, or None; and whether its program refuses that pulse."""
+        pulse, inbox = self.pulse_number + 1, [port.present for port in self.ports]
+        fault = rounds.fault(v, pulse, inbox)
+        if (fault or self.wrong) and program_refuses(self.program, pulse, inbox):
+            return fault or f"the program of node {v} refuses the inbox of pulse {pulse}", True
+        self.wrong = self.wrong or fault is not None
+        return fault, False
+
     def take_payload(self, port, wire):
         """Without safes a payload may come a pulse too late, and is thrown away, or too early for its place."""
         ahead = wire[1] - self.pulse_number

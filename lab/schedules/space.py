@@ -47,7 +47,7 @@ from collections import Counter, namedtuple
 
 from lab.definitions.nodes import Colouring, Refused, wire_words
 from lab.definitions.own_program import OwnNode, what_is_wrong
-from lab.schedules.ruled_node import Rounds, RuledNode, program_refuses
+from lab.schedules.ruled_node import Rounds, RuledNode
 
 PHASES = ["greet", "orient", "seed"] + ["step"] * 4 + ["shift", "drop"] * 3
 REFUSED = 2 ** 32 - 1
@@ -140,12 +140,10 @@ class Space:
 
     def pulse(self, a, i):
         """(value after or None, wires, fault) of a pulse of the node with this value."""
-        v, node = self.vertices[a], self.locals[a][i].copied()
-        inbox = [port.present for port in node.ports]
-        fault = self.rounds.fault(v, node.pulse_number + 1, inbox)
-        if (fault or node.wrong) and program_refuses(node.program, node.pulse_number + 1, inbox):
-            return None, (), fault or f"the program of node {v} refuses the inbox of pulse {node.pulse_number + 1}"
-        node.wrong = node.wrong or fault is not None
+        node = self.locals[a][i].copied()
+        fault, is_refused = node.fault_of_pulse(self.vertices[a], self.rounds)
+        if is_refused:
+            return None, (), fault
         node.pulse()
         return *self.after(a, node), fault
 

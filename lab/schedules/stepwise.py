@@ -8,7 +8,7 @@ import re
 
 from lab.definitions.nodes import Colouring, Refused, wire_words
 from lab.schedules.policies import Step
-from lab.schedules.ruled_node import Rounds, RuledNode, program_refuses
+from lab.schedules.ruled_node import Rounds, RuledNode
 from lab.schedules.simulate import Player, events_of
 from lab.wrong import Wrong, wrong_line
 
@@ -89,7 +89,8 @@ class Stepwise(Player):
             self.said = f"node {v} takes {wire_words(wires[0])} from {w}"
         else:
             self.said = f"node {v} makes pulse {node.pulse_number + 1}"
-            fault = self.fault_of(v, node)
+            if self.rounds:
+                fault, self.is_over = node.fault_of_pulse(v, self.rounds)
         self.made.append(word)
         self.lines.append(f"take {v} {self.state.port_to[v, w]}" + f" {place}" * bool(place) if w else f"pulse {v}")
         self.fault = self.fault or fault
@@ -99,18 +100,6 @@ class Stepwise(Player):
                 self.put_all(v)
             except Refused:
                 self.is_over, self.fault = True, self.fault or f"node {v} can't take what came from {w}"
-
-    def fault_of(self, v, node):
-        """What is wrong with a pulse, if a rule is left out; its program may refuse it."""
-        if not self.rounds:
-            return None
-        inbox = [port.present for port in node.ports]
-        fault = self.rounds.fault(v, node.pulse_number + 1, inbox)
-        if (fault or node.wrong) and program_refuses(node.program, node.pulse_number + 1, inbox):
-            self.is_over = True
-            return fault or f"the program of node {v} refuses the inbox of pulse {node.pulse_number + 1}"
-        node.wrong = node.wrong or fault is not None
-        return fault
 
     def free(self, held):
         """The steps that can come next and that nothing holds: of a node that waits its pulse is held, and no more."""
