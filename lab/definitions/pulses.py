@@ -3,7 +3,7 @@ transcript have to be. What they are is worked out by lab/definitions/rounds.py.
 need not be their numbers."""
 from lab.definitions.colours import Network
 from lab.definitions.nodes import last_pulse
-from lab.definitions.rounds import FIRST_MERGE, Facts, head_of, merge_step, phase_words
+from lab.definitions.rounds import FIRST_MERGE, Facts, merge_step, phase_words, rounds_lines
 from lab.wrong import Wrong
 
 SEED, LAST_COLOUR = 2, FIRST_MERGE - 1
@@ -14,16 +14,15 @@ class Pulse:
     """What all nodes did in one pulse: `colours[v, f]` after it, `chosen[v]` where v chose a colour in it, `puts` as
     (v, w, word, number); `step` is (forest, three-colour, old colour) in a merge pulse."""
 
-    def __init__(self, facts, number, choosing):
+    def __init__(self, facts, number):
         net = facts.net
         self.number, self.phase = number, phase_words(net, number).split()[0]
         self.step = merge_step(net, number) if number > LAST_COLOUR else None
         coloured = enumerate(facts.colours) if SEED <= number <= LAST_COLOUR else ()
         lists = [(f, of_pulse[number]) for f, of_pulse in coloured]
         self.colours = {(v, f): colour[v] for v in net.neighbours for f, colour in lists}
-        self.chosen = {v: facts.choice(number, v) for v in choosing}
-        senders = choosing if self.step else net.neighbours
-        self.puts = [(v, *put) for v in senders for put in facts.sent(number, v)]
+        self.chosen = {v: facts.choice(number, v) for v in facts.choosing.get(number, ())}
+        self.puts = [(v, *put) for v in facts.at_work(number) for put in facts.sent(number, v)]
 
 
 class Rounds:
@@ -34,32 +33,17 @@ class Rounds:
     def __init__(self, network, identifiers):
         bars = {v: [channel - 1 for channel in network.barred(v)] for v in network.vertices}
         net = Network({v: identifiers[v] for v in network.vertices}, network.edges, bars)
-        self.network, self.identifiers, self.net, facts = network, identifiers, net, Facts(net)
+        self.network, self.identifiers, self.net, facts = network, identifiers, net, Facts.of(net)
         self.parents = {(v, f): w for v, ws in net.higher.items() for f, w in enumerate(ws)}
         self.forest_of = {pair: f for (v, f), w in self.parents.items() for pair in ((v, w), (w, v))}
         self.forests, self.width, self.last = net.forest_count, net.span + 1, last_pulse(net)
         self.allowed = {v: set(range(self.width)) - net.barred[v] for v in network.vertices}
         self.merged, self.first = facts.merged, facts.merged[0]
-        choosing = {}
-        for f in range(self.forests):
-            for v in network.vertices:
-                choosing.setdefault(facts.turn(f, v), []).append(v)
-        self.pulses = [Pulse(facts, number, choosing.get(number, ())) for number in range(self.last + 1)]
+        self.pulses = [Pulse(facts, number) for number in range(self.last + 1)]
 
     def lines(self):
         """The text of rounds, line by line."""
-        yield head_of(self.net)[0]
-        for pulse in self.pulses:
-            yield f"pulse {pulse.number} {phase_words(self.net, pulse.number)}"
-            puts = {v: [] for v in self.network.vertices}
-            for v, w, word, number in pulse.puts:
-                puts[v].append(f"{v} put {w} payload {pulse.number} {word} {number}")
-            for v in self.network.vertices:
-                if pulse.colours:
-                    yield from (f"{v} colour {f} {pulse.colours[v, f]}" for f in range(self.forests))
-                if v in pulse.chosen:
-                    yield f"{v} chose {pulse.chosen[v]}"
-                yield from puts[v]
+        return rounds_lines(self.net)
 
     def asked_forests(self, asked):
         """The forests A to B that are asked for, if the network has them; None if none are asked for."""

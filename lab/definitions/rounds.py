@@ -1,12 +1,11 @@
 """The text of `forestplay rounds` by the definitions (docs/claim/DEFINITIONS.md, docs/claim/FORMATS.md), slow and
 plain: from lists over the vertices, as lab/definitions/colours.py has them, and without a node that keeps anything.
-`made_text` is the same text from the nodes of lab/definitions/nodes.py.
 
 A pulse p is 0 to R, a vertex v from 1, a forest f and a colour from 0."""
 from collections.abc import Iterator
 
 from lab.definitions.colours import Colours, Network, bit, drop, first_colours, merge, shift, text_of
-from lab.definitions.nodes import Colouring, last_pulse, ports_of, synchronous_pulses
+from lab.definitions.nodes import last_pulse
 
 FIRST_MERGE = 13
 WORK_NAMES = ["step"] * 4 + ["shift", "drop"] * 3
@@ -14,15 +13,22 @@ WORK_NAMES = ["step"] * 4 + ["shift", "drop"] * 3
 
 def rounds_text(net: Network) -> bytes:
     """The text of a network; its identifiers may be any numbers that differ."""
-    return text_of(head_of(net) + [line for p in range(last_pulse(net) + 1) for line in pulse_lines(net, p)])
+    return text_of(rounds_lines(net))
 
 
-def head_of(net: Network) -> list[str]:
+def rounds_lines(net: Network) -> Iterator[str]:
+    """Its lines."""
+    yield head_of(net)
+    for p in range(last_pulse(net) + 1):
+        yield from pulse_lines(net, p)
+
+
+def head_of(net: Network) -> str:
     """The first line. Edition 1, and edition 2 if a channel is barred."""
     sizes = [1, len(net.neighbours), net.greatest_degree, net.forest_count, last_pulse(net)]
     if net.greatest_bars:
         sizes[:3] = [2, *sizes[1:3], net.greatest_bars]
-    return ["rounds " + " ".join(map(str, sizes))]
+    return "rounds " + " ".join(map(str, sizes))
 
 
 def phase_words(net: Network, p: int) -> str:
@@ -42,7 +48,7 @@ def pulse_lines(net: Network, p: int) -> list[str]:
     """The line of pulse p, and after it the lines of each vertex."""
     facts = Facts.of(net)
     lines = [f"pulse {p} {phase_words(net, p)}"]
-    for v in sorted(net.neighbours):
+    for v in facts.at_work(p):
         lines += facts.own_lines(p, v)
         lines += [f"{v} put {w} payload {p} {word} {number}" for w, word, number in facts.sent(p, v)]
     return lines
@@ -62,11 +68,13 @@ def forest_colours(net: Network, f: int) -> dict[int, Colours]:
 
 class Facts:
     """Of each forest the colours after each pulse, and before and after each merge the merged colours: `colours[f][p]`
-    for p from 2 to 12, and `merged[f]` after the merges of the forests below f."""
+    for p from 2 to 12, and `merged[f]` after the merges of the forests below f. `choosing[p]` are the vertices that
+    choose at pulse p, if some do."""
 
     net: Network
     colours: list[dict[int, Colours]]
     merged: list[Colours]
+    choosing: dict[int, list[int]]
 
     def __init__(self, net: Network):
         self.net = net
@@ -74,6 +82,10 @@ class Facts:
         self.merged = [first_colours(net)]
         for f in range(net.forest_count):
             self.merged.append(merge(net, f, self.merged[f]))
+        self.choosing = {}
+        for f in range(net.forest_count):
+            for v in sorted(net.neighbours):
+                self.choosing.setdefault(self.turn(f, v), []).append(v)
 
     @staticmethod
     def of(net: Network) -> "Facts":
@@ -82,15 +94,13 @@ class Facts:
             net.facts = Facts(net)
         return net.facts
 
-    def chooses(self, p: int, v: int) -> bool:
-        """Whether v chooses at a pulse: its three-colour and its old colour are the pair of the merge step."""
-        if p < FIRST_MERGE:
-            return False
-        f, three, old = merge_step(self.net, p)
-        return (self.colours[f][12][v], self.merged[f][v]) == (three, old)
+    def at_work(self, p: int) -> list[int]:
+        """The vertices that a pulse has lines of: all, and in a merge those that choose."""
+        return sorted(self.net.neighbours) if p < FIRST_MERGE else self.choosing.get(p, [])
 
     def turn(self, f: int, v: int) -> int:
-        """The one pulse of the merge of forest f at which v chooses."""
+        """The one pulse of the merge of forest f at which v chooses: its three-colour and its old colour are the pair
+        of the merge step."""
         three, old, width = self.colours[f][12][v], self.merged[f][v], self.net.span + 1
         return FIRST_MERGE + (3 * f + three) * width + old
 
@@ -99,15 +109,15 @@ class Facts:
         return self.merged[merge_step(self.net, p)[0] + 1][v]
 
     def own_lines(self, p: int, v: int) -> list[str]:
-        """What v is after pulse p, as far as it changes."""
-        if 2 <= p < FIRST_MERGE:
-            return [f"{v} colour {f} {self.colours[f][p][v]}" for f in range(self.net.forest_count)]
-        return [f"{v} chose {self.choice(p, v)}"] if self.chooses(p, v) else []
+        """What v is after pulse p, at which it is at work."""
+        if p >= FIRST_MERGE:
+            return [f"{v} chose {self.choice(p, v)}"]
+        return [f"{v} colour {f} {self.colours[f][p][v]}" for f in range(self.net.forest_count) if p >= 2]
 
     def sent(self, p: int, v: int) -> Iterator[tuple[int, str, int]]:
         """(neighbour, word, number): all hear the identifier; parents the forest; children the colour; and who is a
         neighbour in the forests merged so far the choice, but at the last step of a forest."""
-        chooses = self.chooses(p, v) and not self.is_last_step(p)
+        chooses = v in self.choosing.get(p, []) and not self.is_last_step(p)
         merging = merge_step(self.net, p)[0] if chooses else None
         for w in sorted(self.net.neighbours[v]):
             f, is_parent = self.net.number[frozenset((v, w))], self.net.identifiers[w] > self.net.identifiers[v]
@@ -123,25 +133,3 @@ class Facts:
     def is_last_step(self, p: int) -> bool:
         """Whether p is the last pulse of a merge."""
         return merge_step(self.net, p)[1:] == (2, self.net.span)
-
-
-def made_text(net: Network) -> bytes:
-    """The same text from nodes that hear and send, pulse by pulse."""
-    lines = head_of(net)
-    for p, nodes, _, sent in synchronous_pulses(net):
-        lines.append(f"pulse {p} {phase_words(net, p)}")
-        for v in sorted(nodes):
-            lines += state_lines(net, p, v, nodes[v])
-            lines += [f"{v} put {w} payload {p} {payload[0].lower()} {payload[1]}"
-                      for w, payload in zip(ports_of(net, v), sent[v]) if payload]
-    return text_of(lines)
-
-
-def state_lines(net: Network, p: int, v: int, node: Colouring) -> list[str]:
-    """The lines of a node after pulse p."""
-    if p < 2:
-        return []
-    if p < FIRST_MERGE:
-        return [f"{v} colour {f} {colour}" for f, colour in enumerate(node.colours)]
-    f, three, old = merge_step(net, p)
-    return [f"{v} chose {node.merged}"] if (node.colours[f], node.old) == (three, old) else []

@@ -9,7 +9,8 @@ import random
 import tempfile
 
 from lab.definitions.colours import network_of
-from lab.definitions.rounds import made_text, rounds_text
+from lab.definitions.nodes import ports_of, synchronous_pulses
+from lab.definitions.rounds import FIRST_MERGE, head_of, merge_step, phase_words, rounds_text
 from tests import TOP
 from tests.cases import Case, run_program, text
 from tests.programs.plain_networks import (climbing, complete, cycle, path, random_of, some_bars, star, text_of, tree,
@@ -102,6 +103,28 @@ def merges_of(rounds):
         elif words[1] == "chose":
             chosen.setdefault(forest, {})[int(words[0])] = int(words[2])
     return [tuple(chosen[f][v] for v in sorted(chosen[f])) for f in sorted(chosen)]
+
+
+def made_text(net):
+    """The text of the rounds from nodes that hear and send (lab/definitions/nodes.py), pulse by pulse."""
+    lines = [head_of(net)]
+    for p, nodes, _, sent in synchronous_pulses(net):
+        lines.append(f"pulse {p} {phase_words(net, p)}")
+        for v in sorted(nodes):
+            lines += state_lines(net, p, v, nodes[v])
+            lines += [f"{v} put {w} payload {p} {payload[0].lower()} {payload[1]}"
+                      for w, payload in zip(ports_of(net, v), sent[v]) if payload]
+    return "".join(f"{line}\n" for line in lines).encode()
+
+
+def state_lines(net, p, v, node):
+    """The lines of a node after pulse p."""
+    if p < 2:
+        return []
+    if p < FIRST_MERGE:
+        return [f"{v} colour {f} {colour}" for f, colour in enumerate(node.colours)]
+    f, three, old = merge_step(net, p)
+    return [f"{v} chose {node.merged}"] if (node.colours[f], node.old) == (three, old) else []
 
 
 class Rounds(Case):
