@@ -14,6 +14,8 @@ import tempfile
 
 from bench import graphs
 from bench.by_turns import BASELINE, PROGRAM, agree, mark, once, programs_of, timed, times
+from lab.definitions.colours import Network
+from lab.definitions.nodes import last_pulse
 from lab.networks import kinds
 
 LIMIT = 60.0
@@ -33,16 +35,6 @@ def networks():
     }
 
 
-def last_pulse(nodes, edges):
-    """12 + 3 U (Δ + 1), where vertex V has the identifier V."""
-    degree, higher = [0] * nodes, [0] * nodes
-    for v, w in {(min(edge), max(edge)) for edge in edges}:
-        degree[v] += 1
-        degree[w] += 1
-        higher[v] += 1
-    return 12 + 3 * max(higher, default=0) * (max(degree, default=0) + 1)
-
-
 def main():
     words = argparse.ArgumentParser(description=__doc__, formatter_class=argparse.RawDescriptionHelpFormatter)
     words.add_argument("--turns", type=int, default=15)
@@ -57,8 +49,8 @@ def main():
         for name, (nodes, edges) in networks().items():
             path = graphs.write(name, nodes, edges, folder)
             runs = timed(programs, given.turns, lambda program: once([program[0], "plain"], path, LIMIT, program[1]))
-            print(f"{name:11s} {nodes:5d} {len(edges):6d} {last_pulse(nodes, edges):6d} {times(runs)}  {mark(runs)}",
-                  flush=True)
+            last = last_pulse(Network({v: v for v in range(nodes)}, edges))
+            print(f"{name:11s} {nodes:5d} {len(edges):6d} {last:6d} {times(runs)}  {mark(runs)}", flush=True)
             good = good and agree(runs)
     return 0 if good else 1
 

@@ -20,7 +20,7 @@ import random
 import sys
 
 from bench import graphs
-from lab.definitions.colours import plan_text
+from lab.definitions.colours import Network, plan_text
 from lab.networks import kinds
 from lab.networks.texts import Made, text_of
 from lab.programs import built, called
@@ -80,14 +80,6 @@ NETWORKS = {
 }
 
 
-def neighbours_of(network: Made) -> Neighbours:
-    found = {v: set() for v in range(1, network.nodes + 1)}
-    for v, w in network.edges:
-        found[v].add(w)
-        found[w].add(v)
-    return found
-
-
 def least(neighbours: Neighbours, colours: dict[int, int], v: int) -> int:
     """The least colour from 1 that no neighbour has."""
     taken = {colours[w] for w in neighbours[v] if w in colours}
@@ -125,10 +117,7 @@ def smallest_last(neighbours: Neighbours) -> int:
         for w in neighbours[v] & left.keys():
             left[w] -= 1
             heapq.heappush(heap, (left[w], w))
-    colours = {}
-    for v in reversed(order):
-        colours[v] = least(neighbours, colours, v)
-    return max(colours.values(), default=0)
+    return in_order(neighbours, order[::-1])
 
 
 def in_order(neighbours: Neighbours, order: list[int]) -> int:
@@ -137,14 +126,6 @@ def in_order(neighbours: Neighbours, order: list[int]) -> int:
     for v in order:
         colours[v] = least(neighbours, colours, v)
     return max(colours.values(), default=0)
-
-
-def largest_first(neighbours: Neighbours) -> int:
-    return in_order(neighbours, sorted(neighbours, key=lambda v: -len(neighbours[v])))
-
-
-def by_number(neighbours: Neighbours) -> int:
-    return in_order(neighbours, sorted(neighbours))
 
 
 def plan_of(network: Made) -> dict[int, int]:
@@ -217,7 +198,7 @@ def main() -> int:
     print("|---|---|---|---|---|---|---|---|---|---|---|---|---|")
     for name in asked.names or NETWORKS:
         network = NETWORKS[name]()
-        neighbours = neighbours_of(network)
+        neighbours = Network({v: v for v in range(1, network.nodes + 1)}, network.edges).neighbours
         most = max(map(len, neighbours.values()))
         plans = [plan_of(network)]
         for passes in range(1, PASSES + 1):
@@ -225,7 +206,9 @@ def main() -> int:
             if not is_played(network, passes, plans[-1]):
                 raise SystemExit(f"quality: {name}: forestplay chooses other channels in {passes} passes")
         counts = [max(found.values(), default=0) for found in plans]
-        greedy = [way(neighbours) for way in (dsatur, smallest_last, largest_first, by_number)]
+        largest_first = sorted(neighbours, key=lambda v: -len(neighbours[v]))
+        greedy = [dsatur(neighbours), smallest_last(neighbours), in_order(neighbours, largest_first),
+                  in_order(neighbours, sorted(neighbours))]
         print(row.format(name, network.nodes, len(network.edges), most, *counts, *greedy,
                          f" {' '.join(map(str, by_networkx(network)))} |"), flush=True)
     return 0
