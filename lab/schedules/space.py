@@ -47,9 +47,9 @@ from collections import Counter, namedtuple
 
 from lab.definitions.nodes import Colouring, Refused, wire_words
 from lab.definitions.own_program import OwnNode, what_is_wrong
+from lab.definitions.rounds import phase_words
 from lab.schedules.ruled_node import Rounds, RuledNode
 
-PHASES = ["greet", "orient", "seed"] + ["step"] * 4 + ["shift", "drop"] * 3
 REFUSED = 2 ** 32 - 1
 
 Node = namedtuple("Node", "pulse stage waits wrong colour phase result")
@@ -329,12 +329,7 @@ class Space:
         return Node(p, stage, waits, node.wrong, colour, self.phase(p), node.program.result())
 
     def phase(self, p):
-        if self.program is not Colouring:
-            return ""
-        if p < 13:
-            return PHASES[p]
-        forest, step = divmod(p - 13, 3 * (self.net.span + 1))
-        return "merge {} {} {}".format(forest, *divmod(step, self.net.span + 1))
+        return phase_words(self.net, p) if self.program is Colouring else ""
 
     def wires(self, s):
         return {link: [wire_words(wire) for wire in self.contents[self.states[s][k]]] for link, k in self.slot.items()}
