@@ -191,13 +191,6 @@ def events_of(text, name, overtakes=False):
         yield (line, pulse, int(node), None, 0) if pulse else (line, kind, int(v), int(port), int(place or 0))
 
 
-def played_by_list(net, path, program=Colouring):
-    """The player after the events of a file, or of standard input."""
-    player = Player(net, program)
-    player.play_events(events_of(text_at(path), called(path)), called(path))
-    return player
-
-
 def text_of_rows(nodes, rows, program=Colouring):
     """The transcript with stamps of a program: its lines by stamp, and lines of one stamp by node."""
     lines = [f"{stamp} {line}" for stamp, _, line in sorted(rows, key=lambda row: row[:2])]
@@ -244,7 +237,8 @@ def rows_asked(net, given, program):
     note_ignored_bars("simulate", net.barred, program)
     if not given.events:
         return played(net, given.policy, given.seed, given.slow, given.lazy, program=program)
-    player = played_by_list(net, given.events, program)
+    player, name = Player(net, program), called(given.events)
+    player.play_events(events_of(text_at(given.events), name), name)
     if given.to_the_end:
         return played(net, given.policy, given.seed, given.slow, given.lazy, player)
     if left := next(unfinished(player.state), None):
