@@ -1,13 +1,11 @@
 """The door: `forestlab transcript convert FORM [TRANSCRIPT]`. Writes a transcript with stamps, edition 2 or 3, in the
 form of another tool, or one line on standard error."""
 import json
-import sys
 from collections import deque
 
 from lab.definitions.nodes import wire_words
 from lab.transcripts.reading import Wrong, read
 from lab.words import add_output, bytes_at, parser_of, write
-from lab.wrong import Wrong as WrongText
 
 HELP = """\
 Writes a transcript with stamps, edition 2 or 3, for other tools.
@@ -101,10 +99,5 @@ def main(words):
                       help="a file, or - for standard input; default: -")
     add_output(line)
     given = line.parse_args(words)
-    try:
-        rows = list(FORMS[given.form](*entries_of(bytes_at(given.transcript))))
-    except (Wrong, WrongText) as why:
-        print(f"transcript: {why}", file=sys.stderr)
-        return 1
-    write(given, "".join(row + "\n" for row in rows))
+    write(given, "".join(row + "\n" for row in FORMS[given.form](*entries_of(bytes_at(given.transcript)))))
     return 0

@@ -3,6 +3,7 @@ import functools
 from collections import namedtuple
 from typing import NamedTuple
 
+from lab import wrong
 from lab.definitions.colours import fields_of
 from lab.definitions.nodes import wire_words
 from lab.transcripts.fields import COLOURING, bound_of, name_in_texts, number, why_no_entry
@@ -24,7 +25,7 @@ class Head(NamedTuple):
         return self.edition > 1
 
 
-class Wrong(Exception):
+class Wrong(wrong.Wrong):
     """Why a text isn't the transcript of a whole run: its `line`, the `code` of the refusal, and `what` is wrong."""
 
     def __init__(self, line, code, what):
