@@ -7,13 +7,12 @@ from typing import NamedTuple
 from lab.schedules.policies import Policy, Step
 from lab.workshop.findings import Fault
 from lab.workshop.judge import Entry, verdict_on
-from lab.workshop.nodes import Nodes
+from lab.workshop.nodes import PATIENCE, Nodes
 from lab.workshop.protocol import (COLOURING, FORMS, is_number, no_such_line, own_data, port_of, pulse_of, result_of,
                                    shown, wire_of)
 from lab.workshop.right_rounds import RightRounds
 
 OWN_DATA = "its own data"
-PATIENCE = 1.0              # seconds that programs have to end at the end of their input
 
 
 class Wire(NamedTuple):

@@ -5,9 +5,8 @@ import re
 from dataclasses import dataclass, field
 from typing import Any, Iterator, Sequence
 
-from lab.networks import kinds
+from lab.networks.named import EXAMPLES, OF_NODES
 from lab.networks.network_text import Network, read_network
-from lab.programs import TOP
 from lab.workshop.findings import Finding
 from lab.workshop.open_run import League
 from lab.workshop.protocol import COLOURING
@@ -15,10 +14,8 @@ from lab.wrong import Wrong
 
 # Each mistake of the colouring that can be caught shows on most4 or rest3, and each of the synchroniser on alone4.
 NETWORKS = "path1,two,path3,triangle,rest3,alone4,most4,star4,ring5,complete4,random6,drops"
-EXAMPLES = [os.path.join(TOP, "examples", "workshop"), os.path.join(TOP, "examples")]
 # The programs whose nodes heed bars.
 WITH_BARS = (COLOURING, "independent-set", "recolouring")
-KINDS = {"path": kinds.path, "ring": kinds.ring, "star": kinds.star, "complete": kinds.complete}
 
 
 class Chance:
@@ -76,10 +73,10 @@ def network_of(name: str, chance: Chance) -> Network:
     found = re.fullmatch(r"([a-z]+)([0-9]{1,3})", name)
     if found and found[1] == "random" and int(found[2]):
         return random_network(name, int(found[2]), chance)
-    if found and found[1] in KINDS:
-        made = KINDS[found[1]](int(found[2]))
+    if found and found[1] in OF_NODES:
+        made = OF_NODES[found[1]](int(found[2]))
         return Network(name, made.nodes, made.edges, {})
-    made = ", ".join(f"{kind}N" for kind in [*KINDS, "random"])
+    made = ", ".join(f"{kind}N" for kind in [*OF_NODES, "random"])
     raise Wrong(f"{name}: there is no such file or example, and no network of this name is made, as {made} are")
 
 

@@ -8,6 +8,7 @@ from lab.workshop.guard import Guard, Limits, end_all, is_reaper
 from lab.workshop.processes import Process
 
 Answer = list[str] | Fault
+PATIENCE = 1.0              # seconds that programs have to end at the end of their input
 
 
 class Nodes:

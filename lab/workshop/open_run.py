@@ -7,11 +7,10 @@ from lab.networks.network_text import Network
 from lab.networks.texts import plain_text
 from lab.workshop.findings import Fault, Finding, NoVerdict, listed
 from lab.workshop.judge import ask
-from lab.workshop.nodes import Answer, Nodes
+from lab.workshop.nodes import PATIENCE, Answer, Nodes
 from lab.workshop.protocol import MOST_LETTERS, is_number, no_such_line, own_data, port_of, shown
 
 FORMS = "`put PORT WORDS..`, `channel CHANNEL`"
-PATIENCE = 1.0
 
 
 class League(NamedTuple):

@@ -3,14 +3,13 @@ rounds, pulse by pulse."""
 from typing import Callable
 
 from lab.workshop.findings import Fault, Finding, listed
-from lab.workshop.nodes import Nodes
+from lab.workshop.nodes import PATIENCE, Nodes
 from lab.workshop.protocol import COLOURING, FORMS, is_number, no_such_line, own_data, port_of, result_of, shown
 from lab.workshop.reasons import After, Rule, why_of
 from lab.workshop.right_rounds import RightRounds
 from lab.workshop.why_rounds import Why
 
 PUT, COLOURS = "`put PORT WORD NUMBER`", ["`colour FOREST COLOUR`", "`chose COLOUR`"]
-PATIENCE = 1.0              # seconds that programs have to end at the end of their input
 MOST_NAMED = 8
 
 
