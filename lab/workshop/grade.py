@@ -322,7 +322,8 @@ def play_all(parts: list[Part], given: argparse.Namespace, jobs: int, room: str)
         with SIGNALS.held():
             for one in running.values():
                 os.kill(one.number, signal.SIGTERM)
-            end_all([] if not running else wait_for(running))
+            wait_for([one.number for one in running.values()])
+            end_all()
 
 
 def play_again(parts: list[Part], given: argparse.Namespace, room: str) -> None:
@@ -337,14 +338,12 @@ def play_again(parts: list[Part], given: argparse.Namespace, room: str) -> None:
             part.result, part.why, part.report, part.was_ended = first
 
 
-def wait_for(running: dict) -> list[int]:
+def wait_for(numbers: list[int]) -> None:
     """Gives processes a moment to end their programs."""
     until = time.monotonic() + 3
-    left = [one.number for one in running.values()]
-    while left and time.monotonic() < until:
-        left = [number for number in left if os.waitpid(number, os.WNOHANG) == (0, 0)]
+    while numbers and time.monotonic() < until:
+        numbers = [number for number in numbers if os.waitpid(number, os.WNOHANG) == (0, 0)]
         time.sleep(0.02)
-    return []
 
 
 def tell(part: Part) -> None:
