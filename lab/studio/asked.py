@@ -2,7 +2,7 @@
 import re
 
 from lab.definitions.nodes import Colouring
-from lab.definitions.programs import PROGRAMS, program_at
+from lab.definitions.programs import PASSES, PROGRAMS, program_at
 from lab.networks.network_text import read_network
 from lab.wrong import Wrong
 
@@ -29,8 +29,10 @@ def network_asked(asked, most=MOST_DRAWN):
 
 
 def program_asked(asked):
-    name = asked.get("program") or Colouring.name
-    return program_at(OPENED["own"].get(name, name) if name in (*PROGRAMS, *OPENED["own"]) else "?")
+    name, passes = asked.get("program") or Colouring.name, asked.get("passes")
+    if passes not in (None, *PASSES):
+        raise Wrong(f"there are {PASSES[0]} to {PASSES[-1]} passes")
+    return program_at(OPENED["own"].get(name, name) if name in (*PROGRAMS, *OPENED["own"]) else "?", passes=passes)
 
 
 def rules_asked(asked, among):

@@ -35,7 +35,8 @@ PLACES = [
     ("example=triangle&tab=rounds&program=matching",
      "After pulse 12 each forest has a turn for each of its three colours, and a free node of the turn's colour "
      "takes one of the children that are free. A partner is a port, counted from 0.",
-     "Choose the program independent-set, then recolouring: what has each node found at the end?"),
+     "Choose the program independent-set, then recolouring: what has each node found at the end? The tab Pictures has "
+     "it on the map, as results."),
 ]
 
 

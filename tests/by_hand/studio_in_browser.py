@@ -34,6 +34,7 @@ SHOWN = {
     "without": "example=path&tab=adversary&without=safes&steps=2-1_1-2_2-1_2-3_3-2_2-3_2",
     "check": "example=petersen&tab=check&plan=1_1_2_3_2_3_2_2_1_3",
     "pictures": "example=petersen&tab=pictures&kind=forests",
+    "results": "example=drops&tab=pictures&kind=results&program=recolouring&passes=2",
     "lesson": "lesson=3", "hundred": "example=disk100&tab=rounds&at=14"}
 EVIL = """<!doctype html><script>
 (async () => {
@@ -198,7 +199,8 @@ class More(studio_page.Page):
 
     def test_links(self):
         """Each picture is drawn, and each lesson opens."""
-        for kind in ("plan", "forests", "rounds", "bits", "why", "matrix", "run", "overview", "node", "tally"):
+        for kind in ("plan", "results", "matrix", "forests", "rounds", "bits", "why", "run", "overview", "node",
+                     "tally"):
             self.go_to(f"example=triangle&tab=pictures&kind={kind}")
             self.sees(kind, f"document.querySelector('#picture img[alt={kind}]')")
         for number in range(1, 8):

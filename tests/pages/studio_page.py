@@ -14,6 +14,17 @@ from tests.programs.studio import begin
 
 EVIL = "<img src=x onerror=document.title='bad'></script><script>document.title='bad'</script>"
 TABS = ("rounds", "run", "adversary", "check", "pictures")
+# Keeps each picture that the page makes.
+KEEP = """(() => { const make = URL.createObjectURL.bind(URL); window.kept = [];
+  URL.createObjectURL = blob => { kept.push(blob); return make(blob); }; })()"""
+# What nodes find in the triangle, whose plan is 2 3 1, once a field is changed. Node 3 takes node 2 in forest 0, so 1 is
+# left over. In the first pass node 2 chooses first, then 1, then 3; so in the second it is 3, then 1, then 2.
+FOUND = [
+    ("program4", "matching", ["partner none", "partner 1", "partner 1"]),
+    ("program4", "independent-set", ["out", "out", "in"]),
+    ("program4", "recolouring", ["channel 2", "channel 1, was channel 3", "channel 3, was channel 1"]),
+    ("passes", "2", ["channel 2", "channel 3", "channel 1"]),
+]
 
 
 def contrast(one, other):
@@ -185,6 +196,36 @@ class Drawn(Page):
         self.go_to("example=two&tab=adversary&without=acks&steps=1-2")
         self.sees("a rule left out", "document.getElementById('rule').textContent.includes('says safe at once')")
 
+    def picture(self, kind, does, *words):
+        """The picture that is on the page after something is done."""
+        self.page.value("kept.length = 0")
+        does(*words)
+        is_there = f"kept.length && document.querySelector('#picture img[alt={kind}]')"
+        self.sees(f"{kind} after {' '.join(words)}", is_there)
+        return self.page.value("kept.length ? kept[0].text() : ''")
+
+    def test_pictures(self):
+        """Of the chosen program: what the nodes have found, and the wires of a run, which the last pulse tells apart:
+        13 + 6 · 2 of the matching, and 30 + 1 + 2 of the set."""
+        self.page.value(KEEP)
+        self.go_to("example=two&tab=pictures&kind=plan")
+        self.sees("a plan has no program", "document.querySelector('#picture img[alt=plan]') && "
+                                           "document.getElementById('ofprogram').hidden")
+        triangle = "example=triangle&tab=pictures&kind=results"
+        self.picture("results", self.go_to, triangle)
+        for field, value, wanted in FOUND:
+            shown = self.picture("results", self.page.choose, field, value)
+            found = re.findall(r"<title>node \d+: (.*?)</title>", shown)
+            self.note(f"what nodes find with {field} {value}", found == wanted, found)
+        self.sees("the address has the passes", "/program=recolouring.*passes=2/.test(location.hash)")
+        shown = self.picture("results", self.go_to, f"{triangle}&program=recolouring&passes=3")
+        self.note("a third pass ends as the first", "node 2: channel 1, was channel 3" in shown, shown[:400])
+        self.note("as the address says", self.page.value("document.getElementById('passes').value") == "3")
+        self.picture("tally", self.page.click_on, "#kinds [data-kind=tally]")
+        for program, last in (("matching", 25), ("independent-set", 33)):
+            shown = self.picture("tally", self.page.choose, "program4", program)
+            self.note(f"the run is one of {program}", f"· ({last} + 1)" in shown, shown[:400])
+
     def test_check(self):
         self.go_to("example=petersen&tab=check&plan=1_1")
         self.sees("an unfinished plan", "studio.check.verdict && studio.check.verdict.said === 'C1 vertex 3'")
@@ -202,7 +243,8 @@ class Drawn(Page):
                 ("net=0.0_90.0~1-1", "a wrong edge"), ("net=x", "no network"), (two + "~n1-%E0", "malformed"),
                 ("example=../x", "no example"), (two + "&tab=rounds&forest=99&node=9&at=-1", ""),
                 (two + "&tab=constructor", ""), (two + "&tab=run&policy=constructor&slow=1-9_x&lazy=9_x", ""),
-                (two + "&tab=adversary&without=toString", ""), (two + "&tab=pictures&kind=toString", "")):
+                (two + "&tab=adversary&without=toString", ""), (two + "&tab=pictures&kind=toString", ""),
+                (two + "&tab=pictures&kind=results&program=recolouring&passes=9", "")):
             self.go_to(words)
             time.sleep(1)
             got = f"document.getElementById('wrong').textContent.includes({json.dumps(said)})"

@@ -112,6 +112,11 @@ class Refusals(Server):
                 self.note(f"{call} of program {name}", "no program" in got.get("wrong", ""), got)
         rows = [("run", {"policy": "random", "slow": [[1, 9]]}, "isn't in this network"),
                 ("plan", {"network": "p edge 2 1\ne 1 3\n"}, "(F5)"), ("broken", {"without": "x"}, "no such rule"),
+                ("picture", {"kind": "x"}, "there is no picture x"),
+                *(("picture", {"kind": "results"} | asked, words) for asked, words in (
+                    ({"program": "x"}, "there is no program"), ({"program": "matching", "passes": 2}, "not for matching"),
+                    *(({"program": "recolouring", "passes": passes}, "there are 1 to 3 passes")
+                      for passes in (0, 4, "2", [2])))),
                 ("steps", {"without": "x"}, "no such rule"), ("steps", {"steps": "1"}, "isn't possible there"),
                 *(("steps", {"steps": word}, "isn't possible there") for word in ("1-9", "x", "1-2-1", "9", "0")),
                 *(("steps", {"list": f"c a list\n{event}"}, words) for event, words in {
@@ -206,6 +211,22 @@ class Answers(Server):
         run = self.answer("run", network=TRIANGLE, policy="random", seed="1", steps=early)["answer"]
         begins = [line.split()[1:3] for line in run["text"].split("\n")[1:]]
         self.note("the rest by chance", run["judge"]["ok"] and ["3", "take"] in begins, run["judge"])
+
+    def test_results(self):
+        """The picture of what nodes have found, of each program that goes on where the colouring ends. Of a row the
+        results are those of tests/pictures/results.py; the passes of an edge, whose plan is 1 2, those of
+        tests/programs/passes.py."""
+        edge, row = "p edge 2 1\ne 1 2\n", "p edge 3 2\ne 1 2\ne 2 3\n"
+        anew = ["channel 2, was channel 1", "channel 1, was channel 2"]
+        for network, asked, wanted in (
+            (row, {"program": "matching"}, ["partner none", "partner 1", "partner 0"]),
+            (row, {"program": "independent-set"}, ["in", "out", "in"]), (edge, {"program": "recolouring"}, anew),
+            (edge, {"program": "recolouring", "passes": 2}, ["channel 1", "channel 2"]),
+            (edge, {"program": "recolouring", "passes": 3}, anew), (edge, {}, ["channel 1", "channel 2"]),
+        ):
+            got = self.answer("picture", network=network, kind="results", **asked)
+            found = re.findall(r"<title>node \d+: (.*?)</title>", got.get("answer", ""))
+            self.note(f"results of {asked}", found == wanted, got)
 
     def test_broken(self):
         got = self.answer("broken", network="p edge 2 1\ne 1 2\n", without="shift")["answer"]

@@ -195,27 +195,40 @@ by("save").onclick = () => download(text(), (net.name || "network") + ".col");
 
 // The tab Pictures: what the command `picture` draws.
 const KINDS = {
-  plan: "The plan.", matrix: "Who interferes with whom, by channel.", forests: "The forests, and each merge.",
-  rounds: "A row for each node of each forest.", bits: "One node above its parent, digit by digit.",
-  why: "What decided the channel of the chosen node.", run: "Space and time of the run of the tab No clock.",
+  plan: "The plan.", results: "What the nodes have found at the end.",
+  matrix: "Who interferes with whom, by channel.", forests: "The forests, and each merge.",
+  rounds: "A row for each node; of the colouring, for each node of each forest.",
+  bits: "One node above its parent, digit by digit.", why: "What decided the channel of the chosen node.",
+  run: "Space and time of the run of the tab No clock.",
   overview: "The pulses of that run.", node: "The synchroniser as an automaton.",
   tally: "The wires of that run by pulse."};
 const OF_RUN = ["run", "overview", "node", "tally"], OF_NODE = ["why", "bits", "node"];
+// Those that draw any program; and those that draw more than one pass of recolouring.
+const OF_PROGRAM = ["results", "rounds", ...OF_RUN], OF_PASSES = ["results", "rounds"];
 let kind = "forests";
 function askPicture() {
   all("#kinds button").forEach(one => one.setAttribute("aria-pressed", one.dataset.kind === kind));
   by("kindsaid").textContent = KINDS[kind];
   by("ofnode").hidden = !OF_NODE.includes(kind);
   by("ofrun").hidden = !OF_RUN.includes(kind);
+  const program = OF_PROGRAM.includes(kind) ? seen.program : "colouring";
+  const isInPasses = OF_PASSES.includes(kind) && program === "recolouring";
+  by("ofprogram").hidden = !OF_PROGRAM.includes(kind);
+  by("ofpasses").hidden = !isInPasses;
+  by("program4").value = seen.program;
   const pulses = (/^(\d{1,6})\.\.(\d{1,6})$/.exec(by("pulses").value.trim()) || []).slice(1).map(Number);
   by("vertex").max = net.nodes.length;
   by("vertex").value = seen.node || "";
+  const asked = kind;
   tried("picture", "drawing", async () => {
     const isOfRun = OF_RUN.includes(kind), transcript = isOfRun ? await tabs.run.transcript() : null, v = seen.node;
     const vertex = kind === "why" ? v || 1 : OF_NODE.includes(kind) ? v : null;
+    // Another picture has been asked for since.
+    if (kind !== asked || isOfRun && !transcript) return;
     if (kind === "why" && !v) by("kindsaid").textContent += " None is chosen, so it is node 1.";
-    const got = await call("picture", {kind, network: text(), name: net.name, forest: tabs.rounds.forest(), vertex,
-      transcript, pulses: isOfRun ? pulses : null});
+    const got = await call("picture", {kind, network: text(), name: net.name, program, vertex, transcript,
+      forest: tabs.rounds.forest(), passes: isInPasses ? whole(by("passes").value) : null,
+      pulses: isOfRun ? pulses : null});
     if (!got) return;
     hang(got, kind);
     by("keep").href = URL.createObjectURL(new Blob([got], {type: "image/svg+xml"}));
@@ -229,10 +242,20 @@ Object.keys(KINDS).forEach(one => {
 });
 tabs.pictures = {
   hint: () => "", click: () => 0, show: () => 0,
-  follow(given) { kind = among(KINDS, given.get("kind")) || kind; },
+  follow(given) {
+    kind = among(KINDS, given.get("kind")) || kind;
+    by("passes").value = ["2", "3"].find(passes => passes === given.get("passes")) || "1";
+  },
   enter(more = {}) { kind = more.kind || kind; askPicture(); },
-  link(add) { add("kind", kind); add("node", seen.node); add("forest", tabs.rounds.forest()); },
+  link(add) {
+    add("kind", kind);
+    add("node", seen.node);
+    add("forest", tabs.rounds.forest());
+    if (by("passes").value > 1) add("passes", by("passes").value);
+  },
 };
+by("program4").onchange = () => { seen.program = by("program4").value; askPicture(); show(); };
+by("passes").onchange = () => { askPicture(); hooks.link(); };
 by("pulses").onchange = askPicture;
 by("vertex").onchange = () => {
   const v = whole(by("vertex").value);

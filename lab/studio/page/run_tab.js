@@ -23,8 +23,8 @@ function asked() {
   return run.transcript ? {network: text(), program, transcript: run.transcript}
     : {network: text(), program, slow, lazy, steps: run.steps.join("_"), ...how()};
 }
-function take(found, network, isPart) {
-  Object.assign(run, {found, film: new RunFilm(found, net), of: network, isPart, judgedAt: null});
+function take(found, {program, network}, isPart) {
+  Object.assign(run, {found, film: new RunFilm(found, net), of: program + network, isPart, judgedAt: null});
   by("table").key = null;
   by("judgehere").textContent = "";
   if (!isPart) return verdicts(found);
@@ -35,11 +35,11 @@ function take(found, network, isPart) {
 export async function load() {
   const wanted = asked(), key = JSON.stringify(wanted);
   if (key !== run.key) {
-    const part = found => { take(found, wanted.network, true); place(time.at); };
+    const part = found => { take(found, wanted, true); place(time.at); };
     const got = await call("run", wanted, {progress, part});
     if (!got) return false;
     run.key = wanted.how === "threads" ? null : key;
-    take(got, wanted.network, false);
+    take(got, wanted, false);
   }
   return await loadOther();
 }
@@ -52,7 +52,7 @@ async function loadOther() {
   Object.assign(run, {key2: key, film2: new RunFilm(got, net), found2: got});
   return true;
 }
-function isReady() { return run.film && run.of === text(); }
+function isReady() { return run.film && run.of === seen.program + text(); }
 function ask() {
   const isSeed = by("made").value === "seed";
   if (!run.other) run.film2 = null;
@@ -183,10 +183,9 @@ async function judgeHere() {
     + `${is.entries.toLocaleString("en")} entries; its nodes are ${agrees ? "at the pulses shown" : "elsewhere"}, and `
     + (is.wires === 1 ? "1 wire is on its way." : `${is.wires} wires are on their way.`);
 }
-// A stored or a new transcript of the network, for pictures.
+// A stored or a new transcript of the network, for pictures; null if a later call has ended this one.
 async function transcript() {
-  if (!isReady() || run.isPart) await load();
-  return run.found.text;
+  return isReady() && !run.isPart || await load() ? run.found.text : null;
 }
 function lazyBox() {
   by("lazybox").hidden = !seen.node;

@@ -278,7 +278,7 @@ async function begin() {
   all("nav, .tools").forEach(one => { one.hidden = false; });
   hello.examples.forEach(name => option(by("examples"), name));
   hello.lessons.forEach(one => option(by("lessons"), one.number, `${one.number}. ${one.title}`));
-  ["program", "program2", "program3"].forEach(id => hello.programs.forEach(name => option(by(id), name)));
+  ["program", "program2", "program3", "program4"].forEach(id => hello.programs.forEach(name => option(by(id), name)));
   ["policy", "policy2"].forEach(id => Object.keys(hello.policies).forEach(name => {
     option(by(id), name, name, hello.policies[name]);
   }));
