@@ -5,7 +5,8 @@ import itertools
 import os
 
 from lab.definitions.colours import Network, colours, first_colours, merge, network_of, three
-from lab.definitions.nodes import NetState, last_pulse
+from lab.definitions.nodes import NetState, last_pulse, synchronous_run
+from lab.definitions.recolouring import with_passes
 from lab.definitions.rounds import forest_colours
 from tests import TOP
 from tests.cases import Case
@@ -119,6 +120,18 @@ def bar_rows():
                                            {v: 0 for v in range(1, 9)} | {9: 1}], found
 
 
+def pass_rows():
+    """The passes of exercise 7 (d), by hand as its answer has them: pulses R + N (D + B + 1), R being 36 of the ring and
+    21 of the two nodes."""
+    ring, two = example("examples/barred.col"), Network({1: 1, 2: 2}, {(1, 2)}, {1: {1}})
+    for net, ends in ((ring, [(40, [2, 1, 2, 1]), (44, [2, 3, 1, 3]), (48, [2, 1, 2, 1])]), (two, [(24, [3, 1])])):
+        for passes, wanted in enumerate(ends, 1):
+            program = with_passes(passes)
+            found = program.last_pulse(net), [node.colour + 1 for node in synchronous_run(net, program).values()]
+            yield f"{passes} passes with a bar on {len(net.neighbours)} nodes", found == wanted, found
+    yield "the plan of two nodes with a bar", colours(two) == {1: 0, 2: 1}, colours(two)
+
+
 class TutorialFacts(Case):
     needs_programs = False
 
@@ -137,3 +150,6 @@ class TutorialFacts(Case):
 
     def test_bars(self):
         self.note_all(bar_rows())
+
+    def test_passes(self):
+        self.note_all(pass_rows())
