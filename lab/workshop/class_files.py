@@ -29,7 +29,7 @@ README = """\
 
 Transmitters find channels by talking with their neighbours alone. Here you learn how, and write one yourself.
 
-- [TUTORIAL](docs/learn/TUTORIAL.md): the algorithm in six lessons, with commands to try; begin there.
+- [TUTORIAL](docs/learn/TUTORIAL.md): the algorithm in seven lessons, with commands to try; begin there.
 - [WORKSHOP](docs/learn/WORKSHOP.md): write the program of one node, in any language; [PROTOCOL](docs/learn/PROTOCOL.md)
   is how it talks, and `examples/workshop/skeletons` has programs to begin with.
 - [OWN_NETWORK](docs/learn/OWN_NETWORK.md): channels for a network of your own.
