@@ -1,6 +1,7 @@
 """The door: `forestlab explore NETWORK [options]`. Plays every schedule of a tiny network, with rules left out if some
 are named, and writes what it found, or one line on standard error."""
 import argparse
+import functools
 import json
 import sys
 from collections import Counter
@@ -11,7 +12,8 @@ from lab.definitions.own_program import AGAIN, check_repeats
 from lab.definitions.programs import add_program, check_root, note_ignored_bars, program_at
 from lab.schedules import ruled_rounds
 from lab.schedules.reading import network_at
-from lab.schedules.rules import ALL, OF_FORESTS, OF_ROUNDS, OF_SCHEDULES, table
+from lab.schedules.ruled_sequels import RuledSequel
+from lab.schedules.rules import ALL, OF_FORESTS, OF_PROGRAMS, OF_SCHEDULES, program_of, table
 from lab.schedules.space import Space, TooMany
 from lab.words import add_output, parser_of, write
 from lab.wrong import Wrong
@@ -31,11 +33,13 @@ possible unless all nodes are at the end and all links are empty.
 With --without it leaves rules out, and writes a list of events that goes wrong, with
 as few takes and pulses as there can be (and puts, with --puts), or `not broken`. For
 a rule of the rounds it looks at the rounds of NETWORK; without NETWORK, for a
-smallest network on which they go wrong.
+smallest network on which they go wrong. Rules of a program that goes on where the
+colouring ends are left out with --program.
 """
 
 MORE_HELP = f"""\
-Rules of the synchroniser and of its links, and then of the rounds:
+Rules of the synchroniser and of its links, then of the rounds of the colouring, and
+last, two each, of matching, independent-set and recolouring:
 {table()}
 NETWORK is a file in the DIMACS format, - for standard input, or a name. A state takes some
 {BYTES_A_STATE} bytes of memory, so {LIMIT:,} states some {LIMIT * BYTES_A_STATE // 10 ** 6} MB; most networks of four
@@ -66,8 +70,9 @@ def rules_of(text):
     for word in words:
         if word not in ALL:
             raise argparse.ArgumentTypeError(f"`{word}` is no rule: use some of {','.join(ALL)}")
-    if not set(words) <= set(OF_SCHEDULES) and not set(words) <= set(OF_ROUNDS):
-        raise argparse.ArgumentTypeError("rules of the synchroniser and rules of the rounds can't be left out together")
+    if not set(words) <= set(OF_SCHEDULES) and not program_of(words):
+        raise argparse.ArgumentTypeError("rules of the synchroniser, and of the rounds of a program, can't be left out "
+                                         "together with others")
     return list(dict.fromkeys(words))
 
 
@@ -99,11 +104,11 @@ def command_line():
 def main(words):
     line = command_line()
     given = line.parse_args(words)
-    of_rounds = bool(given.without) and set(given.without) <= set(OF_ROUNDS)
+    of_rounds = given.without and program_of(given.without)
     if given.network is None and not of_rounds:
         line.error("NETWORK is missing")
-    if of_rounds and given.program != Colouring.name:
-        line.error(f"only the colouring has the rules {','.join(OF_ROUNDS)}")
+    if of_rounds and given.program != of_rounds:
+        line.error(f"only --program {of_rounds} has the rules {','.join(OF_PROGRAMS[of_rounds])}")
     if of_rounds and (given.list or given.puts or given.reduce):
         rules = ",".join(OF_SCHEDULES)
         line.error(f"the rounds have no events: --list, --puts and --reduce are for the rules {rules}")
@@ -129,18 +134,23 @@ class Found(NamedTuple):
 
 def rounds_found(given):
     """What the rounds of the network do without the rules, or a smallest network on which they go wrong."""
+    program = program_at(given.program, given.lots, given.root, given.passes)
+    ruled = ruled_rounds.RuledRounds if program is Colouring else functools.partial(RuledSequel, program=program)
     if given.network is not None:
         name, net = network_at(given.network)
-        rounds = ruled_rounds.RuledRounds(net, given.without)
+        note_ignored_bars("explore", net.barred, program)
+        rounds = ruled(net, given.without)
         return said_of_rounds(given, rounds if rounds.clash else None, f"on {name}", f"the rounds of {name}")
     is_of_forests = set(given.without) <= set(OF_FORESTS)
     most, what = (MOST_ROW, "rows") if is_of_forests else (MOST_MERGED, "networks")
-    rounds, tried = ruled_rounds.smallest(given.without, most)
+    rounds, tried = ruled_rounds.smallest(given.without, most, ruled)
     if rounds is None:
         return Found(False, f"not broken: {tried:,} {what} of up to {most} nodes go right\n")
     edges = ", ".join(f"{v}-{w}" for v, w in sorted(map(sorted, rounds.net.number)))
+    where = f"on {len(rounds.net.neighbours)} nodes with the edges {edges}"
+    where += ", channel 1 barred at node 1" if rounds.net.greatest_bars else ""
     smaller = f"; {tried - 1} smaller {what} go right" if tried > 1 else ""
-    return said_of_rounds(given, rounds, f"on {len(rounds.net.neighbours)} nodes with the edges {edges}{smaller}", "")
+    return said_of_rounds(given, rounds, f"{where}{smaller}", "")
 
 
 def said_of_rounds(given, rounds, where, what):

@@ -112,13 +112,14 @@ def networks(nodes, without):
             yield from map(list, itertools.combinations(pairs, count))
 
 
-def smallest(without, most_nodes):
-    """(RuledRounds, how many networks were tried) of the first network that goes wrong, or (None, how many)."""
-    tried = 0
+def smallest(without, most_nodes, ruled=RuledRounds):
+    """(rounds, how many networks were tried) of the first network that goes wrong, or (None, how many). Channel 1 is
+    barred at node 1 if the bars are left out; `ruled` makes the rounds, as RuledRounds does."""
+    tried, bars = 0, {1: {0}} if "bars" in without else {}
     for nodes in range(2, most_nodes + 1):
         for edges in networks(nodes, without):
             tried += 1
-            rounds = RuledRounds(Network({v: v for v in range(1, nodes + 1)}, set(edges)), without)
+            rounds = ruled(Network({v: v for v in range(1, nodes + 1)}, set(edges), bars), without)
             if rounds.clash:
                 return rounds, tried
     return None, tried

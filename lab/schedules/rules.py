@@ -39,7 +39,36 @@ OF_MERGING = {
                     "to those in this forest alone", "colour_rules", "is_merged_takes_the_merged_forest_alone"),
 }
 OF_ROUNDS = OF_FORESTS | OF_MERGING
-ALL = OF_SCHEDULES | OF_ROUNDS
+
+# Of the programs that go on where the colouring ends: of what their nodes have found at the end.
+OF_SEQUELS = {
+    "matching": {
+        "partner": Rule("a node that has a partner takes no child", "it takes one in its turn all the same",
+                        "matching", "taken_takes_a_child_of_a_matched_node"),
+        "last": Rule("a pulse after the last turn reads what was sent in it", "the last turn ends it", "matching",
+                     "last_pulse_is_a_pulse_early"),
+    },
+    "independent-set": {
+        "class": Rule("a node joins in the pulse of its channel, and if no neighbour is in", "one of the two is enough",
+                      "independent_set", "choose_joins_beside_a_member"),
+        "beside": Rule("a node knows of each neighbour that has joined", "it forgets it at once", "independent_set",
+                       "pulse_forgets_what_it_heard"),
+    },
+    "recolouring": {
+        "bars": Rule("a node chooses no channel that is barred at it", "it doesn't look at its bars", "recolouring",
+                     "first_free_is_a_barred_colour"),
+        "anew": Rule("a node tells the channel that it has chosen anew", "it tells its channel in the plan",
+                     "recolouring", "choose_tells_the_first_colour"),
+    },
+}
+# By the program whose rounds have them; and all.
+OF_PROGRAMS = {"colouring": OF_ROUNDS} | OF_SEQUELS
+ALL = OF_SCHEDULES | {word: rule for of in OF_PROGRAMS.values() for word, rule in of.items()}
+
+
+def program_of(words):
+    """The program whose rounds have all these rules, or None."""
+    return next((name for name, of in OF_PROGRAMS.items() if set(words) <= set(of)), None)
 
 
 def table():

@@ -240,6 +240,10 @@ REFUSED = [
     (["examples/two.col", "--limit", "0"], "a number from 1 up"),
     (["--without", "digit", "--puts"], "the rounds have no events"),
     (["--without", "safes"], "NETWORK is missing"),
+    (["--without", "partner"], "only --program matching has the rules partner,last"),
+    (["--without", "digit", "--program", "matching"], "only --program colouring has the rules digit,"),
+    (["--without", "partner,bars", "--program", "matching"], "can't be left out together"),
+    (["path2", "--without", "bars", "--program", "recolouring", "--list"], "the rounds have no events"),
     (["examples/two.col", "x"], "unrecognized arguments: x"),
 ]
 
