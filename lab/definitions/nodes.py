@@ -324,18 +324,14 @@ class NetState:
 
     def possible(self) -> Iterator[Event]:
         """All events that are possible now."""
-        for v in self.nodes:
-            yield from self.possible_at(v)
-
-    def possible_at(self, v: int) -> Iterator[Event]:
-        """Those at v."""
-        if self.nodes[v].can_pulse():
-            yield "Pulse", v, None
-        for port, other in enumerate(self.nodes[v].ports):
-            if other.out:
-                yield "Put", v, port
-            if self.link_to(v, port):
-                yield "Take", v, port
+        for v, node in self.nodes.items():
+            if node.can_pulse():
+                yield "Pulse", v, None
+            for port, other in enumerate(node.ports):
+                if other.out:
+                    yield "Put", v, port
+                if self.link_to(v, port):
+                    yield "Take", v, port
 
 
 def missing_words(state: NetState, kind: str, v: int, port: int | None = None) -> str:

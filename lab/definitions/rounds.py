@@ -117,7 +117,8 @@ class Facts:
     def sent(self, p: int, v: int) -> Iterator[tuple[int, str, int]]:
         """(neighbour, word, number): all hear the identifier; parents the forest; children the colour; and who is a
         neighbour in the forests merged so far the choice, but at the last step of a forest."""
-        chooses = v in self.choosing.get(p, []) and not self.is_last_step(p)
+        is_last_of_merge = p >= FIRST_MERGE and merge_step(self.net, p)[1:] == (2, self.net.span)
+        chooses = v in self.choosing.get(p, []) and not is_last_of_merge
         merging = merge_step(self.net, p)[0] if chooses else None
         for w in sorted(self.net.neighbours[v]):
             f, is_parent = self.net.number[frozenset((v, w))], self.net.identifiers[w] > self.net.identifiers[v]
@@ -129,7 +130,3 @@ class Facts:
                 yield w, "colour", self.colours[f][p][v]
             elif chooses and f <= merging:
                 yield w, "chosen", self.choice(p, v)
-
-    def is_last_step(self, p: int) -> bool:
-        """Whether p is the last pulse of a merge."""
-        return merge_step(self.net, p)[1:] == (2, self.net.span)

@@ -108,10 +108,6 @@ class Space:
             self.contents.append(wires)
         return self.content_number[wires]
 
-    def without_wire(self, c, place):
-        wires = self.contents[c]
-        return self.content(wires[:place] + wires[place + 1:])
-
     def with_wires(self, c, more):
         key = (c, more)
         if key not in self.added:
@@ -172,7 +168,8 @@ class Space:
                     self.made[key] = self.take(a, i, p, wires[place])
                 j, gone, fault = self.made[key]
                 e = self.number_of_event("take", v, p, w, wire_words(wires[place]), place)
-                moves.append(Move(e, j, self.slot[w, v], self.without_wire(c, place), gone, fault))
+                rest = self.content(wires[:place] + wires[place + 1:])
+                moves.append(Move(e, j, self.slot[w, v], rest, gone, fault))
         return moves
 
     def put_move(self, a, i, p):

@@ -201,11 +201,6 @@ def unfinished(nodes):
             yield v, f"node {v} isn't drained"
 
 
-def check_nodes(net, line, nodes):
-    if nodes != len(net.neighbours):
-        raise Wrong(line, "Nodes", f"the transcript has {nodes} nodes, the network {len(net.neighbours)}")
-
-
 def whole_run(net, text, program=Colouring):
     """The lines of the entries in the order found, and the verdict on a transcript of a program on a network; or
     `Wrong`."""
@@ -244,7 +239,8 @@ def run_as_it_stands(net, text, program):
 
 def run_read_with_care(net, text, program=Colouring):
     head, entries, fault = read_to_fault(text, program.name)
-    check_nodes(net, head.line, head.nodes)
+    if head.nodes != len(net.neighbours):
+        raise Wrong(head.line, "Nodes", f"the transcript has {head.nodes} nodes, the network {len(net.neighbours)}")
     if head.is_stamped:
         check_stamped(net, head, entries, fault, program)
     found = find_order(net, entries, program)

@@ -120,18 +120,13 @@ def head_of(lines):
                 match fields:
                     case [b"transcript", b"1" | b"2" as edition, nodes]:
                         return Head(line, int(edition), number(nodes))
-                    case [b"transcript", b"3", name, nodes] if is_name(name):
+                    case [b"transcript", b"3", name, nodes] if name_in_texts(name.decode("latin-1")).encode() == name:
                         return Head(line, 3, number(nodes), name.decode())
             except ValueError:
                 pass
             raise Wrong(line, "X1", f"neither `transcript 1 N`, `transcript 2 N` nor `transcript 3 NAME N`"
                                     f"{what_it_is(fields)}")
     raise Wrong(1, "X1", "there is no line `transcript 1 N`, `transcript 2 N` or `transcript 3 NAME N`")
-
-
-def is_name(field):
-    """Whether a field is the name of a program as a transcript has it."""
-    return field.isascii() and field.decode() == name_in_texts(field.decode())
 
 
 def what_it_is(fields):

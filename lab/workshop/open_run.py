@@ -98,9 +98,7 @@ class OpenRun:
             code, v = "C5", v - 1
         channel = self.channels[v]
         words = {"C4": f"nodes {v} and {w} are neighbours, and both have channel {channel}",
-                 "C5": self.too_great(v), "C8": f"channel {channel} of node {v} is barred there"}[code]
+                 "C5": f"channel {channel} of node {v} isn't one of 1 to {self.network.channels}, which are enough",
+                 "C8": f"channel {channel} of node {v} is barred there"}[code]
         where = f"nodes {v} and {w}" if w else f"node {v}"
         return Finding(code, v, p, [("where", where), ("wrong", words), ("judge", line)])
-
-    def too_great(self, v: int) -> str:
-        return f"channel {self.channels[v]} of node {v} isn't one of 1 to {self.network.channels}, which are enough"

@@ -115,8 +115,9 @@ class Why:
         bars = [channel - 1 for channel in self.network.barred(self.v)]
         barred = f"; {listed('colour', bars)} {'is' if len(bars) == 1 else 'are'} barred at it" if bars else ""
         to = sorted(self.ports[w] for w in self.ports if self.forest_of(w) <= forest)
+        forests = "forest 0" if forest == 0 else f"forests 0 to {forest}"
         sent = "in the last pulse of a merge nothing is sent" if p == start + length - 1 else \
-            f"its neighbours in {forests_to(forest)} get it, by {listed('port', to)}"
+            f"its neighbours in {forests} get it, by {listed('port', to)}"
         return f"{turn}: it is its turn. In this merge neighbours sent it " \
                f"{listed('colour', sorted(heard))}{barred}; the least that is left is " \
                f"{self.rounds.chose[p][self.v]}; {sent}"
@@ -134,7 +135,3 @@ class Why:
 
 def in_digits(number: int) -> str:
     return f"{number} (binary {number:b})" if number < SHORT else str(number)
-
-
-def forests_to(forest: int) -> str:
-    return "forest 0" if forest == 0 else f"forests 0 to {forest}"
