@@ -4,21 +4,18 @@ import os
 TOP = os.path.dirname(os.path.dirname(os.path.abspath(__file__)))
 
 
-def words_of_lines():
-    """The crates of crates.txt in their order, each with all that its line names."""
-    lines = {}
-    with open(os.path.join(TOP, "crates.txt"), encoding="utf-8") as text:
-        for line in text:
-            crate, colon, named = line.partition("#")[0].partition(":")
-            if colon:
-                lines[crate.split()[0]] = named.split()
-    return lines
+def lines_of(top=TOP):
+    """The lines of a repository's crates.txt by the names of their crates, in their order."""
+    with open(os.path.join(top, "crates.txt"), encoding="utf-8") as text:
+        lines = [line.strip() for line in text]
+    return {line.partition(":")[0].split()[0]: line for line in lines if ":" in line.partition("#")[0]}
 
 
 def listed():
-    """The same, each with the crates of this repository alone."""
-    lines = words_of_lines()
-    return {crate: [name for name in named if name in lines] for crate, named in lines.items()}
+    """The crates of crates.txt in their order, each with those of this repository that its line names."""
+    lines = lines_of()
+    named = {crate: line.partition("#")[0].partition(":")[2].split() for crate, line in lines.items()}
+    return {crate: [name for name in names if name in lines] for crate, names in named.items()}
 
 
 def with_below(crates, below):

@@ -1,12 +1,12 @@
 """Makes a crate with a node program, from the crate `silent`; or with one that goes on after the colouring, from
 `independent_set`."""
-import argparse
 import os
 import re
 import shutil
 import sys
 
 from build.crate_lists import TOP
+from lab.words import parser_of
 
 # The crates that are copied: what each is called as a crate, as a type, and as a name in texts.
 MODEL, SEQUEL = ("silent", "Silent", "silent"), ("independent_set", "IndependentSet", "independent-set")
@@ -134,9 +134,7 @@ def add_line(name, top, model=MODEL):
 
 
 def main():
-    words = argparse.ArgumentParser(prog="python3 build new-program", usage="python3 build new-program [--sequel] NAME",
-                                    description=HELP, epilog=MORE_HELP,
-                                    formatter_class=argparse.RawDescriptionHelpFormatter)
+    words = parser_of("new-program", "[--sequel] NAME", HELP, MORE_HELP, "python3 build")
     words.add_argument("name", metavar="NAME", help="the program's name, a word of small letters")
     words.add_argument("--sequel", action="store_true", help="a program that goes on after the colouring")
     given = words.parse_args()

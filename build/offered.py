@@ -60,13 +60,9 @@ def key_of(name: str) -> str | None:
 
 def share(crates: list[str], keys: dict[str, str], is_done: bool = False) -> None:
     """Offers the libraries of these crates, which are proved; if all was proved before (`is_done`), only those that
-    weren't offered then. Where the toolchain's command has no such function, or anything fails, `rt check` builds its
-    own."""
-    rt = kit.command_as_module()
-    if not hasattr(rt, "offer") or not hasattr(rt, "take_rlib"):
-        return
+    weren't offered then. If that fails, `rt check` builds its own."""
     try:
-        known = {}
+        rt, known = kit.command_as_module(), {}
         for name in crates:
             made = os.path.join(kit.place(name, keys[name]), f"{name}.rlib")
             if os.path.isdir(made) and not (is_done and key_of(name) == keys[name]):

@@ -5,7 +5,8 @@ import os
 import re
 import textwrap
 
-TOP = os.path.dirname(os.path.dirname(os.path.abspath(__file__)))
+from build.crate_lists import TOP
+
 WIDTH = 148
 # From the program down to the texts.
 CRATES = ("serving", "byte_functions", "answers", "command_line", "whole_streams", "channel_plan", "transcripts",

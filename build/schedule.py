@@ -1,4 +1,3 @@
-#!/usr/bin/env python3
 """Reckons how long a first call takes, by a model of its schedule: what another order or fewer edges between crates give.
 
   schedule.py [--processors N ..] [--without CRATE:LOWER ..] [--seconds CRATE=N ..] [--each] [CRATE ..]
@@ -108,7 +107,3 @@ def main():
         wall = max(end for _, _, end in rows.values())
         print(f"{processors} processors: {wall / 60:.1f} minutes, {work / 60:.1f} processor minutes")
     return 0
-
-
-if __name__ == "__main__":
-    sys.exit(main())

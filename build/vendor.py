@@ -1,12 +1,12 @@
 """Copies crates, and all below them, into another repository, so that a program there can use them."""
-import argparse
 import os
 import shutil
 import sys
 import tempfile
 
 from build import kit
-from build.crate_lists import TOP, listed, with_below
+from build.crate_lists import TOP, lines_of, listed, with_below
+from lab.words import parser_of
 
 # What of a crate is copied: what it is proved from, and what shows that its contracts refuse wrong bodies.
 PARTS = ("src", "specs", "proofs", "must-fail")
@@ -34,16 +34,6 @@ Examples:
   python3 build vendor ~/mine sync_rounds           a node program, run round by round
   python3 build vendor ~/mine node_pool --build     one that runs on worker threads
 """
-
-
-def lines_of(top):
-    """The lines of crates.txt by the names of their crates."""
-    try:
-        with open(os.path.join(top, "crates.txt"), encoding="utf-8") as file:
-            lines = [line.strip() for line in file]
-    except FileNotFoundError:
-        return {}
-    return {line.partition(":")[0].split()[0]: line for line in lines if ":" in line.partition("#")[0]}
 
 
 def differs(crate, top):
@@ -94,7 +84,7 @@ def handles(top):
 
 def vendor(top, crates, replaces, has_build):
     """Copies crates in the order of crates.txt, and adds their lines; build/ too, if that is asked for."""
-    lines, there = lines_of(TOP), lines_of(top)
+    lines, there = lines_of(), lines_of(top) if os.path.exists(os.path.join(top, "crates.txt")) else {}
     changed = [crate for crate in crates if differs(crate, top) or there.get(crate, lines[crate]) != lines[crate]]
     if changed and not replaces:
         raise OSError(f"{top} has another crate {changed[0]}, or another line of it: --replace replaces it")
@@ -120,9 +110,7 @@ def reason(failed):
 
 
 def main():
-    words = argparse.ArgumentParser(prog="python3 build vendor", usage="python3 build vendor DIR CRATE .. [options]",
-                                    description=HELP, epilog=MORE_HELP,
-                                    formatter_class=argparse.RawDescriptionHelpFormatter)
+    words = parser_of("vendor", "DIR CRATE .. [options]", HELP, MORE_HELP, "python3 build")
     words.add_argument("dir", metavar="DIR", help="the top of the other repository")
     words.add_argument("crates", metavar="CRATE", nargs="+", help="crates of crates.txt")
     words.add_argument("--replace", action="store_true", help="crates that say something else are replaced")

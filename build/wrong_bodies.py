@@ -30,9 +30,7 @@ import time
 from concurrent.futures import ThreadPoolExecutor, as_completed
 
 from build import kit, prove
-from build.crate_lists import listed
-
-TOP = os.path.dirname(os.path.dirname(os.path.abspath(__file__)))
+from build.crate_lists import TOP, listed
 
 # The first edit of a list costs a proof of the whole crate, so no list is shorter than that is worth.
 LIST = 10
@@ -58,12 +56,12 @@ def changed_since(rev, given, at_hand):
     return [crate for crate in at_hand if crate in own or said.intersection(given.get(crate, ()))]
 
 
-def chosen(names, given, at_hand):
+def chosen(names, at_hand):
     """{crate: its edits} of crates, and of single edits, CRATE/NAME, with `.edit` after it or without."""
     edits = {}
     for name in names:
         crate, _, edit = name.partition("/")
-        if crate not in at_hand or crate not in given:
+        if crate not in at_hand:
             sys.exit(f"wrong-bodies: there is no crate {crate} with a folder crates/NAME/wrong-bodies/")
         there = edits_of(crate)
         found = [path for path in there if os.path.basename(path) == edit.removesuffix(".edit") + ".edit"]
@@ -95,9 +93,6 @@ def tried(rt, crate, edits, keys, end):
 def said_of_each(rt, crate, edits):
     """What the gate says of each edit, which it tries over what a check has proved of the unchanged crate."""
     flags = ["--jobs", "1"]
-    if hasattr(rt, "must_fail_all"):
-        # Some kits have one function for this.
-        return [text for _, text in rt.must_fail_all(crate, edits, flags)]
     room = rt.seeded(crate, flags)
     if room is None:
         return [f"must-fail {crate.name}/{os.path.basename(edit)}: NOT TRIED: the crate isn't proved without the edit"
@@ -159,7 +154,7 @@ def main():
         words.error("--since chooses the crates itself")
     names = changed_since(asked.since, given, at_hand) if asked.since else asked.names or at_hand
     end = time.monotonic() + 60 * asked.minutes
-    edits = chosen(names, given, at_hand)
+    edits = chosen(names, at_hand)
     if not kit.command():
         sys.exit("wrong-bodies: the toolchain's command rt is not on the PATH")
     below = sorted({lower for crate in edits for lower in given[crate]})

@@ -82,10 +82,6 @@ class Crate:
         return 0
 
 
-def take_rlib(crate):
-    return False
-
-
 def offer(crate, stamp):
     with open(f"{crate.folder}/out/rlib/{crate.name}.rlib/format") as text, open(f"{KIT}.offered", "a") as said:
         said.write(f"{crate.name} {stamp == crate.stamp() == text.read()}\\n")
