@@ -7,6 +7,7 @@ import sys
 
 from build.crate_lists import TOP
 from lab.words import parser_of
+from lab.wrong import Wrong
 
 # The crates that are copied: what each is called as a crate, as a type, and as a name in texts.
 MODEL, SEQUEL = ("silent", "Silent", "silent"), ("independent_set", "IndependentSet", "independent-set")
@@ -56,10 +57,6 @@ Example:
 """
 
 
-class Refused(Exception):
-    """Why no crate is made."""
-
-
 def files_of(model):
     """(part, folder, file, text) of all that is copied, the folder below the model's."""
     source = os.path.join(TOP, "crates", model[0])
@@ -80,13 +77,13 @@ def words_in(model):
 def check_name(name, top, model=MODEL):
     """Refuses a name that no new crate can have."""
     if not re.fullmatch("[a-z]+", name):
-        raise Refused(f"{name}: a program's name is one word of small letters, a to z")
+        raise Wrong(f"{name}: a program's name is one word of small letters, a to z")
     if len(name) > LONGEST:
-        raise Refused(f"{name}: a program's name has at most {LONGEST} letters")
+        raise Wrong(f"{name}: a program's name has at most {LONGEST} letters")
     if name in TAKEN or words_in(model) & {name, name.title()}:
-        raise Refused(f"{name}: this word is taken in the language or in the crate itself")
+        raise Wrong(f"{name}: this word is taken in the language or in the crate itself")
     if os.path.exists(os.path.join(top, "crates", name)) or name == "colouring":
-        raise Refused(f"{name}: there is a crate or a program of this name")
+        raise Wrong(f"{name}: there is a crate or a program of this name")
 
 
 def renamed(text, model, name):
@@ -143,7 +140,7 @@ def main():
         check_name(name, TOP, model)
         copy(name, TOP, model)
         add_line(name, TOP, model)
-    except (OSError, Refused) as why:
+    except OSError as why:
         print(f"new-program: {why}", file=sys.stderr)
         return 1
     listed = "".join(f"  crates/{name}/{file:<18}  {what}\n" for file, what in changes(model))

@@ -3,7 +3,8 @@ import os
 import shutil
 import tempfile
 
-from build.new_program import MODEL, PARTS, SEQUEL, Refused, add_line, changes, check_name, copy
+from build.new_program import MODEL, PARTS, SEQUEL, add_line, changes, check_name, copy
+from lab.wrong import Wrong
 from tests import TOP
 from tests.cases import Case
 
@@ -50,6 +51,6 @@ class NewProgram(Case):
                 try:
                     check_name(name, self.top, model)
                     self.note(f"{name} is refused", False)
-                except Refused as why:
+                except Wrong as why:
                     self.note(f"{name} is refused", name in str(why))
             check_name("dominating", self.top, model)
