@@ -157,10 +157,8 @@ def counts_of_gexf(text: str) -> tuple[int, int]:
         if {"start", "end", "spells"} & {*edge.attrib, *(part.tag.rpartition("}")[2] for part in edge)}:
             raise ValueError("edges that come and go: write those of one time")
     titles = {part.get("id"): part.get("title", "") for part in root.iter() if part.tag.endswith("attribute")}
-    values = [{titles.get(part.get("for"), ""): part.get("value", "").lower() for part in edge.iter()}
-              for edge in edges]
-    keys = {key for said in values for key in said}
-    refuse_flags(Listed("GEXF"), {key: {said.get(key, "") for said in values} for key in keys}, "an edge")
+    refuse_flags(Listed("GEXF"), [{titles.get(part.get("for"), ""): part.get("value", "").lower()
+                                   for part in edge.iter()} for edge in edges], "an edge")
     tags = [element.tag.rpartition("}")[2] for element in root.iter()]
     return tags.count("node"), tags.count("edge")
 

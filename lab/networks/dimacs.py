@@ -4,7 +4,7 @@ import re
 
 from lab.networks.listed import Listed, clean
 from lab.networks.network_text import (
-    IDENTIFIERS, MAX_BARS, MAX_CHANNEL, SKIPPED, fields_of, name_of, place_of, shown, whole)
+    IDENTIFIERS, MAX_BARS, MAX_CHANNEL, SKIPPED, fields_of, read_comment, shown, whole)
 from lab.networks.fields import Unread, is_number, refuse_zero
 from lab.wrong import wrong_line
 
@@ -54,12 +54,13 @@ def read(text: str, name: str) -> Listed:
                 refuse_zero((fields + [None] * 4)[3], f"{name} line {line}")
                 weights += len(fields) > 3
             found.edges.append((line, str(whole(ends[0])), str(whole(ends[1]))))
+    found.names = {v: clean(own) for v, own in found.names.items()}
     if found.nodes is None:
         found.left_out.append("there is no `p` line, so nodes without an edge aren't known")
     if passed:
         found.left_out.append(f"lines `n`, `d`, `v` and `x` not read: {passed}")
     if weights:
-        found.left_out.append(Unread(["weights"], "", "", f" of lines `a` not read: {weights}"))
+        found.left_out.append(Unread(["weights"], f"{{names}} of lines `a` not read: {weights}"))
     there = len({frozenset(ends) for _, *ends in found.edges})
     if head[1] not in (None, there, 2 * there, len(found.edges)):
         found.left_out.append(f"the `p` line says {head[1]:,} edges, and the text has {there:,}: is it cut?")
@@ -100,11 +101,3 @@ def read_bar(found, name, line, fields):
     bars.add(channel)
     if len(bars) > MAX_BARS:
         raise wrong_line(name, line, f"more than {MAX_BARS} channels are barred at vertex {v}")
-
-
-def read_comment(found, raw, fields):
-    place, name = place_of(fields), name_of(raw)
-    if place:
-        found.places[place[0]] = place[1]
-    if name:
-        found.names[name[0]] = clean(name[1])

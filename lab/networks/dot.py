@@ -9,16 +9,15 @@ from lab.wrong import Wrong, wrong_line
 
 # One pass over the text: whichever of these begins first at a place is there. A line that begins with # is a comment.
 TOKEN = re.compile(
-    r"""(?P<space>[ \t\r\n\f\v\ufeff]+ | //[^\n]*)
-      | (?P<block>/\*)
+    r"""(?P<space>[ \t\r\n\f\v\ufeff]+ | //[^\n]* | /\*.*?\*/)
       | (?P<mark>--|->|[{}\[\];,:=])
-      | (?P<quoted>")
+      | "(?P<quoted>[^"\\]*(?:\\.[^"\\]*)*)"
       | (?P<html><)
       | (?P<number>-?(?:\.[0-9]+|[0-9]+(?:\.[0-9]*)?)(?![\w.]))
       | (?P<word>[^\W\d]\w*)
+      | (?P<cut>/\*|")
       | (?P<strange>[^\s{}\[\];,:="<]+|.)""", re.X | re.S
 )
-QUOTED = re.compile(r'[^"\\]+|\\.', re.S)
 COMPASS = {"n", "ne", "e", "se", "s", "sw", "w", "nw", "c", "_"}
 WORDS = {"node", "edge", "graph", "digraph", "subgraph", "strict"}
 # No file that a person or a program writes has as many braces in each other, or as many edges between two subgraphs.
@@ -26,49 +25,31 @@ DEEPEST, MOST_EDGES = 100, 4 * MAX_EDGES
 
 
 def tokens_of(text, name):
-    """(line, kind, value) of each token: a mark, a word without quotes, or a text, which is never a keyword."""
+    """(line, kind, value) of each token: a mark, which may be a keyword, or a text; in quotes it is never a keyword."""
     at, line = 0, 1
     while at < len(text):
         if text[at] == "#" and (at == 0 or text[at - 1] == "\n"):
-            at = end_of(text, "\n", at + 1) or len(text)
+            at = text.find("\n", at) + 1 or len(text)
             continue
         found = TOKEN.match(text, at)
         kind, value, start, at = found.lastgroup, found.group(), line, found.end()
         if kind == "number" and value[0] == "-" and re.match(r"\w", text[found.start() - 1:found.start()]):
             raise wrong_line(name, line, f"`{shown(value)}` after a name without a blank: a name with - needs quotes")
-        if kind == "block":
-            at = end_of(text, "*/", at)
-        elif kind == "quoted":
-            at = end_of_quoted(text, at)
-        elif kind == "html":
-            at = end_of_html(text, at)
-        elif kind == "strange":
+        if kind == "strange":
             raise wrong_line(name, line, f"DOT isn't read on from `{shown(value)}`; a name of other letters than these "
                                          "and digits needs quotes")
-        if at is None and kind == "html":
-            raise wrong_line(name, start, "`<` begins a text here, and no `>` ends it: is the text cut?")
-        if at is None:
-            raise wrong_line(name, start, "DOT ends before its last brace: is the text cut?")
-        line += text.count("\n", found.start(), at)
-        if kind == "quoted":
-            value = text[found.end():at - 1].replace("\\\n", "").replace('\\"', '"')
-        elif kind == "html":
+        if kind == "cut":
+            raise wrong_line(name, line, "DOT ends before its last brace: is the text cut?")
+        if kind == "html":
+            at = end_of_html(text, at)
+            if at is None:
+                raise wrong_line(name, line, "`<` begins a text here, and no `>` ends it: is the text cut?")
             value = text[found.start():at]
-        if kind not in ("space", "block"):
-            yield start, {"mark": "mark", "word": "word"}.get(kind, "text"), value
-
-
-def end_of(text, mark, at):
-    """The place after a mark, or None."""
-    found = text.find(mark, at)
-    return found + len(mark) if found >= 0 else None
-
-
-def end_of_quoted(text, at):
-    """The place after the quote that closes a text, or None."""
-    while found := QUOTED.match(text, at):
-        at = found.end()
-    return at + 1 if text[at:at + 1] == '"' else None
+        elif kind == "quoted":
+            value = found["quoted"].replace("\\\n", "").replace('\\"', '"')
+        line += text.count("\n", found.start(), at)
+        if kind != "space":
+            yield start, "mark" if kind == "mark" or kind == "word" and value.lower() in WORDS else "text", value
 
 
 def end_of_html(text, at):
@@ -86,9 +67,9 @@ def begins(text):
     words = []
     try:
         for _, kind, value in tokens_of(text, ""):
-            if kind == "mark" or len(words) > 3:
+            if kind == "mark" and value.lower() not in WORDS or len(words) > 3:
                 return value == "{" and re.fullmatch(r"(strict )?(di)?graph( \S+)?", " ".join(words)) is not None
-            words.append(value.lower() if kind == "word" else "text")
+            words.append(value.lower() if kind == "mark" else "text")
     except Wrong:
         pass
     return False
@@ -103,7 +84,7 @@ class Reader:
     def __init__(self, text, name):
         self.name, self.at, self.tokens, self.depth = name, 0, list(tokens_of(text, name)), 0
         self.edges, self.nodes, self.labels, self.is_directed = [], [], {}, False
-        self.has_lists, self.ports, self.said, self.statements_read, self.defaults = False, 0, {}, 0, {}
+        self.has_lists, self.ports, self.said, self.defaults = False, 0, [], {}
         self.keys = set()
 
     def next(self):
@@ -114,11 +95,8 @@ class Reader:
         return self.tokens[self.at]
 
     def is_at(self, *marks):
-        return self.at < len(self.tokens) and self.tokens[self.at][1] == "mark" and self.tokens[self.at][2] in marks
-
-    def is_word(self, *words):
-        _, kind, value = self.next()
-        return kind == "word" and value.lower() in words
+        _, kind, value = self.tokens[self.at] if self.at < len(self.tokens) else (0, "", "")
+        return kind == "mark" and value.lower() in marks
 
     def skip(self, *marks):
         """Whether one of the marks is next; it is passed."""
@@ -129,18 +107,16 @@ class Reader:
     def id(self):
         """The line and the name of the next token."""
         line, kind, value = self.next()
-        if kind == "mark" or kind == "word" and value.lower() in WORDS:
+        if kind == "mark":
             raise wrong_line(self.name, line, f"DOT isn't read on from `{shown(value)}`")
         self.at += 1
         return line, value
 
     def graph(self):
         """The whole text, which is one graph."""
-        if self.is_word("strict"):
-            self.at += 1
-        if not self.is_word("graph", "digraph"):
+        self.skip("strict")
+        if not self.skip("graph", "digraph"):
             raise wrong_line(self.name, self.next()[0], "no `graph {` or `digraph {`")
-        self.at += 1
         if not self.is_at("{"):
             self.id()
         if not self.skip("{"):
@@ -164,7 +140,7 @@ class Reader:
 
     def statement(self):
         is_before = self.tokens[self.at + 1: self.at + 2]
-        if self.is_word("node", "edge", "graph") and is_before and is_before[0][1:] == ("mark", "["):
+        if self.is_at("node", "edge", "graph") and is_before and is_before[0][1:] == ("mark", "["):
             _, _, word = self.tokens[self.at]
             self.at += 1
             said = self.attributes()
@@ -204,11 +180,7 @@ class Reader:
         if "invis" in said.get("style", "") or said.get("color") in ("transparent", "none"):
             raise wrong_line(self.name, line, "an edge that isn't drawn: is it one? Leave it out if not")
         refuse_zero(said.get("weight"), f"{self.name} line {line}")
-        for key in said:
-            self.said.setdefault(key, {""} if self.statements_read else set())
-        self.statements_read += 1
-        for key, words in self.said.items():
-            words.add(said.get(key, "").lower())
+        self.said.append({key: word.lower() for key, word in said.items()})
 
     def attributes(self):
         """The attributes in brackets, by their names."""
@@ -223,8 +195,7 @@ class Reader:
 
     def end(self):
         """An end of an edge: nodes with commas between them, or the nodes of a subgraph."""
-        if self.is_word("subgraph"):
-            self.at += 1
+        if self.skip("subgraph"):
             if not self.is_at("{"):
                 self.id()
             if not self.is_at("{"):

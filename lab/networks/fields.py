@@ -41,17 +41,13 @@ def why_no_number(fields, names):
 
 
 class Unread(str):
-    """What is said of columns or keys that aren't read, by their `names`; empty if there is none. Without a kind of
-    them, what is said is the first name and what comes `after` it."""
+    """What is said of columns or keys that aren't read, by their `names`; empty if there is none. `words` has {names},
+    and may have {count} and {s}; `before` comes before them."""
 
-    names: list[str]
-
-    def __new__(cls, names: list[str], what: str, before: str = "", after: str = "") -> "Unread":
-        kind, _, more = what.partition(" ")
-        said = f"{len(names)} {kind}{'s' * (len(names) > 1)}{more and ' ' + more} not read: {shown(', '.join(names))}"
-        said = before + (said if what else names[0]) + after if names else ""
-        unread = super().__new__(cls, said)
-        unread.names, unread.parts = names, (what, before, after)
+    def __new__(cls, names: list[str], words: str, before: str = "") -> "Unread":
+        said = words.format(count=len(names), s="s" * (len(names) > 1), names=shown(", ".join(names)))
+        unread = super().__new__(cls, before + said if names else "")
+        unread.names, unread.parts = names, (words, before)
         return unread
 
     def without(self, ignored: set[str]) -> "Unread":
@@ -59,12 +55,12 @@ class Unread(str):
         return Unread([name for name in self.names if name not in ignored], *self.parts)
 
 
-def columns_left(titles: list[str], rows: list[tuple[int, list[str]]], read: set[int | None], before: str = "",
-                 after: str = "") -> Unread:
+def columns_left(titles: list[str], rows: list[tuple[int, list[str]]], read: set[int | None],
+                 before: str = "") -> Unread:
     """What is said of the columns that aren't `read` and have something in some row."""
     there = {at for _, fields in rows for at, field in enumerate(fields) if field} - read
     named = [titles[at] if at < len(titles) and titles[at] else f"number {at + 1}" for at in sorted(there)]
-    return Unread(named, "column", before, after)
+    return Unread(named, "{count} column{s} not read: {names}", before)
 
 
 @lru_cache(1 << 16)

@@ -3,13 +3,14 @@ import html
 import re
 
 from lab.networks.fields import refuse_zero, shown
-from lab.networks.listed import HIDDEN, Listed, leave_keys, refuse_flags
+from lab.networks.listed import HIDDEN, Listed, leave_groups, leave_keys, refuse_flags
 from lab.wrong import Wrong, wrong_line
 
 BEGINS = re.compile(
     r"\s*(#[^\n]*\n\s*)*((creator|version|comment|directed|label)\s+(\"[^\"]*\"|[0-9.]+)\s+)*graph\s*\[", re.I
 )
-TOKEN = re.compile(r'(?P<space>\s+|#[^\n]*)|(?P<mark>[\[\]])|"(?P<string>[^"]*)"|(?P<word>[^\s\[\]"#]+(?=[\s\[\]"]|$))')
+TOKEN = re.compile(r'(?P<space>\s+|#[^\n]*)|(?P<mark>[\[\]])|"(?P<string>[^"]*)"|(?P<word>[^\s\[\]"#]+(?=[\s\[\]"]|$))|'
+                   r'(?P<strange>.)', re.S)
 
 # What nodes are called: networkx and yEd write the first, igraph and Graphviz the second.
 LABELS = ("label", "name")
@@ -24,28 +25,21 @@ def begins(text: str) -> bool:
 
 
 def tokens_of(text: str):
-    """(line, mark, value) of each token: a mark is a bracket, a value a string or a word."""
-    line, at = 1, 0
-    while at < len(text):
-        found = TOKEN.match(text, at)
-        if not found:
-            yield line, "?", text[at]
-            return
-        if found.lastgroup == "mark":
-            yield line, found["mark"], None
-        elif found.lastgroup == "string":
-            yield line, None, Quoted(html.unescape(found["string"]))
-        elif found.lastgroup == "word":
-            yield line, None, found["word"]
+    """(line, kind, value) of each token: a mark is a bracket, a string was in quotes, and nothing else is strange."""
+    line = 1
+    for found in TOKEN.finditer(text):
+        if found.lastgroup != "space":
+            is_string = found.lastgroup == "string"
+            yield line, found.lastgroup, Quoted(html.unescape(found["string"])) if is_string else found.group()
         line += found.group().count("\n")
-        at = found.end()
 
 
 def tree_of(text: str, name: str) -> list:
     """Lists of (line, key, value), one inside the other; a value is a text or a list."""
     top, open_lists, key, line = [], [], None, 1
     inside = top
-    for line, mark, value in tokens_of(text):
+    for line, kind, value in tokens_of(text):
+        mark = value if kind in ("mark", "strange") else None
         if mark == "[" and key is not None:
             below = []
             inside.append((*key, below))
@@ -54,7 +48,7 @@ def tree_of(text: str, name: str) -> list:
         elif mark == "]" and key is None and open_lists:
             inside = open_lists.pop()
         elif mark:
-            raise wrong_line(name, line, f"GML isn't read on from `{shown(value or mark)}`")
+            raise wrong_line(name, line, f"GML isn't read on from `{shown(mark)}`")
         elif key is None and not re.fullmatch("[A-Za-z][0-9A-Za-z_]*", value):
             raise wrong_line(name, line, f"`{shown(value)}` is no key of GML")
         elif key is None:
@@ -99,7 +93,9 @@ def read(text: str, name: str) -> Listed:
             hidden = next((word for word in HIDDEN if value_of(entries, word) == "1"), None)
             if hidden:
                 raise wrong_line(name, line, f"an edge that is {hidden}: leave it out if it is none")
-    refuse_flags(found, flags_of(graphs[0]), name)
+    refuse_flags(found, [{known: value.lower() or "null" if isinstance(value, str) else known
+                          for _, known, value in entries if known not in ("source", "target")}
+                         for _, key, entries in graphs[0] if key == "edge" and isinstance(entries, list)], name)
     keys = {inner for _, key, entries in graphs[0] if key == "node" for _, inner, _ in entries}
     leave_keys(found, keys - {*LABELS, "id", "graphics", "isgroup", "gid"}, "nodes")
     for line, *ends in found.edges:
@@ -108,26 +104,14 @@ def read(text: str, name: str) -> Listed:
                 raise wrong_line(name, line, f"an edge names {shown(end)}, which is no node")
             if isinstance(end, Quoted) and any(end in said.values() for said in labels.values()):
                 raise wrong_line(name, line, f"an edge names \"{shown(end)}\", which is a label, too: write ids")
-    groups = {value_of(entries, "id") for _, key, entries in graphs[0]
-              if key == "node" and value_of(entries, "isgroup") == "1"}
-    groups -= {end for _, *ends in found.edges for end in ends}
-    if groups:
-        found.left_out.append(f"groups of nodes, without an edge of their own, are no nodes: {len(groups)}")
-        found.alone = [(line, node) for line, node in found.alone if node not in groups]
+    leave_groups(found, {value_of(entries, "id") for _, key, entries in graphs[0]
+                         if key == "node" and value_of(entries, "isgroup") == "1"})
     for word in LABELS:
         if found.names_by(labels[word], word):
             break
     if value_of(graphs[0], "directed") == "1":
         found.notes.append("directions aren't read")
     return found
-
-
-def flags_of(graph: list) -> dict[str, set[str]]:
-    """What each key of edges says, by key."""
-    edges = [{known: value.lower() or "null" if isinstance(value, str) else known for _, known, value in entries}
-             for _, key, entries in graph if key == "edge" and isinstance(entries, list)]
-    keys = {key for edge in edges for key in edge} - {"source", "target"}
-    return {key: {edge.get(key, "") for edge in edges} for key in keys}
 
 
 def refuse_others(tree: list, graph: list, name: str) -> None:

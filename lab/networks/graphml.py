@@ -2,11 +2,9 @@
 from xml.etree import ElementTree
 
 from lab.networks.fields import Unread, refuse_zero, shown
-from lab.networks.listed import Listed, leave_keys, refuse_flags
+from lab.networks.listed import Listed, leave_groups, leave_keys, refuse_flags
 from lab.wrong import Wrong
 
-# The names of data that say where a node is: networkx and Gephi write them. y grows downwards there.
-ACROSS, DOWN = ("x",), ("y",)
 LABELS, WEIGHTS = ("label", "name"), ("weight", "value")
 
 
@@ -30,29 +28,34 @@ def read(text: str, name: str) -> Listed:
         root = ElementTree.fromstring(text.lstrip().encode(), ElementTree.XMLParser(encoding="utf-8"))
     except ElementTree.ParseError as why:
         raise Wrong(f"{name} line {why.position[0]}: it begins like GraphML, and is no XML: {why}") from None
-    graphs = [child for child in root if plain(child.tag) == "graph"]
+    graphs = root.findall("{*}graph")
     if len(graphs) != 1:
         raise Wrong(f"{name}: it has {len(graphs)} graphs, and one is read")
     parts = [sum(plain(element.tag) in ("node", "edge") for element in part.iter()) for part in (root, graphs[0])]
     if parts[0] != parts[1]:
         raise Wrong(f"{name}: a node or an edge is outside of the graph")
     found = Listed("GraphML", is_exact=True)
-    words = {key.get("id"): key.get("attr.name", "").lower() for key in root.iter() if plain(key.tag) == "key"}
-    said = {word: {} for word in LABELS + ACROSS + DOWN}
+    words = {key.get("id"): key.get("attr.name", "").lower() for key in root.findall(".//{*}key")}
+    said = {word: {} for word in (*LABELS, "x", "y")}
     for at, element in enumerate(graphs[0].iter(), 1):
         read_element(found, name, at, element, words, said)
-    refuse_flags(found, flags_of(root, graphs[0], words), name)
-    if any(plain(part.tag) == "EdgeLabel" and (part.text or "").strip() for part in graphs[0].iter()):
-        found.left_out.append(Unread(["labels"], "", "", " of edges not read"))
-    leave_keys(found, {words.get(data.get("key"), "") for node in graphs[0].iter() if plain(node.tag) == "node"
-                       for data in node if plain(data.tag) == "data"} - {*LABELS, *ACROSS, *DOWN}, "nodes")
+    defaults = {words[key.get("id")]: (part.text or "").strip().lower() for key in root.findall(".//{*}key")
+                if key.get("for") != "node" for part in key.findall("{*}default")}
+    edges = [{words.get(data.get("key"), ""): (data.text or "").strip().lower() or "null"
+              for data in edge.findall("{*}data")} for edge in graphs[0].findall(".//{*}edge")]
+    refuse_flags(found, edges, name, defaults)
+    if any((part.text or "").strip() for part in graphs[0].findall(".//{*}EdgeLabel")):
+        found.left_out.append(Unread(["labels"], "{names} of edges not read"))
+    nodes = graphs[0].findall(".//{*}node")
+    keys = {words.get(data.get("key"), "") for node in nodes for data in node.findall("{*}data")}
+    leave_keys(found, keys - said.keys(), "nodes")
     listed = {node for _, node in found.alone}
     if len(listed) != len(found.alone):
         raise Wrong(f"{name}: two nodes have one id")
     unknown = next((end for _, *ends in found.edges for end in ends if end not in listed), None)
     if unknown is not None:
         raise Wrong(f"{name}: an edge names {shown(unknown)}, which is no node")
-    leave_groups(found, graphs[0])
+    leave_groups(found, {node.get("id") for node in nodes if node.find("{*}graph") is not None})
     read_places(found, said)
     for word in LABELS:
         if found.names_by(said[word], word):
@@ -60,16 +63,6 @@ def read(text: str, name: str) -> Listed:
     if any(graph.get("edgedefault") == "directed" for graph in graphs):
         found.notes.append("directions aren't read")
     return found
-
-
-def flags_of(root: ElementTree.Element, graph: ElementTree.Element, words: dict) -> dict[str, set[str]]:
-    """What each key says of the edges, and its default of those of which it says nothing."""
-    defaults = {words[key.get("id")]: (part.text or "").strip().lower() for key in root.iter()
-                if plain(key.tag) == "key" and key.get("for") != "node" for part in key if plain(part.tag) == "default"}
-    edges = [{words.get(data.get("key"), ""): (data.text or "").strip().lower() or "null" for data in edge
-              if plain(data.tag) == "data"} for edge in graph.iter() if plain(edge.tag) == "edge"]
-    keys = {key for edge in edges for key in edge}
-    return {key: {edge.get(key, defaults.get(key, "")) for edge in edges} for key in keys - {""}}
 
 
 def read_element(found: Listed, name: str, at: int, element: ElementTree.Element, words: dict, said: dict) -> None:
@@ -109,16 +102,6 @@ def read_drawing(node: str, data: ElementTree.Element, said: dict) -> None:
         elif plain(part.tag) == "Geometry" and part.get("x") and part.get("y"):
             said["x"].setdefault(node, part.get("x"))
             said["y"].setdefault(node, part.get("y"))
-
-
-def leave_groups(found: Listed, graph: ElementTree.Element) -> None:
-    """Leaves out the nodes that only hold others, as the groups of yEd do."""
-    groups = {element.get("id") for element in graph.iter() if plain(element.tag) == "node"
-              and any(plain(child.tag) == "graph" for child in element)}
-    groups -= {end for _, *ends in found.edges for end in ends}
-    if groups:
-        found.left_out.append(f"groups of nodes, without an edge of their own, are no nodes: {len(groups)}")
-        found.alone = [(at, node) for at, node in found.alone if node not in groups]
 
 
 def read_places(found: Listed, said: dict) -> None:

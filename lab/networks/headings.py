@@ -44,7 +44,8 @@ def heading_of(rows: list, separator: str | None, name: str, heading: bool | Non
     """The heading of rows. `heading` is what the caller knows of it; if it isn't known and the rows don't show it, they
     are refused."""
     line, first = rows[0]
-    again = [row for row in rows[1:] if row[1][0].casefold() == first[0].casefold() and folded(row[1]) == folded(first)]
+    again = [row for row in rows[1:] if row[1][0].casefold() == first[0].casefold()
+             and list(map(str.casefold, row[1])) == list(map(str.casefold, first))]
     repeated = {number for number, _ in again}
     body = [row for row in rows[1:] if row[0] not in repeated]
     columns, is_guess, said = None, False, []
@@ -69,10 +70,6 @@ def heading_of(rows: list, separator: str | None, name: str, heading: bool | Non
         count = "1 line" if len(again) == 1 else f"{len(again):,} lines"
         found.left_out.append(f"{count} with the heading again left out, first at line {again[0][0]}")
     return found
-
-
-def folded(fields: list[str]) -> list[str]:
-    return [word.casefold() for word in fields]
 
 
 def unsure(name: str, line: int, fields: list[str]) -> Wrong:

@@ -78,7 +78,10 @@ class Table:
 def table_of(text: str, name: str, is_headed: bool = False) -> Table:
     """The rows of a text. If it `is_headed`, as a table of sites is, each line from its heading on is a row."""
     lines = lines_of(text, name)
-    found = Table(by_networkx=is_by_networkx(lines))
+    # networkx' adjacency lists have a head: the command, the time and the graph's name.
+    heads = [line for _, line in lines[:3]]
+    found = Table(by_networkx=len(heads) == 3 and all(head.startswith("#") for head in heads)
+                  and heads[1].startswith("# GMT"))
     comments = 3 if found.by_networkx else 0
     lines = [line_of(line) for line in lines[comments:]]
     bare = [line for line in lines if not line.is_marked]
@@ -86,10 +89,8 @@ def table_of(text: str, name: str, is_headed: bool = False) -> Table:
     found.separator = found.separator or separator_of(bare)
     for line in lines:
         line.end(found.separator)
-    kept, doubtful = (lines, []) if len(bare) == len(lines) else ([], lines)
-    if doubtful:
-        kept, doubtful, more = rows_among(lines, found.separator, is_headed, name)
-        comments += more
+    kept, doubtful, more = rows_among(lines, found.separator, is_headed, len(bare) < len(lines), name)
+    comments += more
     if doubtful:
         marks = "a line that begins" if len(doubtful) == 1 else f"{len(doubtful):,} lines that begin"
         found.left_out.append(f"{marks} with # or % left out, first at line {doubtful[0].number}: "
@@ -97,7 +98,7 @@ def table_of(text: str, name: str, is_headed: bool = False) -> Table:
     if comments:
         found.notes.append("1 line is a comment" if comments == 1 else f"{comments:,} lines are comments")
     if any(line.data.strip("{ }") for line in kept):
-        found.left_out.append(Unread(["data"], "", "", " in braces not read, as weights are"))
+        found.left_out.append(Unread(["data"], "{names} in braces not read, as weights are"))
     found.has_data = any(line.data for line in kept)
     if OPENED.search(text):
         found.notes.append("quotes around whole fields, as \u00ab \u00bb, aren't part of them")
@@ -112,11 +113,14 @@ def table_of(text: str, name: str, is_headed: bool = False) -> Table:
     return found
 
 
-def rows_among(lines: list[Line], separator: str | None, is_headed: bool, name: str) -> tuple[list, list, int]:
-    """The rows, the lines that may be rows or comments, and how many are comments, of lines some of which begin with
-    a mark."""
+def rows_among(lines: list[Line], separator: str | None, is_headed: bool, are_marked: bool,
+               name: str) -> tuple[list, list, int]:
+    """The rows, the lines that may be rows or comments, and how many are comments; only if some begin with a mark they
+    `are_marked`."""
     kept, doubtful, comments = [], [], 0
-    have_marks = any(is_marked_name(part) for line in lines for part in parts_of(line, separator)[1:])
+    # Whether a field after the first is a name that begins with the mark of a comment.
+    have_marks = are_marked and any(re.match(r"\"?[#%][^\s#%\"]", part) for line in lines
+                                    for part in parts_of(line, separator)[1:])
     for line in lines:
         is_first = not kept
         if not line.is_marked or is_row(line, separator, is_first, is_headed, have_marks):
@@ -141,12 +145,6 @@ def lines_of(text: str, name: str) -> list[tuple[int, str]]:
     return lines
 
 
-def is_by_networkx(lines: list[tuple[int, str]]) -> bool:
-    """Whether the text has the head of networkx' adjacency lists: the command, the time and the graph's name."""
-    heads = [line for _, line in lines[:3]]
-    return len(heads) == 3 and all(head.startswith("#") for head in heads) and heads[1].startswith("# GMT")
-
-
 def line_of(row: tuple[int, str]) -> Line:
     """A line apart from its data of networkx."""
     number, text = row
@@ -168,11 +166,6 @@ def separator_of(lines: list[Line]) -> str | None:
 def parts_of(line: Line, separator: str | None) -> list[str]:
     """The fields of a line, whatever quotes are in it."""
     return [part.strip() for part in line.text.split(separator)]
-
-
-def is_marked_name(part: str) -> bool:
-    """Whether a field is a name that begins with the mark of a comment."""
-    return re.match(r"\"?[#%][^\s#%\"]", part) is not None
 
 
 def is_row(line: Line, separator: str | None, is_first: bool, is_headed: bool, have_marks: bool) -> bool:

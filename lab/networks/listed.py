@@ -44,10 +44,6 @@ FLAGS = NOT | {"yes", "y", "ja", "j", "true", "t", "wahr", "w", "on", "x", "1", 
 HIDDEN = ("hidden", "deleted", "removed", "disabled", "ignored")
 
 
-class Doubt(str):
-    """A note of what was guessed of a text, which --strict refuses."""
-
-
 @dataclass
 class Listed:
     """`edges` has (line, name, name), and `alone` (line, name) of nodes that are named without a neighbour. If the text
@@ -94,9 +90,12 @@ class Listed:
         return is_named
 
 
-def refuse_flags(found: Listed, said: dict[str, set[str]], name: str) -> None:
-    """Refuses edges of which a key says yes of some and no, or nothing at all, of others: these may be none. All keys
-    are counted."""
+def refuse_flags(found: Listed, edges: list[dict[str, str]], name: str,
+                 defaults: dict[str, str] | None = None) -> None:
+    """Refuses edges, each given by what its keys say, of which a key says yes of some and no, or nothing at all, of
+    others: these may be none. All keys are counted."""
+    keys = dict.fromkeys(key for edge in edges for key in edge)
+    said = {key: {edge.get(key, (defaults or {}).get(key, "")) for edge in edges} for key in keys}
     for key, words in said.items():
         if len(words) > 1 and words <= FLAGS and words & NOT and key not in NO_FLAGS:
             raise Wrong(f"{name}: the key `{shown(key)}` may say which edges count: leave out those that are none, and "
@@ -105,9 +104,17 @@ def refuse_flags(found: Listed, said: dict[str, set[str]], name: str) -> None:
                "edges")
 
 
+def leave_groups(found: Listed, groups: set[str]) -> None:
+    """Leaves out the nodes that only hold others, as the groups of yEd do, unless they have an edge of their own."""
+    groups = groups - {end for _, *ends in found.edges for end in ends}
+    if groups:
+        found.left_out.append(f"groups of nodes, without an edge of their own, are no nodes: {len(groups)}")
+        found.alone = [(line, node) for line, node in found.alone if node not in groups]
+
+
 def leave_keys(found: Listed, keys: Iterable[str], what: str) -> None:
     """Counts keys of nodes or edges that aren't read, whatever they say."""
-    if left := Unread(sorted(set(keys) - {""}), f"key of {what}"):
+    if left := Unread(sorted(set(keys) - {""}), f"{{count}} key{{s}} of {what} not read: {{names}}"):
         found.left_out.append(left)
 
 
@@ -193,12 +200,12 @@ def bytes_of(stream: io.BufferedIOBase, name: str) -> bytes:
     return data
 
 
-def decoded(data: bytes, name: str) -> tuple[str, list[str]]:
-    """The text with line feeds as line ends, and what had to be mended."""
+def decoded(data: bytes, name: str) -> tuple[str, list[str], list[str]]:
+    """The text with line feeds as line ends, what had to be mended, and what was guessed, which --strict refuses."""
     for head, what in NO_TEXT.items():
         if data.startswith(head):
             raise Wrong(f"{name}: it is no text but {what}")
-    notes, is_guess = [], False
+    notes, guessed = [], []
     if data.startswith((codecs.BOM_UTF16_LE, codecs.BOM_UTF16_BE)):
         try:
             text = data.decode("utf-16")
@@ -209,13 +216,17 @@ def decoded(data: bytes, name: str) -> tuple[str, list[str]]:
         if data.startswith(codecs.BOM_UTF8):
             notes.append("a byte order mark is left out")
         text, encoding = as_declared(data, name)
+        if encoding:
+            notes.append(f"read as {encoding}")
         if text is None:
             refuse_both(data, name)
             refuse_other_letters(data, name)
-            text, encoding = of_windows(data)
-            is_guess = True
-        if encoding:
-            notes.append((Doubt if is_guess else str)(f"read as {encoding}"))
+            # Western Windows has Latin-1 with more letters, and some bytes are none.
+            try:
+                text, encoding = data.decode("cp1252"), "Windows-1252"
+            except UnicodeDecodeError:
+                text, encoding = data.decode("latin-1"), "Latin-1"
+            guessed.append(f"read as {encoding}, since it is no UTF-8")
     if "\0" in text:
         raise Wrong(f"{name}: it has bytes of value zero, so it is no text")
     text = text.replace("\r\n", "\n")
@@ -223,8 +234,8 @@ def decoded(data: bytes, name: str) -> tuple[str, list[str]]:
         notes.append("lines end with a carriage return alone")
     text = text.replace("\r", "\n")
     if text and not text.endswith("\n"):
-        notes.append(Doubt(NO_END))
-    return text, notes
+        guessed.append(NO_END)
+    return text, notes, guessed
 
 
 def as_declared(data: bytes, name: str) -> tuple[str | None, str]:
@@ -264,11 +275,3 @@ def refuse_other_letters(data: bytes, name: str) -> None:
     if found:
         raise wrong_line(name, 1 + data.count(b"\n", 0, found.start()), "it is neither UTF-8 nor western Windows, but "
                          "perhaps of DOS, of a Macintosh or of another alphabet: save it as UTF-8")
-
-
-def of_windows(data: bytes) -> tuple[str, str]:
-    """The text as western Windows has it, which is Latin-1 with more letters, or as Latin-1 if a byte is no letter."""
-    try:
-        return data.decode("cp1252"), "Windows-1252, since it is no UTF-8"
-    except UnicodeDecodeError:
-        return data.decode("latin-1"), "Latin-1, since it is no UTF-8"

@@ -49,7 +49,7 @@ def read(text: str, name: str) -> Listed:
     if found.edges and all(str(sizes[0]) not in ends for _, *ends in found.edges):
         found.left_out.append("the last node has no edge: do the edges count from 0? The form counts from 1")
     if words[3] != "pattern":
-        found.left_out.append(Unread(["values"], "", "", " not read, as weights are"))
+        found.left_out.append(Unread(["values"], "{names} not read, as weights are"))
     return found
 
 

@@ -53,7 +53,7 @@ class Reading:
 
     def __init__(self):
         self.nodes, self.promised, self.edge_lines = None, None, 0
-        self.edges, self.given, self.names, self.identifiers, self.bars = set(), {}, {}, {}, {}
+        self.edges, self.places, self.names, self.identifiers, self.bars = set(), {}, {}, {}, {}
 
 
 def stem(path):
@@ -156,9 +156,10 @@ def unknown_line(path, line, field):
 
 
 def read_comment(read, raw, fields):
+    """Keeps a place or a name of a vertex."""
     place, name = place_of(fields), name_of(raw)
     if place:
-        read.given[place[0]] = place[1]
+        read.places[place[0]] = place[1]
     if name:
         read.names[name[0]] = name[1]
 
@@ -200,7 +201,7 @@ def reading_of(text, path):
 
 
 def network_of_reading(read, path):
-    network = Network(stem(path), read.nodes, read.edges, read.given, read.names, read.identifiers, read.bars)
+    network = Network(stem(path), read.nodes, read.edges, read.places, read.names, read.identifiers, read.bars)
     for v in network.vertices:
         if len(network.neighbours[v]) > MAX_DEGREE:
             raise Wrong(f"{path}: vertex {v} has {len(network.neighbours[v])} neighbours, more than {MAX_DEGREE} (N1)")

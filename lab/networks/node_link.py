@@ -48,8 +48,7 @@ def read(text: str, name: str) -> Listed:
         raise Wrong(f"{name}: a text has half of a letter, as \\ud800, which isn't one") from None
     except (ValueError, RecursionError) as why:
         raise Wrong(f"{name}: it begins like JSON, and isn't JSON: {shown(str(why))}") from None
-    if not isinstance(graph, dict):
-        raise unread(name, "JSON, and no object with lists `nodes` and `links`")
+    graph = graph if isinstance(graph, dict) else {}
     lists = [graph[key] for key in LINKS if isinstance(graph.get(key), list)]
     if len(lists) > 1:
         raise Wrong(f"{name}: it has two lists of links, `links` and `edges`: which one is meant?")
@@ -66,7 +65,10 @@ def read(text: str, name: str) -> Listed:
     if any(isinstance(inner, dict) and isinstance(inner.get("nodes"), list) for inner in graph.values()):
         raise Wrong(f"{name}: JSON with a graph inside another one: write the inner one alone")
     found, labels = Listed("JSON of nodes and links", is_exact=True), {}
-    ids = [id_of(name, at, node) for at, node in enumerate(nodes)]
+    at = next((at for at, node in enumerate(nodes, 1) if not isinstance(node, dict)), None)
+    if at:
+        raise Wrong(f"{name}: node {at} of the list is no object")
+    ids = [node.get("id", node.get("key")) for node in nodes]
     by_place = all(one is None for one in ids)
     known = [str(at) if by_place else word_of(one) for at, one in enumerate(ids)]
     if None in ids and not by_place or len(set(known)) != len(known):
@@ -75,8 +77,7 @@ def read(text: str, name: str) -> Listed:
         found.alone.append((at, one))
         read_node(found, node, one, labels)
     names = set(known)
-    for at, link in enumerate(links, 1 + len(nodes)):
-        found.edges.append((at, *ends_of(name, link, names)))
+    found.edges = [(at, *ends_of(name, link, names)) for at, link in enumerate(links, 1 + len(nodes))]
     refuse_flagged(found, nodes, links, name)
     refuse_other_ends(found, ids, links, labels, "multigraph" in graph, name)
     found.names_by(labels, "label or name")
@@ -93,12 +94,6 @@ def are_links(value) -> bool:
         isinstance(one, dict) and any(set(words) <= set(one) for words in ENDS) for one in value)
 
 
-def id_of(name: str, at: int, node):
-    if not isinstance(node, dict):
-        raise Wrong(f"{name}: node {at + 1} of the list is no object")
-    return node.get("id", node.get("key"))
-
-
 def read_node(found: Listed, node: dict, one: str, labels: dict) -> None:
     """The label of a node, a text or a whole number, and its place."""
     label = next((node[key] for key in ("label", "name") if type(node.get(key)) in (str, int)), "")
@@ -111,10 +106,9 @@ def read_node(found: Listed, node: dict, one: str, labels: dict) -> None:
 
 def refuse_flagged(found: Listed, nodes: list, links: list, name: str) -> None:
     """Refuses nodes and links of which some may not count, by a key that says so."""
-    keys = {key for link in links for key in link} - {word for words in ENDS for word in words}
-    said = {key: {(json.dumps(link[key]).strip('"').lower() or "null") if key in link else "" for link in links}
-            for key in keys}
-    refuse_flags(found, said, name)
+    ends = {word for words in ENDS for word in words}
+    refuse_flags(found, [{key: json.dumps(value).strip('"').lower() or "null" for key, value in link.items()
+                          if key not in ends} for link in links], name)
     hidden = next((key for one in (*links, *nodes) for key in HIDDEN if one.get(key) is True), None)
     if hidden:
         raise Wrong(f"{name}: a node or a link is {hidden}: leave it out if it is none")

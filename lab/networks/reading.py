@@ -1,7 +1,9 @@
 """`forestlab network read`: a network in one of the forms, as a text that the programs read, and what was guessed and
 left out."""
+from collections import Counter
+
 from lab.networks.forms import listed
-from lab.networks.listed import NO_END, Doubt, decoded, twin_of, with_clean_names
+from lab.networks.listed import NO_END, decoded, twin_of, with_clean_names
 from lab.networks.network_text import MAX_DEGREE, MAX_EDGES, MAX_NODES, read_network, shown, stem, two_alike, whole
 from lab.networks.texts import Made, text_of
 from lab.wrong import Wrong
@@ -60,10 +62,9 @@ def begins_as_ours(data):
 
 def listed_of(data, name, form=None, heading=None):
     """What a text lists."""
-    text, mended = decoded(data, name)
+    text, mended, guessed = decoded(data, name)
     found = listed(text, name, form, heading)
-    guessed = [what for what in mended if isinstance(what, Doubt)]
-    found.notes[:0] = [what for what in mended if what not in guessed]
+    found.notes[:0] = mended
     found.left_out[:0] = [what for what in guessed if what != NO_END or found.form not in CLOSED]
     with_clean_names(found, name)
     return found
@@ -167,10 +168,7 @@ def counted(count, what):
 
 def check(made, name):
     """Refuses what the programs would refuse."""
-    degrees = {}
-    for edge in made.edges:
-        for v in edge:
-            degrees[v] = degrees.get(v, 0) + 1
+    degrees = Counter(v for edge in made.edges for v in edge)
     if made.nodes > MAX_NODES:
         raise Wrong(f"{name}: {made.nodes} nodes, and a network has at most {MAX_NODES}")
     if len(made.edges) > MAX_EDGES:

@@ -1,4 +1,6 @@
-"""Tables with a heading, of sites, bars or channels: the words of their headings, and their rows."""
+"""Tables with a heading, of sites, bars or channels: the words of their headings, their rows, and names that they don't
+have."""
+import difflib
 import math
 import re
 
@@ -25,12 +27,15 @@ DEGREES = ("", "deg", "degree", "degrees", "°", "grad", "decimal", "decimaldegr
            "wgs84", "wgs 84", "n", "s", "e", "w", "o")
 CHANNELS = ("channel", "channels", "barredchannel", "barredchannels", "barred", "bar", "kanal", "kanäle",
             "gesperrterkanal", "gesperrtekanäle", "gesperrt")
+# So many names that aren't known are named, with the nearest that is, unless they are longer than names are.
+MOST_NAMED, LONGEST = 4, 100
 KNOWN = {*NAMES, *CHANNELS, IDENTIFIER, *(word for pair in (*PLANES, *GLOBES) for word in pair[:2])}
 
 
-def table(data: bytes, name: str) -> tuple[list[str], list[tuple[int, list[str]]], str | None, list[str]]:
-    """The headings of a table, as the words above, its rows, what separates their fields, and what was mended."""
-    text, mended = decoded(data, name)
+def table(data: bytes, name: str) -> tuple[list[str], list[tuple[int, list[str]]], str | None, list[str], list[str]]:
+    """The headings of a table, as the words above, its rows, what separates their fields, what was mended, and what
+    was guessed."""
+    text, mended, guessed = decoded(data, name)
     if text.lstrip()[:1] in ("<", "{", "["):
         raise Wrong(f"{name}: it looks like XML or JSON, as KML, GPX and GeoJSON are: a table is read, with a heading "
                     "as site,lat,lon")
@@ -54,7 +59,7 @@ def table(data: bytes, name: str) -> tuple[list[str], list[tuple[int, list[str]]
             raise wrong_line(name, line, f"more fields than the heading: `{shown(','.join(fields))}`")
         if sorted(map(heading_word, filter(None, fields))) == sorted(filter(None, words)):
             raise wrong_line(name, line, "the heading of a second table: write both into one with the same columns")
-    return words, rows[1:], found.separator, mended + found.notes
+    return words, rows[1:], found.separator, mended + found.notes, [f"{name}: {what}" for what in guessed]
 
 
 def heading_word(title: str) -> str:
@@ -82,3 +87,22 @@ def identifier_of(field: str) -> int | None:
     if re.fullmatch(r"0x[0-9a-fA-F]{1,32}|([0-9a-fA-F]{2}[:-]){5}[0-9a-fA-F]{2}", field):
         return int(re.sub(r"0x|[:-]", "", field), 16)
     return None
+
+
+def named(strange: list[tuple[int, str]], known: set[str]) -> str:
+    """The first of the names (line, name) that aren't known, each with its first line and the nearest that is."""
+    lines = {}
+    for line, name in strange:
+        lines.setdefault(name, line)
+    first = [f"{shown(name)} (line {line}{nearest(name, known)})" for name, line in list(lines.items())[:MOST_NAMED]]
+    more = len(lines) - len(first)
+    return ", ".join(first) + (f", and {more:,} more" if more else "")
+
+
+def nearest(name: str, known: set[str]) -> str:
+    """`, is it NAME?` with the known name that is written most alike, or nothing if none is."""
+    if len(name) > LONGEST:
+        return ""
+    by_letters = {one.casefold(): one for one in sorted(known) if len(one) <= LONGEST}
+    found = difflib.get_close_matches(name.casefold(), by_letters, n=1, cutoff=0.7)
+    return f", is it {shown(by_letters[found[0]])}?" if found else ""

@@ -2,27 +2,26 @@
 import re
 
 from lab.networks.fields import columns_left
-from lab.networks.listed import Doubt, Listed, clean, note_alike
+from lab.networks.listed import Listed, clean, note_alike
 from lab.networks.network_text import IDENTIFIERS, MAX_BARS, MAX_CHANNEL, MAX_EDGES, MAX_NODES, shown
 from lab.networks.places import Sites, across_of, add_place, near, on_map, say_of_places
 from lab.networks.reading import counted, numbered_by_text
 from lab.networks.site_doubts import (
     check_marks, one_pair, refuse_far, refuse_maps, refuse_names, refuse_no_place, refuse_units)
 from lab.networks.site_tables import (
-    BARE, CHANNELS, GLOBES, IDENTIFIER, NAMES, PLANES, identifier_of, number_of, table)
-from lab.networks.spelling import named
+    BARE, CHANNELS, GLOBES, IDENTIFIER, NAMES, PLANES, identifier_of, named, number_of, table)
 from lab.wrong import Wrong, wrong_line
 
 
 def read_sites(data: bytes, name: str) -> Sites:
     """The sites of a table with a heading."""
-    words, rows, separator, mended = table(data, name)
+    words, rows, separator, mended, guessed = table(data, name)
     columns = [words.index(word) for word in NAMES if word in words]
     if not columns:
         raise Wrong(f"{name}: no column is named {', '.join(NAMES[:3])}: the first line has to be a heading")
     globe, plane = (one_pair(kinds, words, name) for kinds in (GLOBES, PLANES))
     found = Sites([words[at] for at in columns], [[] for _ in columns], globe or plane, globe is not None, b'"' in data,
-                  notes=mended)
+                  notes=mended, left_out=guessed)
     of_places = [words.index(word) for word in (found.pair or ())[:2]]
     own = words.index(IDENTIFIER) if IDENTIFIER in words else None
     for line, fields in rows:
@@ -124,7 +123,7 @@ def with_sites(found: Listed, sites: Sites, name: str, reach: float | None) -> N
     found.order = names
     if not pairs:
         note_alike(found, sorted(names, key=lambda one: (one.casefold(), one)))
-    say_of_table(found, sites.notes, name)
+    found.notes += sites.notes
     found.left_out += sites.left_out
     found.places = {names[at]: place for at, place in on_map(sites.places, sites.is_globe).items()}
     found.identifiers |= {one: number for one, number in zip(names, sites.identifiers) if number is not None}
@@ -136,9 +135,8 @@ def with_sites(found: Listed, sites: Sites, name: str, reach: float | None) -> N
     if lost:
         found.left_out.append(f"{counted(len(lost), 'site')} without a place, joined to none by the reach, first: "
                               f"{shown(lost[0])}")
-    there, met, count = {frozenset(ends) for _, *ends in found.edges}, set(), 0
-    for one, other in near(sites.points, reach, sites.is_globe):
-        count += 1
+    there, met = {frozenset(ends) for _, *ends in found.edges}, set()
+    for count, (one, other) in enumerate(near(sites.points, reach, sites.is_globe), 1):
         if count > MAX_EDGES:
             raise Wrong(f"{name}: more than {MAX_EDGES} edges within {reach:g} km")
         met |= {one, other} if sites.points[one] != sites.points[other] else set()
@@ -153,15 +151,9 @@ def with_sites(found: Listed, sites: Sites, name: str, reach: float | None) -> N
                               "columns say?")
 
 
-def say_of_table(found: Listed, said: list[str], name: str) -> None:
-    """Adds what is said of a table: what was mended to the notes, and what was guessed to what --strict refuses."""
-    found.notes += [what for what in said if not isinstance(what, Doubt)]
-    found.left_out += [f"{name}: {what}" for what in said if isinstance(what, Doubt)]
-
-
 def with_bars(found: Listed, data: bytes, name: str, licence: list[int] | None) -> None:
     """Bars the channels of a table of site and channel; real numbers, if a licence says which are channels 1, 2, ..."""
-    words, rows, separator, mended = table(data, name)
+    words, rows, separator, mended, guessed = table(data, name)
     site = next((words.index(word) for word in NAMES if word in words), None)
     barred = [word for word in words if re.sub("[0-9]+$", "", word) in CHANNELS]
     if site is None or not barred:
@@ -174,7 +166,8 @@ def with_bars(found: Listed, data: bytes, name: str, licence: list[int] | None) 
     known = {end for _, *ends in found.edges + found.alone for end in ends} | set(found.order or ())
     if found.nodes is not None:
         known |= set(numbered_by_text(found, name)[0].values())
-    say_of_table(found, mended, name)
+    found.notes += mended
+    found.left_out += guessed
     strange, outside, empty = [], [], []
     for line, fields in rows:
         fields = fields + [""] * (len(words) - len(fields))

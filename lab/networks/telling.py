@@ -77,7 +77,7 @@ def warnings(reading):
         why = "is it cut?" if there < reading.promised else "does the line belong to another text?"
         yield (f"the `p` line says {counted(reading.promised, 'edge')}, and the text has {there}: {why} "
                "The programs plan what is there")
-    for what, listed in (("place", reading.given), ("name", reading.names)):
+    for what, listed in (("place", reading.places), ("name", reading.names)):
         beyond = [v for v in listed if not 1 <= v <= reading.nodes]
         if beyond:
             yield f"a {what} is given for vertex {min(beyond)}, which there isn't"
