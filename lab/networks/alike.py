@@ -3,7 +3,7 @@ forests. So each of them has as many rounds, and is as hard as any other. `fores
 sheet` make them."""
 import random
 
-from lab.networks.kinds import at_least, below, check_room
+from lab.networks.kinds import at_least, below, check_room, shuffled
 from lab.networks.texts import Made
 from lab.wrong import Wrong
 
@@ -26,7 +26,8 @@ def alike_edges(source, nodes, edges, connected=False, neighbours=None, forests=
             if len(found.edges) >= edges:
                 break
             found.join(1 + below(source, nodes), 1 + below(source, nodes))
-        if len(found.edges) == edges and found.is_as_asked():
+        if (len(found.edges) == edges and neighbours in (None, max(found.degree, default=0))
+                and forests in (None, max(found.higher, default=0))):
             return found.edges
     return None
 
@@ -55,16 +56,9 @@ class Growing:
 
     def join_all(self, source):
         """A tree of all nodes: each of them, in an order by chance, is joined to one before it that has room."""
-        order = list(range(1, self.nodes + 1))
-        for at in range(self.nodes - 1, 0, -1):
-            other = below(source, at + 1)
-            order[at], order[other] = order[other], order[at]
+        order = shuffled(source, range(1, self.nodes + 1))
         return all(any(self.join(order[at], order[below(source, at)]) for _ in range(PAIRS))
                    for at in range(1, self.nodes))
-
-    def is_as_asked(self):
-        return (self.neighbours in (None, max(self.degree, default=0))
-                and self.forests in (None, max(self.higher, default=0)))
 
 
 def alike(nodes, edges, seed, connected, neighbours, forests):

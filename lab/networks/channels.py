@@ -1,5 +1,4 @@
 """Real channel numbers (36, 40, 44, ..) beside a plan's, which count from 1; and the command `forestlab channels`."""
-import argparse
 import os
 import re
 import sys
@@ -8,17 +7,13 @@ from lab.networks import site_tables
 from lab.networks.fields import value_of
 from lab.networks.listed import FLAGS, NOT, clean
 from lab.networks.network_text import MAX_CHANNEL, shown, whole
-from lab.words import Parser, add_output, text_at, write
+from lab.words import add_output, bytes_at, parser_of, text_at, write
 from lab.wrong import Wrong, wrong_line
 
 # Headings of the column of channels in a file, in small letters without blanks.
 HEADINGS = ("channel", "channels", "channelnumber", "kanal", "kanäle", "kanalnummer")
 # How many digits a real number of a channel has at most, as a frequency in kHz.
 MOST_DIGITS = 12
-
-USAGE = """\
-forestlab channels [--back] TABLE.. < PLAN
-       forestlab channels --run [TABLE..] < RUN"""
 
 HELP = """\
 Puts real channel numbers in place of a plan's channels, or the other way round.
@@ -59,11 +54,7 @@ def table_of(words: list[str]) -> list[int]:
 
 def numbers_in(path: str) -> list[int]:
     """The column of channels of a table."""
-    try:
-        with open(path, "rb") as file:
-            words, rows, *_ = site_tables.table(file.read(), path)
-    except OSError as why:
-        raise Wrong(f"{path}: {why.strerror}") from None
+    words, rows, *_ = site_tables.table(bytes_at(path), path)
     named = [word for word in HEADINGS if word in words]
     if len(named) != 1 or not rows:
         raise Wrong(f"{path}: no column is named channel, or it has no row" if len(named) < 2 or not rows else
@@ -122,24 +113,6 @@ def rows_of_run(text: str, name: str) -> list[tuple[int, str, int]]:
     return found
 
 
-def to_real(rows: list, table: list[int], name: str) -> dict[int, int]:
-    """The real number of each channel of a plan."""
-    for line, _, channel in rows:
-        if not 1 <= channel <= len(table):
-            raise wrong_line(name, line, f"channel {channel}, and the table has {len(table)}: it takes "
-                                         f"{max(channel for _, _, channel in rows)} channels")
-    return dict(enumerate(table, 1))
-
-
-def from_real(rows: list, table: list[int], name: str) -> dict[int, int]:
-    """The channel of each real number of a plan."""
-    known = {number: channel for channel, number in enumerate(table, 1)}
-    for line, _, number in rows:
-        if number not in known:
-            raise wrong_line(name, line, f"channel {number} isn't one of the table")
-    return known
-
-
 def numbers_for(rows: list, table: list[int] | None, given) -> dict[int, int]:
     """What is written for each number of a plan, as the command line asks."""
     if table is None and given.run:
@@ -147,12 +120,18 @@ def numbers_for(rows: list, table: list[int] | None, given) -> dict[int, int]:
     if table is None:
         table = sorted({number for _, _, number in rows})
         print(f"channels: 1 to {len(table)} are {' '.join(map(str, table))}", file=sys.stderr)
-    return (from_real if given.back else to_real)(rows, table, "the plan")
+    found = {number: channel for channel, number in enumerate(table, 1)} if given.back else dict(enumerate(table, 1))
+    for line, _, number in rows:
+        if number not in found:
+            most = max(channel for _, _, channel in rows)
+            raise wrong_line("the plan", line, f"channel {number} isn't one of the table" if given.back else
+                             f"channel {number}, and the table has {len(table)}: it takes {most} channels")
+    return found
 
 
 def main(words: list[str]) -> int:
-    asked = Parser(prog="forestlab channels", usage=USAGE, description=HELP, epilog=MORE_HELP,
-                   formatter_class=argparse.RawDescriptionHelpFormatter)
+    asked = parser_of("channels", "[--back] TABLE.. < PLAN\n       forestlab channels --run [TABLE..] < RUN", HELP,
+                      MORE_HELP)
     asked.add_argument("--back", action="store_true", help="from real numbers to those that count from 1")
     asked.add_argument("--run", action="store_true", help="from the channels of a run, as `forestplay run` writes them")
     asked.add_argument("table", nargs="*", metavar="TABLE", help="the real numbers, in order, or a file that has them")

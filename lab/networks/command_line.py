@@ -3,7 +3,7 @@ import argparse
 
 from lab.networks.forms import FORMS
 from lab.networks.numbering import WAYS
-from lab.words import Parser, add_output, add_seed
+from lab.words import add_output, add_seed, parser_of
 
 HELP = """\
 Makes networks, reads them in other forms, and says what they are.
@@ -146,13 +146,7 @@ COMMANDS = {
 
 
 def command_line():
-    words = Parser(
-        prog="forestlab network",
-        usage="forestlab network COMMAND WORDS.. [options]",
-        description=HELP,
-        epilog=MORE_HELP,
-        formatter_class=argparse.RawDescriptionHelpFormatter,
-    )
+    words = parser_of("network", "COMMAND WORDS.. [options]", HELP, MORE_HELP)
     commands = words.add_subparsers(
         prog="forestlab network", dest="command", metavar="COMMAND", required=True, help="one of those above"
     )

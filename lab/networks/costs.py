@@ -50,11 +50,7 @@ def higher_of(network, v):
 
 def digits(count):
     """How many digits the numbers from 0 to count - 1 have together."""
-    total, least, length = 0, 0, 1
-    while least < count:
-        total += length * (min(count, 10 ** length) - least)
-        least, length = 10 ** length, length + 1
-    return total
+    return count + sum(count - 10 ** length for length in range(1, len(str(count))))
 
 
 def plain_bytes(run):
@@ -124,11 +120,7 @@ def payloads_by(program, network):
 
 def most_payloads(run):
     """A greeting both ways, a label and ten colours of each edge; and in each merge both ends of each edge choose."""
-    number = {}
-    for v in run.network.vertices:
-        for f in range(len(higher_of(run.network, v))):
-            number[f] = number.get(f, 0) + 1
-    merged = sum(count * (run.forests - f) for f, count in number.items())
+    merged = sum(run.forests - f for v in run.network.vertices for f in range(len(higher_of(run.network, v))))
     return 13 * len(run.network.edges) + 2 * merged
 
 
@@ -184,10 +176,8 @@ def in_words(seconds):
     """About so long, rounded up to one digit."""
     if seconds < 1:
         return "less than a second"
-    for bound, unit in ((5400, 3600), (90, 60), (0, 1)):
-        if seconds > bound:
-            count = -(-seconds // unit)
-            step = 10 ** (len(str(int(count))) - 1)
-            count = int(-(-count // step) * step)
-            return f"about {counted(count, {3600: 'hour', 60: 'minute', 1: 'second'}[unit])}"
-    raise AssertionError
+    units = (5400, 3600, "hour"), (90, 60, "minute"), (0, 1, "second")
+    unit, name = next((unit, name) for bound, unit, name in units if seconds > bound)
+    count = -(-seconds // unit)
+    step = 10 ** (len(str(int(count))) - 1)
+    return f"about {counted(int(-(-count // step) * step), name)}"

@@ -123,6 +123,15 @@ def below(source, bound):
     return int(source.random() * bound)
 
 
+def shuffled(source, things):
+    """The things in an order by chance."""
+    order = list(things)
+    for at in range(len(order) - 1, 0, -1):
+        other = below(source, at + 1)
+        order[at], order[other] = order[other], order[at]
+    return order
+
+
 def disk(nodes, reach, seed):
     """Places in a square of side 1000, and an edge if two are less than reach sides apart."""
     at_least(1, nodes=nodes)

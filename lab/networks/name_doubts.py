@@ -8,10 +8,9 @@ from collections import Counter
 
 from lab.networks.fields import is_number, shown, whole
 from lab.networks.headings import ENDS, MISSING, NOUN, NUMBERED, OF_TABLES, ends_named
-from lab.wrong import wrong_line
+from lab.wrong import Wrong, wrong_line
 
 Pairs = list[tuple[int, str, str]]
-IF_NAME = " (if it is a name: --as pairs)"
 # Names of which nobody can doubt, and those that have more marks, with `a` in place of each letter and digit.
 BARE = re.compile(r"[^\W_](?:[\w .-]*[^\W_])?")
 PLAIN = re.compile(r"([#%]?a|['\u2019]a{1,2}[ -])([a _.\-\u2010-\u2014/&'\u2019+:@#,;()\[\]{}\"]*[a.)\]}\"])?")
@@ -46,6 +45,11 @@ TIME = re.compile(r"([01]?\d|2[0-3]):[0-5]\d")
 VALUE = re.compile(r"[-+]?\d[\d.,]*\s?(km|m|mi|[kmg]?hz|dbm?|%|ms|min|h|w)|([01]?\d|2[0-3]):[0-5]\d:[0-5]\d", re.I)
 
 
+def doubtful(end: str, what: str, line: int, name: str) -> Wrong:
+    """That a name, with what it may be, may be none."""
+    return wrong_line(name, line, f"`{shown(end)}` {what} (if it is a name: --as pairs)")
+
+
 def refuse_names(pairs: Pairs, separator: str | None, is_headed: bool, name: str) -> list[str]:
     """Refuses names that may be more than a name, or none; and rows that name two columns. Returns what is counted:
     words that may be a title, names that are another one and more, and those with a mark that lists have, too."""
@@ -65,10 +69,10 @@ def refuse_names(pairs: Pairs, separator: str | None, is_headed: bool, name: str
         if not is_bare or is_number(end) or end.casefold() in NOTHING or DATE.search(end) or NEGATED.fullmatch(end):
             refuse_name(end, line, known, usual, name)
         if separator is None and times[end] == 1 and re.match(r"[#%][^\W\d]", end):
-            raise wrong_line(name, line, f"`{shown(end)}` may be a comment{IF_NAME}")
+            raise doubtful(end, "may be a comment", line, name)
     refuse_twins(lines, name)
     if all(map(TIME.fullmatch, lines)):
-        raise wrong_line(name, pairs[0][0], f"`{shown(pairs[0][1])}` and all other names may be times{IF_NAME}")
+        raise doubtful(pairs[0][1], "and all other names may be times", pairs[0][0], name)
     if others:
         refuse_marks(ones, others, pairs[0], name)
     said = []
@@ -119,20 +123,18 @@ def refuse_name(end: str, line: int, known: set[str], usual: set[str], name: str
         part in known for part in of_list))
     if "|" in end or is_list or len(parts) > 1 and (
             all(map(is_number, parts)) or all(part in known for part in parts) or is_row_of(end, known)):
-        raise wrong_line(name, line, f"`{shown(end)}` may name more than one node: write a line for each pair{IF_NAME}")
+        raise doubtful(end, "may name more than one node: write a line for each pair", line, name)
     after = AFTER.match(end)
     if COMMENT.match(end) or after and after[1] in known:
-        raise wrong_line(name, line, f"`{shown(end)}` may have a comment in it{IF_NAME}")
+        raise doubtful(end, "may have a comment in it", line, name)
     if end.casefold() in NOTHING or NO_VALUE.fullmatch(end) or VALUE.fullmatch(end):
-        raise wrong_line(name, line, f"`{shown(end)}` may mean that there is no name: leave the field empty then"
-                                     f"{IF_NAME}")
+        raise doubtful(end, "may mean that there is no name: leave the field empty then", line, name)
     is_code = re.fullmatch(r"\d+[eE]\d+", end) and not all(map(is_number, known))
     if is_number(end) and whole(end) is None and not is_code:
-        raise wrong_line(name, line, f"`{shown(end)}` is a number with a sign or a fraction, and may be no node"
-                                     f"{IF_NAME}")
+        raise doubtful(end, "is a number with a sign or a fraction, and may be no node", line, name)
     is_marked = end[-1] not in usual and re.search(r"\.$|[(\[]\d+[)\]]$", end)
     if is_marked or DATE.search(end) or NEGATED.fullmatch(end) or not is_plain(end):
-        raise wrong_line(name, line, f"`{shown(end)}` may be more than a name, by a mark in it{IF_NAME}")
+        raise doubtful(end, "may be more than a name, by a mark in it", line, name)
 
 
 def is_letter(letter: str) -> bool:
@@ -156,19 +158,18 @@ def refuse_twins(lines: dict[str, int], name: str) -> None:
     for end, line in lines.items():
         core = end.lstrip("0") or "0" if end.isdecimal() else re.sub(r"^\W+|[\W_]+$", "", end)
         if seen.setdefault(core, end) != end and core:
-            raise wrong_line(name, line, f"`{shown(end)}` may be `{shown(seen[core])}` with a mark{IF_NAME}")
+            raise doubtful(end, f"may be `{shown(seen[core])}` with a mark", line, name)
 
 
 def refuse_marks(ones: set[str], others: set[str], first: tuple[int, str, str], name: str) -> None:
     """Refuses a column whose names all have a mark, if no name of the other column has it."""
     for at, (names, against) in enumerate(((ones, others), (others, ones))):
         if has_more(names, against):
-            raise wrong_line(name, first[0], f"`{shown(first[at + 1])}` may be more than a name, since all names of "
-                                             "its column have such a mark or number, and none of the other: write a "
-                                             f"line for each pair{IF_NAME}")
+            raise doubtful(first[at + 1], "may be more than a name, since all names of its column have such a mark or "
+                           "number, and none of the other: write a line for each pair", first[0], name)
     if are_pairs([JOINED.fullmatch(one) for one in ones | others]):
-        raise wrong_line(name, first[0], f"`{shown(first[1])}` may be a pair: write a line for each pair, with a comma "
-                                         f"between its names{IF_NAME}")
+        raise doubtful(first[1], "may be a pair: write a line for each pair, with a comma between its names", first[0],
+                       name)
 
 
 def has_more(names: set[str], against: set[str]) -> bool:
@@ -229,16 +230,14 @@ def refuse_single(pairs: Pairs, name: str) -> None:
     rows = [f"{one} {other}" for _, one, other in pairs]
     mark = next((mark for mark in BETWEEN + LOOSE if all(row.count(mark) == 1 for row in rows)), None)
     if mark and len(rows) > 2:
-        raise wrong_line(name, pairs[0][0], f"`{shown(rows[0])}` may be two names with `{mark}` between them: write a "
-                                            f"comma there{IF_NAME}")
+        raise doubtful(rows[0], f"may be two names with `{mark}` between them: write a comma there", pairs[0][0], name)
 
 
 def refuse_headings(pairs: Pairs, lines: dict[str, int], times: Counter, name: str) -> None:
     """Refuses a row that names two columns, unless there are other nodes with such names; of another table, too."""
     words = {*ENDS, *ENDS.values()}
     if len(pairs) > 1 and all(one.lower() in words for _, one, _ in pairs):
-        raise wrong_line(name, pairs[0][0], f"`{shown(pairs[0][1])}` names a column: write a line for each pair"
-                                            f"{IF_NAME}")
+        raise doubtful(pairs[0][1], "names a column: write a line for each pair", pairs[0][0], name)
     titles = {end for end in lines if end.lower() in words or LETTERED.fullmatch(end.lower())}
     line, *ends = next((pair for pair in pairs if titles.issuperset(pair[1:]) and ends_named(pair[1:])), (0,))
     others = (end for end in lines if end not in ends)

@@ -43,20 +43,6 @@ def say(what):
     print(f"network: {what}", file=sys.stderr)
 
 
-def wishes_of(given):
-    """Whether it has to be connected, and how many neighbours and forests it has to have; empty without a wish."""
-    wishes = [getattr(given, name, None) for name in ("connected", "neighbours", "forests")]
-    return wishes if wishes[0] or wishes[1:] != [None, None] else []
-
-
-def wish_words(given):
-    """The wishes as options."""
-    if not wishes_of(given):
-        return ""
-    numbers = [(name, getattr(given, name)) for name in ("neighbours", "forests")]
-    return " --connected" * given.connected + "".join(f" --{name} {n}" for name, n in numbers if n is not None)
-
-
 def made(given):
     """A network of a kind."""
     sizes = [getattr(given, size) for size in SIZES[given.command]]
@@ -64,27 +50,32 @@ def made(given):
     chosen = {name: getattr(given, name) for name in more}
     if more:
         chosen["seed"] = source_of(given.seed)
-    maker = alike if wishes_of(given) else MAKERS[given.command]
+    wishes = [getattr(given, name, None) for name in ("connected", "neighbours", "forests")]
+    has_wishes = wishes[0] or wishes[1:] != [None, None]
     try:
-        network = maker(*sizes, *chosen.values(), *wishes_of(given))
+        network = alike(*sizes, *chosen.values(), *wishes) if has_wishes else MAKERS[given.command](
+            *sizes, *chosen.values())
     except Wrong as why:
         given.refuse(str(why))
-    options = "".join(f" --{name} {getattr(given, name)}" for name in more) + wish_words(given)
+    options = "".join(f" --{name} {getattr(given, name)}" for name in more)
+    if has_wishes:
+        options += " --connected" * given.connected + "".join(
+            f" --{name} {number}" for name, number in zip(("neighbours", "forests"), wishes[1:]) if number is not None)
     network.head = [f"Made by forestlab network {given.command} {' '.join(map(str, sizes))}{options}"]
     return text_of(network)
 
 
-def channels_asked(given, words):
-    """The table of real channel numbers of an option, or None."""
+def channels_asked(given):
+    """The table of real channel numbers of the option, or None."""
     try:
-        return None if words is None else table_of([words])
+        return None if given.channels is None else table_of([given.channels])
     except Wrong as why:
         given.refuse(str(why))
 
 
 def was_read(given):
     heading = {"yes": True, "no": False}.get(given.heading)
-    licence = channels_asked(given, given.channels)
+    licence = channels_asked(given)
     if given.reach is not None and not (given.sites and LEAST_REACH <= given.reach <= 20000):
         given.refuse(f"--reach is for a table of --sites, and {LEAST_REACH:g} or more, which is a millimetre")
     if given.file is None and given.reach is None:
@@ -169,7 +160,7 @@ def was_named(given):
     if given.file == "-":
         raise Wrong("names: standard input has the plan, so the network has to be a file")
     network = read_network(network_text(given.file), one_line(given.file))
-    table = channels_asked(given, given.channels)
+    table = channels_asked(given)
     plan = read_plan(text_at("-"), "the plan", network)
     for v, w in clashes(network, plan)[:1]:
         raise Wrong(f"the plan: vertices {v} and {w} are neighbours and share a channel (C4): is it another network's?")

@@ -2,20 +2,12 @@
 number; it keeps the identifier that a line gives it, and its barred channels."""
 import random
 
+from lab.networks.kinds import shuffled
 from lab.networks.network_text import two_alike
 from lab.networks.texts import Made
 from lab.wrong import Wrong
 
 WAYS = ("random", "degree", "place")
-
-
-def shuffled(network, seed):
-    """The vertices in an order by chance."""
-    source, order = random.Random(seed), list(network.vertices)
-    for at in range(len(order) - 1, 0, -1):
-        other = int(source.random() * (at + 1))
-        order[at], order[other] = order[other], order[at]
-    return order
 
 
 def by_place(network):
@@ -27,7 +19,7 @@ def by_place(network):
 
 def order_of(network, way, seed):
     if way == "random":
-        return shuffled(network, seed)
+        return shuffled(random.Random(seed), network.vertices)
     if way == "place":
         return by_place(network)
     return sorted(network.vertices, key=lambda v: len(network.neighbours[v]))

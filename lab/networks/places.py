@@ -32,12 +32,6 @@ class Sites:
     left_out: list[str] = field(default_factory=list)
 
 
-def on_globe(latitude: float, longitude: float) -> Point:
-    """A place as a point in space, by which distances are measured."""
-    north, east = math.radians(latitude), math.radians(longitude)
-    return (EARTH * math.cos(north) * math.cos(east), EARTH * math.cos(north) * math.sin(east), EARTH * math.sin(north))
-
-
 def add_place(found: Sites, place: list[float] | None, name: str) -> None:
     """The place of the last row, on a map and as a point, if it has one."""
     if place is None:
@@ -54,7 +48,9 @@ def add_place(found: Sites, place: list[float] | None, name: str) -> None:
             raise wrong_line(name, found.lines[-1], f"no latitude and longitude in degrees: {latitude:g} {longitude:g}"
                              + "; are they exchanged?" * is_other)
         found.places.append((longitude, latitude))
-        found.points.append(on_globe(latitude, longitude))
+        north, east = math.radians(latitude), math.radians(longitude)
+        found.points.append((EARTH * math.cos(north) * math.cos(east), EARTH * math.cos(north) * math.sin(east),
+                             EARTH * math.sin(north)))
 
 
 def say_of_places(found: Sites, name: str) -> None:

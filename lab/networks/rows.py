@@ -23,8 +23,8 @@ def read(text: str, name: str, form: str | None, heading: bool | None) -> Listed
     table = table_of(text, name)
     if not table.rows:
         raise Wrong(f"{name}: it has no line with a node" + "".join(f"; {what}" for what in table.left_out))
-    if table.separator is None and form != "adjacency" and uneven(text, name):
-        line, mark = uneven(text, name)
+    if table.separator is None and form != "adjacency" and (odd := uneven(text, name)):
+        line, mark = odd
         raise wrong_line(name, line, f"no {mark}, and most other lines have one: remove the line if it is no row of "
                          "the table, or end it with one if it is a node alone")
     inside = next(((line, field) for line, fields in table.rows for field in fields

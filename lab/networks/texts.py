@@ -7,9 +7,9 @@ class Made:
     there are any.
     """
 
-    def __init__(self, nodes, edges, names=None, places=None, head=(), identifiers=None, bars=None):
+    def __init__(self, nodes, edges, names=None, places=None, identifiers=None, bars=None):
         self.nodes, self.edges = nodes, sorted({(min(edge), max(edge)) for edge in edges})
-        self.names, self.places, self.head = names or {}, places or {}, head
+        self.names, self.places, self.head = names or {}, places or {}, ()
         self.identifiers = {v: number for v, number in (identifiers or {}).items() if number != v}
         self.bars = bars or {}
 

@@ -2,6 +2,7 @@
 read it as another network."""
 import re
 
+from lab.networks.by_networkx import count_six
 from lab.networks.counts import are_degrees, counts_neighbours, has_counts, have_counts, is_by_line, is_metis
 from lab.networks.fields import is_number, shown, value_of, whole
 from lab.networks.lines import DATA, without_inner_commas
@@ -40,7 +41,7 @@ def unread(name: str, what: str, reader: str | None = None, otherwise: str = "")
 def refuse_rows(rows: list[tuple[int, list[str]]], separator: str | None, text: str, name: str) -> None:
     """Refuses rows of fields in a form that is known and not read."""
     fields = [row for _, row in rows]
-    if is_graph6(fields):
+    if all(len(row) == 1 and is_of_graph6(row[0]) for row in fields):
         raise Wrong(f"{name}: it looks like graph6, which --as graph6 reads by networkx; if each line is a node "
                     "without a neighbour: --as pairs")
     if all(row[0] in ("c", "p") for row in fields):
@@ -191,14 +192,9 @@ def are_cut(row: list[str]) -> bool:
     return bool(opened) and any(field.endswith("'") and len(field) > 1 for field in row[opened[0] + 1:])
 
 
-def is_graph6(fields: list[list[str]]) -> bool:
-    """Whether each line has a number of nodes and as many letters as their pairs need, by six a letter."""
-    return all(len(row) == 1 and is_of_graph6(row[0]) for row in fields)
-
-
 def is_of_graph6(line: str) -> bool:
+    """Whether it has a number of nodes and as many letters as their pairs need, by six a letter."""
     if not re.fullmatch(r"[?-~]+", line) or line[0] == "~" and len(line) < 4:
         return False
-    digits = line[1:4] if line[0] == "~" else line[:1]
-    nodes = sum((ord(letter) - 63) << 6 * at for at, letter in enumerate(reversed(digits)))
-    return len(line) == (4 if line[0] == "~" else 1) + -(-nodes * (nodes - 1) // 12)
+    nodes, letters = count_six(line)
+    return not line.startswith("~~") and len(letters) == -(-nodes * (nodes - 1) // 12)
