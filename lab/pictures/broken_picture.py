@@ -1,10 +1,10 @@
 """What goes wrong without a rule of the rounds, and beside it the same rounds with all rules: in a forest, the colours
 of a node and of those above it, pulse by pulse; in a merge, the network with what each node has. The pair that goes
 wrong is red."""
-from lab.networks.network_text import read_network
-from lab.pictures.marks import channel_circle, colour_square, draw_edge, number_square
+from lab.networks.network_text import Network
+from lab.pictures.marks import SMALL, Map, channel_circle, colour_square, number_square
 from lab.pictures.palette import FOREST_COLOURS, INK, PAPER, SOFT, WRONG
-from lab.pictures.places import OF_SQUARES, bends, box_height, label_places, moved, places_of, spaced
+from lab.pictures.places import OF_SQUARES, box_height, places_of
 from lab.pictures.rounds_picture import GROUPS
 from lab.pictures.schedules_picture import wrapped
 from lab.pictures.schedules_space import broken_rounds, left_out_words
@@ -40,15 +40,12 @@ def draw(network, without):
 
 def in_lines(words, width):
     """A text over as many lines as it needs; letters are a little narrower than they are reckoned."""
-    return wrapped(words, 11.5, (width - 40) * 1.1)
+    return wrapped(words, (width - 40) * 1.1)
 
 
 def network_of_rounds(rounds):
     """The network that was found, as one that was read."""
-    edges = sorted(tuple(sorted(edge)) for edge in rounds.net.number)
-    return read_network(
-        "".join([f"p edge {len(rounds.net.neighbours)} {len(edges)}\n", *(f"e {v} {w}\n" for v, w in edges)]), "found"
-    )
+    return Network("found", len(rounds.net.neighbours), {tuple(sorted(edge)) for edge in rounds.net.number}, {})
 
 
 def left_out(without):
@@ -180,19 +177,15 @@ class OfMerge:
             (f"without {left_out(without)}", rounds, set(without)),
             ("with all rules", RuledRounds(rounds.net, ()), set()),
         ]
-        places = places_of(network)
-        radius, least = (13, 9) if network.nodes <= 12 else (9, 6)
-        self.panel = PANEL if network.nodes <= 12 else LARGE_PANEL
+        places, sizes = places_of(network), (13, 9) if network.nodes <= SMALL else (9, 6)
+        self.panel = PANEL if network.nodes <= SMALL else LARGE_PANEL
         self.box = box_height(places, self.panel, MARGIN, 120)
-        self.places, self.radius = spaced(places, self.panel, self.box, MARGIN, radius, least, OF_SQUARES)
-        self.bend = bends(self.places, network.edges, self.radius + 1)
-        self.labels = label_places(self.places, network.edges, self.bend, self.radius * 1.25 + 11)
+        self.map = Map(network, places, self.panel, self.box, MARGIN, *sizes, OF_SQUARES)
+        self.map.label(self.map.radius * 1.25 + 11)
 
     def width(self):
-        return 40 + 3 * self.panel + max(map(self.words_width, self.blocks))
-
-    def words_width(self, block):
-        return max(text_width(line, 11) for line in self.chooses(block)) * 0.95 + 10
+        words = max(text_width(line, 11) for block in self.blocks for line in self.chooses(block)) * 0.95 + 10
+        return 40 + 3 * self.panel + words
 
     def height(self):
         return 2 * (self.box + OVER)
@@ -223,46 +216,43 @@ class OfMerge:
     def forest_of(self, v, w, rounds):
         return rounds.net.number[frozenset((v, w))]
 
-    def panel_title(self, svg, left, top, words):
+    def panel_at(self, svg, left, top, words):
+        """The map of a panel, with the panel's title above it."""
         svg.text(left + self.panel / 2, top - 8, words, 11, INK, "middle", mark="group")
-
-    def numbers(self, svg, left, top):
-        for v, (x, y) in moved(self.labels, left, top).items():
-            svg.text(x, y + 3.5, v, 10, SOFT, "middle", halo=2.5, mark="number")
+        return self.map.at(left, top)
 
     def channels(self, svg, left, top, words, merged, upto, is_wrong):
         """The channels after the forests up to a number, whose edges are grey; the edges of the last in ink."""
-        self.panel_title(svg, left, top, words)
-        places, rounds = moved(self.places, left, top), self.blocks[0][1]
+        drawn, rounds = self.panel_at(svg, left, top, words), self.blocks[0][1]
         for v, w in self.network.edges:
             f = self.forest_of(v, w, rounds)
             hue = OTHER if f > upto else INK if f == self.clash.forest else BEFORE
             if is_wrong and f <= upto and merged[v] == merged[w]:
                 hue = WRONG
-            draw_edge(svg, places, self.bend, v, w, hue, 3.4 if hue == WRONG else 1.8 if hue == INK else 1.3,
-                      mark="wrong" if hue == WRONG else "edge")
-        self.numbers(svg, left, top)
-        for v, (x, y) in sorted(places.items()):
+            drawn.edge(svg, v, w, hue, 3.4 if hue == WRONG else 1.8 if hue == INK else 1.3,
+                       mark="wrong" if hue == WRONG else "edge")
+        drawn.numbers(svg, 10, 3.5)
+        for v, (x, y) in sorted(drawn.places.items()):
             is_red = is_wrong and any(merged[v] == merged[w] and self.forest_of(v, w, rounds) <= upto
                                       for w in self.network.neighbours[v])
-            svg.circle(x, y, self.radius + (3.6 if is_red else 1.4), PAPER, WRONG if is_red else None, 2.2 if is_red
+            svg.circle(x, y, drawn.radius + (3.6 if is_red else 1.4), PAPER, WRONG if is_red else None, 2.2 if is_red
                        else None)
-            channel_circle(svg, x, y, self.radius, merged[v] + 1)
+            channel_circle(svg, x, y, drawn.radius, merged[v] + 1)
 
     def colours(self, svg, left, top, rounds):
         """The colours in the forest that is merged."""
-        f, places = self.clash.forest, moved(self.places, left, top)
-        self.panel_title(svg, left, top, f"colours in forest {f}")
+        f = self.clash.forest
+        drawn = self.panel_at(svg, left, top, f"colours in forest {f}")
         for v, w in self.network.edges:
             if self.forest_of(v, w, rounds) != f:
-                draw_edge(svg, places, self.bend, v, w, OTHER, 1.3)
+                drawn.edge(svg, v, w, OTHER, 1.3)
         for v in self.network.vertices:
             parent = rounds.net.parent(f, v)
             if parent is not None:
-                draw_edge(svg, places, self.bend, v, parent, INK, 1.8, 8, self.radius + 3, mark="arrow")
-        self.numbers(svg, left, top)
-        for v, (x, y) in sorted(places.items()):
-            colour_square(svg, x, y, self.radius, rounds.colours[f][-1][v])
+                drawn.edge(svg, v, parent, INK, 1.8, 8, drawn.radius + 3, mark="arrow")
+        drawn.numbers(svg, 10, 3.5)
+        for v, (x, y) in sorted(drawn.places.items()):
+            colour_square(svg, x, y, drawn.radius, rounds.colours[f][-1][v])
 
     def chooses(self, block):
         """How the two nodes that go wrong choose: in words, two lines for each."""

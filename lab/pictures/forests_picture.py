@@ -1,8 +1,8 @@
 """The forest sheet: one column a forest; above, its edges and three colours; below, the channels once it is merged."""
 from lab.definitions.pulses import LAST_COLOUR
-from lab.pictures.marks import alone_chip, channel_circle, colour_square, draw_edge
+from lab.pictures.marks import LARGE, SMALL, Map, alone_chip, channel_circle, colour_square
 from lab.pictures.palette import FOREST_COLOURS, INK, PAPER, SOFT
-from lab.pictures.places import OF_SQUARES, bends, box_height, label_places, moved, places_of, spaced
+from lab.pictures.places import OF_SQUARES, box_height, places_of
 from lab.pictures.svg import Svg, counted, text_width
 from lab.wrong import Wrong, at_most
 
@@ -10,22 +10,18 @@ MOST_COLUMNS, PANEL, SPACE, GAP, LEFT, TOP = 6, 250, 26, 120, 20, 140
 FAINT, LEGEND = "#E6E6E6", 640
 
 
-class Sheet:
-    """What all panels share: sizes by the number of nodes, places within a panel, bends and the places of numbers."""
+class Sheet(Map):
+    """What all panels share: sizes by the number of nodes, the map of a panel, and the three colours."""
 
     def __init__(self, rounds):
         network = rounds.network
-        self.rounds, self.network = rounds, network
-        self.is_large = network.nodes > 40
-        radius, least = (4.5, 3) if self.is_large else (10, 7) if network.nodes > 12 else (13, 10)
-        places = places_of(network)
-        margin = 14 if self.is_large else 34
+        self.rounds, self.is_large = rounds, network.nodes > LARGE
+        radius, least = (4.5, 3) if self.is_large else (10, 7) if network.nodes > SMALL else (13, 10)
+        places, margin = places_of(network), 14 if self.is_large else 34
         self.height = box_height(places, PANEL, margin, 100)
-        self.places, self.radius = spaced(places, PANEL, self.height, margin, radius, least, OF_SQUARES)
-        self.bend = {} if self.is_large else bends(self.places, network.edges, self.radius + 1)
-        self.labels = {}
-        if network.nodes <= 12:
-            self.labels = label_places(self.places, network.edges, self.bend, self.radius * 1.25 + 8)
+        super().__init__(network, places, PANEL, self.height, margin, radius, least, OF_SQUARES)
+        if network.nodes <= SMALL:
+            self.label(self.radius * 1.25 + 8)
         self.three = rounds.pulses[LAST_COLOUR].colours
 
 
@@ -97,26 +93,21 @@ def title(svg, left, top, text, under=None):
         svg.text(left + PANEL / 2, top - 11, under, 10.5, SOFT, "middle")
 
 
-def numbers(svg, sheet, left, top):
-    for v, (x, y) in moved(sheet.labels, left, top).items():
-        svg.text(x, y + 3, v, 8.5, SOFT, "middle", halo=2.5, mark="number")
-
-
 def colours_panel(svg, left, sheet, forest):
     """The forest's edges as arrows to the parents; a pale chip where a vertex has no edge in it, but a colour."""
     edges = sheet.rounds.edges_of(forest)
     mine = {(min(e), max(e)) for e in edges}
     title(svg, left, TOP, f"forest {forest}", counted(len(edges), "edge"))
-    places, radius = moved(sheet.places, left, TOP), sheet.radius
+    drawn, radius = sheet.at(left, TOP), sheet.radius
     with svg.group("forest", f"forest {forest}"):
         for v, w in sheet.network.edges:
             if (v, w) not in mine:
-                draw_edge(svg, places, sheet.bend, v, w, FAINT, 0.7 if sheet.is_large else 1, mark="other")
-        numbers(svg, sheet, left, TOP)
+                drawn.edge(svg, v, w, FAINT, 0.7 if sheet.is_large else 1, mark="other")
+        drawn.numbers(svg, 8.5, 3)
         for v, w in edges:
-            draw_edge(svg, places, sheet.bend, v, w, INK, 1 if sheet.is_large else 1.8,
-                      4.5 if sheet.is_large else 8, radius + (1.5 if sheet.is_large else 3), mark="arrow")
-        for v, (x, y) in sorted(places.items()):
+            drawn.edge(svg, v, w, INK, 1 if sheet.is_large else 1.8, 4.5 if sheet.is_large else 8,
+                       radius + (1.5 if sheet.is_large else 3), mark="arrow")
+        for v, (x, y) in sorted(drawn.places.items()):
             if not sheet.rounds.in_forest(v, forest):
                 alone_chip(svg, x, y, radius * 0.6, None if sheet.is_large else sheet.three[v, forest])
             elif sheet.is_large:
@@ -132,7 +123,7 @@ def merged_panel(svg, left, sheet, forest):
     is_last = forest == rounds.forests - 1
     title(svg, left, top, "all merged: the plan" if is_last else
           "merged: forest 0" if forest == 0 else f"merged: forests 0 to {forest}")
-    places, merged = moved(sheet.places, left, top), rounds.merged[forest + 1]
+    drawn, merged = sheet.at(left, top), rounds.merged[forest + 1]
     later, before, now = [], [], []
     for e in sheet.network.edges:
         f = rounds.forest_of[e]
@@ -140,9 +131,9 @@ def merged_panel(svg, left, sheet, forest):
     with svg.group("merged", f"after forest {forest}"):
         for edges, colour, width in ((later, FAINT, 1), (before, "#9A9A9A", 1.3), (now, INK, 1.8)):
             for v, w in edges:
-                draw_edge(svg, places, sheet.bend, v, w, colour, width * 0.6 if sheet.is_large else width)
-        numbers(svg, sheet, left, top)
-        for v, (x, y) in sorted(places.items()):
+                drawn.edge(svg, v, w, colour, width * 0.6 if sheet.is_large else width)
+        drawn.numbers(svg, 8.5, 3)
+        for v, (x, y) in sorted(drawn.places.items()):
             if not sheet.is_large:
                 svg.circle(x, y, sheet.radius + 1.4, PAPER)
             channel_circle(svg, x, y, sheet.radius + (0.6 if sheet.is_large else 0), merged[v] + 1, not sheet.is_large)

@@ -1,10 +1,18 @@
 """The marks that the pictures share: vertices by their channel or colour, edges and arrows between them, legends."""
+from copy import copy
 from math import sqrt
 
 from lab.pictures.palette import (ALONE, FOREST_COLOURS, INK, PAPER, SOFT, WIRES, WRONG, channel_hue, grey, is_ring,
                                   short, text_on)
-from lab.pictures.places import middle
+from lab.pictures.places import OF_CIRCLES, bends, label_places, middle, moved, spaced
 from lab.pictures.svg import text_width
+
+# Maps of more nodes than these are wider, and of more than the second have smaller circles and straight edges.
+SMALL, LARGE = 12, 40
+
+
+def width_of_map(network):
+    return 900 if network.nodes > LARGE else 560 if network.nodes > SMALL else 420
 
 
 def channel_circle(svg, x, y, radius, channel, number=True, mark="channel"):
@@ -51,19 +59,18 @@ def bar_row(svg, x, y, channels, radius):
                  mark="more")
 
 
-def colour_square(svg, x, y, half, colour, number=True, mark="colour"):
+def colour_square(svg, x, y, half, colour, mark="colour"):
     """A colour of 0 to 5 in one forest."""
     fill = FOREST_COLOURS[colour]
     svg.rect(x - half, y - half, 2 * half, 2 * half, fill, PAPER, 1, half * 0.25, mark=mark)
-    if number:
-        svg.text(x, y + half * 0.38, colour, round(half * 1.12, 1), text_on(fill), "middle", bold=True)
+    svg.text(x, y + half * 0.38, colour, round(half * 1.12, 1), text_on(fill), "middle", bold=True)
 
 
-def number_square(svg, x, y, half, number, mark="colour"):
+def number_square(svg, x, y, half, number):
     """A number that is no colour of 0 to 5 yet: grey, darker the longer it is."""
     fill, ink = grey(number)
     text = short(number)
-    svg.rect(x - half, y - half, 2 * half, 2 * half, fill, PAPER, 1, half * 0.25, mark=mark)
+    svg.rect(x - half, y - half, 2 * half, 2 * half, fill, PAPER, 1, half * 0.25, mark="colour")
     svg.text(x, y + half * 0.33, text, round(half * (1.0 if len(text) < 3 else 0.8), 1), ink, "middle", bold=True)
 
 
@@ -77,20 +84,43 @@ def alone_chip(svg, x, y, half, colour=None):
     svg.text(x, y + half * 0.45, colour, round(half * 1.3, 1), INK, "middle", bold=True, mark="alone-colour")
 
 
-def draw_edge(svg, places, bend, a, b, colour, width, head=0, distance=0, dash=None, mark="edge"):
-    """An edge from a to b; with a head, an arrow whose tip is at this distance of b."""
-    (x1, y1), (x2, y2), (mx, my) = places[a], places[b], middle(places, bend, a, b)
-    ex, ey = x2 - mx, y2 - my
-    length = sqrt(ex * ex + ey * ey) or 1
-    ex, ey = ex / length, ey / length
-    tip_x, tip_y = x2 - ex * distance, y2 - ey * distance
-    end_x, end_y = tip_x - ex * head * 0.8, tip_y - ey * head * 0.8
-    if bend.get((min(a, b), max(a, b)), 0):
-        svg.path(["M", x1, y1, "Q", mx, my, end_x, end_y], colour, width, stroke_dasharray=dash, mark=mark)
-    else:
-        svg.line(x1, y1, end_x, end_y, colour, width, dash, mark=mark)
-    if head:
-        svg.head(tip_x, tip_y, ex, ey, head, colour)
+class Map:
+    """A network in a box: the places of its vertices, their radius, and how far its edges are bent, those of a large
+    network not at all; and where `label` has put the vertices' numbers beside them."""
+
+    def __init__(self, network, places, width, height, margin, radius, least, apart=OF_CIRCLES, left=0, top=0):
+        places, self.radius = spaced(places, width, height, margin, radius, least, apart)
+        self.network, self.places, self.labels = network, moved(places, left, top), {}
+        self.bend = {} if network.nodes > LARGE else bends(self.places, network.edges, self.radius + 1)
+
+    def label(self, distance, boxes=None):
+        self.labels = label_places(self.places, self.network.edges, self.bend, distance, boxes, self.radius + 2)
+
+    def at(self, left, top):
+        """The same map elsewhere."""
+        other = copy(self)
+        other.places, other.labels = moved(self.places, left, top), moved(self.labels, left, top)
+        return other
+
+    def edge(self, svg, a, b, colour, width, head=0, distance=0, mark="edge"):
+        """An edge from a to b; with a head, an arrow whose tip is at this distance of b."""
+        (x1, y1), (x2, y2), (mx, my) = self.places[a], self.places[b], middle(self.places, self.bend, a, b)
+        ex, ey = x2 - mx, y2 - my
+        length = sqrt(ex * ex + ey * ey) or 1
+        ex, ey = ex / length, ey / length
+        tip_x, tip_y = x2 - ex * distance, y2 - ey * distance
+        end_x, end_y = tip_x - ex * head * 0.8, tip_y - ey * head * 0.8
+        if self.bend.get((min(a, b), max(a, b)), 0):
+            svg.path(["M", x1, y1, "Q", mx, my, end_x, end_y], colour, width, mark=mark)
+        else:
+            svg.line(x1, y1, end_x, end_y, colour, width, mark=mark)
+        if head:
+            svg.head(tip_x, tip_y, ex, ey, head, colour)
+
+    def numbers(self, svg, size, down):
+        """The vertices' numbers at their places, whose middle is so far above the ground line."""
+        for v, (x, y) in self.labels.items():
+            svg.text(x, y + down, v, size, SOFT, "middle", halo=2.5, mark="number")
 
 
 def wire_arrow(svg, x1, y1, x2, y2, kind):

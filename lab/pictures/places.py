@@ -50,12 +50,12 @@ def extent(places):
     return max(xs) - min(xs) or 1e-9, max(ys) - min(ys) or 1e-9
 
 
-def fit(places, width, height, margin, left=0, top=0):
+def fit(places, width, height, margin):
     """The places, scaled evenly and put in the middle of a box."""
     wide, high = extent(places)
     scale = min((width - 2 * margin) / wide, (height - 2 * margin) / high)
     least_x, least_y = min(x for x, _ in places.values()), min(y for _, y in places.values())
-    off_x, off_y = (width - scale * wide) / 2 + left, (height - scale * high) / 2 + top
+    off_x, off_y = (width - scale * wide) / 2, (height - scale * high) / 2
     return {v: (off_x + scale * (x - least_x), off_y + scale * (y - least_y)) for v, (x, y) in places.items()}
 
 

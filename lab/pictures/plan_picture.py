@@ -1,12 +1,13 @@
 """The plan on the map: who has which channel."""
 from lab.networks.plan_text import clashes
-from lab.pictures.marks import bar_row, bars_width, channel_circle, channel_legend, draw_edge, label_margin, label_of
+from lab.pictures.marks import (LARGE, SMALL, Map, bar_row, bars_width, channel_circle, channel_legend, label_margin,
+                                label_of, width_of_map)
 from lab.pictures.palette import INK, PAPER
-from lab.pictures.places import bends, box_height, label_places, moved, places_of, spaced
+from lab.pictures.places import box_height, places_of
 from lab.pictures.svg import Svg, counted, text_width
 from lab.wrong import Wrong
 
-SMALL, LARGE, LARGEST_NUMBERED = 12, 40, 100
+LARGEST_NUMBERED = 100
 BAR, GAP = 10.5, 3
 # The most barred channels of a vertex that its title names.
 MOST_SAID = 12
@@ -19,21 +20,20 @@ def draw(network, plan):
         raise Wrong(
             f"the plan is not proper: neighbours {v} and {w} share channel {plan[v]} (C4); matrix draws such a plan"
         )
-    is_large = network.nodes > LARGE
-    width = 900 if is_large else 560 if network.nodes > SMALL else 420
+    is_large, width = network.nodes > LARGE, width_of_map(network)
     radius, least = (8.5, 6.5) if is_large else (15, 10) if network.nodes > SMALL else (19, 12)
     margin = 30 if is_large else 44
-    beside = beside_of(network) if network.nodes <= LARGEST_NUMBERED else 0
-    said = said_of(network)
-    places = places_of(network)
+    # How much more room than numbers a name, or a row of barred channels, needs beside a vertex at the edge.
+    rooms = [label_margin(network, size_of(network)), *(GAP + bars_width(bars, BAR) for bars in network.bars.values())]
+    beside = max(rooms) if network.nodes <= LARGEST_NUMBERED else 0
+    said, places = said_of(network), places_of(network)
     height = min(640, box_height(places, width, margin, 150))
-    whole_width = max(width + 2 * beside, 40 + text_width(said, 11) * 0.9)
-    svg = Svg(whole_width, 0, f"Channel plan of {network.name}")
+    width = max(width + 2 * beside, 40 + text_width(said, 11) * 0.9)
+    svg = Svg(width, 0, f"Channel plan of {network.name}")
     svg.heading(f"{network.name}: the plan is proper", said)
-    places, radius = spaced(places, whole_width - 2 * beside, height, margin, radius, least)
-    draw_map(svg, network, plan, moved(places, beside, 58), radius)
+    draw_map(svg, plan, Map(network, places, width - 2 * beside, height, margin, radius, least, left=beside, top=58))
     used = sorted(set(plan.values()))
-    svg.height = 58 + height + 26 + channel_legend(svg, 20, 58 + height + 20, used, network.channels, whole_width)
+    svg.height = 58 + height + 26 + channel_legend(svg, 20, 58 + height + 20, used, network.channels, width)
     return svg.document()
 
 
@@ -51,14 +51,6 @@ def said_of(network):
 def size_of(network):
     """The size of the vertices' numbers."""
     return 8.5 if network.nodes > LARGE else 13
-
-
-def beside_of(network):
-    """How much more room than numbers the widest name, or the longest row of barred channels, needs beside a vertex at
-    the edge."""
-    return max(
-        [label_margin(network, size_of(network)), *(GAP + bars_width(bars, BAR) for bars in network.bars.values())]
-    )
 
 
 def boxes_of(network, size):
@@ -89,18 +81,17 @@ def said_of_bars(bars):
     return ", barred " + ", ".join(map(str, bars[:MOST_SAID])) + more
 
 
-def draw_map(svg, network, plan, places, radius):
-    is_large, is_dense = network.nodes > LARGE, len(network.edges) > 5 * network.nodes
-    bend = {} if is_large else bends(places, network.edges, radius + 1)
-    colour, width = ("#D0D0D0", 0.7) if is_dense else ("#B9B9B9", 0.9) if network.nodes > SMALL else ("#9A9A9A", 1.6)
+def draw_map(svg, plan, drawn):
+    network, radius = drawn.network, drawn.radius
+    is_dense = len(network.edges) > 5 * network.nodes
+    edge = ("#D0D0D0", 0.7) if is_dense else ("#B9B9B9", 0.9) if network.nodes > SMALL else ("#9A9A9A", 1.6)
     for v, w in network.edges:
-        draw_edge(svg, places, bend, v, w, colour, width)
+        drawn.edge(svg, v, w, *edge)
     if network.nodes <= LARGEST_NUMBERED:
-        boxes = boxes_of(network, size_of(network))
-        spots = label_places(places, network.edges, bend, radius + (7 if is_large else 11.5), boxes, radius + 2)
-        for v, (x, y) in spots.items():
+        drawn.label(radius + (7 if network.nodes > LARGE else 11.5), boxes_of(network, size_of(network)))
+        for v, (x, y) in drawn.labels.items():
             draw_label(svg, network, v, x, y)
-    for v, (x, y) in sorted(places.items()):
+    for v, (x, y) in sorted(drawn.places.items()):
         with svg.group("vertex", f"vertex {label_of(network, v)}: channel {plan[v]}{said_of_bars(network.barred(v))}"):
             svg.circle(x, y, radius + 1.6, PAPER)
             channel_circle(svg, x, y, radius, plan[v])

@@ -1,5 +1,7 @@
 """Every schedule of a tiny network as a lattice: a mark is a state, a line a step, a column an event. One run is bold,
 and what goes wrong is red."""
+import textwrap
+
 from lab.pictures.palette import BAND, BORDER, INK, PAPER, PULSE, SOFT, WIRES, WRONG
 from lab.pictures.schedules_space import fault_words, left_out_words, title_of
 from lab.pictures.svg import Svg, text_width
@@ -33,8 +35,7 @@ def draw(network, space, window, run_text):
         )
     bold = (run_of(network, space, run_text) if run_text is not None else
             first_fault(space) if space.faults else in_step(space))
-    what = "the run that was given" if run_text is not None else None
-    return Lattice(network, space, low, high, last, bold, what).drawn().document()
+    return Lattice(network, space, low, high, last, bold, run_text is not None).drawn().document()
 
 
 def last_column(space):
@@ -112,34 +113,32 @@ def run_of(network, space, text):
 
 
 class Lattice:
-    """`bold` are the steps of one run, and `what` says which it is, if it isn't one of ours."""
+    """`bold` are the steps of one run, which `is_given` or one of ours. A step ends at a state; one that is refused has
+    an end of its own, (s, e)."""
 
-    def __init__(self, network, space, low, high, last, bold, what):
-        self.network, self.space, self.low, self.high, self.last, self.what = network, space, low, high, last, what
+    def __init__(self, network, space, low, high, last, bold, is_given):
+        self.network, self.space, self.low, self.high, self.last, self.is_given = (
+            network, space, low, high, last, is_given)
         self.bold, self.passed = set(bold), {s for s, _ in bold} | {space.steps(s)[e][1] for s, e in bold} | {0}
         self.columns = [[] for _ in range(low, high + 1)]
         for s in range(space.count):
             if low <= space.depth[s] <= high:
                 self.columns[space.depth[s] - low].append(s)
-        self.steps = [(s, e, event, t) for column in self.columns for s in column
+        self.steps = [(s, e, event, (s, e) if t is None else t) for column in self.columns for s in column
                       for e, (event, t) in enumerate(space.steps(s)) if space.depth[s] < high]
-        for s, e, event, t in self.steps:
-            if t is None:
-                self.columns[space.depth[s] + 1 - low].append((s, e))
+        for s, _, _, end in self.steps:
+            if isinstance(end, tuple):
+                self.columns[space.depth[s] + 1 - low].append(end)
         self.columns = self.columns[:max(k for k, column in enumerate(self.columns) if column) + 1]
         self.place()
-
-    def end_of(self, s, e, t):
-        """The mark at which a step ends; one that is refused has a mark of its own."""
-        return (s, e) if t is None else t
 
     def place(self):
         """Rows by the mean of a mark's neighbours, first to the left and then to the right, so that lines cross
         little."""
         before, after = {}, {}
-        for s, e, _, t in self.steps:
-            before.setdefault(self.end_of(s, e, t), []).append(s)
-            after.setdefault(s, []).append(self.end_of(s, e, t))
+        for s, _, _, end in self.steps:
+            before.setdefault(end, []).append(s)
+            after.setdefault(s, []).append(end)
         self.row = {}
         for column in self.columns:
             self.spread(column)
@@ -159,8 +158,11 @@ class Lattice:
 
     def lead(self, s):
         """Of two nodes, above: node 1 is ahead; below: node 2 is."""
-        pulses = [node.pulse for node in self.space.nodes(s[0] if isinstance(s, tuple) else s).values()]
+        pulses = self.pulses(s)
         return pulses[1] - pulses[0] if len(pulses) == 2 else 0
+
+    def pulses(self, s):
+        return [node.pulse for node in self.space.nodes(s[0] if isinstance(s, tuple) else s).values()]
 
     def spread(self, column):
         for place, s in enumerate(column):
@@ -172,15 +174,6 @@ class Lattice:
 
     def y(self, s):
         return self.middle + self.row[s] * self.gap
-
-    def is_wrong(self, s):
-        """A state in which a node has made a pulse without its inbox, or in which nothing is possible though some node
-        waits."""
-        return (
-            isinstance(s, tuple)
-            or (s, None) in self.space.faults
-            or any(node.wrong for node in self.space.nodes(s).values())
-        )
 
     def drawn(self):
         said = 40 + text_width(self.fact(), 17) * 1.1
@@ -221,15 +214,11 @@ class Lattice:
                     + ("." if space.schedules is None else f", {rounded(space.schedules)} schedules."))
         if (self.low, self.high) != (0, self.last):
             said.append(f"Here are those after {self.low} to {self.high} of {self.last} events.")
-        if not any(self.low <= space.depth[s] < self.high for s, _ in self.bold):
-            pass
-        elif self.what:
-            said.append(f"Bold: {self.what}.")
-        elif space.faults:
-            said.append(f"Bold: a shortest schedule that goes wrong: {fault_words(space)}.")
-        else:
-            said.append("Bold: the run in which all that is sent comes before a node makes its pulse.")
-        return wrapped(" ".join(said), 11.5, width - 40)
+        if any(self.low <= space.depth[s] < self.high for s, _ in self.bold):
+            said.append("Bold: the run that was given." if self.is_given else
+                        f"Bold: a shortest schedule that goes wrong: {fault_words(space)}." if space.faults else
+                        "Bold: the run in which all that is sent comes before a node makes its pulse.")
+        return wrapped(" ".join(said), width - 40)
 
     def number_size(self):
         """How large the pulses inside a mark are: all as large as the longest ones may be."""
@@ -237,12 +226,11 @@ class Lattice:
         return min(12, 0.75 * self.radius, self.radius * 3.1 / longest)
 
     def pulses_words(self, s):
-        return ",".join(str(node.pulse) for node in self.space.nodes(s[0] if isinstance(s, tuple) else s).values())
+        return ",".join(map(str, self.pulses(s)))
 
     def draw_steps(self, svg):
-        for s, e, event, t in sorted(self.steps, key=lambda step: step[:2] in self.bold):
-            x1, y1, end = self.x(s), self.y(s), self.end_of(s, e, t)
-            x2, y2 = self.x(end), self.y(end)
+        for s, e, event, end in sorted(self.steps, key=lambda step: step[:2] in self.bold):
+            x1, y1, x2, y2 = self.x(s), self.y(s), self.x(end), self.y(end)
             is_bold, is_wrong = (s, e) in self.bold, (s, e) in self.space.faults
             kind = "pulse" if event.kind == "pulse" else event.wire.split()[0]
             title = f"{event}" + ("" if event.wire is None else f": {event.wire} from {event.w}")
@@ -254,22 +242,23 @@ class Lattice:
 
     def apart(self, s):
         """The most pulses that two neighbours are apart, three for all above."""
-        pulses = [node.pulse for node in self.space.nodes(s).values()]
+        pulses = self.pulses(s)
         return min(3, max((abs(pulses[v - 1] - pulses[w - 1]) for v, w in self.space.links), default=0))
 
     def draw_state(self, svg, s):
-        x, y, is_wrong = self.x(s), self.y(s), self.is_wrong(s)
+        x, y = self.x(s), self.y(s)
         if isinstance(s, tuple):
             with svg.group("state wrong", fault_words(self.space, s)):
                 svg.circle(x, y, self.radius, WRONG, INK, 1)
                 svg.text(x, y + self.radius * 0.42, "×", round(1.5 * self.radius, 1), PAPER, "middle", bold=True)
             return
-        apart = self.apart(s)
+        # A node has made a pulse without its inbox, or nothing is possible though some node waits.
+        is_wrong = (s, None) in self.space.faults or any(node.wrong for node in self.space.nodes(s).values())
         words = ", ".join(f"node {v} at pulse {node.pulse} {'has halted' if node.stage == 'whole' else node.stage}"
                           for v, node in self.space.nodes(s).items())
         is_bold = s in self.passed
         with svg.group("state wrong" if is_wrong else "state", words):
-            svg.circle(x, y, self.radius, WRONG if is_wrong else APART[apart], INK if is_bold else BORDER,
+            svg.circle(x, y, self.radius, WRONG if is_wrong else APART[self.apart(s)], INK if is_bold else BORDER,
                        (1.8 if is_bold else 0.8) if self.radius > 4 else 0.5)
             size = self.number_size()
             if size >= 5:
@@ -289,13 +278,6 @@ class Lattice:
             x += 24 + text_width(words, 11.5) * 0.95
 
 
-def wrapped(text, size, width):
+def wrapped(text, width):
     """The text in lines that are no wider."""
-    lines = [""]
-    for word in text.split(" "):
-        longer = f"{lines[-1]} {word}".strip()
-        if text_width(longer, size) > width:
-            lines.append(word)
-        else:
-            lines[-1] = longer
-    return lines
+    return textwrap.wrap(text, int(width / text_width("a", 11.5)), break_long_words=False, break_on_hyphens=False)

@@ -10,7 +10,7 @@ from lab.definitions.nodes import NetState, last_pulse
 from lab.definitions.rounds import Facts
 from lab.networks.alike import alike_edges
 from lab.networks.network_text import Network as Drawn
-from lab.pictures.map_picture import draw_map
+from lab.pictures.map_picture import EDGE, Vertex, draw_map
 from lab.pictures.svg import Svg, escaped
 from lab.words import add_output, add_seed, parser_of, write
 
@@ -180,8 +180,8 @@ class Sheet:
         return "\n".join([f"p edge {NODES} {EDGES}"] + [f"e {v} {w}" for v, w in self.edges])
 
     def map(self):
-        svg = Svg(*MAP, f"network of sheet {self.name}")
-        draw_map(svg, Drawn(f"sheet {self.name}", NODES, self.edges, {}), *MAP, 0, top=0)
+        svg, network = Svg(*MAP, f"network of sheet {self.name}"), Drawn(f"sheet {self.name}", NODES, self.edges, {})
+        draw_map(svg, network, {v: Vertex(network, v) for v in network.vertices}, (*MAP, 0, 0), EDGE)
         return f'<svg width="{MAP[0]}" height="{MAP[1]}" role="img" aria-label="the network">\n{svg.inner()}\n</svg>'
 
 
