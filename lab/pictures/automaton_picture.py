@@ -31,7 +31,7 @@ def usual(network, last):
 
 
 def draw(run, pulses=None):
-    first, last = run.window(pulses, usual(run.network, run.last))
+    first, last = run.window(pulses, usual)
     nodes, ports = steps_of(run, first, last)
     svg = Svg(1120, 670, f"Synchroniser of {run.name}")
     said, others = "the run", ""
@@ -118,11 +118,9 @@ def draw_node(automaton):
 
 
 def draw_port(automaton):
-    y, at = ROW_OF_PORT, {}
+    y, at = ROW_OF_PORT, {level: 130 + number * 200 for number, (level, _) in enumerate(LEVELS)}
     automaton.svg.text(60, 404, "Each of its ports", 14, INK, bold=True)
     automaton.svg.text(206, 404, "how far the neighbour is known to be, and whether its payload is here", 11.5, SOFT)
-    for number, (level, _) in enumerate(LEVELS):
-        at[level] = 130 + number * 200
     for (a, _), (b, _) in zip(LEVELS, LEVELS[1:]):
         kind = "safe" if a[1] else "payload"
         automaton.arrow((a, kind, b), WIRES[kind], [(at[a] + 55, y), (at[b] - 57, y)], kind,

@@ -2,7 +2,7 @@
 from lab.networks.plan_text import clashes
 from lab.pictures.marks import channel_circle
 from lab.pictures.palette import INK, PAPER, SOFT, WRONG, channel_hue
-from lab.pictures.svg import Svg, counted, shown, text_width
+from lab.pictures.svg import Svg, counted, shown, stretches, text_width
 
 LARGEST_SIDE = 1180
 HEADING, CIRCLES = 76, 30
@@ -52,19 +52,10 @@ def draw_numbers(svg, order, cell, corner, size):
                  mark="column")
 
 
-def blocks_of(channels):
-    """(channel, first, end) of each run of equal channels."""
-    first = 0
-    for end in range(1, len(channels) + 1):
-        if end == len(channels) or channels[end] != channels[first]:
-            yield channels[first], first, end
-            first = end
-
-
 def draw_blocks(svg, channels, cell, side, corner, rim):
     left, top = corner
     svg.rect(left, top, side, side, "#F7F7F7", "#BBBBBB", 0.8)
-    for channel, first, end in blocks_of(channels):
+    for channel, first, end in stretches(channels):
         size, at = (end - first) * cell, first * cell
         svg.rect(left + at, top + at, size, size, PAPER, channel_hue(channel), 2, mark="block")
         svg.line(left, top + at + size, left + side, top + at + size, "#DDDDDD", 0.6)

@@ -11,7 +11,7 @@ LEFT, TOP, WIDTH = 64, 92, 1120
 MOST_READABLE, USUAL = 100, 40
 
 
-def usual(last):
+def usual(_network, last):
     """The pulses that are drawn if none are asked for."""
     return (0, last) if last <= MOST_READABLE else (0, USUAL - 1)
 
@@ -26,7 +26,7 @@ class Overview:
         self.ticks = {v: run.ticks(v) for v in nodes}
         if not any(first in ticks for ticks in self.ticks.values()):
             raise Wrong(f"{run.name}: no node begins pulse {first}")
-        self.end = 1 + max((listed[-1].x for listed in run.entries.values() if listed), default=1)
+        self.end = 1 + max((listed[-1].stamp for listed in run.entries.values() if listed), default=1)
         self.start = min(self.time(v, first) for v in nodes)
         self.stop = max(self.time(v, last + 1) for v in nodes)
         self.row = min(22, max(7, 1000 / len(nodes)))
@@ -58,7 +58,7 @@ class Overview:
 
 
 def draw(run, pulses=None):
-    first, last = run.window(pulses, usual(run.last))
+    first, last = run.window(pulses, usual)
     overview = Overview(run, first, last)
     svg = Svg(overview.left + WIDTH + 28, overview.bottom + 52, f"Overview of {run.name}")
     svg.heading(f"{run.name}: pulses {first} to {last} of {run.last}, without a clock",

@@ -7,6 +7,7 @@ import re
 import sys
 from collections.abc import Callable
 from dataclasses import dataclass, fields
+from functools import partial
 from typing import NamedTuple
 
 from lab import programs
@@ -28,7 +29,7 @@ from lab.pictures.watch_page import steps_of_text
 from lab.schedules.reading import network_of
 from lab.schedules.rules import OF_ROUNDS as RULES_OF_ROUNDS, OF_SCHEDULES
 from lab.schedules.simulate import played, text_of_rows
-from lab.words import Parser, add_output, called, text_at, write
+from lab.words import add_output, called, parser_of, text_at, write
 from lab.wrong import Wrong
 
 HELP = """\
@@ -163,16 +164,18 @@ KINDS = {
         "  forestlab picture broken examples/petersen.col --without pair > petersen-without-pair.svg",
     ),
 }
-OF_SPACE = ("schedules", "adversary")
 # Those that draw the nodes where the network places them.
 PLACED = ("map", "plan", "results", "forests", "player", "watch", "broken")
 # Those that draw any program.
-OF_PROGRAMS = ("results", "rounds", "player", "run", "overview", "node", "tally", "schedules", "adversary")
+OF_PROGRAMS = ("results", "rounds", "player", "watch", "run", "overview", "node", "tally", "schedules", "adversary")
 OF_PLAN, OF_ROUNDS, OF_RUN = (
     ("plan", "matrix"),
     ("forests", "rounds", "bits", "why", "player"),
     ("run", "overview", "node", "tally"),
 )
+# The form of the text that a kind draws.
+FORMS = {"schedules": "events", "watch": "transcript"} | dict.fromkeys(OF_PLAN, "plan") | dict.fromkeys(
+    OF_ROUNDS, "rounds") | dict.fromkeys(OF_RUN, "transcript")
 
 
 def pulses(text):
@@ -201,84 +204,61 @@ def rules(text, among=OF_SCHEDULES):
     return found
 
 
-def rules_of_rounds(text):
-    return rules(text, RULES_OF_ROUNDS)
+PULSES = {"type": pulses, "metavar": "A..B", "help": "these pulses alone"}
+VERTEX = {"type": int, "metavar": "V", "help": "a vertex, counted from 1"}
+# The options of the kinds, besides those of programs, in the order of the help.
+OPTIONS = (
+    (("watch",), "transcripts", {"metavar": "TRANSCRIPT", "nargs": "*", "help": "a stored run, or two of them"}),
+    (("schedules", "adversary"), "--without", {
+        "type": rules, "default": (), "metavar": "RULES", "help": f"some of {','.join(OF_SCHEDULES)}"}),
+    (("broken",), "--without", {"type": partial(rules, among=RULES_OF_ROUNDS), "required": True, "metavar": "RULES",
+                                "help": f"some of {','.join(RULES_OF_ROUNDS)}"}),
+    (("schedules",), "--columns", {
+        "type": pulses, "metavar": "A..B", "help": "the states after A to B events alone"}),
+    (("schedules",), "--events", {"dest": "text", "metavar": "LIST",
+                                  "help": "the run drawn bold, a list of events; else the one in step"}),
+    (("adversary",), "--json", {"action": "store_true", "dest": "as_table", "help": "the page's table alone"}),
+    *((kinds, f"--{form}", {
+        "dest": "text", "metavar": "FILE", "help": f"a stored {form} text, or - for standard input"})
+      for kinds, form in ((OF_PLAN, "plan"), (OF_ROUNDS, "rounds"), (OF_RUN, "transcript"))),
+    (OF_RUN, "--workers", {"metavar": "N", "help": "the run's worker threads"}),
+    (OF_RUN, "--capacity", {"metavar": "N", "help": "how many wires its links hold"}),
+    ((*OF_RUN, "watch"), "--pulses", PULSES),
+    (("forests", "rounds"), "--forest", {"dest": "forests", "type": some, "metavar": "A..B",
+                                         "help": "these forests alone, or one, as 2, counted from 0"}),
+    (("rounds",), "--pulses", PULSES | {"help": "these pulses alone, of another program"}),
+    (("bits",), "--forest", {"type": int, "metavar": "F", "help": "one forest, counted from 0"}),
+    (("bits", "node"), "--vertex", VERTEX),
+    (("why",), "--vertex", VERTEX | {"required": True}),
+    (("why",), "--text", {"action": "store_true", "dest": "in_words", "help": "in words, not as a picture"}),
+    (("tally",), "--rounds", {"metavar": "FILE", "help": "a stored rounds text to count by, in place of a run"}),
+    (("run",), "--only", {"type": wires, "metavar": "KINDS", "help": "some of payload,ack,safe,close"}),
+    (("run",), "--wrong", {"action": "store_true", "help": "draw a text of edition 2 up to its first entry that isn't "
+                           "possible, and that one in red"}),
+    (("run",), "--stopped", {"type": int, "metavar": "V", "help": "with --wrong, of a run that isn't whole: mark the "
+                             "vertex at which it stopped"}),
+)
 
 
 def command_line():
     """The parser, and the one of each kind."""
-    words = Parser(prog="forestlab picture", usage="forestlab picture KIND NETWORK [options]", description=HELP,
-                   epilog=MORE_HELP, formatter_class=argparse.RawDescriptionHelpFormatter)
+    words = parser_of("picture", "KIND NETWORK [options]", HELP, MORE_HELP)
     kinds = words.add_subparsers(dest="kind", metavar="KIND", required=True, help="one of those above")
     for name, (what, more, example) in KINDS.items():
-        kind = kinds.add_parser(name, prog=f"forestlab picture {name}", usage=usage_of(name),
+        usage = "[NETWORK] --without RULES" if name == "broken" else "NETWORK [options]"
+        kind = kinds.add_parser(name, prog=f"forestlab picture {name}", usage=f"forestlab picture {name} {usage}",
                                 description=f"{what}\n\n{more}", epilog=f"Example:\n  {example}",
                                 formatter_class=argparse.RawDescriptionHelpFormatter)
         kind.add_argument("network", metavar="NETWORK", nargs="?" if name == "broken" else None,
                           help="a file, - for standard input, or a name, as petersen or path5")
         kind.add_argument("--title", metavar="NAME", help="what the picture calls the network, in place of its file")
-        add_options(kind, name)
+        if name in OF_PROGRAMS:
+            add_program(kind)
+        for names, option, more in OPTIONS:
+            if name in names:
+                kind.add_argument(option, **more)
         add_output(kind)
     return words, kinds.choices
-
-
-def usage_of(name):
-    words = "[NETWORK] --without RULES" if name == "broken" else "NETWORK [options]"
-    return f"forestlab picture {name} {words}"
-
-
-def add_options(kind, name):
-    """A stored text in place of the program's, and the other options of the kind."""
-    if name in OF_PROGRAMS:
-        add_program(kind)
-    if name in OF_SPACE:
-        return add_space_options(kind, name)
-    if name in ("map", "results"):
-        return None
-    if name == "watch":
-        add_program(kind)
-        kind.add_argument("transcripts", metavar="TRANSCRIPT", nargs="*", help="a stored run, or two of them")
-        return kind.add_argument("--pulses", type=pulses, metavar="A..B", help="these pulses alone")
-    if name == "broken":
-        return kind.add_argument("--without", type=rules_of_rounds, required=True, metavar="RULES",
-                                 help=f"some of {','.join(RULES_OF_ROUNDS)}")
-    text = "plan" if name in OF_PLAN else "rounds" if name in OF_ROUNDS else "transcript"
-    kind.add_argument(f"--{text}", dest="text", metavar="FILE", help=f"a stored {text} text, or - for standard input")
-    if name in OF_RUN:
-        kind.add_argument("--workers", metavar="N", help="the run's worker threads")
-        kind.add_argument("--capacity", metavar="N", help="how many wires its links hold")
-        kind.add_argument("--pulses", type=pulses, metavar="A..B", help="these pulses alone")
-    if name in ("forests", "rounds"):
-        kind.add_argument("--forest", dest="forests", type=some, metavar="A..B",
-                          help="these forests alone, or one, as 2, counted from 0")
-    if name == "rounds":
-        kind.add_argument("--pulses", type=pulses, metavar="A..B", help="these pulses alone, of another program")
-    if name == "bits":
-        kind.add_argument("--forest", type=int, metavar="F", help="one forest, counted from 0")
-    if name in ("bits", "node", "why"):
-        kind.add_argument("--vertex", type=int, required=name == "why", metavar="V", help="a vertex, counted from 1")
-    if name == "why":
-        kind.add_argument("--text", action="store_true", dest="in_words", help="in words, not as a picture")
-    if name == "tally":
-        kind.add_argument("--rounds", metavar="FILE", help="a stored rounds text to count by, in place of a run")
-    if name == "run":
-        kind.add_argument("--only", type=wires, metavar="KINDS", help="some of payload,ack,safe,close")
-        kind.add_argument(
-            "--wrong",
-            action="store_true",
-            help="draw a text of edition 2 up to its first entry that isn't possible, and that one in red",
-        )
-        kind.add_argument("--stopped", type=int, metavar="V",
-                          help="with --wrong, of a run that isn't whole: mark the vertex at which it stopped")
-
-
-def add_space_options(kind, name):
-    kind.add_argument("--without", type=rules, default=(), metavar="RULES", help=f"some of {','.join(OF_SCHEDULES)}")
-    if name == "schedules":
-        kind.add_argument("--columns", type=pulses, metavar="A..B", help="the states after A to B events alone")
-        kind.add_argument("--events", metavar="LIST", help="the run drawn bold, a list of events; else the one in step")
-    else:
-        kind.add_argument("--json", action="store_true", dest="as_table", help="the page's table alone")
 
 
 @dataclass
@@ -315,20 +295,25 @@ def drawing(kind, network, options=Options(), texts=()):
     `Wrong`."""
     if network is not None:
         check_size(kind, network)
-    return DRAWERS[kind](kind, network, options, {text.form: text for text in texts} | {"all": texts})
-
-
-def draw_map(_kind, network, _options, _texts):
-    return map_picture.draw(network)
-
-
-def draw_results(_kind, network, options, _texts):
-    return results_picture.draw(ProgramRounds(network, network.identifiers, options.program))
-
-
-def draw_plan(kind, network, _options, texts):
-    plan = wanted(texts, "plan")
-    return (plan_picture if kind == "plan" else matrix_picture).draw(network, read_plan(plan.text, plan.name, network))
+    given = {text.form: text for text in texts}
+    match kind:
+        case "map":
+            return map_picture.draw(network)
+        case "results":
+            return results_picture.draw(ProgramRounds(network, network.identifiers, options.program))
+        case "plan" | "matrix":
+            plan = wanted(given, "plan")
+            draw = plan_picture.draw if kind == "plan" else matrix_picture.draw
+            return draw(network, read_plan(plan.text, plan.name, network))
+        case "watch":
+            wanted(given, "transcript")
+            return watch_page.draw([watch_page.Run(text.name, network, steps_of_text(
+                text.name, network, text.text, options.pulses, options.program), options.pulses) for text in texts])
+        case "broken":
+            return broken_picture.draw(network, options.without)
+        case "schedules" | "adversary":
+            return draw_space(kind, network, options, given.get("events"))
+    return (draw_run if kind in OF_RUN else draw_rounds)(kind, network, options, given)
 
 
 def wanted(texts, form):
@@ -340,16 +325,21 @@ def wanted(texts, form):
 def draw_rounds(kind, network, options, texts):
     rounds = rounds_in(network, options, texts)
     if options.program is not Colouring:
-        return draw_program(kind, options, rounds)
-    if kind == "forests":
-        return forests_picture.draw(rounds, options.forests)
-    if kind == "rounds":
-        return rounds_picture.draw(rounds, options.forests)
-    if kind == "why":
-        cone = why_picture.Cone(rounds, options.vertex)
-        return why_picture.text(cone) if options.in_words else why_picture.draw(cone)
-    if kind == "bits":
-        return bits_picture.draw(rounds, options.forest or 0, options.vertex)
+        if kind != "rounds":
+            return player_page.draw(rounds)
+        if options.forests:
+            raise Wrong(f"{options.program.name} has no forests")
+        return program_picture.draw(rounds, options.pulses)
+    match kind:
+        case "forests":
+            return forests_picture.draw(rounds, options.forests)
+        case "rounds":
+            return rounds_picture.draw(rounds, options.forests)
+        case "why":
+            cone = why_picture.Cone(rounds, options.vertex)
+            return why_picture.text(cone) if options.in_words else why_picture.draw(cone)
+        case "bits":
+            return bits_picture.draw(rounds, options.forest or 0, options.vertex)
     return player_page.draw(rounds)
 
 
@@ -359,15 +349,6 @@ def rounds_in(network, options, texts):
     if given is None:
         return rounds_of(network, network.identifiers, program)
     return read_rounds(given.text, given.name, network, program)
-
-
-def draw_program(kind, options, rounds):
-    """The rounds of another program than the colouring."""
-    if kind == "rounds":
-        if options.forests:
-            raise Wrong(f"{options.program.name} has no forests")
-        return program_picture.draw(rounds, options.pulses)
-    return player_page.draw(rounds)
 
 
 def draw_run(kind, network, options, texts):
@@ -398,40 +379,17 @@ def until_of(kind, network, options):
         return None
     if options.pulses:
         return options.pulses[1]
-    last = last_pulse(network, options.program)
-    if kind == "run":
-        return run_picture.usual(network, last)[1]
-    if kind == "overview":
-        return overview_picture.usual(last)[1]
-    return (automaton_picture.usual(network, last) if options.vertex is None else timing_picture.usual(last))[1]
+    of_node = automaton_picture if options.vertex is None else timing_picture
+    usual = {"run": run_picture, "overview": overview_picture}.get(kind, of_node).usual
+    return usual(network, last_pulse(network, options.program))[1]
 
 
-def draw_watch(_kind, network, options, texts):
-    wanted(texts, "transcript")
-    return watch_page.draw([
-        watch_page.Run(text.name, network, steps_of_text(text.name, network, text.text, options.pulses,
-                                                         options.program), options.pulses)
-        for text in texts["all"]
-    ])
-
-
-def draw_space(kind, network, options, texts):
+def draw_space(kind, network, options, bold):
     beyond = kind == "adversary" or options.columns is not None
     space = schedules_space.space_of(network, kind, options.without, beyond, options.program, options.progress)
     if kind == "schedules":
-        bold = texts.get("events")
         return schedules_picture.draw(network, space, options.columns, bold and bold.text)
     return adversary_page.draw_table(space) if options.as_table else adversary_page.draw(network, space)
-
-
-def draw_broken(_kind, network, options, _texts):
-    return broken_picture.draw(network, options.without)
-
-
-DRAWERS = {
-    "map": draw_map, "results": draw_results, "schedules": draw_space, "adversary": draw_space, "watch": draw_watch,
-    "broken": draw_broken,
-} | dict.fromkeys(OF_PLAN, draw_plan) | dict.fromkeys(OF_ROUNDS, draw_rounds) | dict.fromkeys(OF_RUN, draw_run)
 
 
 # From the command line.
@@ -444,16 +402,10 @@ def stored(given):
     """(form, path) of each text that the command line names."""
     if given.kind == "watch":
         return [("transcript", path) for path in given.transcripts]
-    if given.kind == "schedules":
-        return [("events", given.events)] if given.events else []
-    if given.kind == "tally" and given.rounds and not given.text:
+    path = getattr(given, "text", None)
+    if given.kind == "tally" and given.rounds and not path:
         return [("rounds", given.rounds)]
-    return [(form_of(given.kind), given.text)] if getattr(given, "text", None) and given.kind not in OF_SPACE else []
-
-
-def form_of(kind):
-    """The form of the text that a kind draws."""
-    return "plan" if kind in OF_PLAN else "rounds" if kind in OF_ROUNDS else "transcript"
+    return [(FORMS[given.kind], path)] if path else []
 
 
 def texts_of(given, network, network_text, options):
@@ -465,7 +417,9 @@ def texts_of(given, network, network_text, options):
         return found
     if given.kind in OF_PLAN:
         return [Text("plan", "the plan", plan_text(network_text))]
-    if given.kind == "watch" or given.kind in OF_RUN and not tallies_rounds(given, network, options.program):
+    # A long run has as many wires as each other, so they are counted by the rounds.
+    by_rounds = given.kind == "tally" and least_wires(network, options.program) > MANY_WIRES
+    if given.kind == "watch" or given.kind in OF_RUN and not by_rounds:
         return [Text("transcript", network.name if given.kind == "watch" else f"the text of {network.name}",
                      run_text(given, network, network_text, options.program))]
     return []
@@ -491,11 +445,6 @@ def run_text(given, network, network_text, program):
         return programs.text_of("forestplan", ["transcript", *options], network_text)
     return programs.text_of("forestplay", ["run", "--transcript", *program_words(program), *options],
                             network_text)
-
-
-def tallies_rounds(given, network, program):
-    """Whether the wires are counted by the rounds: a run would be long, and each has as many."""
-    return given.kind == "tally" and least_wires(network, program) > MANY_WIRES
 
 
 def options_of(given):

@@ -27,7 +27,8 @@ class Window:
         nodes = run.network.vertices
         self.run, self.first, self.last = run, first, last
         self.ticks = {v: run.ticks(v) for v in nodes}
-        self.ends = {v: self.ticks[v].get(last + 1, run.entries[v][-1].x + 1 if run.entries[v] else 1) for v in nodes}
+        self.ends = {v: self.ticks[v].get(last + 1, listed[-1].stamp + 1 if listed else 1)
+                     for v, listed in run.entries.items()}
         self.start = min(self.ticks[v].get(first, self.ends[v]) for v in nodes) - 1
         self.stop = max(self.ends.values()) + 1
         self.scale = max(9.0, min(19.0, 1180 / (self.stop - self.start)))
@@ -39,17 +40,10 @@ class Window:
     def y(self, v):
         return TOP + (v - 1) * self.row_height
 
-    def read_at(self, put):
-        """Where the payload of a put is read: at its taker's tick p + 1."""
-        return self.ticks[put.neighbour].get(put.wire[1] + 1, self.ends[put.neighbour])
-
     def arrows(self, kinds):
         """The puts whose arrows are seen, payloads last, on top."""
-        for kind in ("ack", "safe", "close", "payload"):
-            if kind in kinds:
-                for put in self.run.puts(kind):
-                    if put.mate and put.mate.x >= self.start and put.x <= self.stop:
-                        yield put
+        return (put for kind in ("ack", "safe", "close", "payload") if kind in kinds for put in self.run.puts(kind)
+                if put.mate and put.mate.stamp >= self.start and put.stamp <= self.stop)
 
 
 def usual(network, last):
@@ -63,7 +57,7 @@ def draw(run, pulses=None, kinds=None, wrong=None):
         set_in_time(run, wrong)
         pulses = pulses or pulses_around(wrong, run.last)
     kinds = kinds or (KINDS if run.network.nodes <= MOST_NODES_OF_ALL_KINDS else ("payload",))
-    first, last = run.window(pulses, usual(run.network, run.last))
+    first, last = run.window(pulses, usual)
     window = Window(run, first, last)
     at_most("run", window.stop - window.start, "steps of time side by side", MOST_STEPS,
             "fewer pulses (--pulses A..B), or overview")
@@ -187,9 +181,11 @@ def draw_wires(svg, window, kinds):
     words = []
     for put in window.arrows(kinds):
         take, kind = put.mate, put.wire[0]
-        x1, y1, x2, y2 = window.x(put.x), window.y(put.vertex), window.x(take.x), window.y(take.vertex)
+        x1, y1, x2, y2 = window.x(put.stamp), window.y(put.vertex), window.x(take.stamp), window.y(take.vertex)
         if kind == "payload":
-            svg.line(x2, y2, window.x(window.read_at(put)), y2, WIRES[kind], 5, opacity="0.35", mark="bar")
+            # It is read at its taker's tick p + 1.
+            read_at = window.ticks[put.neighbour].get(put.wire[1] + 1, window.ends[put.neighbour])
+            svg.line(x2, y2, window.x(read_at), y2, WIRES[kind], 5, opacity="0.35", mark="bar")
             if window.run.network.nodes <= 3 and x1 > LEFT:
                 words.append((x1, y1, x2 - x1, y2 - y1, f"{put.wire[2][0]} {put.wire[2][1]}"))
         with svg.group(kind, put.title()):
@@ -237,17 +233,12 @@ def early_words(window, kinds):
     named = "payload" if list(kinds) == ["payload"] else "wire"
     of_them = ("" if named == "payload" or not early
                else f" ({payloads} of them {'a payload' if payloads == 1 else 'payloads'})")
-    come = (
-        "none comes early, before its"
-        if not early
-        else "1 comes early, before its"
-        if len(early) == 1
-        else f"{len(early)} come early, before their"
-    )
-    kept = " They are kept:" if len(early) > 1 else " It is kept:" if early else ""
+    come = "none comes" if not early else "1 comes" if len(early) == 1 else f"{len(early)} come"
+    before = "their" if len(early) > 1 else "its"
+    kept = "They are kept: a" if len(early) > 1 else "It is kept: a" if early else "A"
     return (
-        f"No clock is shared: of {counted(len(seen), named)} put here {come} pulse has begun at the taker"
-        f"{of_them}.{kept} {'a' if early else 'A'} payload of pulse p is read when pulse p + 1 begins, never before."
+        f"No clock is shared: of {counted(len(seen), named)} put here {come} early, before {before} pulse has begun at "
+        f"the taker{of_them}. {kept} payload of pulse p is read when pulse p + 1 begins, never before."
     )
 
 
@@ -279,7 +270,10 @@ def draw_rounds(svg, run, first, last, top, row_height):
             name_below(svg, run.network, v, y_of(v))
         for put in puts:
             with svg.group("round", put.title()):
-                round_arrow(svg, x_of(put.wire[1]), y_of(put.vertex), x_of(put.wire[1] + 1), y_of(put.neighbour))
+                x1, y1, x2, y2 = x_of(put.wire[1]), y_of(put.vertex), x_of(put.wire[1] + 1), y_of(put.neighbour)
+                length = sqrt((x2 - x1) * (x2 - x1) + (y2 - y1) * (y2 - y1))
+                svg.line(x1, y1, x2 - (x2 - x1) / length * 7, y2 - (y2 - y1) / length * 7, WIRES["payload"], 1.7)
+                svg.head(x2, y2, x2 - x1, y2 - y1, 8, WIRES["payload"])
         for v in nodes:
             for pulse in range(first, last + 2):
                 svg.line(x_of(pulse), y_of(v) - 8, x_of(pulse), y_of(v) + 8, INK, 3, mark="slot")
@@ -292,10 +286,3 @@ def rounds_words(run, last, count):
         return f"{counted(count, 'payload')}: those that are put in these pulses as far as this text goes."
     return (f"{counted(count, 'payload')}, all that {'is' if count == 1 else 'are'} put in these pulses. Draw "
             "another run of this network: the upper half changes, this half does not.")
-
-
-def round_arrow(svg, x1, y1, x2, y2):
-    dx, dy = x2 - x1, y2 - y1
-    length = sqrt(dx * dx + dy * dy)
-    svg.line(x1, y1, x2 - dx / length * 7, y2 - dy / length * 7, WIRES["payload"], 1.7)
-    svg.head(x2, y2, dx, dy, 8, WIRES["payload"])

@@ -1,6 +1,7 @@
 """One drawing as SVG text. The same calls give the same bytes on every machine: numbers come from +, -, *, / and sqrt,
 and are written with one decimal place."""
 from contextlib import contextmanager
+from itertools import groupby
 from math import sqrt
 
 from lab.pictures.palette import FONT, INK, PAPER, SOFT
@@ -36,6 +37,14 @@ def counted(count, what):
 def text_width(text, size):
     """About how wide a text is: DejaVu Sans takes six tenths of its size for a letter, or a little less."""
     return 0.6 * size * len(str(text))
+
+
+def stretches(values):
+    """(value, first, end) of each run of equal values."""
+    end = 0
+    for value, run in groupby(values):
+        first, end = end, end + len(list(run))
+        yield value, first, end
 
 
 class Svg:

@@ -3,13 +3,13 @@ is played once more by the definitions (lab/definitions/nodes.py)."""
 from collections import Counter
 
 from lab.definitions.nodes import NetState
-from lab.pictures.transcripts import place_in_time
+from lab.pictures.transcripts import place_of
 
 
 def played(run):
     """(entry, its node's stage and its ports' levels before it, its node and the levels after it) of each entry."""
     state = NetState(run.rounds.net, run.program)
-    for entry in sorted(run.all(), key=place_in_time):
+    for entry in sorted(run.all(), key=place_of):
         v, node = entry.vertex, state.nodes[entry.vertex]
         before = stage_of(node), levels_of(state, v)
         state.step(entry.kind.title(), v, state.port_to.get((v, entry.neighbour)))

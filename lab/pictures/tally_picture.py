@@ -35,7 +35,7 @@ def counts_by(rounds):
 
 def draw(network, name, counts, pulses=None, by_rounds=False):
     last, edges = len(counts["safe"]) - 1, len(network.edges)
-    first, final = window_of(name, last, pulses or usual(last))
+    first, final = window_of(name, last, pulses or usual(network, last))
     shown = range(first, final + 1)
     totals = {kind: sum(counts[kind]) for kind in ORDER}
     bar = max(WIDEST / len(shown) if len(shown) > WIDEST / 4 else 4, min(26, WIDEST / len(shown)))

@@ -1,7 +1,7 @@
 """A logic analyser at one node: its own entries from left to right, a lane for what it awaits, a staircase for each
 port."""
 from lab.pictures.palette import INK, PAPER, SOFT, WIRES
-from lab.pictures.svg import Svg, text_width
+from lab.pictures.svg import Svg, stretches, text_width
 from lab.pictures.synchroniser import moments_of
 from lab.wrong import Wrong, at_most
 
@@ -10,7 +10,7 @@ LIMIT = 14
 MOST_ENTRIES = 300
 
 
-def usual(last):
+def usual(_network, last):
     """The pulses that are drawn if none are asked for."""
     return 0, min(4, last)
 
@@ -20,7 +20,7 @@ def draw(run, vertex, pulses=None):
         raise Wrong(f"{run.network.name} has no node {vertex}")
     neighbours = run.network.neighbours[vertex]
     at_most("node", len(neighbours), "ports of a node", LIMIT, "automaton: leave --vertex out")
-    first, last = run.window(pulses, usual(run.last))
+    first, last = run.window(pulses, usual)
     moments = [moment for moment in moments_of(run, vertex) if first <= moment.pulse <= last]
     if not moments:
         raise Wrong(f"{run.name}: node {vertex} did nothing in pulses {first} to {last}")
@@ -76,23 +76,14 @@ class Timing:
         svg = self.svg
         svg.text(LEFT - 12, TOP + 2, "awaits ack", 11, SOFT, "end")
         svg.text(LEFT - 12, TOP + 27, "said safe", 11, SOFT, "end")
-        for (_, awaits), first, end in self.stretches(lambda moment: (moment.pulse, moment.awaits)):
+        for (_, awaits), first, end in stretches((moment.pulse, moment.awaits) for moment in self.moments):
             if awaits:
                 high = min(4.5, 24 / len(self.moments[0].heights)) * awaits
                 svg.rect(self.x(first), TOP - 2 - high, self.x(end) - self.x(first), high + 4, "#BDBDBD", mark="awaits")
-        for (_, said), first, end in self.stretches(lambda moment: (moment.pulse, moment.said)):
+        for (_, said), first, end in stretches((moment.pulse, moment.said) for moment in self.moments):
             if said:
                 begin = self.x(first) + (2.5 if self.moments[first].entry.kind == "pulse" else 0)
                 svg.rect(begin, TOP + 16, min(self.x(end), self.end) - begin, 12, WIRES["safe"], mark="said")
-
-    def stretches(self, what):
-        """(value, first, end) of each stretch of entries after which `what` is the same."""
-        values = list(map(what, self.moments))
-        first = 0
-        for end in range(1, len(values) + 1):
-            if end == len(values) or values[end] != values[first]:
-                yield values[first], first, end
-                first = end
 
     def port(self, neighbour, base):
         """The staircase of a port, and its wires under it."""

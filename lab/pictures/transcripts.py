@@ -18,14 +18,14 @@ LONG_TEXT, AHEAD = 100_000, 8
 
 class Entry:
     """What a node did: `kind` is `pulse`, `put` or `take`; `wire` is (kind, pulse, payload) of a put or take; `mate` is
-    the put of a take, and back; `x` the length of the longest chain of entries that ends here, which is its stamp;
-    `during` the node's pulse."""
+    the put of a take, and back; `stamp` the length of the longest chain of entries that ends here; `during` the node's
+    pulse."""
 
-    __slots__ = ("line", "vertex", "kind", "neighbour", "wire", "pulse", "mate", "x", "during")
+    __slots__ = ("line", "vertex", "kind", "neighbour", "wire", "pulse", "mate", "stamp", "during")
 
-    def __init__(self, line, vertex, kind, neighbour, wire, pulse, x=None):
+    def __init__(self, line, vertex, kind, neighbour, wire, pulse, stamp=None):
         self.line, self.vertex, self.kind, self.neighbour = line, vertex, kind, neighbour
-        self.wire, self.pulse, self.mate, self.x, self.during = wire, pulse, None, x, 0
+        self.wire, self.pulse, self.mate, self.stamp, self.during = wire, pulse, None, stamp, 0
 
     def title(self):
         """An arrow's title: from whom to whom, and the transcript's words of the wire."""
@@ -36,13 +36,12 @@ class Entry:
 
 class Run:
     """`entries[v]` in v's order, of nodes that run `program`; `last` is R; `whole`, whether every node is through with
-    its last pulse; `read_to`, the pulse up to which a long text was read, or None if it was read to its end;
-    `is_stamped`, whether the text is."""
+    its last pulse; `is_stamped`, whether the text is."""
 
     def __init__(self, network, name, rounds, program, is_stamped):
         self.network, self.name, self.rounds, self.program, self.is_stamped = network, name, rounds, program, is_stamped
         self.entries = {v: [] for v in network.vertices}
-        self.last, self.whole, self.read_to = rounds.last, False, None
+        self.last, self.whole = rounds.last, False
 
     def all(self):
         return (entry for v in self.network.vertices for entry in self.entries[v])
@@ -51,12 +50,12 @@ class Run:
         return (entry for entry in self.all() if entry.kind == "put" and kind in (None, entry.wire[0]))
 
     def window(self, pulses, usual):
-        """The first and the last pulse to be drawn: those asked for, or else the usual ones."""
-        return window_of(self.name, self.last, pulses or usual)
+        """The first and the last pulse to be drawn: those asked for, or else the usual ones of the picture."""
+        return window_of(self.name, self.last, pulses or usual(self.network, self.last))
 
     def ticks(self, v):
-        """{pulse: x} of v, with pulse 0 at 0."""
-        return {0: 0} | {entry.pulse: entry.x for entry in self.entries[v] if entry.kind == "pulse"}
+        """{pulse: stamp} of v, with pulse 0 at 0."""
+        return {0: 0} | {entry.pulse: entry.stamp for entry in self.entries[v] if entry.kind == "pulse"}
 
 
 def window_of(name, greatest, pulses):
@@ -103,7 +102,6 @@ def run_of(text, name, network, stop, program):
     """The run, or with `stop` what each node did before it begins that pulse, as far as it depends on no more."""
     head, net, order, made = ordered(text, name, network, program, stop)
     run = Run(network, name, rounds_of(network, net.identifiers, program), program, head.is_stamped)
-    run.read_to = stop if stop is not None and stop <= run.last else None
     add_entries(run, made)
     run.whole = not order.left and all(node.is_drained() for node in order.nodes.values())
     return run
@@ -150,13 +148,8 @@ def stamped(name, net, made):
 
 
 def place_of(entry):
-    """By what the entries that were read are in the order of a transcript."""
+    """By what entries are in the order of a transcript."""
     return entry.stamp, entry.vertex
-
-
-def place_in_time(entry):
-    """The same of an `Entry`."""
-    return entry.x, entry.vertex
 
 
 def add_entries(run, made):

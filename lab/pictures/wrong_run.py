@@ -65,7 +65,7 @@ def words_on(line: int, fields: list[str], verdict: Verdict) -> str:
 def set_in_time(run, wrong: WrongEntry) -> None:
     """Gives the wrong entry the place after all that its node did before; a stamp may be what is wrong with it."""
     own = run.entries[wrong.vertex]
-    wrong.entry.x = (own[-1].x if own else 0) + 1
+    wrong.entry.stamp = (own[-1].stamp if own else 0) + 1
     wrong.entry.during = own[-1].during if own else 0
 
 
@@ -81,14 +81,14 @@ def draw_untaken(svg, window, kinds) -> None:
     """A short arrow for each wire that was put and that nobody took."""
     for kind in kinds:
         for put in window.run.puts(kind):
-            if put.mate is None and window.start <= put.x <= window.stop:
+            if put.mate is None and window.start <= put.stamp <= window.stop:
                 with svg.group("untaken", f"{put.title()}, not taken"):
                     draw_stub(svg, window, put, WIRES[kind], "2 3")
 
 
 def draw_wrong(svg, window, entry: Entry) -> None:
     """The wrong entry, in red: a tick, or the beginning or the end of an arrow."""
-    x, y = window.x(entry.x), window.y(entry.vertex)
+    x, y = window.x(entry.stamp), window.y(entry.vertex)
     with svg.group("wrong", f"line {entry.line}, not possible"):
         if entry.kind == "pulse":
             svg.line(x, y - 14, x, y + 14, WRONG, 5)
@@ -105,11 +105,11 @@ def draw_stop(svg, window, v: int) -> None:
     """A red disc behind the last entry of the vertex at which the run stopped."""
     own = window.run.entries[v]
     with svg.group("wrong", f"node {v}, where the run stops"):
-        svg.circle(window.x((own[-1].x if own else 0) + 0.5), window.y(v), 6, WRONG)
+        svg.circle(window.x((own[-1].stamp if own else 0) + 0.5), window.y(v), 6, WRONG)
 
 
 def draw_stub(svg, window, put: Entry, colour: str, dash: str | None, width: float = 1.4) -> None:
-    x, y = window.x(put.x), window.y(put.vertex)
+    x, y = window.x(put.stamp), window.y(put.vertex)
     way = 1 if put.neighbour > put.vertex else -1
     dx, dy = STEPS * window.scale, way * window.row_height * PART_OF_ROW
     svg.line(x, y, x + dx, y + dy, colour, width, dash)
