@@ -5,6 +5,7 @@ A dare is {"kind", "words", "answer"} and what the page needs to see that it is 
 pulses; a put is made by itself."""
 from lab.definitions.nodes import Colouring
 from lab.pictures.adversary_table import found
+from lab.pictures.layout import distances
 from lab.pictures.schedules_space import fault_words
 
 
@@ -105,11 +106,8 @@ def far_ends(space):
     """(the first pair of nodes that are farthest apart, how many links that is)."""
     best = None, 0
     for v in space.vertices:
-        reached = layer = {v}
-        distance = 0
-        while layer:
-            if distance > best[1]:
-                best = (v, min(layer)), distance
-            layer = {w for u in layer for w in space.ports[u]} - reached
-            reached, distance = reached | layer, distance + 1
+        ways = distances(space.ports, v)
+        far = max(ways.values())
+        if far > best[1]:
+            best = (v, min(w for w in ways if ways[w] == far)), far
     return best

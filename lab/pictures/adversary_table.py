@@ -68,10 +68,6 @@ def besides_words(space, v, node, value):
     return f", and for {waiting(lacks)}" if lacks else ""
 
 
-def node_row(node, last, *words):
-    return [node.pulse, node_words(node), found(node) if node.pulse == last else 0, int(node.wrong), *words]
-
-
 def found(node):
     """What a node has found at the end: its channel, or the words of another program."""
     return node.result if node.colour is None else node.colour + 1
@@ -90,7 +86,8 @@ def held_words(value, neighbours):
 
 def row_of_value(space, v, value):
     node = space.node_words(v, value)
-    return tuple(node_row(node, space.last, held_words(value, space.ports[v]), besides_words(space, v, node, value)))
+    return (node.pulse, node_words(node), found(node) if node.pulse == space.last else 0, int(node.wrong),
+            held_words(value, space.ports[v]), besides_words(space, v, node, value))
 
 
 def nodes_of(space):
@@ -111,17 +108,10 @@ def table_of(space, words):
     """The table; `words` writes a wire of the space in words."""
     wires = {}
     nodes, links = list(nodes_of(space)), list(links_of(space, wires))
-    events, steps = {}, []
-    for s in range(space.expanded):
-        steps.append(
-            [
-                (
-                    events.setdefault((int(event.kind == "take"), event.v, event.port or 0, event.place), len(events)),
-                    0 if target is None else target - s,
-                )
-                for event, target in space.steps(s)
-            ]
-        )
+    events = {}
+    steps = [[(events.setdefault((int(event.kind == "take"), event.v, event.port or 0, event.place), len(events)),
+               0 if target is None else target - s) for event, target in space.steps(s)]
+             for s in range(space.expanded)]
     flat = [step for row in steps for step in row]
     least = min((by for _, by in flat), default=0)
     sentences, faults = {}, {}

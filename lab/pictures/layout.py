@@ -22,18 +22,18 @@ def parts_of(network):
     seen, parts = set(), []
     for v in network.vertices:
         if v not in seen:
-            part = sorted(distances(network, v))
+            part = sorted(distances(network.neighbours, v))
             seen.update(part)
             parts.append(part)
     return parts
 
 
-def distances(network, start, most=None):
+def distances(neighbours, start, most=None):
     """{vertex: edges on a shortest way to it}, up to a number of edges."""
     found, layer, far = {start: 0}, [start], 0
     while layer and far != most:
         far += 1
-        layer = [w for v in layer for w in network.neighbours[v] if found.setdefault(w, far) == far]
+        layer = [w for v in layer for w in neighbours[v] if found.setdefault(w, far) == far]
         layer = list(dict.fromkeys(layer))
     return found
 
@@ -42,10 +42,10 @@ def landmarks_of(network, part, count):
     """Vertices that are far from each other, with the distances from each: the next is always one farthest from those
     before."""
     nearest, found, v = dict.fromkeys(part, len(part)), [], part[0]
-    first = distances(network, v)
+    first = distances(network.neighbours, v)
     v = max(part, key=lambda w: (first[w], -w))
     while len(found) < min(count, len(part)):
-        ways = distances(network, v)
+        ways = distances(network.neighbours, v)
         found.append((v, ways))
         nearest = {w: min(nearest[w], ways[w]) for w in part}
         v = max(part, key=lambda w: (nearest[w], -w))
@@ -65,7 +65,7 @@ def placed(network, part):
                 pulls[mark][v] = ways[v]
     if len(part) > ALL_PAIRS:
         for v in part:
-            pulls[v].update((w, far) for w, far in distances(network, v, NEAR).items() if w != v)
+            pulls[v].update((w, far) for w, far in distances(network.neighbours, v, NEAR).items() if w != v)
     return relaxed(first_places(part, landmarks), {v: list(ways.items()) for v, ways in pulls.items()})
 
 

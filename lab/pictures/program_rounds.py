@@ -1,13 +1,17 @@
 """The rounds of any program as pictures need them, pulse by pulse: by its definition (lab/definitions/programs.py), or
 of a text (docs/claim/FORMATS.md) that is, line by line, the rounds of its network."""
+import re
+
 from lab.definitions.colours import Network
 from lab.definitions.nodes import Colouring, ports_of, synchronous_pulses
 from lab.definitions.own_program import check_repeats, what_is_wrong
 from lab.definitions.programs import PLAYED, base_of
 from lab.definitions.pulses import Rounds
-from lab.networks.network_text import fields_of, whole
+from lab.networks.network_text import whole
 from lab.wrong import Wrong, wrong_line
 
+# A greeting, or the first colour of a vertex.
+GREETING = re.compile(r"([0-9]+) (?:put [^ ]* payload 0 hello|colour 0) ([0-9]+)")
 # Rounds of more steps of nodes than this take minutes to work out.
 MOST_STEPS = 2_000_000
 
@@ -37,14 +41,12 @@ class ProgramRounds:
         check_repeats(self.net, program)
         self.pulses, ports = [], {v: ports_of(self.net, v) for v in network.vertices}
         for p, nodes, _, sent in synchronous_pulses(self.net, program):
-            self.add(p, nodes, ports, sent)
+            puts = [(v, w, slot[0].lower(), slot[1]) for v in nodes for w, slot in zip(ports[v], sent[v]) if slot]
+            drawn = {v: (colour, None if port is None else ports[v][port]) for v, node in nodes.items()
+                     if hasattr(node, "drawn") for colour, port in [node.drawn()]}
+            self.pulses.append(ProgramPulse(p, {v: node.result() for v, node in nodes.items()}, puts, drawn))
         self.nodes = nodes
         self.wrong = what_is_wrong(self.net, program, self.pulses[-1].results)
-
-    def add(self, number, nodes, ports, sent):
-        puts = [(v, w, slot[0].lower(), slot[1]) for v in nodes for w, slot in zip(ports[v], sent[v]) if slot]
-        drawn = {v: drawn_of(node, ports[v]) for v, node in nodes.items() if hasattr(node, "drawn")}
-        self.pulses.append(ProgramPulse(number, {v: node.result() for v, node in nodes.items()}, puts, drawn))
 
     def lines(self):
         """The text of rounds, line by line."""
@@ -59,12 +61,6 @@ class ProgramRounds:
                 if pulse.number == self.last:
                     yield f"{v} {pulse.results[v]}"
                 yield from puts[v]
-
-
-def drawn_of(node, neighbours):
-    """The colour and the neighbour that a node is drawn with."""
-    colour, port = node.drawn()
-    return colour, None if port is None else neighbours[port]
 
 
 def rounds_of(network, identifiers, program):
@@ -82,24 +78,16 @@ def is_own(program):
 def identifiers_of(lines, network, name):
     """What the vertices call themselves: in their greetings; a vertex without neighbours by its first colour, or as its
     network says."""
-    found = {}
-    for line, raw in enumerate(lines, 1):
-        fields = fields_of(raw)
-        if fields[1:2] == ["put"] and fields[3:6] == ["payload", "0", "hello"] and len(fields) == 7:
-            vertex, number = whole(fields[0]), whole(fields[6])
-        elif fields[1:3] == ["colour", "0"] and len(fields) == 4:
-            vertex, number = whole(fields[0]), whole(fields[3])
-        else:
-            continue
-        if vertex is not None and number is not None:
-            found.setdefault(vertex, number)
-    taken = {}
-    for v in network.vertices:
-        number = found.setdefault(v, network.identifiers[v])
+    found, taken = {}, {}
+    for line in lines:
+        if parts := GREETING.fullmatch(line.removesuffix("\r").replace("\t", " ")):
+            found.setdefault(*map(whole, parts.groups()))
+    found = {v: found.get(v, network.identifiers[v]) for v in network.vertices}
+    for v, number in found.items():
         if number in taken:
             raise Wrong(f"{name}: vertices {taken[number]} and {v} have one identifier")
         taken[number] = v
-    return {v: found[v] for v in network.vertices}
+    return found
 
 
 def read_rounds(text, name, network, program):

@@ -39,8 +39,7 @@ def draw_strips(rounds, forests, title, lines, cone=None):
     svg.heading(title, *lines)
     legend(svg, 50 + 18 * len(lines), network.bars)
     for number, forest in enumerate(forests):
-        strip = Strip(svg, rounds, forest, top + number * block, steps[forest], column)
-        strip.cone = cone
+        strip = Strip(svg, rounds, forest, top + number * block, steps[forest], column, cone)
         strip.colours()
         strip.merge(is_full)
     return svg.document()
@@ -89,10 +88,9 @@ def legend(svg, y, has_bars):
 
 class Strip:
     """The block of one forest, with its upper edge at `top`; what isn't in the `cone` is faded, if there is one."""
-    cone = None
 
-    def __init__(self, svg, rounds, forest, top, steps, column):
-        self.svg, self.rounds, self.forest, self.top = svg, rounds, forest, top
+    def __init__(self, svg, rounds, forest, top, steps, column, cone):
+        self.svg, self.rounds, self.forest, self.top, self.cone = svg, rounds, forest, top, cone
         self.steps, self.column, self.nodes = steps, column, rounds.network.nodes
         self.right = MERGES + len(steps) * column + 44 + bars_room(rounds.network)
 

@@ -3,7 +3,6 @@ waits for, what it keeps, and its channel. One run, or two of one network side b
 
 The page has no algorithm in it: what a node is after each entry is worked out here, by the slow definitions
 (lab/definitions/nodes.py), and written into the page as rows. page/watch.js draws it."""
-import functools
 import json
 
 from lab.definitions.nodes import Colouring, NetState, make, wire_words
@@ -157,33 +156,30 @@ class Run:
         # How many entries are made when a pulse is made for the last time.
         self.made_at = {moment.during: at for at, moment in enumerate(self.moments, 1) if moment.kind == "pulse"}
         self.flights = [flight for flight in self.flights if flight.take_at is None or flight.take_at >= 0]
+        self.sent = {}
+        for flight in self.flights:
+            if flight.wire[0] == "Payload":
+                said = payload_words(flight.wire[2])
+                self.sent.setdefault(flight.wire[1], []).append((flight.start, flight.end, said))
         self.first_stamp = self.moments[0].stamp - 1 if self.moments else 0
         self.last_stamp = self.moments[-1].stamp if self.moments else 0
 
-    @functools.cached_property
-    def payloads_by_pulse(self):
-        sent = {}
-        for flight in self.flights:
-            if flight.wire[0] == "Payload":
-                sent.setdefault(flight.wire[1], []).append((flight.start, flight.end, payload_words(flight.wire[2])))
-        return {pulse: sorted(puts) for pulse, puts in sent.items()}
-
     def payloads(self, pulse):
         """What was put in a pulse, in words, in one order for all runs."""
-        return self.payloads_by_pulse.get(pulse, [])
+        return sorted(self.sent.get(pulse, []))
 
     def table(self):
         """The rows that the page follows; what comes again and again has a number."""
-        looks, texts = Numbers(), Numbers()
-        rows = [[moment.stamp, moment.vertex, looks.of(json.dumps(moment.state)), texts.of(moment.words)]
-                for moment in self.moments]
-        wires = [[flight.start, flight.end, texts.of(wire_words(flight.wire)), flight.put_at, flight.put_stamp,
-                  flight.take_at, flight.take_stamp] for flight in self.flights]
+        looks, texts = {}, {}
+        rows = [[moment.stamp, moment.vertex, looks.setdefault(json.dumps(moment.state), len(looks)),
+                 texts.setdefault(moment.words, len(texts))] for moment in self.moments]
+        wires = [[flight.start, flight.end, texts.setdefault(wire_words(flight.wire), len(texts)), flight.put_at,
+                  flight.put_stamp, flight.take_at, flight.take_stamp] for flight in self.flights]
         return {
             "name": self.name,
             "start": [self.start[v] for v in self.network.vertices],
-            "looks": [json.loads(look) for look in looks.listed],
-            "texts": texts.listed,
+            "looks": [json.loads(look) for look in looks],
+            "texts": list(texts),
             "rows": rows,
             "wires": wires,
             "stamps": [self.first_stamp, self.last_stamp],
@@ -196,19 +192,6 @@ class Run:
         if None in stamps:
             return self.last_stamp, len(self.moments)
         return min(max([*stamps, self.first_stamp]), self.last_stamp), self.made_at.get(pulse, 0)
-
-
-class Numbers:
-    """A list without repetitions, and the place of each member."""
-
-    def __init__(self):
-        self.listed, self.place = [], {}
-
-    def of(self, member):
-        if member not in self.place:
-            self.place[member] = len(self.listed)
-            self.listed.append(member)
-        return self.place[member]
 
 
 def draw(runs, title=None):

@@ -5,6 +5,7 @@ after pulse p, or ("merged", v, f), the colour that v chose in the merge of fore
 choice of a node to all facts that its value was worked out from. What a node didn't hear is no fact: that a channel is
 free follows from nobody's having taken it before; and who is whose parent follows from the greetings."""
 from lab.definitions.pulses import DROPPED, LAST_COLOUR, SEED
+from lab.pictures.layout import distances
 from lab.pictures.rounds_picture import MOST_ROWS, draw_strips
 from lab.words import in_words
 from lab.wrong import Wrong, at_most
@@ -21,10 +22,8 @@ class Cone:
         self.rounds, self.network, self.vertex = rounds, rounds.network, vertex
         if vertex not in self.network.vertices:
             raise Wrong(f"{self.network.name} has no vertex {vertex}")
-        self.choices = {}
-        for pulse in rounds.pulses:
-            for v, colour in pulse.chosen.items():
-                self.choices[v, pulse.step[0]] = pulse.number, colour
+        self.choices = {(v, pulse.step[0]): (pulse.number, colour)
+                        for pulse in rounds.pulses for v, colour in pulse.chosen.items()}
         self.facts, self.messages, self.taken = [], set(), {}
         self.follow([("merged", vertex, rounds.forests - 1)] if rounds.forests else [])
         self.known = set(self.facts)
@@ -88,22 +87,11 @@ class Cone:
     def identifiers(self):
         return sorted(fact[1] for fact in self.facts if fact[0] == "identifier")
 
-    def distances(self):
-        """How many edges away each vertex is."""
-        far, layer = {self.vertex: 0}, [self.vertex]
-        while layer:
-            layer = sorted({w for v in layer for w in self.network.neighbours[v]} - set(far))
-            far.update(dict.fromkeys(layer, max(far.values()) + 1))
-        return far
-
     def farthest(self):
         """(how many edges away the farthest identifier is that mattered, the vertices that are so far)."""
-        far = self.distances()
+        far = distances(self.network.neighbours, self.vertex)
         most = max((far[v] for v in self.identifiers()), default=0)
         return most, [v for v in self.identifiers() if far[v] == most]
-
-    def all_messages(self):
-        return sum(len(pulse.puts) for pulse in self.rounds.pulses)
 
     def forests(self):
         return sorted({fact[2] for fact in self.facts if fact[0] != "identifier"})
@@ -120,7 +108,8 @@ def summary(cone):
     names, nodes = cone.identifiers(), cone.network.nodes
     if not names:
         return "It has no neighbour that is heard: the least channel that isn't barred."
-    counts = f"{len(cone.messages)} of {cone.all_messages()} messages decided it, and the identifiers of "
+    sent = sum(len(pulse.puts) for pulse in cone.rounds.pulses)
+    counts = f"{len(cone.messages)} of {sent} messages decided it, and the identifiers of "
     most, who = cone.farthest()
     if not most:
         return f"{counts}1 of {nodes} nodes: its own."

@@ -11,6 +11,7 @@ from lab.definitions.colours import Network, colours, network_of, three
 from lab.definitions.rounds import rounds_text
 from lab.networks.network_text import Network as Read, read_network
 from lab.definitions.pulses import Rounds
+from lab.pictures.layout import distances
 from lab.pictures.why_picture import Cone
 from tests.cases import Case, example, said_by
 
@@ -92,7 +93,7 @@ class Messages(Case):
                     for (v, f), lower in cone.taken.items():
                         self.assertEqual([c for c, _, _ in lower], list(range(cone.choices[v, f][1])))
                     most, who = cone.farthest()
-                    self.assertTrue(all(cone.distances()[v] == most for v in who))
+                    self.assertTrue(all(distances(cone.network.neighbours, vertex)[v] == most for v in who))
 
 
 class Independence(Case):
