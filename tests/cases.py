@@ -1,8 +1,15 @@
-"""What every test has: the case whose rows are counted, and how a program's answer is compared."""
+"""What every test has: the case whose rows are counted, its files, and how programs are called."""
+import functools
+import gc
+import io
 import os
+import shutil
 import subprocess
+import sys
+import tempfile
 import unittest
 
+from lab.wrong import Wrong as Fault
 from tests import FORESTLAB, TOP
 
 # Letters of what is said of a row that fails.
@@ -25,6 +32,14 @@ class Case(unittest.TestCase):
             if not good:
                 raise Wrong(str(what)[:MOST_SAID])
 
+    def same(self, name, got, wanted):
+        """A row: what is found is what it has to be."""
+        self.note(name, got == wanted, f"wanted {wanted!r}, got {got!r}")
+
+    def refusal(self, name, done, status, said):
+        """The row of a refusal: nothing is written, and this is said. `done` is the status and both outputs."""
+        self.note(name, done[0] == status and not done[1] and said in done[2], done)
+
     def note_all(self, rows):
         """The rows (name, good, what) that a helper gives."""
         for name, good, what in rows:
@@ -35,28 +50,93 @@ class Case(unittest.TestCase):
         got = (done.returncode, done.stdout, done.stderr)
         self.note(name, got == (status, output, errors), f"wanted {(status, output, errors)}, got {got}")
 
+    @functools.cached_property
+    def folder(self):
+        """A folder of the test."""
+        return self.enterContext(tempfile.TemporaryDirectory())
+
+    def file(self, name, data, mode="wb"):
+        """The path of a file in that folder, or elsewhere, with these bytes or this text; `ab` adds to its end."""
+        path = os.path.join(self.folder, name)
+        os.makedirs(os.path.dirname(path), exist_ok=True)
+        with open(path, mode) as file:
+            file.write(data if isinstance(data, bytes) else data.encode())
+        return path
+
+
+def copied(tree, *parts):
+    """Copies files and folders of the repository to another place."""
+    os.makedirs(tree)
+    for part in parts:
+        path, to = os.path.join(TOP, part), os.path.join(tree, part)
+        if os.path.isdir(path):
+            shutil.copytree(path, to, symlinks=True, ignore=shutil.ignore_patterns("__pycache__"))
+        else:
+            shutil.copy(path, to)
+
 
 def text(lines):
     """Bytes of a text in which '|' is a line feed."""
     return lines.replace("|", "\n").encode("latin-1")
 
 
-def example(name):
-    """The bytes of a file of examples/; a network may be named without its ending."""
-    with open(os.path.join(TOP, "examples", name if "." in name else f"{name}.col"), "rb") as file:
+def contents(*parts):
+    """The bytes of a file, by its path in the repository or by a whole one."""
+    with open(os.path.join(TOP, *parts), "rb") as file:
         return file.read()
 
 
-def forestlab(*words, data=b"", **more):
-    """The status and both outputs of a command of forestlab."""
-    done = run_program(FORESTLAB, map(str, words), data, **more)
+def text_in(*parts):
+    return contents(*parts).decode()
+
+
+def examples():
+    """The networks of examples/ by their names."""
+    names = sorted(os.listdir(os.path.join(TOP, "examples")))
+    return {name.removesuffix(".col"): example(name) for name in names if name.endswith(".col")}
+
+
+def example(name):
+    """The bytes of a file of examples/; a network may be named without its ending."""
+    return contents("examples", name if "." in name else f"{name}.col")
+
+
+def called(path, *words, data=b"", **more):
+    """The status and both outputs of a program."""
+    words = [word if isinstance(word, bytes) else str(word) for word in words]
+    done = run_program(path, words, data, **more)
     return done.returncode, done.stdout, done.stderr
+
+
+def forestlab(*words, **more):
+    """The same of a command of forestlab."""
+    return called(FORESTLAB, *words, **more)
 
 
 def said_by(*words, **more):
     """The same as texts."""
     status, out, errors = forestlab(*words, **more)
     return status, out.decode(), errors.decode()
+
+
+def in_process(name, main, *words, data=b""):
+    """The same of a command of forestlab, whose `main` is called in this process; how a process ends is for
+    tests/programs/endings.py."""
+    streams, is_collecting = (sys.stdin, sys.stdout, sys.stderr), gc.isenabled()
+    sys.stdin, sys.stdout, sys.stderr = (io.TextIOWrapper(io.BytesIO(given), "utf-8") for given in (data, b"", b""))
+    try:
+        status = main(list(map(str, words)))
+    except SystemExit as ended:
+        status = ended.code
+    except (Fault, OSError) as why:
+        status = 1
+        print(f"{name}: {f'{why.filename}: {why.strerror}' if isinstance(why, OSError) else why}", file=sys.stderr)
+    finally:
+        (_, out, errors), (sys.stdin, sys.stdout, sys.stderr) = (sys.stdin, sys.stdout, sys.stderr), streams
+        (gc.enable if is_collecting else gc.disable)()
+    out.flush()
+    errors.flush()
+    return status, out.buffer.getvalue(), errors.buffer.getvalue()
 
 
 def run_program(path, words, data=b"", limit=300, **streams):

@@ -39,3 +39,4 @@ def setting(name):
 PLAN, PLAY, SECOND_PLAN, SECOND_PLAY, CRATE_TESTS = (
     os.path.abspath(setting(name)) for name in ("plan", "play", "second-plan", "second-play", "crate-tests")
 )
+PATHS = {"forestplan": PLAN, "forestplay": PLAY}

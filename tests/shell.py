@@ -1,8 +1,10 @@
-"""A line of shell, run to its end, or stopped at its limit with all that it started; and where it finds commands."""
+"""A line of shell, run to its end, or stopped at its limit with all that it started; where it finds commands; and how
+one waits for something."""
 import contextlib
 import os
 import signal
 import subprocess
+import time
 
 
 def without_rt(path):
@@ -23,3 +25,13 @@ def run_line(line, *words, limit, **given):
                 os.killpg(started.pid, signal.SIGKILL)
             raise
     return subprocess.CompletedProcess(started.args, started.returncode, out, err)
+
+
+def wait_until(what, limit, moment=0.02):
+    """Whether it comes true before the limit."""
+    end = time.monotonic() + limit
+    while not what():
+        if time.monotonic() > end:
+            return False
+        time.sleep(moment)
+    return True

@@ -1,4 +1,5 @@
 """What a picture shows, read off its SVG: marks by class, with their places, numbers and fills."""
+import json
 import re
 import xml.etree.ElementTree as tree
 
@@ -9,6 +10,11 @@ def parsed(picture):
     """A picture, or a part of a page: that names no space of its own."""
     return tree.fromstring(picture if "xmlns=" in picture
                            else re.sub(r"^<(\w+)", r'<\1 xmlns="http://www.w3.org/2000/svg"', picture))
+
+
+def data_of(page):
+    """What a page in HTML follows."""
+    return json.loads(re.search(r"(?m)^var D = (.*);$", page)[1])
 
 
 def marks(root, name):
