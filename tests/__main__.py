@@ -18,6 +18,7 @@ import signal
 import subprocess
 import sys
 import tempfile
+from concurrent.futures import ThreadPoolExecutor
 
 from tests import TOP
 
@@ -82,58 +83,51 @@ def what_is_missing(chosen, settings, setting):
     return "" if shutil.which("cc") else "there is no C compiler cc"
 
 
-class Run:
-    """A module's process, which writes what it says to a file."""
+def end_all_of(process):
+    """Ends what a module's process has started, and itself."""
+    with contextlib.suppress(ProcessLookupError):
+        os.killpg(process.pid, signal.SIGKILL)
 
-    def __init__(self, module, tests, folder):
-        self.module, self.path = module, os.path.join(folder, module)
-        with open(self.path, "wb") as file:
-            self.process = subprocess.Popen([sys.executable, "-m", "tests.running", module, *tests],
-                                            stdin=subprocess.DEVNULL, stdout=file, stderr=subprocess.STDOUT, cwd=TOP,
-                                            start_new_session=True)
 
-    def report(self):
-        """Prints what it said, and returns how many rows passed and failed: a process that ends otherwise than with
-        its count has failed once."""
-        with open(self.path, encoding="utf-8", errors="replace") as file:
-            said = file.read()
-        print(f"{self.module}:\n{said}", end="" if said.endswith("\n") or not said else "\n")
-        last = re.search(r"^(\d+) passed, (\d+) failed\n\Z", said, re.M)
-        passed, failed = map(int, last.groups()) if last else (0, 0)
-        status = self.process.returncode
-        if (status != 0) != (failed > 0) or not last:
-            print(f"FAILED {self.module}: it ended with status {status}{'' if last else ' and without its count'}")
-            failed += 1
-        sys.stdout.flush()
-        return passed, failed
+def run_module(module, tests, folder, running):
+    """The status of a module's process, and what it said, which it writes to a file."""
+    with open(os.path.join(folder, module), "wb+") as file:
+        process = subprocess.Popen([sys.executable, "-m", "tests.running", module, *tests], stdin=subprocess.DEVNULL,
+                                   stdout=file, stderr=subprocess.STDOUT, cwd=TOP, start_new_session=True)
+        running.append(process)
+        status = process.wait()
+        end_all_of(process)
+        file.seek(0)
+        return status, file.read().decode("utf-8", "replace")
 
-    def stop(self):
-        """Ends it with all that it started."""
-        with contextlib.suppress(ProcessLookupError):
-            os.killpg(self.process.pid, signal.SIGKILL)
-        self.process.wait()
+
+def report(module, status, said):
+    """Prints what a module said, and returns how many rows passed and failed: a process that ends otherwise than with
+    its count has failed once."""
+    print(f"{module}:\n{said}", end="" if said.endswith("\n") or not said else "\n")
+    last = re.search(r"^(\d+) passed, (\d+) failed\n\Z", said, re.M)
+    passed, failed = map(int, last.groups()) if last else (0, 0)
+    if (status != 0) != (failed > 0) or not last:
+        print(f"FAILED {module}: it ended with status {status}{'' if last else ' and without its count'}")
+        failed += 1
+    sys.stdout.flush()
+    return passed, failed
 
 
 def run_all(chosen, jobs, folder):
     """The sums over all modules, which are reported in their order."""
-    waiting = sorted(chosen, key=lambda module: LONGEST.index(module) if module in LONGEST else len(LONGEST))
-    left, running, done, sums = list(chosen), {}, {}, [0, 0]
-    try:
-        while left:
-            while waiting and len(running) < jobs:
-                run = Run(waiting[0], chosen[waiting.pop(0)], folder)
-                running[run.process.pid] = run
-            pid, status = os.waitpid(-1, 0)
-            run = running.pop(pid)
-            run.process.returncode = os.waitstatus_to_exitcode(status)
-            run.stop()
-            done[run.module] = run
-            while left and left[0] in done:
-                sums = [a + b for a, b in zip(sums, done[left.pop(0)].report())]
-    except BaseException:
-        for run in running.values():
-            run.stop()
-        raise
+    order = sorted(chosen, key=lambda module: LONGEST.index(module) if module in LONGEST else len(LONGEST))
+    running, sums = [], [0, 0]
+    with ThreadPoolExecutor(jobs) as pool:
+        done = {module: pool.submit(run_module, module, chosen[module], folder, running) for module in order}
+        try:
+            for module in chosen:
+                sums = [a + b for a, b in zip(sums, report(module, *done[module].result()))]
+        except BaseException:
+            pool.shutdown(wait=False, cancel_futures=True)
+            for process in running:
+                end_all_of(process)
+            raise
     return sums
 
 

@@ -4,8 +4,8 @@
 
 A test is a method of a `unittest.TestCase`; a module without one is a helper that others import. It prints each row
 that failed or was skipped, and last 'N passed, M failed'."""
+import glob
 import importlib
-import inspect
 import os
 import shutil
 import sys
@@ -15,31 +15,16 @@ from tests import TOP
 from tests.cases import Wrong
 from tests.shell import without_rt
 
-# The folders of tests/ that come first in the report; others come after them, and by_hand/ is no part of it.
-FOLDERS = ("programs", "faults", "pictures", "pages")
-
-
 def modules():
-    """The names of all modules of tests/, without the package's."""
-    top = os.path.join(TOP, "tests")
-    others = sorted(name for name in os.listdir(top) if os.path.isfile(os.path.join(top, name, "__init__.py")))
-    found = []
-    for folder in [*FOLDERS, *(name for name in others if name not in (*FOLDERS, "by_hand")), ""]:
-        names = sorted(os.listdir(os.path.join(top, folder)))
-        stems = [name.removesuffix(".py") for name in names if name.endswith(".py") and not name.startswith("__")]
-        found += [f"{folder}.{stem}" if folder else stem for stem in stems]
-    return found
+    """The names of all modules of tests/, without the package's and what is called by hand."""
+    paths = sorted(glob.glob("**/[!_]*.py", root_dir=os.path.join(TOP, "tests"), recursive=True))
+    return [path.removesuffix(".py").replace("/", ".") for path in paths if not path.startswith("by_hand/")]
 
 
 def tests_of(module):
-    """The tests of a module by their names, `MODULE.CLASS.test_x`; a class that it imports isn't its own."""
-    there = importlib.import_module(f"tests.{module}")
-    found = {}
-    for _, case in inspect.getmembers(there, inspect.isclass):
-        if issubclass(case, unittest.TestCase) and case.__module__ == there.__name__:
-            tests = unittest.defaultTestLoader.loadTestsFromTestCase(case)
-            found |= {test.id().removeprefix("tests."): test for test in tests}
-    return found
+    """The tests of a module by their names, `MODULE.CLASS.test_x`."""
+    cases = unittest.defaultTestLoader.loadTestsFromModule(importlib.import_module(f"tests.{module}"))
+    return {test.id().removeprefix("tests."): test for case in cases for test in case}
 
 
 class Counting(unittest.TestResult):
