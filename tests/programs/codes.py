@@ -1,17 +1,12 @@
 """Tests of `forestlab network tell CODE`, beside the codes that docs/claim/FORMATS.md lists and those that the programs
 report."""
-import os
 import re
-import subprocess
-import tempfile
 
-from tests import FORESTLAB, TOP
-from tests.cases import Case, run_program, text
+from tests.cases import Case, called, forestlab, text, text_in
 from tests.commands import EDGE, PROGRAM_OF, TRIANGLE
 from tests.programs.own_networks import call
-from tests.settings import PLAN, PLAY
+from tests.settings import PATHS
 
-PATHS = {"forestplan": PLAN, "forestplay": PLAY}
 TOO_MANY = "".join(f"e 1 {v}|" for v in range(2, 1026))
 BARS = "".join(f"b 1 {channel}|" for channel in range(1, 1026))
 RUN = EDGE + "transcript 2 2|"
@@ -65,8 +60,7 @@ def tell(*words):
 
 def of_formats():
     """{code or name: its number in DEFINITIONS, or ''} of the tables of FORMATS, and the one words of its statuses."""
-    with open(os.path.join(TOP, "docs", "claim", "FORMATS.md"), encoding="utf-8") as file:
-        page = file.read()
+    page = text_in("docs", "claim", "FORMATS.md")
     codes = {name: "" for name in re.findall(r"^\| ([FNC]\d+) \|", page, re.M)}
     events = page.partition("### Events after a network")[2].partition("\n## ")[0]
     for name, more in re.findall(r"^\| `(\w+)` \| (.*) \|$", events, re.M):
@@ -99,18 +93,13 @@ class Codes(Case):
             (["nowhere.col"], 1, "network: nowhere.col: No such file or directory\n"),
             (["C8", "and", "C9"], 2, "one FILE, or a code and where it is, as `C8 vertex 1`\n"),
         ):
-            status, text_, fault = tell(*words)
-            self.note(" ".join(words), (status, text_) == (wanted, "") and fault.endswith(said), (status, fault))
+            self.refusal(" ".join(words), tell(*words), wanted, said)
 
     def test_a_file_of_that_name(self):
         """What is a file is read as one."""
-        with tempfile.TemporaryDirectory() as folder:
-            with open(os.path.join(folder, "C8"), "w", encoding="ascii") as file:
-                file.write("p edge 2 1\ne 1 2\n")
-            done = subprocess.run([FORESTLAB, "network", "tell", "C8"], capture_output=True, timeout=60,
-                                  cwd=folder)
-            self.note("a file C8", (done.returncode, done.stderr) == (0, b"") and done.stdout.startswith(b"nodes: 2\n"),
-                      done)
+        self.file("C8", "p edge 2 1\ne 1 2\n")
+        status, said, fault = forestlab("network", "tell", "C8", cwd=self.folder)
+        self.note("a file C8", (status, fault) == (0, b"") and said.startswith(b"nodes: 2\n"), (status, said, fault))
 
 
 class Faults(Case):
@@ -119,9 +108,9 @@ class Faults(Case):
         for command, data, fault, words in FAULTS:
             program = PROGRAM_OF[command]
             more = ("--turns", "0") if fault == "stopped" else ()
-            done = run_program(PATHS[program], [command, *more], text(data))
             line = f"{program}: {fault}"
-            self.note(f"the program reports {fault}", done.stderr == f"{line}\n".encode(), done)
+            errors = called(PATHS[program], command, *more, data=text(data))[2]
+            self.same(f"the program reports {fault}", errors, f"{line}\n".encode())
             here = fault.partition(": ")[2]
             for given in ([line], line.split(" ")[1:]):
                 status, said, errors = tell(*given)

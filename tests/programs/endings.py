@@ -5,11 +5,11 @@ import re
 import signal
 import subprocess
 import sys
-import time
 
 from lab.__main__ import COMMANDS
 from tests import FORESTLAB, TOP
-from tests.cases import Case
+from tests.cases import Case, text_in
+from tests.shell import run_line, wait_until
 
 LIMIT = 120
 TRIANGLE = os.path.join(TOP, "examples", "triangle.col")
@@ -20,73 +20,66 @@ CALLS = {
     "network": ["path", "3"],
     "picture": ["forests", TRIANGLE],
 }
-PLAN = b"plan\n1 1\n"
 
 
 class Endings(Case):
     needs_programs = False
 
-    def test_outputs(self):
-        """A closed or full output is one line and status 1, of help too; a standard error that can't be written changes
-        nothing."""
-        for name in COMMANDS:
-            for words in (CALLS.get(name, ["--help"]), ["--help"], ["--version"]):
-                for redirected, said in ((">/dev/full", b"No space left on device"), (">&-", b"Bad file descriptor")):
-                    done = subprocess.run(
-                        ["bash", "-c", f'exec "$0" "$@" {redirected}', FORESTLAB, name, *words],
-                        input=PLAN, capture_output=True, timeout=LIMIT)
-                    wanted = b"%s: the output can't be written: %s\n" % (name.encode(), said)
-                    self.note(f"{name} {words} {redirected}", (done.returncode, done.stderr) == (1, wanted), done)
-        for redirected in ("2>/dev/full", "2>&-"):
-            done = subprocess.run(["bash", "-c", f'exec "$0" "$1" read - {redirected}', FORESTLAB, "network"],
-                                  input=b"", capture_output=True, timeout=LIMIT)
-            self.note(f"a fault {redirected}", (done.returncode, done.stdout) == (1, b""), done)
-            done = subprocess.run(["bash", "-c", f'exec "$0" "$1" read - {redirected}', FORESTLAB, "network"],
-                                  input=b"1,2\n", capture_output=True, timeout=LIMIT)
-            self.note(f"no fault {redirected}", (done.returncode, done.stdout) == (0, b"p edge 2 1\ne 1 2\n"), done)
+    def redirected(self, where, path, *words, **given):
+        """What a command ends with whose stream is another one."""
+        given = given or {"stdin": subprocess.DEVNULL}
+        return run_line(f'exec "$0" "$@" {where}', path, *words, limit=LIMIT, **given)
 
-    def test_help_and_version(self):
-        """So it is with the help of a script that isn't Python, and with the version that each says."""
-        for name, words in (("try", ["--help"]), ("test", ["--help"]), ("bin/forestlab", ["--help"]),
-                            ("bin/forestlab", ["--version"]), ("forestplan", ["--version"]),
-                            ("bin/forestplay", ["--version"])):
-            for redirected, said in ((">/dev/full", b"No space left on device"), (">&-", b"Bad file descriptor")):
-                done = subprocess.run(["bash", "-c", f'exec "$0" "$@" {redirected}', os.path.join(TOP, name), *words],
-                                      stdin=subprocess.DEVNULL, capture_output=True, timeout=LIMIT)
-                good = done.returncode == 1 and re.fullmatch(rb"\w+: .*%s\n" % said, done.stderr)
-                self.note(f"{name} {words} {redirected}", good, done)
-            # The reader has gone before anything is written.
-            done = subprocess.run(["bash", "-c", '"$0" "$@" | exec true', os.path.join(TOP, name), *words],
-                                  stdin=subprocess.DEVNULL, capture_output=True, timeout=LIMIT)
-            self.note(f"{name} {words} without a reader", done.stderr == b"", done)
+    def test_outputs(self):
+        """A closed or full output is one line and status 1, of help too, and of a script that isn't Python; a standard
+        error that can't be written changes nothing."""
+        scripts = [("try", ["--help"]), ("test", ["--help"]), ("bin/forestlab", ["--help"]),
+                   ("bin/forestlab", ["--version"]), ("forestplan", ["--version"]), ("bin/forestplay", ["--version"])]
+        of_lab = [("bin/forestlab", [name, *words]) for name in COMMANDS
+                  for words in (CALLS.get(name, ["--help"]), ["--help"], ["--version"])]
+        path = self.file("plan", "plan\n1 1\n")
+        for name, words in [*scripts, *of_lab]:
+            for where, said in ((">/dev/full", b"No space left on device"), (">&-", b"Bad file descriptor")):
+                with open(path, "rb") as plan:
+                    status, _, fault = self.redirected(where, os.path.join(TOP, name), *words, stdin=plan)
+                wanted = rb"\w+: .*%s\n" if (name, words) in scripts else (
+                    words[0].encode() + rb": the output can't be written: %s\n")
+                self.note(f"{name} {words} {where}", status == 1 and re.fullmatch(wanted % said, fault), fault)
+        # The reader has gone before anything is written, or after a line of much more.
+        for name, words in scripts:
+            _, _, fault = self.redirected("| exec true", os.path.join(TOP, name), *words)
+            self.same(f"{name} {words} without a reader", fault, b"")
+        done = run_line('set -o pipefail; "$0" network random 2000 100000 | head -1', FORESTLAB, limit=LIMIT)
+        self.note("a reader that goes", done[::2] == (0, b"") and done[1].count(b"\n") == 1, done)
+        pairs, nothing = self.file("pairs", "1,2\n"), self.file("nothing", "")
+        for where in ("2>/dev/full", "2>&-"):
+            for path, wanted in ((nothing, (1, b"")), (pairs, (0, b"p edge 2 1\ne 1 2\n"))):
+                got = self.redirected(where, FORESTLAB, "network", "read", path)
+                self.same(f"{wanted} {where}", got[:2], wanted)
 
     def test_inputs(self):
         """An input that is closed, or a folder, is one line; it is closed for Python, which wouldn't start with one."""
-        for name, words, status in (("network", ["read", "-"], 1), ("network", ["tell", "-"], 1),
-                                    ("channels", ["1"], 1), ("transcript", ["check", TRIANGLE], 1),
-                                    ("transcript", ["convert", "json"], 1), ("simulate", ["-"], 1),
-                                    ("explore", ["-"], 1), ("picture", ["plan", "-"], 1)):
-            for redirected in ("<&-", f"<{TOP}"):
-                done = subprocess.run(["bash", "-c", f'exec "$0" "$@" {redirected}', FORESTLAB, name, *words],
-                                      capture_output=True, timeout=LIMIT)
+        for name, words in (("network", ["read", "-"]), ("network", ["tell", "-"]), ("channels", ["1"]),
+                            ("transcript", ["check", TRIANGLE]), ("transcript", ["convert", "json"]),
+                            ("simulate", ["-"]), ("explore", ["-"]), ("picture", ["plan", "-"])):
+            for where in ("<&-", f"<{TOP}"):
+                status, out, fault = self.redirected(where, FORESTLAB, name, *words)
                 line = rb"%s: (-|standard input): Bad file descriptor\n" % name.encode()
-                good = (done.returncode, done.stdout) == (status, b"") and re.fullmatch(line, done.stderr)
-                self.note(f"{name} {words} {redirected}", good, done)
-        for name, words in (("network", ["path", "2"]), ("network", ["--version"]), ("--help", [])):
-            done = subprocess.run([FORESTLAB, name, *words], stdin=os.open(TOP, os.O_RDONLY), capture_output=True,
-                                  timeout=LIMIT)
-            good = (done.returncode, done.stderr) == (0, b"") and done.stdout
-            self.note(f"{name} {words} needs no input, so it may be a folder", good, done)
+                self.note(f"{name} {words} {where}", (status, out) == (1, b"") and re.fullmatch(line, fault), fault)
+        for words in (["network", "path", "2"], ["network", "--version"], ["--help"]):
+            status, out, fault = self.redirected(f"<{TOP}", FORESTLAB, *words)
+            self.note(f"{words} needs no input, so it may be a folder", (status, fault) == (0, b"") and out, fault)
 
     def test_interrupts(self):
-        """Ctrl-C while a command waits for its input, once or more often, is one line and status 130; SIGTERM is 143."""
+        """Ctrl-C while a command waits for its input, once or more often, is one line and status 130; SIGTERM is
+        143."""
         for name, words in (("network", ["read", "-"]), ("channels", ["1"]), ("transcript", ["check", TRIANGLE]),
                             ("picture", ["plan", "-"]), ("explore", ["-"])):
             for number, times, wanted in ((signal.SIGINT, 1, (130, b"%s: interrupted\n" % name.encode())),
                                           (signal.SIGINT, 3, (130, b"%s: interrupted\n" % name.encode())),
                                           (signal.SIGTERM, 1, (143, b""))):
                 with self.begun(name, words) as run:
-                    self.wait_for_reading(run.pid)
+                    wait_until(lambda: self.is_reading(run.pid), LIMIT, 0.05)
                     for _ in range(times):
                         run.send_signal(number)
                     out, said = run.communicate(timeout=LIMIT)
@@ -99,15 +92,9 @@ class Endings(Case):
                                 stderr=subprocess.PIPE, start_new_session=True,
                                 preexec_fn=lambda: signal.signal(signal.SIGINT, signal.SIG_DFL))
 
-    def wait_for_reading(self, process):
-        """Waits until a process is Python, no longer the script, and waits for what a pipe gives."""
-        end = time.monotonic() + LIMIT
-        while time.monotonic() < end:
-            time.sleep(0.05)
-            with open(f"/proc/{process}/comm", encoding="utf-8") as name, \
-                    open(f"/proc/{process}/wchan", encoding="utf-8") as place:
-                if name.read().startswith("python") and "pipe" in place.read():
-                    return
+    def is_reading(self, process):
+        """Whether a process is Python, no longer the script, and waits for what a pipe gives."""
+        return text_in(f"/proc/{process}/comm").startswith("python") and "pipe" in text_in(f"/proc/{process}/wchan")
 
     def test_own_faults(self):
         """A fault of a command itself is one line, too."""

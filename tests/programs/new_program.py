@@ -6,7 +6,7 @@ import tempfile
 from build.new_program import MODEL, PARTS, SEQUEL, add_line, changes, check_name, copy
 from lab.wrong import Wrong
 from tests import TOP
-from tests.cases import Case
+from tests.cases import Case, text_in
 
 
 def files_in(folder):
@@ -21,8 +21,7 @@ class NewProgram(Case):
         shutil.copy(os.path.join(TOP, "crates.txt"), self.top)
 
     def lines(self):
-        with open(os.path.join(self.top, "crates.txt"), encoding="utf-8") as file:
-            return file.read().split("\n")
+        return text_in(self.top, "crates.txt").split("\n")
 
     def test_models(self):
         for model, name, needs in ((MODEL, "echoes", "sync_rounds"), (SEQUEL, "dominating", "followed")):
@@ -36,8 +35,7 @@ class NewProgram(Case):
             self.note(f"{name}: what is to be changed", set(listed) <= set(files_in(made)), listed)
             left = []
             for path in files_in(made):
-                with open(os.path.join(made, path), encoding="utf-8") as file:
-                    text = path + file.read()
+                text = path + text_in(made, path)
                 left += [path for word in model if word in text]
             self.note(f"{name}: the model's names are gone", not left, left)
             added = [line for line in self.lines() if line not in before]

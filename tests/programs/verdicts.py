@@ -1,18 +1,13 @@
 """`check` on worked plans, on the plans that `plain` writes for the examples, and on 20,000 shuffled rows; hostile.py
 has random plans."""
-import os
 import random
-import subprocess
 
-from tests import TOP
-from tests.cases import Case
+from tests.cases import Case, called, examples, text
+from tests.commands import TRIANGLE
 from tests.programs.slow_reader import answer_to
 from tests.settings import PLAN
 
-LIMIT = 60
 SEED = 2026
-
-TRIANGLE = "p edge 3 3|e 1 2|e 1 3|e 2 3|"
 GOOD = TRIANGLE + "plan|1 2|2 3|3 1|"
 BARRED = TRIANGLE + "b 3 1|"
 
@@ -78,66 +73,41 @@ WORKED_VERDICTS = [
 ]
 
 
-def run(program, data):
-    return subprocess.run([program, "check"], input=data, capture_output=True, timeout=LIMIT)
-
-
-def wanted_of(said):
-    return (0, f"{said}\n".encode(), b"") if said.startswith("proper") else (1, b"", f"forestplan: {said}\n".encode())
-
-
-def one_row(program, name, data, said):
-    done = run(program, data)
-    got = (done.returncode, done.stdout, done.stderr)
-    return name, got == wanted_of(said), f"wanted {said}, got {got}"
-
-
 def text_of(nodes, edges, plan):
     return (b"p edge %d %d\n" % (nodes, len(edges)) + b"".join(b"e %d %d\n" % edge for edge in edges) + b"plan\n"
             + b"".join(b"%d %d\n" % row for row in plan))
 
 
-def shuffled(program):
-    """A cycle of 20,000 vertices, every second one with channel 2, and the rows in any order."""
-    plan = [(v, 1 + v % 2) for v in range(1, 20_001)]
-    random.Random(SEED).shuffle(plan)
-    data = text_of(20_000, [(v, v % 20_000 + 1) for v in range(1, 20_001)], plan)
-    return one_row(program, "20,000 shuffled rows", data, "proper 2")
-
-
-def largest(program):
-    """20,000 vertices in blocks of 40 that are joined to the next one's, 400,000 edges; then one clash at the end."""
-    edges = [(v, v + d) for d in range(1, 21) for v in range(1, 20_001 - d)]
-    plan = [(v, 1 + v % 21) for v in range(1, 20_001)]
-    good = run(program, text_of(20_000, edges, plan))
-    plan[-1] = (20_000, plan[-2][1])
-    bad = run(program, text_of(20_000, edges, plan))
-    got = [(done.returncode, done.stdout, done.stderr) for done in (good, bad)]
-    return "20,000 rows and 399,790 edges", got == [wanted_of("proper 21"), wanted_of("C4 vertices 19999 20000")], got
-
-
-def piped_rows(program, examples):
-    """Each example, then the plan that `plain` writes for it."""
-    rows = []
-    for name in sorted(name for name in os.listdir(examples) if name.endswith(".col")):
-        with open(os.path.join(examples, name), "rb") as file:
-            network = file.read()
-        plan = subprocess.run([program, "plain"], input=network, capture_output=True, timeout=LIMIT).stdout
-        said = b"".join(answer_to("check", network + plan)[1:]).decode().strip()
-        rows.append((f"example {name} ends in a line feed", network.endswith(b"\n"), network[-20:]))
-        rows.append((f"the plan of example {name} is proper by the definition", said.startswith("proper"), said))
-        rows.append(one_row(program, f"check of example {name} and its plan", network + plan, said))
-    return rows
-
-
 class Verdicts(Case):
-    def test_worked(self):
-        for text, said in WORKED_VERDICTS:
-            self.note(*one_row(PLAN, f"verdict {said} of {text[-40:]!r}", text.replace("|", "\n").encode(), said))
+    def says(self, name, data, said):
+        wanted = (0, f"{said}\n".encode(), b"") if said.startswith("proper") else (
+            1, b"", f"forestplan: {said}\n".encode())
+        self.same(name, called(PLAN, "check", data=data), wanted)
 
-    def test_large(self):
-        self.note(*shuffled(PLAN))
-        self.note(*largest(PLAN))
+    def test_worked(self):
+        for data, said in WORKED_VERDICTS:
+            self.says(f"verdict {said} of {data[-40:]!r}", text(data), said)
+
+    def test_shuffled(self):
+        """A cycle of 20,000 vertices, every second one with channel 2, and the rows in any order."""
+        plan = [(v, 1 + v % 2) for v in range(1, 20_001)]
+        random.Random(SEED).shuffle(plan)
+        data = text_of(20_000, [(v, v % 20_000 + 1) for v in range(1, 20_001)], plan)
+        self.says("20,000 shuffled rows", data, "proper 2")
+
+    def test_largest(self):
+        """20,000 vertices in blocks of 40 that are joined to the next one's, 400,000 edges; then one clash at the
+        end."""
+        edges = [(v, v + d) for d in range(1, 21) for v in range(1, 20_001 - d)]
+        plan = [(v, 1 + v % 21) for v in range(1, 20_001)]
+        self.says("20,000 rows and 399,790 edges", text_of(20_000, edges, plan), "proper 21")
+        plan[-1] = (20_000, plan[-2][1])
+        self.says("a clash at the end", text_of(20_000, edges, plan), "C4 vertices 19999 20000")
 
     def test_examples(self):
-        self.note_all(piped_rows(PLAN, os.path.join(TOP, "examples")))
+        """Each example, then the plan that `plain` writes for it."""
+        for name, network in examples().items():
+            data = network + called(PLAN, "plain", data=network)[1]
+            said = b"".join(answer_to("check", data)[1:]).decode().strip()
+            self.note(f"the plan of {name} is proper by the definition", said.startswith("proper"), said)
+            self.says(f"check of {name} and its plan", data, said)
