@@ -2,24 +2,25 @@
 each limit the answer is the right bytes, or one line that has a name."""
 import os
 import subprocess
-import tempfile
 
 from lab.definitions.colours import network_of, plan_text
 from lab.definitions.nodes import ports_of
-from lab.transcripts.check import Wrong, in_order, whole_run
-from tests.cases import Case
+from lab.transcripts.check import in_order, whole_run
+from tests.cases import Case, text
 from tests.commands import PROGRAM_OF
+from tests.commands import TRIANGLE as THREE
 from tests.faults.refused_memory import build_front
+from tests.faults.refused_threads import is_right
 from tests.programs.one_worker import Run
 from tests.programs.slow_reader import answer_to
-from tests.settings import PLAN, PLAY
+from tests.settings import PATHS
 
 LIMIT = 60
 MOST, LEAST, FINE_STEPS = 2**30, 2**20, 40
 LINE = 'ulimit -v "$0"; export LD_PRELOAD="$1" STARTED="$2"; shift 2; exec "$@"'
 PATH, SHORT_PATH = (b"p edge %d %d\n" % (n, n - 1) + b"".join(b"e %d %d\n" % (v, v + 1) for v in range(1, n))
                     for n in (2000, 300))
-TRIANGLE = b"p edge 3 3\ne 1 2\ne 1 3\ne 2 3\n"
+TRIANGLE = text(THREE)
 CIRCLE = b"p edge 12 12\n" + b"".join(b"e %d %d\n" % (v, v % 12 + 1) for v in range(1, 13))
 
 
@@ -51,36 +52,6 @@ def events_of(net, entries):
     return "".join(lines).encode()
 
 
-def falling_limit_rows(paths):
-    """Rows (name, good, what). `paths` has the programs by their names."""
-    with tempfile.TemporaryDirectory() as folder:
-        front, failure = build_front(folder, "started")
-        if failure is not None:
-            return [("the library that says what was loaded builds", False, failure)]
-        return [limits_row(paths, front, words, data) for words, data in runs()]
-
-
-def limits_row(paths, front, words, data):
-    """Falls in large steps to a limit at which nothing is loaded, and then in small ones between the last at which all
-    went well and that one."""
-    name = PROGRAM_OF[words[0]]
-    program, is_allowed = [paths[name], *words], allowed(name, words, data)
-    seen, last_good, limit = {}, MOST, MOST
-    while limit > LEAST:
-        seen[limit] = answer_within(program, front, data, limit)
-        if seen[limit] is None:
-            break
-        last_good = limit if seen[limit][0] == 0 else last_good
-        limit = limit * 9 // 10
-    for step in range(1, FINE_STEPS):
-        between = limit + (last_good - limit) * step // FINE_STEPS
-        seen[between] = answer_within(program, front, data, between)
-    wrong = [(limit, answer) for limit, answer in seen.items() if answer and not is_allowed(answer)]
-    refused = sum(answer is not None and answer[0] != 0 for answer in seen.values())
-    return (f"falling limits of address space: {' '.join(words)}, {len(seen)} limits, {refused} refusals",
-            not wrong and refused > 0 and seen[MOST][0] == 0, wrong[:3] or sorted(seen.items())[:5])
-
-
 def answer_within(program, front, data, limit):
     """The answer, or None if the program wasn't loaded."""
     reading, writing = os.pipe()
@@ -97,19 +68,31 @@ def allowed(name, words, data):
     refusals = [(4, b"", f"{name}: {line}\n".encode())
                 for line in (["memory", "threads"] if is_threaded else ["memory"])]
     if words[0] == "transcript":
-        return lambda answer: answer in refusals or is_whole(data, answer)
+        return lambda answer: answer in refusals or is_right("transcript", answer, data)
     wanted = answer_to(words[0], data)
     return lambda answer: answer in refusals or answer == wanted
 
 
-def is_whole(data, answer):
-    try:
-        return (answer[0], answer[2]) == (0, b"") and bool(whole_run(network_of(data), answer[1]))
-    except Wrong:
-        return False
-
-
 class FallingLimits(Case):
     def test_address_space(self):
-        self.note("each command is played", {words[0] for words, _ in runs()} == set(PROGRAM_OF))
-        self.note_all(falling_limit_rows({"forestplan": PLAN, "forestplay": PLAY}))
+        """Falls in large steps to a limit at which nothing is loaded, and then in small ones between the last at which
+        all went well and that one."""
+        self.same("each command is played", {words[0] for words, _ in runs()}, set(PROGRAM_OF))
+        front = build_front(self.folder, "started")
+        for words, data in runs():
+            name = PROGRAM_OF[words[0]]
+            program, is_allowed = [PATHS[name], *words], allowed(name, words, data)
+            seen, last_good, limit = {}, MOST, MOST
+            while limit > LEAST:
+                seen[limit] = answer_within(program, front, data, limit)
+                if seen[limit] is None:
+                    break
+                last_good = limit if seen[limit][0] == 0 else last_good
+                limit = limit * 9 // 10
+            for step in range(1, FINE_STEPS):
+                between = limit + (last_good - limit) * step // FINE_STEPS
+                seen[between] = answer_within(program, front, data, between)
+            wrong = [(limit, answer) for limit, answer in seen.items() if answer and not is_allowed(answer)]
+            refused = sum(answer is not None and answer[0] != 0 for answer in seen.values())
+            self.note(f"falling limits of address space: {' '.join(words)}, {len(seen)} limits, {refused} refusals",
+                      not wrong and refused > 0 and seen[MOST][0] == 0, wrong[:3] or sorted(seen.items())[:5])

@@ -5,18 +5,17 @@ Expected answers are worked by hand (docs/learn/TUTORIAL.md has the run of the t
 in lab/definitions/nodes.py; none is taken from the program."""
 import os
 import random
-import tempfile
 
 from lab.definitions.colours import colours, network_of
 from lab.definitions.nodes import NetState, Refused, last_pulse, missing_words, ports_of, wire_words
 from tests import TOP
-from tests.cases import Case, run_program, text
+from tests.cases import Case, called, text
+from tests.commands import EDGE, TRIANGLE
 from tests.faults.refused_memory import build_front, sweep
+from tests.programs.plain_networks import random_of, some_bars, text_of
 from tests.settings import PLAY, SECOND_PLAY
 
 SEED = 2026
-EDGE = "p edge 2 1|e 1 2|"
-TRIANGLE = "p edge 3 3|e 1 2|e 1 3|e 2 3|"
 ALL_PUT = "put 1 0|put 1 1|put 2 0|put 2 1|put 3 0|put 3 1|"
 ALL_TAKE = ALL_PUT.replace("put", "take")
 # Events 31 to 47 of docs/learn/TUTORIAL.md.
@@ -121,33 +120,15 @@ REPLAYED = [
 ]
 
 # (input, fault) of `replay`: faults of the text, of the network, of the reading of the transcript, of an entry, in this
-# order
+# order. transcripts.py and merged.py have the lines that are no entries, and stamps.
 GREETING = "1 put 2 payload 0 hello 1|"
 NOT_REPLAYED = [
     ("", "F1"), ("transcript 1 2|", "F1"), (EDGE, "X1 line 1"), ("p edge 2 1|e 1 1|transcript 1 2|x|", "F6 line 2"),
     (EDGE + "q|transcript 1 2|", "F8 line 3"), (EDGE + "transcripts 1 2|", "F8 line 3"),
     ("p edge 1025 1024|" + "".join(f"e 1 {v}|" for v in range(2, 1026)) + "transcript 1 2|x|", "N1 vertex 1"),
-    (EDGE + "transcript|", "X1 line 3"),
-    (EDGE + "transcript 1|", "X1 line 3"),
-    (EDGE + "transcript 3 2|", "X1 line 3"),
-    (EDGE + "transcript 2|", "X1 line 3"),
-    (EDGE + "transcript 2 2|", "NotWhole line 3"),
-    (EDGE + "transcript 2 2|1 put 2 close|", "X1 line 4"),
-    (EDGE + "transcript 2 2||1 1 put 2 payload 0 hello 1|", "NotWhole line 5"),
-    (EDGE + "transcript 2 2|1 1 put 2 payload 0 hello 1|1 2 take 1 payload 0 hello 1|", "WrongStamp line 5"),
-    (EDGE + "transcript 2 2|1 2 put 1 payload 0 hello 2|1 1 put 2 payload 0 hello 1|", "WrongStamp line 5"),
     (EDGE + "transcript 2 2|1 1 put 2 payload 0 hello 1|2 2 take 1 payload 0 hello 1|9 1 pulse 1|",
      "NotReady line 6: ack 0 of 2; safe 0 of 2"),
-    (EDGE + "transcript 2 2|18446744073709551616 1 put 2 payload 0 hello 1|", "X1 line 4"),
-    (EDGE + "transcript 2 2|18446744073709551615 1 put 2 payload 0 hello 1|", "WrongStamp line 4"),
-    (EDGE + "transcript 1 2 2|", "X1 line 3"),
-    (EDGE + "transcript 1 2|transcript 1 2|", "X1 line 4"),
-    (EDGE + "transcript 1 2|1 pulse|", "X1 line 4"),
-    (EDGE + "transcript 1 2||1 pulse 1 1|", "X1 line 5"),
-    (EDGE + "transcript 1 2|c|", "X1 line 4"),
     (EDGE + "transcript 1 2|1 take 2 close|1 pulse|", "X1 line 5"),
-    (EDGE + "transcript 1 2|1 put 2 payload 0 best 1|", "X1 line 4"),
-    (EDGE + "transcript 1 2|4294967296 pulse 1|", "X1 line 4"),
     (EDGE + "transcript 1 2|1 take 2 close|", "LinkEmpty line 4: link from 2 to 1"),
     (EDGE + "transcript 1 2|1 put 2 safe 0|", "WrongWire line 4: expected payload 0 hello 1"),
     (EDGE + "transcript 1 2|1 put 3 close|", "NoSuch line 4"),
@@ -198,18 +179,6 @@ def answer_of(net, events):
     return 0, state_text(net, state, taken), b""
 
 
-def random_network(source, most):
-    nodes = source.randrange(0, most)
-    edges = [(v, w) for v in range(1, nodes + 1) for w in range(v + 1, nodes + 1) if source.random() < 0.5]
-    source.shuffle(edges)
-    bars = [(v, source.randint(1, 4)) for v in range(1, nodes + 1) if source.random() < 0.2]
-    return (
-        f"p edge {nodes} {len(edges)}\n"
-        + "".join(f"e {v} {w}\n" for v, w in edges)
-        + "".join(f"b {v} {c}\n" for v, c in bars)
-    )
-
-
 def random_events(source, net, count):
     """Events that are possible in their place; now and then any event."""
     state, events = NetState(net), []
@@ -251,32 +220,29 @@ def whole_run(source, net):
 class Events(Case):
     def test_builds(self):
         """The script builds the program, or finds it built."""
-        built = run_program(os.path.join(TOP, "bin", "forestplay"), ["events"], text("p edge 0 0|"))
-        self.note("the program builds", (built.returncode, built.stdout) == (0, b""), built)
-
-    def test_replay(self):
-        for name, behind, output in REPLAYED:
-            self.expect(f"replay of {name}", run_program(PLAY, ["replay"], text(EDGE + behind)), 0, text(output), b"")
-        for data, fault in NOT_REPLAYED:
-            self.expect(f"replay: {fault} of {data[-40:]!r}", run_program(PLAY, ["replay"], text(data)),
-                        *refusal(fault))
+        built = called(os.path.join(TOP, "bin", "forestplay"), "events", data=b"p edge 0 0\n")
+        self.same("the program builds", built[:2], (0, b""))
 
     def test_worked(self):
-        for name, data, output in WORKED:
-            self.expect(name, run_program(PLAY, ["events"], text(data)), 0, text(output), b"")
-        for data, fault in REFUSED:
-            self.expect(f"{fault} of {data[-40:]!r}", run_program(PLAY, ["events"], text(data)), *refusal(fault))
+        replayed = [(name, EDGE + behind, output) for name, behind, output in REPLAYED]
+        for command, worked, refused in (("events", WORKED, REFUSED), ("replay", replayed, NOT_REPLAYED)):
+            for name, data, output in worked:
+                self.same(f"{command} of {name}", called(PLAY, command, data=text(data)), (0, text(output), b""))
+            for data, fault in refused:
+                name = f"{command}: {fault} of {data[-40:]!r}"
+                self.same(name, called(PLAY, command, data=text(data)), refusal(fault))
 
     def test_random_lists(self):
         """Random networks and events against the definitions."""
         source, wrong, refused = random.Random(SEED), [], 0
         for _ in range(300):
-            network = random_network(source, 7)
-            net = network_of(network.encode())
-            data, events = written(source, network, random_events(source, net, source.randrange(0, 400)))
-            done, wanted = run_program(PLAY, ["events"], data), answer_of(net, events)
+            (nodes, edges), = random_of(1, 0, 6)(source)
+            network = text_of(source, nodes, edges, bars=some_bars(source, nodes, 2))
+            net = network_of(network)
+            data, events = written(source, network.decode(), random_events(source, net, source.randrange(0, 400)))
+            done, wanted = called(PLAY, "events", data=data), answer_of(net, events)
             refused += wanted[0]
-            if (done.returncode, done.stdout, done.stderr) != wanted:
+            if done != wanted:
                 wrong.append((data, wanted, done))
         self.note("300 random lists of events against the definitions", not wrong, wrong[:1])
         self.note("some of them are refused, and some are not", 30 < refused < 270, refused)
@@ -295,34 +261,24 @@ class Events(Case):
         for network in [TRIANGLE, TRIANGLE + "b 3 1|", "p edge 4 4|e 1 2|e 2 3|e 3 4|e 1 4|",
                         "p edge 5 5|e 1 2|e 1 3|e 1 4|e 1 5|e 2 3|", "p edge 3 1|e 1 3|"]:
             net = network_of(text(network))
-            events = random_events(random.Random(source.random()), net, 0) + whole_run(source, net)
-            data, numbered = written(source, text(network).decode(), events)
-            done = run_program(program, ["events"], data)
-            self.expect(f"a whole run of {network}", done, *answer_of(net, numbered))
-            channels = [line.split()[-1].decode() for line in done.stdout.splitlines() if line.startswith(b"node")]
-            self.note(f"channels of {network}", channels == [str(c + 1) for _, c in sorted(colours(net).items())],
-                      channels)
+            data, numbered = written(source, text(network).decode(), whole_run(source, net))
+            done = called(program, "events", data=data)
+            self.same(f"a whole run of {network}", done, answer_of(net, numbered))
+            channels = [int(line.split()[-1]) for line in done[1].splitlines() if line.startswith(b"node")]
+            self.same(f"channels of {network}", channels, [c + 1 for _, c in sorted(colours(net).items())])
 
     def test_refused_memory(self):
         """Each growth refused in turn: the right answer, or out of memory."""
-        with tempfile.TemporaryDirectory() as folder:
-            front, failure = build_front(folder)
-            self.note("the refusing allocator builds", failure is None, failure)
-            if failure is not None:
-                return
-            name, data, output = next(row for row in WORKED if row[0] == "the triangle after 47 events")
-            for data, wanted in [
-                (data, (0, text(output), b"")),
-                (EDGE + "put 1 0|put 1 0|", refusal("NothingToPut line 4: list of 1 for 2")),
-                (EDGE + "put 1|", refusal("NoEvent line 3")),
-                ("p edge 2 1|e 1 1|", refusal("F6 line 2")),
-            ]:
-                row = sweep(PLAY, front, ["events"], text(data), wanted, "forestplay")
-                self.note(f"{row[0]} of {data[-30:]!r}", row[1], row[2])
-            name, behind, output = REPLAYED[1]
-            for data, wanted in [
-                (EDGE + behind, (0, text(output), b"")),
-                (EDGE + "transcript 1 2|1 put 2 safe 0|", refusal("WrongWire line 4: expected payload 0 hello 1")),
-            ]:
-                row = sweep(PLAY, front, ["replay"], text(data), wanted, "forestplay")
-                self.note(f"replay: {row[0]} of {data[-30:]!r}", row[1], row[2])
+        front = build_front(self.folder)
+        worked = next((text(data), (0, text(output), b"")) for name, data, output in WORKED if "47 events" in name)
+        for command, data, wanted in [
+            ("events", *worked),
+            ("events", text(EDGE + "put 1 0|put 1 0|"), refusal("NothingToPut line 4: list of 1 for 2")),
+            ("events", text(EDGE + "put 1|"), refusal("NoEvent line 3")),
+            ("events", b"p edge 2 1\ne 1 1\n", refusal("F6 line 2")),
+            ("replay", text(EDGE + REPLAYED[1][1]), (0, text(REPLAYED[1][2]), b"")),
+            ("replay", text(EDGE + "transcript 1 2|1 put 2 safe 0|"),
+             refusal("WrongWire line 4: expected payload 0 hello 1")),
+        ]:
+            name, *row = sweep(PLAY, front, [command], data, wanted, "forestplay")
+            self.note(f"{name} of {data[-30:]!r}", *row)

@@ -14,7 +14,7 @@ from tests.faults.run_each import Running
 from tests.programs.events import EDGE, TRIANGLE
 from tests.programs.hostile_texts import NUMBERS, texts_of
 from tests.programs.slow_reader import answer_to
-from tests.settings import PLAN, PLAY, setting
+from tests.settings import PATHS, setting
 
 PART, BATCH = 100_000, 5_000
 
@@ -36,15 +36,15 @@ MARKS = [b"\xef\xbb\xbf", b"\xff\xfe", b"\xfe\xff", b"\r\n", b"\r\r\n", b"\n\r",
 class Programs:
     """The built programs under the library that runs them on many texts."""
 
-    def __init__(self, paths, front):
-        self.paths, self.front = paths, front
+    def __init__(self, front):
+        self.front = front
 
     def differences(self, command, texts):
         """Of texts in batches: how many there were, how many had no fault, and the first that is answered otherwise.
         The slow reader reads a batch while the program does."""
         count, good, rest = 0, 0, iter(texts)
         while batch := list(islice(rest, BATCH)):
-            running = Running(self.front, [self.paths[PROGRAM_OF[command]]] + WORDS[command], batch)
+            running = Running(self.front, [PATHS[PROGRAM_OF[command]]] + WORDS[command], batch)
             answers = [answer_to(command, data) for data in batch]
             for data, wanted, got in zip(batch, answers, running.answers()):
                 if got != wanted:
@@ -84,27 +84,11 @@ def without_20_000_nodes(texts):
 
 def long_lines(data, length=2**20):
     """A line of a megabyte before the text, in the middle of it and after it; and many blank lines."""
-    for line in (
-        b"c" * length,
-        b" " * length,
-        b"\t" * length,
-        b"q" * length,
-        b"e" * length,
-        b"1" * length,
-        b"\0" * length,
-        b"\xff" * length,
-        b"\r" * length,
-        b"c" + b"\r" * length,
-        b"e 1 2 " + b"9 " * (length // 2),
-        b"e 1 " + b"0" * length + b"2",
-        b"e 1 " + b"9" * length,
-        b"i 1 " + b"0" * length + b"5",
-        b"i 1 " + b"9" * length,
-        b"b 1 " + b"0" * length + b"5",
-        b"b 1 " + b"9" * length,
-        b" " * length + b"e 1 2",
-        b"p edge " + b"1" * length + b" 1",
-    ):
+    same = [letter * length for letter in (b"c", b" ", b"\t", b"q", b"e", b"1", b"\0", b"\xff", b"\r")]
+    numbers = [head + number for head in (b"e 1 ", b"i 1 ", b"b 1 ")
+               for number in (b"0" * length + b"2", b"9" * length)]
+    for line in (*same, *numbers, b"c" + b"\r" * length, b"e 1 2 " + b"9 " * (length // 2), b" " * length + b"e 1 2",
+                 b"p edge " + b"1" * length + b" 1"):
         middle = data.index(b"\n") + 1
         yield line + b"\n" + data
         yield data[:middle] + line + b"\n" + data[middle:]
@@ -129,16 +113,12 @@ class Hostile(Case):
     @classmethod
     def setUpClass(cls):
         folder = cls.enterClassContext(tempfile.TemporaryDirectory())
-        front, cls.failure = build_front(folder, "run_each")
-        cls.programs = Programs({"forestplan": PLAN, "forestplay": PLAY}, front)
+        cls.programs = Programs(build_front(folder, "run_each"))
         cls.first, cls.texts, cls.seed = int(setting("first")), int(setting("texts")), setting("seed")
         only = setting("only").split(",") if setting("only") else PROGRAM_OF
         if not set(only) <= set(PROGRAM_OF):
             raise AssertionError(f"--only has a word that is no command: {setting('only')}")
         cls.commands = [command for command in COMMANDS if command.name in only]
-
-    def test_library(self):
-        self.note("the library that runs a program on many texts builds", self.failure is None, self.failure)
 
     def row(self, name, command, texts):
         count, good, different = self.programs.differences(command, texts)

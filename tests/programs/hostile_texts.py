@@ -1,11 +1,13 @@
 """Texts that nobody would write: good texts of each command, spoiled at random. The same seed makes the same texts."""
 import random
 
-from lab.definitions.colours import Network, plan_text
+from lab.definitions.colours import network_of, plan_text
 from lab.definitions.nodes import NetState
+from tests.cases import text as text_of_lines
+from tests.commands import COMMANDS
 from tests.programs.events import random_events
 from tests.programs.made_transcripts import line_of
-from tests.programs.plain_networks import pairs_of
+from tests.programs.plain_networks import long_names, pairs_of, some_bars, text_of
 
 POWERS = [2**16, 2**31, 2**32, 2**63, 2**64, 2**127, 2**128, 2**129, 10**60, 1023, 1024, 2048, 20_000]
 NUMBERS = (
@@ -20,45 +22,11 @@ BYTES = [bytes([b]) for b in b"\x00\t\n\x0b\x0c\r \x1a\x1b#%+-.01239bcdeinpvx\x7
 WORDS = [b"p", b"e", b"c", b"i", b"b", b"n", b"d", b"v", b"x", b"cx", b"edge", b"edges", b"col", b"plan", b"plans",
          b"pulse", b"put", b"take", b"Put", b"transcript", b"payload", b"hello", b"label", b"colour", b"chosen",
          b"best", b"ack", b"safe", b"close", b"PLAN", b"\xef\xbb\xbfp", b"p\x00", b"\xffe", b"q"]
-LINES = [
-    b"",
-    b"\r",
-    b" \t",
-    b"c",
-    b"c \xff\x00",
-    b"n 1 1",
-    b"p edge 2 1",
-    b"p col 3 0",
-    b"e 1 2",
-    b"e 1 1",
-    b"e 0 1",
-    b"i 1 5",
-    b"i 2 1",
-    b"i 1 2",
-    b"i 0 5",
-    b"i 2 %d" % (2**128 - 1),
-    b"i 1 %d" % 2**128,
-    b"b 1 1",
-    b"b 2 1",
-    b"b 1 2048 x",
-    b"b 2 0",
-    b"b 1 2049",
-    b"b 3 2",
-    b"plan",
-    b"1 1",
-    b"2 1",
-    b"put 1 0",
-    b"take 2 0",
-    b"pulse 1",
-    b"transcript 1 2",
-    b"transcript 2 2",
-    b"1 put 2 payload 0 hello 1",
-    b"1 1 put 2 payload 0 hello 1",
-    b"1 pulse 1",
-    b"q",
-    b"\x00",
-    b"\xff",
-]
+# Those of the table of commands, and others.
+LINES = sorted({line for it in COMMANDS for line in text_of_lines(it.data + it.odd).split(b"\n")}) + [
+    b"\r", b" \t", b"c \xff\x00", b"e 1 1", b"e 0 1", b"i 1 5", b"i 1 2", b"i 0 5", b"i 2 %d" % (2**128 - 1),
+    b"i 1 %d" % 2**128, b"b 1 1", b"b 1 2048 x", b"b 2 0", b"b 1 2049", b"b 3 2", b"pulse 1", b"transcript 2 2",
+    b"1 1 put 2 payload 0 hello 1", b"1 pulse 1", b"q", b"\x00", b"\xff"]
 
 
 def texts_of(command, seed):
@@ -76,43 +44,11 @@ def texts_of(command, seed):
 def good_text(source, command):
     nodes = source.choice((0, 1, 2, 2, 3, 3, 4, 5))
     edges = [pair for pair in pairs_of(nodes) if source.random() < 0.6]
-    given, bars = given_in(source, nodes), bars_in(source, nodes)
-    lines = (
-        [b"e %d %d" % pair for pair in edges]
-        + [b"i %d %d" % pair for pair in given.items()]
-        + [b"b %d %d" % pair for pair in bars]
-    )
-    source.shuffle(lines)
-    lines.insert(0, b"p %s %d %d" % (source.choice((b"edge", b"edges", b"col")), nodes, len(edges)))
-    barred = {v: {channel - 1 for w, channel in bars if v == w} for v in range(1, nodes + 1)}
-    net = Network({v: given.get(v, v) for v in range(1, nodes + 1)}, edges, barred)
-    lines += behind(source, command, net, b"\n".join(lines))
-    return b"\n".join(lines) + b"\n"
-
-
-def given_in(source, nodes):
-    """Identifiers for some of the vertices in half of the texts, small ones, great ones and the numbers of others; no
-    two of one network are the same."""
-    if source.random() < 0.5:
-        return {}
-    while True:
-        given = {
-            v: source.choice(
-                (source.randrange(8), source.choice(POWERS[:7]) - source.randrange(3), source.randrange(2**128))
-            )
-            for v in range(1, nodes + 1)
-            if source.random() < 0.6
-        }
-        if len({given.get(v, v) for v in range(1, nodes + 1)}) == nodes:
-            return given
-
-
-def bars_in(source, nodes):
-    """Bars in half of the texts, low channels mostly, some of them twice."""
-    if nodes == 0 or source.random() < 0.5:
-        return []
-    return [(source.randint(1, nodes), source.choice((1, 1, 2, 3, source.randint(1, 2048), 2048)))
-            for _ in range(source.choice((1, 2, 3, 6)))]
+    names, bars = (of(source, nodes) if source.random() < 0.5 else {} for of in (long_names, some_bars))
+    text = text_of(source, nodes, edges, names, bars)
+    more = behind(source, command, network_of(text), text)
+    head = source.choice((b"edge", b"edges", b"col"))
+    return text.replace(b"edge", head, 1) + b"".join(line + b"\n" for line in more)
 
 
 def behind(source, command, net, network):
@@ -136,18 +72,10 @@ def plan_text_lines(source, network):
 
 
 def spoil_byte(source, text, _):
-    at = source.randint(0, len(text))
-    byte = source.choice(BYTES) if source.random() < 0.8 else bytes([source.randrange(256)])
-    return text[:at] + byte + text[at + source.randint(0, 1):]
-
-
-def without_byte(source, text, _):
-    at = source.randint(0, len(text))
-    return text[:at] + text[at + 1:]
-
-
-def beginning(source, text, _):
-    return text[:source.randint(0, len(text))]
+    """Another byte in place of one or before it, or one left out, or the rest."""
+    at, byte = source.randint(0, len(text)), source.choice(BYTES)
+    byte = byte if source.random() < 0.8 else bytes([source.randrange(256)])
+    return source.choice((text[:at] + byte + text[at + source.randint(0, 1):], text[:at] + text[at + 1:], text[:at]))
 
 
 def spoil_field(source, text, numbers):
@@ -156,9 +84,8 @@ def spoil_field(source, text, numbers):
     at = source.randrange(len(lines))
     fields = lines[at].split(b" ")
     field = source.randrange(len(fields))
-    fields[field : field + source.choice((0, 1, 1, 1))] = [
-        source.choice(numbers if source.random() < 0.7 else WORDS)
-    ] * source.choice((0, 1, 1, 1))
+    other = source.choice(numbers if source.random() < 0.7 else WORDS)
+    fields[field:field + source.choice((0, 1, 1, 1))] = [other] * source.choice((0, 1, 1, 1))
     lines[at] = b" ".join(fields)
     return b"\n".join(lines)
 
@@ -180,13 +107,8 @@ def spoil_spaces(source, text, _):
 
 
 def spoil_start(source, text, _):
-    return (
-        source.choice(
-            (b"\xef\xbb\xbf", b"\xff\xfe", b"\0", b"\r", b" ", b"\n", b"\x1b[2J", b"c" * 300 + b"\n", b" " * 300)
-        )
-        + text
-    )
+    return source.choice((b"\xef\xbb\xbf", b"\xff\xfe", b"\0", b"\r", b" ", b"\n", b"\x1b[2J", b"c" * 300 + b"\n",
+                          b" " * 300)) + text
 
 
-SPOILERS = [spoil_byte, without_byte, beginning, spoil_field, spoil_field, spoil_field, spoil_line, spoil_line,
-            spoil_spaces, spoil_start]
+SPOILERS = [spoil_byte] * 3 + [spoil_field] * 3 + [spoil_line] * 2 + [spoil_spaces, spoil_start]

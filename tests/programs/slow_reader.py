@@ -4,7 +4,7 @@ text that has no fault comes from the definitions. An answer is (status, standar
 import functools
 import re
 
-from lab.definitions.colours import Network, forests_text, network_of, plan_text
+from lab.definitions.colours import forests_text, network_of, plan_text
 from lab.definitions.nodes import NetState, Refused, entry_words, make
 from lab.definitions.rounds import rounds_text
 from lab.networks.network_text import read_network
@@ -59,8 +59,8 @@ def numbers(fields, count):
 
 
 def network_in(rows):
-    """Nodes, identifiers that lines give, edges, and barred channels of the lines of a network text, by the reader of
-    the commands: its faults as the programs print them, without the words."""
+    """The plainest text of the network that the reader of the commands reads in some lines; its faults as the programs
+    print them, without the words."""
     text = b"".join(b" ".join(fields) + b"\r\n" for fields in rows).decode("utf-8", "replace")
     try:
         read = read_network(text, "net")
@@ -69,14 +69,9 @@ def network_in(rows):
         vertices = re.search(AT_VERTICES[code], words).groups() if code in AT_VERTICES else ()
         place = f"line {line}" if line else f"{'vertex' if code == 'N1' else 'vertices'} {' '.join(vertices)}"
         raise Fault(f"{code} {place}" if line or vertices else code) from None
-    return (read.nodes, tuple(sorted(read.said.items())), frozenset(read.edges),
-            tuple((v, tuple(channels)) for v, channels in read.bars.items()))
-
-
-def definition_of(nodes, given, edges, bars):
-    named = dict(given)
-    return Network({v: named.get(v, v) for v in range(1, nodes + 1)}, edges,
-                   {v: [channel - 1 for channel in of_v] for v, of_v in bars})
+    bars = [(v, channel) for v, channels in read.bars.items() for channel in channels]
+    found = (("i", sorted(read.said.items())), ("b", bars), ("e", read.edges))
+    return (f"p edge {read.nodes} 0\n" + "".join(f"{word} {v} {x}\n" for word, of in found for v, x in of)).encode()
 
 
 def split(rows, is_first):
@@ -86,15 +81,12 @@ def split(rows, is_first):
 
 
 @functools.lru_cache(maxsize=2**12)
-def written(write, nodes, given, edges, bars):
-    """What a definition makes of the plainest text of a network."""
-    return write(b"p edge %d 0\n" % nodes + b"".join(b"i %d %d\n" % pair for pair in given)
-                 + b"".join(b"b %d %d\n" % (v, channel) for v, channels in bars for channel in channels)
-                 + b"".join(b"e %d %d\n" % edge for edge in sorted(edges)))
+def written(write, network):
+    return write(network)
 
 
 def rounds(rows):
-    return written(rounds_of, *network_in(rows))
+    return written(rounds_of, network_in(rows))
 
 
 def rounds_of(text):
@@ -103,33 +95,28 @@ def rounds_of(text):
 
 def check(rows):
     before, behind = split(rows, lambda first: first == b"plan")
-    nodes, _, edges, bars = network_in(before)
-    verdict = wrong_plan(nodes, {frozenset(edge) for edge in edges}, plan_in(behind), dict(bars))
+    net = network_of(network_in(before))
+    verdict = wrong_plan(net, plan_in(behind))
     if not verdict.startswith("proper"):
         raise Fault(verdict)
     return f"{verdict}\n".encode()
 
 
-def wrong_plan(nodes, edges, plan, bars):
-    """Of a plan the first fault, or that it is proper; `bars` are the channels that are barred at some vertices."""
-    most = (
-        max((sum(v in edge for edge in edges) for v in range(1, nodes + 1)), default=0)
-        + max(map(len, bars.values()), default=0)
-        + 1
-    )
+def wrong_plan(net, plan):
+    """Of a plan the first fault, or that it is proper."""
     channels = {}
     for v, channel in plan:
-        if not 1 <= v <= nodes:
+        if v not in net.neighbours:
             return f"C2 vertex {v}"
         if v in channels:
             return f"C3 vertex {v}"
-        if channel > most:
+        if channel > net.span + 1:
             return f"C5 vertex {v}"
-        if channel in bars.get(v, ()):
+        if channel - 1 in net.barred[v]:
             return f"C8 vertex {v}"
         channels[v] = channel
-    missing = [v for v in range(1, nodes + 1) if v not in channels]
-    clashes = sorted(tuple(sorted(edge)) for edge in edges if len({channels.get(v) for v in edge}) == 1)
+    missing = sorted(net.neighbours.keys() - channels.keys())
+    clashes = sorted(tuple(sorted(edge)) for edge in net.number if len({channels.get(v) for v in edge}) == 1)
     if missing:
         return f"C1 vertex {missing[0]}"
     if clashes:
@@ -139,9 +126,7 @@ def wrong_plan(nodes, edges, plan, bars):
 
 def plan_in(rows):
     """The rows of a plan text; its first line that has a field is `plan`."""
-    if not rows:
-        raise Fault("C6 line 1")
-    if rows[0] != [b"plan"]:
+    if not rows or rows[0] != [b"plan"]:
         raise Fault("C6 line 1")
     plan = []
     for line, fields in enumerate(rows[1:], 2):
@@ -155,7 +140,7 @@ def plan_in(rows):
 
 def events(rows):
     before, behind = split(rows, lambda first: first in EVENTS)
-    net = definition_of(*network_in(before))
+    net = network_of(network_in(before))
     made = []
     for line, fields in enumerate(behind, len(before) + 1):
         if fields and not fields[0].startswith(b"c"):
@@ -177,7 +162,7 @@ def event_in(line, fields):
 
 def replay(rows):
     before, behind = split(rows, lambda first: first == b"transcript")
-    net = definition_of(*network_in(before))
+    net = network_of(network_in(before))
     try:
         head, entries = read(b"".join(b" ".join(fields) + b"\r\n" for fields in behind))
     except Wrong as wrong:
@@ -201,17 +186,16 @@ def replay(rows):
 
 
 def plain(rows):
-    return written(plan_text, *network_in(rows))
+    return written(plan_text, network_in(rows))
 
 
 def forests(rows):
-    return written(forests_text, *network_in(rows))
+    return written(forests_text, network_in(rows))
 
 
 def transcript(rows):
     """Of workers that make no look (`--turns 0`): without a node there is nothing to be done."""
-    nodes, _, _, _ = network_in(rows)
-    if nodes > 0:
+    if network_of(network_in(rows)).neighbours:
         raise Stopped
     return b"transcript 2 0\n"
 
