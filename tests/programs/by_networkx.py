@@ -8,8 +8,8 @@ import unittest
 from lab.networks import by_networkx
 from lab.networks.reading import listed_of, made_of
 from lab.wrong import Wrong
-from tests.cases import Case
-from tests.programs.foreign_texts import named, spoilt
+from tests.cases import Case, forestlab
+from tests.programs.foreign_texts import found_in, named, spoilt
 
 GRAPHS, MUTATED, SEED = 60, 1500, 20261129
 NAMES = (range(8), range(1, 9), ("Ulm", "Aue", "Hof", "Köln", "g.h", "e-f", "B{2}", "n"),
@@ -32,14 +32,6 @@ def wanted(graph):
     return edges, frozenset(map(str, graph)) - frozenset().union(*edges)
 
 
-def ours(text, words):
-    """The network of a text, or None if it is refused."""
-    try:
-        return named(made_of(listed_of(text.encode(), "net", **words), "net")[0])
-    except Wrong:
-        return None
-
-
 def written(write):
     """What a writer of networkx writes into a file."""
     def text(graph):
@@ -57,27 +49,22 @@ def leda(graph):
 
 
 def forms(nx):
-    """(the form, its writer, words for `read`, whether nodes without an edge are in it, whether it is read always)."""
+    """(the form, its writer, words for `read`, whether it has names of nodes)."""
     def numbered(graph):
         plain = nx.Graph(nx.convert_node_labels_to_integers(graph))
         plain.remove_edges_from(list(nx.selfloop_edges(plain)))
         return plain
     return (
-        ("GraphML", written(nx.write_graphml_xml), {}, True, True),
-        ("GML", lambda graph: "\n".join(nx.generate_gml(graph, str)), {}, True, True),
-        ("JSON", lambda graph: json.dumps(nx.node_link_data(graph, edges="links")), {}, True, True),
-        ("GEXF", written(nx.write_gexf), {}, True, True),
-        ("Pajek", lambda graph: "\n".join(nx.generate_pajek(graph)), {}, True, True),
-        ("LEDA", leda, {}, True, True),
-        ("graph6", lambda graph: nx.to_graph6_bytes(numbered(graph)).decode(), {}, None, True),
+        ("GraphML", written(nx.write_graphml_xml), {}, True),
+        ("GML", lambda graph: "\n".join(nx.generate_gml(graph, str)), {}, True),
+        ("JSON", lambda graph: json.dumps(nx.node_link_data(graph, edges="links")), {}, True),
+        ("GEXF", written(nx.write_gexf), {}, True),
+        ("Pajek", lambda graph: "\n".join(nx.generate_pajek(graph)), {}, True),
+        ("LEDA", leda, {}, True),
+        ("graph6", lambda graph: nx.to_graph6_bytes(numbered(graph)).decode(), {}, False),
         ("graph6 without a head", lambda graph: nx.to_graph6_bytes(numbered(graph), header=False).decode(),
-         {"form": "graph6"}, None, True),
-        ("sparse6", lambda graph: nx.to_sparse6_bytes(numbered(graph)).decode(), {}, None, True),
-        ("edges", written(nx.write_edgelist), {}, False, False),
-        ("edges with tabs", written(lambda graph, file: nx.write_edgelist(graph, file, delimiter="\t", data=False)), {},
-         False, False),
-        ("adjacency", written(nx.write_adjlist), {}, True, False),
-        ("several lines", written(nx.write_multiline_adjlist), {}, True, False),
+         {"form": "graph6"}, False),
+        ("sparse6", lambda graph: nx.to_sparse6_bytes(numbered(graph)).decode(), {}, False),
     )
 
 
@@ -87,22 +74,16 @@ class ByNetworkx(Case):
 
     def test_written(self):
         import networkx
-        for form, writer, words, has_alone, is_always in forms(networkx):
-            wrong, same = [], 0
-            # With blanks between fields no name can have blanks, and LEDA's can't have braces.
-            kinds = NAMES[:3] if not is_always else NAMES[:2] if form == "LEDA" else NAMES
-            for graph in graphs(networkx, random.Random(SEED), kinds):
+        for form, writer, words, has_names in forms(networkx):
+            wrong = []
+            # Names of LEDA can't have braces.
+            for graph in graphs(networkx, random.Random(SEED), NAMES[:2] if form == "LEDA" else NAMES):
                 text = writer(graph)
-                if has_alone is None:
-                    graph = networkx.convert_node_labels_to_integers(graph)
-                edges, alone = wanted(graph)
-                got = ours(text, words)
-                good = got is not None and got[0] == edges and (got[1] == alone or has_alone is False)
-                same += good
-                if not good and (got is not None or is_always):
-                    wrong.append((text, got, (edges, alone)))
-            self.note(f"{form}: the same network, or refused", not wrong, (len(wrong), wrong[:1]))
-            self.note(f"{form}: many are read", same >= GRAPHS // 4, same)
+                graph = graph if has_names else networkx.convert_node_labels_to_integers(graph)
+                got = found_in(text.encode(), **words)[0]
+                if got != wanted(graph):
+                    wrong.append((text, got, wanted(graph)))
+            self.note(f"{form}: the same network", not wrong, (len(wrong), wrong[:1]))
 
     def test_mutated(self):
         """A text with a mistake that both read is the same network to both, in the forms that tell nodes exactly."""
@@ -114,10 +95,10 @@ class ByNetworkx(Case):
         chosen = [row for row in forms(networkx) if row[0] in readers]
         wrong, both = [], 0
         while both < MUTATED // 5:
-            form, writer, words, _, _ = source.choice(chosen)
+            form, writer, words, _ = source.choice(chosen)
             graph = source.choice(list(graphs(networkx, random.Random(source.randrange(10)))))
             text = spoilt(source, writer(networkx.convert_node_labels_to_integers(graph)), "")
-            got = ours(text, words)
+            got = found_in(text.encode(), **words)[0]
             try:
                 theirs = wanted(readers[form](text)) if got is not None else None
             except Exception:
@@ -139,7 +120,7 @@ class ByNetworkx(Case):
             ("sparse6", ":An\n:An\n"),
             ("sparse6", ":~~?A????_\n"),
         ):
-            self.note(f"{form}: {text!r}", ours(text, {"form": form}) is None, ours(text, {"form": form}))
+            self.same(f"{form}: {text!r}", found_in(text.encode(), form=form), (None, []))
 
     def test_twice(self):
         """An edge of LEDA that comes twice is counted, and so are weights, labels of edges, and edges that may count
@@ -173,8 +154,7 @@ class ByNetworkx(Case):
 
     def test_without_packages(self):
         """Commands start without the packages of the system: they are looked for when they are needed."""
-        from tests.programs.own_networks import by_script
-        got = by_script("read", "-", data=b"*vertices 2\n1 \"Ulm\"\n2 \"Aue\"\n*edges\n1 2\n")
+        got = forestlab("network", "read", "-", data=b"*vertices 2\n1 \"Ulm\"\n2 \"Aue\"\n*edges\n1 2\n")
         self.note("Pajek by the command", got[0] == 0 and b"c name 1 Ulm\nc name 2 Aue\np edge 2 1\n" in got[1], got)
         self.note("it says so", b"read by networkx, and counted again" in got[2], got)
         self.note("no packages without need", by_networkx.form_of("1 2\n2 3\n") is None)

@@ -5,8 +5,7 @@ The texts of networkx are by its version 3.6.1."""
 import tempfile
 from unittest import mock
 
-from tests import FORESTLAB
-from tests.cases import Case, run_program
+from tests.cases import Case, called, forestlab
 from tests.programs.own_networks import call, comments, pairs_in
 from tests.settings import PLAN
 
@@ -48,10 +47,8 @@ READ = [
     ("GraphML in one line", (GRAPHML % ("", "directed", "".join(NODES), "".join(LINES))).replace("\n", ""),
      "directions aren't read"),
     ("GraphML with labels", GRAPHML % (KEYS, "undirected", LABELLED, NUMBERED), "nodes are named by their label"),
-    ("GML", GML, "GML; 4 nodes, 1 of them without a neighbour, 3 edges"),
     ("GML of yEd", 'Creator "yFiles"\nVersion 2.17\n' + GML.replace('label "Ulm"', 'label "Ulm" graphics [ x 1 y 2 ]'),
      "nodes are named by their label"),
-    ("JSON", JSON % "edges", "JSON of nodes and links; 4 nodes"),
     ("JSON with links", (JSON % "links").replace("{", "{\n").replace(",", ",\n"), "JSON of nodes and links; 4 nodes"),
     ("JSON of D3", D3, "nodes are named by their label or name"),
     ("JSON of vis.js", D3.replace('"source"', '"from"').replace('"target"', '"to"').replace("links", "edges"),
@@ -105,22 +102,18 @@ REFUSED = [
     ("JSON of a tree", '{"id": 0, "children": [{"id": 1}]}', "tree_graph"),
     ("a dictionary of lists in JSON", '{"a": ["b"], "b": ["a"]}', "from_dict_of_lists"),
     ("places in JSON", '{"type": "FeatureCollection", "features": []}', "JSON, and no object with lists `nodes`"),
-    ("elements of a map in JSON", '{"version": 0.6, "elements": [{"type": "node", "id": 1}]}', "JSON, and no object"),
     ("a list in JSON", "[[0, 1], [1, 2]]\n", "a matrix or a list in brackets"),
     ("a matrix as numpy prints it", "[[0 1 0]\n [1 0 1]\n [0 1 0]]\n", "a matrix or a list in brackets"),
     ("JSON that is cut", '{"nodes": [{"id": 0}', "begins like JSON, and isn't JSON"),
     ("METIS", "10 15\n" + "".join(" ".join(str(w + 1) for w in BESIDE[v]) + "\n" for v in range(10)),
      "looks like METIS"),
-    ("METIS of a row", "3 2\n2\n1 3\n2\n", "looks like METIS"),
     ("METIS with weights", "3 2 011\n5 2 1\n4 1 1 3 7\n9 2 7\n", "looks like METIS"),
     ("METIS without edges", "2 0\n\n\n", "looks like METIS"),
     ("a matrix", "".join(" ".join(row) + "\n" for row in MATRIX), "a matrix"),
-    ("a matrix in CSV", "".join(",".join(row) + "\n" for row in MATRIX), "a matrix"),
     ("a matrix with weights", "0 2 0.5\n2 0 1\n0.5 1 0\n", "a matrix"),
     ("a matrix with names", ",A,B,C\nA,0,1,1\nB,1,0,0\nC,1,0,0\n", "a matrix"),
     ("a German matrix with names", ";A;B;C\nA;0;1,5;1\nB;1,5;0;0\nC;1;0;0\n", "a matrix"),
     ("counts before the edges", "10 15\n" + "".join(f"{v + 1} {w + 1}\n" for v, w in PETERSEN), "how many nodes"),
-    ("counts before the edges, from 0", "10 15\n" + "".join(f"{v} {w}\n" for v, w in PETERSEN), "how many nodes"),
     ("counts before edges with weights", "3 2\n1 2 1\n2 3 -1\n", "how many nodes and edges"),
     ("counts in two lines", "9\n3\n1 2\n2 4\n4 1\n", "how many nodes and edges"),
     ("rows, columns and entries", "3 3 2\n1 2 1\n2 3 1\n", "how many nodes and edges"),
@@ -154,6 +147,20 @@ REFUSED = [
     ("GraphML with an edge of no node", GRAPHML % ("", "undirected", NODES[0], LINES[0]), "which is no node"),
     ("GraphML with entities", '<!DOCTYPE g [<!ENTITY a "b">]>\n' + GRAPHML % ("", "undirected", NODES[0], ""),
      "entities"),
+    ("nothing", "", "no line with a node"),
+    ("a comment alone", "# x\n", "no line with a node"),
+    ("a byte of value zero", "1 2\n\0\n", "no text"),
+    ("a pair without an end", "source,target\nA,B\n,C\n", "line 3: no pair"),
+    ("DOT that is cut", "graph { a -- b", "is the text cut"),
+    ("DOT with an edge of one end", "graph {\n a -- }\n", "line 2: DOT isn't read on from `}`"),
+    ("DOT with another mark", "graph { a ! b }", "`!`"),
+    ("DIMACS with a word", "p edge 2 1\ne 1 x\n", "line 2: no edge"),
+    ("DIMACS with a strange vertex", "p edge 2 1\ne 1 7\n", "line 2: vertex 7, and the `p` line has 2"),
+    ("DIMACS with two heads", "p edge 2 1\np edge 2 1\n", "line 2: a second `p` line"),
+    ("DIMACS without numbers", "p edge x\ne 1 2\n", "line 1: no number of nodes"),
+    ("DIMACS of many nodes", "p edge 20001 0\n", "at most 20000"),
+    ("many neighbours", "".join(f"1 {v}\n" for v in range(2, 1026)), "node 1 has 1024 neighbours, and may have 1023"),
+    ("many nodes", "".join(f"{v} {v + 1}\n" for v in range(1, 20001)), "20001 nodes, and a network has at most 20000"),
     ("Matrix Market of a table", "%%MatrixMarket matrix array real general\n1 1\n1\n", "`matrix array`"),
     ("Matrix Market that is no square", "%%MatrixMarket matrix coordinate real general\n2 3 1\n1 1 1\n",
      "2 rows and 3"),
@@ -165,11 +172,10 @@ class ForeignForms(Case):
     def test_read(self):
         for name, text, said in READ:
             status, wrote, told = call("read", "-", data=text.encode())
-            good = status == 0 and (pairs_in(wrote)[0], pairs_in(wrote)[1]) == (EDGES, ALONE)
-            self.note(f"read: {name}", good, (status, wrote, told))
+            self.note(f"read: {name}", status == 0 and pairs_in(wrote) == (EDGES, ALONE), (status, wrote, told))
             self.note(f"read: {name}: what is said", said.encode() in told, told)
-            done = run_program(PLAN, ["plain"], wrote)
-            self.note(f"read: {name}: it is planned", done.stdout.count(b"\n") == 5, done)
+            done = called(PLAN, "plain", data=wrote)
+            self.note(f"read: {name}: it is planned", done[1].count(b"\n") == 5, done)
         for name in ("GraphML with labels", "JSON of D3"):
             text = next(text for known, text, _ in READ if known == name)
             places = comments(call("read", "-", data=text.encode())[1], "at")
@@ -188,8 +194,7 @@ class ForeignForms(Case):
         got = call("read", "-", data=dot.encode())
         wanted = {frozenset(("Ulm", "Aue")), frozenset(("Aue", "Hof"))}
         self.note("labels of Graphviz", got[0] == 0 and pairs_in(got[1]) == (wanted, set()), got)
-        cut = call("read", "-", data=dot[:40].encode())
-        self.note("such a label that is cut", cut[:2] == (1, b"") and b"is the text cut?" in cut[2], cut)
+        self.refusal("such a label that is cut", call("read", "-", data=dot[:40].encode()), 1, b"is the text cut?")
 
     def test_matrix_market(self):
         head = "%%MatrixMarket matrix coordinate real symmetric\n% by hand\n"
@@ -222,7 +227,7 @@ class ForeignForms(Case):
             status, _, told = call("read", "-", data=text.encode())
             self.note(f"said of {text!r}", status == 0 and said in told, told)
         clash = call("names", "triangle", data=b"plan\n1 2\n2 2\n3 1\n")
-        self.note("names of a clash", clash[0] == 1 and b"vertices 1 and 2 are neighbours" in clash[2], clash)
+        self.refusal("names of a clash", clash, 1, b"vertices 1 and 2 are neighbours")
 
     def test_vouched(self):
         """What the guess refuses is read if its form is named."""
@@ -254,14 +259,13 @@ class ForeignForms(Case):
             found = call("read", "-", "--strict", "--ignore", names, data=data.encode())
             self.note(f"{names} of {data}", found[0] == status and (not found[1]) == bool(status), found)
         headed = call("read", "-", "--strict", "--heading", "yes", data=b"source,target,of\nA,B,x\n")
-        self.note("a heading doesn't say that its other columns are none", headed[:2] == (1, b""), headed)
+        self.refusal("a heading doesn't say that its other columns are none", headed, 1, b"")
 
     def test_strict(self):
         """Something that would be left out is a refusal if that is asked for; nothing is, if nothing would be."""
         loop = b"1 2\n2 2\n"
-        status, wrote, told = call("read", "-", "--strict", data=loop)
         said = b"--strict is asked for: 1 edge from a node to itself left out, first at line 2: 2"
-        self.note("a loop", (status, wrote) == (1, b"") and said in told, told)
+        self.refusal("a loop", call("read", "-", "--strict", data=loop), 1, said)
         self.note("without the word", call("read", "-", data=loop)[0] == 0)
         for data, *words in ((b"1 2\n2 1\n",), (b"source,target\nA,B\n",), ("\ufeff1 2\n".encode(),),
                              (b"A,B,3\nB,C,2\n", "--as", "pairs")):
@@ -272,9 +276,8 @@ class ForeignForms(Case):
                            (b'{"nodes": [{"id": 1, "on": true}], "links": []}\n', b"1 key of nodes not read: on"),
                            (b"graph [ node [ id 1 ] edge [ source 1 target 1 w 2 ] ]\n", b"1 key of edges not read: w"),
                            (b"p sp 2 1\na 1 2 3\n", b"weights of lines `a` not read: 1")):
-            got = call("read", "-", "--strict", data=data)
-            self.note(f"left out of {data}", got[:2] == (1, b"") and said in got[2] and call(
-                "read", "-", data=data)[0] == 0, got)
+            self.refusal(f"left out of {data}", call("read", "-", "--strict", data=data), 1, said)
+            self.note(f"read without the word: {data}", call("read", "-", data=data)[0] == 0)
 
     def test_adjacency_with_marks(self):
         """A mark that separates fields in some lines alone isn't part of names."""
@@ -305,6 +308,5 @@ class ForeignForms(Case):
         """A text that begins with what is no text isn't read to its end."""
         with tempfile.TemporaryFile() as file:
             file.truncate(2 << 30)
-            done = run_program(FORESTLAB, ["network", "read", "-"], stdin=file)
-            said = b"it has bytes of value zero, so it is no text"
-            self.note("two gigabytes of zeros", done.returncode == 1 and said in done.stderr, done.stderr)
+            done = forestlab("network", "read", "-", stdin=file)
+            self.refusal("two gigabytes of zeros", done, 1, b"it has bytes of value zero, so it is no text")

@@ -121,13 +121,19 @@ FORMS = (
 )
 
 
-def ours(text):
+def found_in(data, **words):
     """The network that `read` makes of a text, and what it leaves out; None if it refuses."""
     try:
-        made, _, left_out = made_of(listed_of(text.encode(), "net"), "net")
+        made, _, left_out = made_of(listed_of(data, "net", **words), "net")
     except Wrong:
         return None, []
-    return named(made), excuses(left_out)
+    return named(made), left_out
+
+
+def ours(text):
+    """The same without what excuses no other network."""
+    found, left_out = found_in(text.encode())
+    return found, excuses(left_out)
 
 
 def excuses(left_out):
@@ -164,31 +170,24 @@ LETTERS = ' \t\n,;:#%{}[]()"\'<>/-=*0123abU\u0308\u200b.&\\'
 
 
 def spoilt(source, text, other):
-    """A text with one mistake, or two."""
+    """A text with one mistake, or two: letters left out, one more or another one, a line left out, doubled, exchanged
+    or commented, an end that is cut, or another text behind it."""
     for _ in range(source.choice((1, 1, 2))):
         lines, at = text.split("\n"), source.randrange(len(text) + 1)
         row, second_row = source.randrange(len(lines)), source.randrange(len(lines))
-        kind = source.randrange(9)
-        if kind == 0:
-            text = text[:at] + text[at + source.choice((1, 1, 2, 5)):]
-        elif kind == 1:
-            text = text[:at] + source.choice(LETTERS) + text[at:]
-        elif kind == 2:
-            text = text[:at] + source.choice(LETTERS) + text[at + 1:]
-        elif kind == 3:
-            text = "\n".join(lines[:row] + lines[row + 1:])
-        elif kind == 4:
-            text = "\n".join(lines[:row] + [lines[row]] + lines[row:])
-        elif kind == 5:
-            lines[row], lines[second_row] = lines[second_row], lines[row]
-            text = "\n".join(lines)
-        elif kind == 6:
-            text = text[:at]
-        elif kind == 7:
-            text += other
-        else:
-            lines[row] = source.choice(("# ", "#", "% ", "//", " ", "c ")) + lines[row]
-            text = "\n".join(lines)
+        exchanged = dict(enumerate(lines)) | {row: lines[second_row], second_row: lines[row]}
+        text = (
+            lambda: text[:at] + text[at + source.choice((1, 1, 2, 5)):],
+            lambda: text[:at] + source.choice(LETTERS) + text[at:],
+            lambda: text[:at] + source.choice(LETTERS) + text[at + 1:],
+            lambda: "\n".join(lines[:row] + lines[row + 1:]),
+            lambda: "\n".join(lines[:row + 1] + lines[row:]),
+            lambda: "\n".join(exchanged.values()),
+            lambda: text[:at],
+            lambda: text + other,
+            lambda: "\n".join([*lines[:row], source.choice(("# ", "#", "% ", "//", " ", "c ")) + lines[row],
+                               *lines[row + 1:]]),
+        )[source.randrange(9)]()
     return text
 
 

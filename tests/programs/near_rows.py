@@ -4,11 +4,10 @@ or what is left out is counted."""
 import json
 
 from tests.cases import Case
-from tests.programs.foreign_texts import as_csv, as_dot, as_gml, as_graphml, as_json
-from tests.programs.near_texts import (
-    BLANKS, CELLS, GAPS, NUMBERS, ONES, TOWNS, WORDS, ZEROS, found_in, judge, lines, rows_of)
+from tests.programs.foreign_texts import as_csv, as_dot, as_gml, as_graphml, as_json, found_in
+from tests.programs.near_texts import BLANKS, CELLS, GAPS, NUMBERS, ONES, TOWNS, WORDS, ZEROS, judge, lines, rows_of
 
-TEXTS, SEED = 20, 20261201
+TEXTS, SEED, WEIGHT = 20, 20261201, '"weight": 2'
 ALL, PLAIN = WORDS + NUMBERS, (TOWNS, CELLS, *NUMBERS)
 
 
@@ -31,22 +30,25 @@ def after_counts(form, mark):
     ).replace(" ", mark) + lines(pairs, mark)
 
 
+def all_pairs(nodes, pairs):
+    """Each pair of nodes, and whether it is one of the network's."""
+    there = set(map(frozenset, pairs))
+    return [((a, b), {a, b} in there) for at, a in enumerate(nodes) for b in nodes[at + 1:]]
+
+
 def beside_others(word, other, form="{},{},{}", heading=""):
     """A writer of all pairs, those of the network with a word and the others with another."""
-    def text(nodes, pairs, source):
-        there = set(map(frozenset, pairs))
-        return heading + "".join(form.format(a, b, word if {a, b} in there else other) + "\n"
-                                 for at, a in enumerate(nodes) for b in nodes[at + 1:])
-    return text
+    return lambda nodes, pairs, source: heading + "".join(
+        form.format(*pair, word if is_there else other) + "\n" for pair, is_there in all_pairs(nodes, pairs))
 
 
-def of_all(writer, old, new):
-    """A writer of all pairs, each of which says whether it is one of the network's."""
+def of_all(writer, mark, there, other, key="weight"):
+    """A writer of all pairs, each of which says in place of a mark whether it is one of the network's; GraphML has a
+    key for it."""
     def text(nodes, pairs, source):
-        all_pairs = [(a, b) for at, a in enumerate(nodes) for b in nodes[at + 1:]]
-        there, parts = set(map(frozenset, pairs)), writer(nodes, all_pairs).split(old)
-        signs = [old if set(pair) in there else new for pair in all_pairs]
-        return parts[0] + "".join(sign + part for sign, part in zip(signs, parts[1:]))
+        found = all_pairs(nodes, pairs)
+        first, *parts = writer(nodes, [pair for pair, _ in found]).replace('"weight" ', f'"{key}" ').split(mark)
+        return first + "".join((there if is_there else other) + part for (_, is_there), part in zip(found, parts))
     return text
 
 
@@ -63,13 +65,11 @@ def ports(nodes, pairs, source):
 
 def of_default(kind, default, word):
     """A writer of all pairs in GraphML, those of the network with a word of a key and the others with its default."""
-    def text(nodes, pairs, source):
-        there, all_pairs = set(map(frozenset, pairs)), [(a, b) for at, a in enumerate(nodes) for b in nodes[at + 1:]]
-        return (f'<graphml><key id="k" for="edge" attr.name="weight" {kind}><default>{default}</default></key><graph>'
-                + "".join(f'<node id="{node}"/>' for node in nodes)
-                + "".join(f'<edge source="{a}" target="{b}">' + f'<data key="k">{word}</data>' * ({a, b} in there)
-                          + "</edge>" for a, b in all_pairs) + "</graph></graphml>")
-    return text
+    return lambda nodes, pairs, source: (
+        f'<graphml><key id="k" for="edge" attr.name="weight" {kind}><default>{default}</default></key><graph>'
+        + "".join(f'<node id="{node}"/>' for node in nodes)
+        + "".join(f'<edge source="{a}" target="{b}">' + f'<data key="k">{word}</data>' * is_there + "</edge>"
+                  for (a, b), is_there in all_pairs(nodes, pairs)) + "</graph></graphml>")
 
 
 def queries(nodes, pairs, source):
@@ -120,12 +120,6 @@ NEAR = (
         [(f'"{a}, {b}"', f'"{b}, {a}"') for a, b in pairs], ",")),
     ("edges with their numbers, one a node's", (GAPS,), lambda nodes, pairs, source: "".join(
         f"{at},{end}\n" for at, pair in enumerate(pairs, 10) for end in pair)),
-    *((f"an empty flag {flag} of some in JSON", WORDS, of_all(lambda *graph: as_json(*graph).replace(
-        '"weight": 2', '"id": 1'), '"id": 1', flag)) for flag in ('"present": ""', '"present": null')),
-    ("GraphML with an empty flag", WORDS, of_all(lambda *graph: as_graphml(*graph).replace(
-        '"weight"', '"present"').replace('<data key="w">2</data>', "<!-- -->"), "<!-- -->", '<data key="w"></data>')),
-    ("GML with an empty flag", WORDS, of_all(lambda *graph: as_gml(*graph).replace("edge [", "edge [ # "), "# ",
-                                             'present ""\n')),
     ("cells that are merged", (TOWNS, CELLS), merged),
     *((f"all pairs {word!r} {other!r} {heading!r}", ALL, beside_others(word, other, "{},{},{}", heading))
       for word, other, heading in (
@@ -141,14 +135,8 @@ NEAR = (
     ("places beside texts of JSON", (ONES, ZEROS), lambda nodes, pairs, source: json.dumps({
         "nodes": [{"id": node} for node in nodes],
         "links": [{"source": nodes.index(a), "target": nodes.index(b)} for a, b in pairs]})),
-    ("JSON of all pairs", WORDS, of_all(as_json, '"weight": 2', '"weight": 0')),
-    ("JSON that hides some", WORDS, of_all(as_json, '"weight": 2', '"hidden": true')),
     ("JSON of two lists", WORDS, lambda nodes, pairs, source: json.dumps(json.loads(as_json(nodes, pairs[:1])) | {
         "relations": [{"source": a, "target": b} for a, b in pairs[1:]]})),
-    ("GraphML of all pairs", WORDS, of_all(as_graphml, ">2<", ">0<")),
-    ("GML of all pairs", WORDS, of_all(lambda *graph: as_gml(*graph).replace("edge [", "edge [ weight 1"), "weight 1",
-                                       "weight 0")),
-    ("DOT of all pairs", WORDS, of_all(as_dot, "[len=2]", "[style=invis]")),
     ("DOT of nodes with commas", WORDS, lambda nodes, pairs, source: "graph {\n" + "".join(
         f'"{a}", "{b}";\n' for a, b in pairs) + "}\n"),
     ("DOT of names with hyphens", (("a-1", "a-2", "b-1", "c-3", "d-4"),), lambda nodes, pairs, source: (
@@ -161,18 +149,6 @@ NEAR = (
            "# Nodes: {} Edges: {}\n", "% sym\n% {1} {0} {0}\n", "# {1} edges\n")),
     *((f"a last line {line!r}", (TOWNS, CELLS), lambda nodes, pairs, source, line=line: lines(pairs, ",") + line)
       for line in ("Page 1,\n", "Source: BNetzA,\n", "5 more rows,\n", "2026-01-01,\n", "Stand 2026,\n")),
-    ("GraphML with a flag", WORDS, of_all(lambda *graph: as_graphml(*graph).replace(
-        '"weight"', '"interferes"').replace(">2<", ">yes<"), ">yes<", ">no<")),
-    ("GraphML with a flag of numbers", WORDS, of_all(lambda *graph: as_graphml(*graph).replace(
-        '"weight"', '"interferes"').replace(">2<", ">1<"), ">1<", ">0<")),
-    ("GML with a flag", WORDS, of_all(lambda *graph: as_gml(*graph).replace("edge [", "edge [ near 1"), "near 1",
-                                      "near 0")),
-    ("JSON with a flag of some", WORDS, of_all(as_json, '"weight": 2', '"on": false')),
-    ("JSON with a status", WORDS, of_all(lambda *graph: as_json(*graph).replace('"weight": 2', '"status": "active"'),
-                                         '"active"', '"removed"')),
-    ("DOT with a flag", WORDS, of_all(lambda *graph: as_dot(*graph).replace("[len=2]", "[near=yes]"), "near=yes",
-                                      "near=no")),
-    ("DOT of edges without a colour", WORDS, of_all(as_dot, "[len=2]", "[color=transparent]")),
     ("numbers of nodes after the pairs", (TOWNS, CELLS), lambda nodes, pairs, source: lines(pairs, " ") + "".join(
         f"{at} {node}\n" for at, node in enumerate(nodes))),
     *((f"a line {words!r} after the pairs", (TOWNS, CELLS), lambda nodes, pairs, source, words=words: lines(
@@ -184,12 +160,6 @@ NEAR = (
     ("dates", (TOWNS,), lambda nodes, pairs, source: "".join(
         f"0{source.randint(1, 9)}.03.2026,1{source.randint(1, 9)}.04.2026\n" for _ in pairs) + "01.03.2026,12.04.2026\n"
         "01.03.2026,13.04.2026\n"),
-    ("JSON with a flag", WORDS, of_all(lambda *graph: as_json(*graph).replace('"weight": 2', '"near": "yes"'),
-                                       '"near": "yes"', '"near": "no"')),
-    ("JSON with a kind", WORDS, of_all(as_json, '"weight": 2', '"kind": "far"')),
-    ("JSON with signs", WORDS, of_all(as_json, '"weight": 2', '"weight": -1')),
-    ("GML with styles", WORDS, of_all(lambda *graph: as_gml(*graph).replace("edge [", 'edge [ style "solid"'),
-                                      'style "solid"', 'style "invis"')),
     ("GraphML with a default of zero", WORDS, of_default('attr.type="double"', "0", "2.5")),
     ("GraphML with a default of no", WORDS, of_default('attr.type="boolean"', "false", "true")),
     ("DOT with a default", WORDS, lambda nodes, pairs, source: as_dot(nodes, pairs).rstrip()[:-1]
@@ -197,6 +167,23 @@ NEAR = (
     ("JSON of the first page", WORDS, lambda nodes, pairs, source: as_json(nodes, pairs[:-1])[:-1] + ', "next": 2}'),
     *((f"numbers and a weight {form!r}", NUMBERS, each(form)) for form in ("{w},{a},{b}", "{a} {w} {b}")),
     *((f"a mark between names with blanks {mark!r}", (BLANKS,), each("{a}" + mark + "{b}")) for mark in ":@"),
+    *((f"{name} {there!r} or {other!r}", WORDS, of_all(writer, mark, there, other, *key))
+      for name, writer, mark, there, other, *key in (
+          *(("JSON of all pairs", as_json, WEIGHT, there, other) for there, other in (
+              (WEIGHT, '"weight": 0'), (WEIGHT, '"hidden": true'), ('"id": 1', '"present": ""'),
+              ('"id": 1', '"present": null'))),
+          *(("JSON with", as_json, WEIGHT, there, other) for there, other in (
+              (WEIGHT, '"weight": -1'), (WEIGHT, '"on": false'), (WEIGHT, '"kind": "far"'),
+              ('"status": "active"', '"status": "removed"'), ('"near": "yes"', '"near": "no"'))),
+          ("GraphML of all pairs", as_graphml, ">2<", ">2<", ">0<"),
+          *(("GraphML of all pairs", as_graphml, ">2<", there, other, "interferes")
+            for there, other in ((">yes<", ">no<"), (">1<", ">0<"))),
+          ("GraphML of all pairs", as_graphml, '<data key="w">2</data>', "", '<data key="w"></data>', "present"),
+          *(("GML of all pairs", as_gml, "edge [", f"edge [ {there}", f"edge [ {other}") for there, other in (
+              ("weight 1", "weight 0"), ("near 1", "near 0"), ("", 'present ""\n'))),
+          ("GML with styles", as_gml, "edge [", 'edge [ style "solid"', 'edge [ style "invis"'),
+          *(("DOT of all pairs", as_dot, "[len=2]", there, other) for there, other in (
+              ("[len=2]", "[style=invis]"), ("[len=2]", "[color=transparent]"), ("[near=yes]", "[near=no]"))))),
     ("DIMACS of sets", (ONES,), lambda nodes, pairs, source: f"p hs 8 {len(pairs)}\n" + "".join(
         f"{a} {b} {source.choice(nodes)}\n" for a, b in pairs)),
 )

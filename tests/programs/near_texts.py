@@ -8,7 +8,7 @@ from lab.networks.listed import Listed
 from lab.networks.reading import listed_of, made_of
 from lab.wrong import Wrong
 from tests.cases import Case
-from tests.programs.foreign_texts import as_csv, as_dot, as_gml, as_graphml, as_metis, beside, excuses, named
+from tests.programs.foreign_texts import as_csv, as_dot, as_gml, as_graphml, as_metis, beside, excuses, found_in
 
 TEXTS, SEED = 30, 20261130
 TOWNS = ("Ulm", "Aue", "Hof", "Köln", "Mörs", "Bonn", "Kiel", "Jena")
@@ -16,7 +16,6 @@ BLANKS = ("Bad Tölz", "New York", "New Haven", "Ulm", "Upper Hill", "Mill", "Ho
 CELLS = ("A1", "A2", "B1", "B2", "C-1", "C-2", "x.y", "D4")
 ONES, ZEROS, GAPS = tuple("12345678"), tuple("01234567"), ("10", "20", "21", "5", "7", "101", "33", "8")
 MARKS, NUMBERS, WORDS = ("#1", "#2", "#12", "%3", "#4", "#5"), (ONES, ZEROS, GAPS), (TOWNS, BLANKS, CELLS)
-NO_NAME = ("NA", "NaN", "None", "null", "n/a", "<NA>", r"\N", "#N/A", "#BEZUG!", "?", "nil")
 HEADINGS = (("source", "target"), ("von", "nach"), ("from", "to"), ("site_a", "site_b"))
 
 
@@ -154,47 +153,46 @@ NEAR = (
     ("JSON with lists of neighbours", WORDS + NUMBERS, lambda nodes, pairs, source: json.dumps({"links": [], "nodes": [
         {"id": node, "neighbours": ones} for node, ones in beside(nodes, pairs, True).items()]})),
 )
-# Tables of sites and of bars that have more than is read, or less: each is refused.
+# Tables of sites, and of bars if there are some, that have more than is read, or less: each is refused.
 TABLES = (
-    ("a second heading", b"site,height\nUlm,3\nSite,Height\nAue,4\n", b"site,channel\n"),
+    ("a second heading", b"site,height\nUlm,3\nSite,Height\nAue,4\n"),
     ("two columns of channels", b"site,x,y\nUlm,0,0\n", b"site,channel,channel 2\nUlm,1,6\n"),
     ("a column beside that of bars", b"site,x,y\nUlm,0,0\n", b"site,channel,barred\nUlm,1,6\n"),
-    ("columns twice", b"site,x,y,x,y\nUlm,0,0,5,5\n", b"site,channel\n"),
-    ("two kinds of places", b"site,x,y,easting,northing\nUlm,1,1,9,9\n", b"site,channel\n"),
-    ("thousands or a fraction", b'site,x,y\nUlm,"1,234",0\n', b"site,channel\n"),
-    ("thousands of metres", b"site;x (m);y (m)\nUlm;1,234;0\n", b"site,channel\n"),
-    ("points of thousands of metres", b"site;easting;northing\nA;412.345;67.890\nB;413.345;67.890\n",
-     b"site,channel\n"),
-    ("two marks of a fraction", b"site;x;y\nA;1.234;0\nB;1,5;0\n", b"site,channel\n"),
-    ("metres in x and y", b"site,X,Y\nA,453000,5600000\nB,453900,5600000\n", b"site,channel\n"),
-    ("JSON", b'{"type": "FeatureCollection", "features": []}', b"site,channel\n"),
-    ("two encodings", "site\nKöln\n".encode() + "Mörs\n".encode("cp1252"), b"site,channel\n"),
-    *((f"a row {row!r}", f"site,x,y\nUlm,0,0\nAue,1,1\n{row}\n".encode(), b"site,channel\n") for row in (
+    ("columns twice", b"site,x,y,x,y\nUlm,0,0,5,5\n"),
+    ("two kinds of places", b"site,x,y,easting,northing\nUlm,1,1,9,9\n"),
+    ("thousands or a fraction", b'site,x,y\nUlm,"1,234",0\n'),
+    ("thousands of metres", b"site;x (m);y (m)\nUlm;1,234;0\n"),
+    ("points of thousands of metres", b"site;easting;northing\nA;412.345;67.890\nB;413.345;67.890\n"),
+    ("two marks of a fraction", b"site;x;y\nA;1.234;0\nB;1,5;0\n"),
+    ("metres in x and y", b"site,X,Y\nA,453000,5600000\nB,453900,5600000\n"),
+    ("JSON", b'{"type": "FeatureCollection", "features": []}'),
+    ("two encodings", "site\nKöln\n".encode() + "Mörs\n".encode("cp1252")),
+    *((f"a row {row!r}", f"site,x,y\nUlm,0,0\nAue,1,1\n{row}\n".encode()) for row in (
         "Summe,5,5", "Average,5,5", "Hof,-9999,-9999", "Hof,1e20,1e20", "#Hof,1,1", "//Hof,1,1", "NA,0,0", "#N/A,0,0",
         "====,0,0", "Ulm*,1,1", "- Hof,1,1", "!Hof,1,1", "(Hof),1,1",
         "Hof;Bonn,1,1", '="Hof",1,1', "KÃ¶ln,1,1", "«Hof,1,1")),
-    ("a place that isn't known", b"site,lat,lon\nUlm,48,10\nHof,0,0\n", b"site,channel\n"),
-    ("names after numbers", b"site,x,y\n1. Ulm,0,0\n2. Aue,1,1\n", b"site,channel\n"),
-    ("points of the compass", b"site,lat,N/S,lon,E/W\nA,48.1,N,0.2,W\nB,48.1,N,0.2,E\n", b"site,channel\n"),
-    ("zones in front", b"site,easting,northing\nA,32500000,5300000\nB,33100000,5300000\n", b"site,channel\n"),
-    ("strips in front", b"name;rechtswert;hochwert\nA;3500000;5300000\nB;4500000;5300000\n", b"site,channel\n"),
-    ("two zones", b"site,zone,easting,northing\nA,32U,500000,5300000\nB,33U,500100,5300000\n", b"site,channel\n"),
+    ("a place that isn't known", b"site,lat,lon\nUlm,48,10\nHof,0,0\n"),
+    ("names after numbers", b"site,x,y\n1. Ulm,0,0\n2. Aue,1,1\n"),
+    ("points of the compass", b"site,lat,N/S,lon,E/W\nA,48.1,N,0.2,W\nB,48.1,N,0.2,E\n"),
+    ("zones in front", b"site,easting,northing\nA,32500000,5300000\nB,33100000,5300000\n"),
+    ("strips in front", b"name;rechtswert;hochwert\nA;3500000;5300000\nB;4500000;5300000\n"),
+    ("two zones", b"site,zone,easting,northing\nA,32U,500000,5300000\nB,33U,500100,5300000\n"),
     ("two channels or a fraction", b"site;x;y\nUlm;0;0\n", b"site;channel\nUlm;6,5\n"),
-    ("two sites a row", b"site,x,y,site 2,x 2,y 2\nUlm,0,0,Aue,1,1\n", b"site,channel\n"),
+    ("two sites a row", b"site,x,y,site 2,x 2,y 2\nUlm,0,0,Aue,1,1\n"),
 )
 # Tables of which something is counted that isn't read, or may be wrong.
 COUNTED = (
-    ("sites that are off", b"site,x,y,active\nUlm,0,0,yes\nAue,1,1,no\n", b"site,channel\n"),
-    ("sites with a status", b"site,x,y,status\nUlm,0,0,on air\nAue,1,1,planned\n", b"site,channel\n"),
+    ("sites that are off", b"site,x,y,active\nUlm,0,0,yes\nAue,1,1,no\n"),
+    ("sites with a status", b"site,x,y,status\nUlm,0,0,on air\nAue,1,1,planned\n"),
     ("bars that are free", b"site,x,y\nUlm,0,0\nAue,1,1\n", b"site,channel,allowed\nUlm,1,yes\nAue,6,no\n"),
     ("bars that end", b"site,x,y\nUlm,0,0\nAue,1,1\n", b"site,channel,until\nUlm,1,1999\nAue,6,2030\n"),
-    ("kilometres that are metres", b"site,x (km),y (km)\nUlm,0,0\nUlm 2,0,0\nAue,1000,1000\n", b"site,channel\n"),
-    ("a height", b"site,x,y,height\nUlm,0,0,\nAue,1,1,40\n", b"site,channel\n"),
+    ("kilometres that are metres", b"site,x (km),y (km)\nUlm,0,0\nUlm 2,0,0\nAue,1000,1000\n"),
+    ("a height", b"site,x,y,height\nUlm,0,0,\nAue,1,1,40\n"),
     ("a remark", b"site,x,y\nUlm,0,0\nAue,1,1\n", b"site,channel,remark\nUlm,1,old\n"),
-    ("places in two kinds", b"site,lat,lon,x,y\nUlm,48.4,10,0,0\nAue,48.41,10,1,1\n", b"site,channel\n"),
-    ("two spellings of a site", b"site,x,y\nUlm,0,0\nULM,1,1\n", b"site,channel\n"),
-    ("a line without its end", b"site,x,y\nUlm,0,0\nAue,1,1", b"site,channel\n"),
-    ("letters of Windows", "site,x,y\nUlm,0,0\nKöln,1,1\n".encode("cp1252"), b"site,channel\n"),
+    ("places in two kinds", b"site,lat,lon,x,y\nUlm,48.4,10,0,0\nAue,48.41,10,1,1\n"),
+    ("two spellings of a site", b"site,x,y\nUlm,0,0\nULM,1,1\n"),
+    ("a line without its end", b"site,x,y\nUlm,0,0\nAue,1,1"),
+    ("letters of Windows", "site,x,y\nUlm,0,0\nKöln,1,1\n".encode("cp1252")),
 )
 
 
@@ -208,15 +206,6 @@ UNITS = (
     ("degrees of a programme", "site,x,y\nUlm,10.12345,48.40123\nAue,10.12745,48.41123\n"),
     ("degrees by hand", "site;x;y\nUlm;10,05;48,06\nAue;10,09;48,05\nHof;10,12;48,0\n"),
 )
-
-
-def found_in(data):
-    """The network of a text, and what is left out; None if it is refused."""
-    try:
-        made, _, left_out = made_of(listed_of(data, "net"), "net")
-    except Wrong:
-        return None, []
-    return named(made), left_out
 
 
 # Kinds of which a column or a key that isn't read, and is counted, may say which edges count.
@@ -243,6 +232,14 @@ def judge(case, kinds, texts, seed):
     return read
 
 
+def of_tables(places, bars=b"site,channel\n", reach=None, pairs=None):
+    """What is listed of a table of sites, one of bars, and pairs."""
+    found = Listed("sites") if pairs is None else listed_of(pairs, "pairs")
+    sites.with_sites(found, sites.read_sites(places, "sites"), "sites", reach)
+    sites.with_bars(found, bars, "bars", None)
+    return found
+
+
 class NearTexts(Case):
     needs_programs = False
 
@@ -250,29 +247,24 @@ class NearTexts(Case):
         judge(self, NEAR, TEXTS, SEED)
 
     def test_tables(self):
-        for name, places, bars in TABLES:
+        for name, *tables in TABLES:
             with self.subTest(name), self.assertRaises(Wrong):
-                found = Listed("sites")
-                sites.with_sites(found, sites.read_sites(places, "sites"), "sites", None)
-                sites.with_bars(found, bars, "bars", None)
+                of_tables(*tables)
 
     def test_units(self):
         for name, text in UNITS:
             with self.subTest(name), self.assertRaises(Wrong):
-                sites.with_sites(Listed("sites"), sites.read_sites(text.encode(), "sites"), "sites", 3)
+                of_tables(text.encode(), reach=3)
             # The same numbers with their unit are read.
-            title, unit = ("x", "km") if ",x," in text or ";x;" in text else ("easting", "m")
-            found = Listed("sites")
-            named_text = text.replace(title, f"{title} ({unit})", 1).replace(
-                "y\n" if title == "x" else "northing", f"y ({unit})\n" if title == "x" else f"northing ({unit})", 1)
-            sites.with_sites(found, sites.read_sites(named_text.encode(), "sites"), "sites", 3)
-            self.note(f"with its unit: {name}", len(found.order) > 1, named_text)
+            titles, unit = (("x", "y\n"), "km") if "x" in text else (("easting", "northing"), "m")
+            for title in titles:
+                text = text.replace(title, f"{title.strip()} ({unit})" + "\n" * title.endswith("\n"), 1)
+            self.note(f"with its unit: {name}", len(of_tables(text.encode(), reach=3).order) > 1, text)
 
     def test_reach(self):
-        found = Listed("sites")
-        sites.with_sites(found, sites.read_sites(b"site,x,y\nA,1,2\nB,3,4\nC,9,9\n", "sites"), "sites", 5000)
-        said = [what for what in found.left_out if "is it in kilometres" in what]
-        self.note("a reach in metres is counted", len(said) == 1, found.left_out)
+        left_out = of_tables(b"site,x,y\nA,1,2\nB,3,4\nC,9,9\n", reach=5000).left_out
+        said = [what for what in left_out if "is it in kilometres" in what]
+        self.note("a reach in metres is counted", len(said) == 1, left_out)
 
     def test_exchanged(self):
         """Latitude and longitude that are exchanged for sure are refused; else it is said where the sites are."""
@@ -282,34 +274,27 @@ class NearTexts(Case):
         self.note("where", said == ["the sites of sites are at 48.4 to 50.5 degrees north, 10 to 12.7 east"], said)
 
     def test_counted(self):
-        for name, places, bars in COUNTED:
-            found = Listed("sites")
-            sites.with_sites(found, sites.read_sites(places, "sites"), "sites", 3)
-            sites.with_bars(found, bars, "bars", None)
+        for name, *tables in COUNTED:
+            found = of_tables(*tables, reach=3)
             self.note(f"counted: {name}", len(made_of(found, "sites")[2]) == 1, found.left_out)
 
     def test_cut(self):
         """A list without the end of its last line may be cut inside a name; JSON ends with a bracket."""
         for text, count in ((b"Ulm,Aue\nAue,Hof", 1), (b"Ulm,Aue\nAue,Hof\n", 0), (b"p edge 2 1\ne 1 2", 1),
                             (as_dot(["a", "b"], [("a", "b")]).strip().encode(), 0)):
-            left_out = made_of(listed_of(text, "net"), "net")[2]
+            left_out = found_in(text)[1]
             said = [what for what in left_out if "its last line has no line end" in what]
             self.note(f"a line without its end: {text!r}", len(said) == count, left_out)
 
     def test_pairs_within_the_reach(self):
         """A pair that is within the reach, too, isn't an edge that comes twice."""
-        found = listed_of(b"B A\nB C\n", "pairs")
-        sites.with_sites(found, sites.read_sites(b"site,x,y\nA,0,0\nB,1,0\nC,9,0\n", "sites"), "sites", 3)
+        found = of_tables(b"site,x,y\nA,0,0\nB,1,0\nC,9,0\n", reach=3, pairs=b"B A\nB C\n")
         made, _, left_out = made_of(found, "pairs")
-        self.note("its edges", (made.edges, left_out) == ([(1, 2), (2, 3)], []), (made.edges, left_out))
+        self.same("its edges", (made.edges, left_out), ([(1, 2), (2, 3)], []))
 
     def test_one_table_of_several_names(self):
         """Two columns that both have all names of the pairs, in another order, are refused; equal ones aren't."""
-        for table, is_read in ((b"id,cell,x,y\n1,2,0,0\n2,1,1,1\n", False), (b"id,cell,x,y\n1,1,0,0\n2,2,1,1\n", True)):
-            found = listed_of(b"1 2\n", "pairs")
-            try:
-                sites.with_sites(found, sites.read_sites(table, "sites"), "sites", None)
-                got = True
-            except Wrong:
-                got = False
-            self.note(f"{table}", got == is_read, got)
+        made = of_tables(b"id,cell,x,y\n1,1,0,0\n2,2,1,1\n", pairs=b"1 2\n")
+        self.note("equal ones", len(made.order) == 2, made.order)
+        with self.assertRaises(Wrong):
+            of_tables(b"id,cell,x,y\n1,2,0,0\n2,1,1,1\n", pairs=b"1 2\n")

@@ -2,54 +2,28 @@
 
 Expected counts are formulas, or come from the definitions in lab/definitions/colours.py, lab/definitions/nodes.py and
 lab/definitions/rounds.py."""
-import csv
-import io
 import os
 import random
 import re
-import subprocess
-import sys
-import tempfile
 
 from lab.definitions.colours import network_of
 from lab.definitions.nodes import last_pulse
-from lab.definitions.rounds import rounds_text
 from lab.networks import network
 from lab.networks.costs import Run, most_payloads
 from lab.networks.network_text import read_network
-from lab.networks.reading import read, read_any
-from lab.networks.texts import text_of
+from lab.networks.reading import read_any
 from lab.wrong import Wrong
-from tests import FORESTLAB, TOP
-from tests.cases import Case, run_program
+from tests.cases import Case, called, example, forestlab, in_process
 from tests.programs.made_transcripts import made_transcript, transcript_text
+from tests.programs.plain_networks import payloads_of, reached
 from tests.settings import PLAN, PLAY
 
-LIMIT = 60
 SEED = 2026
 
 
-def call(*words, data=b""):
-    """What the script makes of words and its standard input, in this process: status, output and what is said."""
-    streams = sys.stdin, sys.stdout, sys.stderr
-    sys.stdin, sys.stdout, sys.stderr = (io.TextIOWrapper(io.BytesIO(given), "utf-8") for given in (data, b"", b""))
-    try:
-        status = network.main(list(map(str, words)))
-    except SystemExit as ended:
-        status = ended.code
-    finally:
-        out, said = sys.stdout, sys.stderr
-        sys.stdin, sys.stdout, sys.stderr = streams
-    out.flush()
-    said.flush()
-    return status, out.buffer.getvalue(), said.buffer.getvalue()
-
-
-def by_script(*words, data=b"", **more):
-    """The same by the script at the top, in a process of its own."""
-    done = subprocess.run([FORESTLAB, "network", *map(str, words)], input=data, capture_output=True, timeout=LIMIT,
-                          **more)
-    return done.returncode, done.stdout, done.stderr
+def call(*words, **more):
+    """Status, output and what is said by a call in this process."""
+    return in_process("network", network.main, *words, **more)
 
 
 def edges_of(text):
@@ -70,7 +44,6 @@ def queens(rows, columns):
 # (words, nodes, edges, least and greatest number of neighbours)
 KINDS = [
     ("path 1", 1, 0, 0, 0),
-    ("path 2", 2, 1, 1, 1),
     ("path 1000", 1000, 999, 1, 2),
     ("ring 3", 3, 3, 2, 2),
     ("ring 500", 500, 500, 2, 2),
@@ -79,11 +52,9 @@ KINDS = [
     ("complete 1", 1, 0, 0, 0),
     ("complete 100", 100, 4950, 99, 99),
     ("grid 1 7", 7, 6, 1, 2),
-    ("grid 10 10", 100, 180, 2, 4),
     ("grid 7 1", 7, 6, 1, 2),
     ("grid 30 20", 600, 2 * 600 - 30 - 20, 2, 4),
     ("queen 1 1", 1, 0, 0, 0),
-    ("queen 5 5", 25, 160, 12, 16),
     ("queen 3 7", 21, queens(3, 7), None, None),
     ("queen 8 8", 64, queens(8, 8), 21, 27),
     ("random 10 45", 10, 45, 9, 9),
@@ -95,11 +66,6 @@ KINDS = [
 ]
 
 
-def example(name):
-    with open(os.path.join(TOP, "examples", name), "rb") as file:
-        return file.read()
-
-
 REFUSED = ["path 0", "path -1", "path x", "path 20001", "ring 2", "star 1025", "star 0", "complete 1025",
            "complete 2000", "grid 0 3", "grid 200 101", "queen 141 141", "queen 0 1", "tree 0", "tree 20001",
            "disk 30 --radius 0", "disk 30 --radius 3", "disk 0", "disk 2000 --radius 2", "random 10 46",
@@ -109,20 +75,18 @@ REFUSED = ["path 0", "path -1", "path x", "path 20001", "ring 2", "star 1025", "
            "number x", "number x --by size", "tell", "tell x y", "read x --as graph"]
 
 
-# (what it is, the text, the edges by names, nodes without one, a part of what is said). The first eight were written by
-# networkx 3.6.1 of one graph, by its writers of edge lists, weighted edge lists, adjacency lists and multiline
-# adjacency lists.
+# (what it is, the text, the edges by names in which `_` is a blank, nodes without one, a part of what is said). The
+# first six were written by networkx 3.6.1, by its writers of edge lists, weighted edge lists, adjacency lists and
+# multiline adjacency lists.
 GRAPH, ALONE = "03 04 34 41 12", "5"
 FORMS = [
     ("an edge list", "0 3 {}\n0 4 {}\n3 4 {}\n4 1 {}\n1 2 {}\n", GRAPH, "",
      "pairs; 5 nodes, 5 edges, at most 3 neighbours; it counts from 0"),
-    ("an edge list without data", "0 3\n0 4\n3 4\n4 1\n1 2\n", GRAPH, "", "pairs; "),
     ("an edge list with data",
      "0 3 {'weight': 3.5}\n0 4 {'weight': 4.5}\n3 4 {'weight': 6.0}\n4 1 {'weight': 3.5}\n1 2 {'weight': 3.0}\n", GRAPH,
      "", "pairs; "),
     ("a weighted edge list", "0 3 3.5\n0 4 4.5\n3 4 6.0\n4 1 3.5\n1 2 3.0\n", GRAPH, "",
      "1 column not read: number 3"),
-    ("an edge list with commas", "0,3,3.5\n0,4,4.5\n3,4,6.0\n4,1,3.5\n1,2,3.0\n", GRAPH, "", "1 column not read"),
     ("an adjacency list", "#nx.py\n# GMT Mon Nov 23 22:04:36 2026\n# \n0 3 4\n3 4\n4 1\n1 2\n2\n5\n", GRAPH, ALONE,
      "adjacency; 6 nodes, 1 of them without"),
     ("a multiline adjacency list", "#nx.py\n# GMT\n# \n0 2\n3 {}\n4 {}\n3 1\n4 {}\n4 1\n1 {}\n1 1\n2 {}\n2 0\n5 0\n",
@@ -133,7 +97,7 @@ FORMS = [
      "pairs with a heading; 3 nodes, 3 edges, at most 2 neighbours; numbers by"),
     ("CSV of Gephi", "Id,Source,Target,Type,Weight\n0,a,b,Undirected,1\n1,b,c,Undirected,2\n", "ab bc", "",
      "pairs with a heading"),
-    ("CSV without a heading", '"Upper Hill","Mill, old"\n"Mill, old",Dam\n', "Upper Hill-Mill, old Mill, old-Dam", "",
+    ("CSV without a heading", '"Upper Hill","Mill, old"\n"Mill, old",Dam\n', "Upper_Hill-Mill,_old Mill,_old-Dam", "",
      "pairs; 3 nodes"),
     ("CSV with an unknown heading", "Mast,Next\n1,2\n2,3\n", "12 23", "", "pairs with a heading; 3 nodes, 2 edges"),
     ("CSV with semicolons and CR LF", "from;to\r\n1;2\r\n2;3\r\n3;\r\n", "12 23", "", "pairs with a heading"),
@@ -153,7 +117,7 @@ FORMS = [
         "DOT",
         'graph "my net" {\n  // masts\n  node [shape=circle, label="a -- b"];\n  rankdir = LR;\n'
         '  A -- B -- C [len=2];\n  "D e" -- A:n /* x */\n  F\n}\n',
-        "A-B B-C D e-A",
+        "A-B B-C D_e-A",
         "F",
         "DOT; 5 nodes, 1 of them without a neighbour, 3 edges",
     ),
@@ -170,13 +134,8 @@ FORMS = [
 
 def named_pairs(edges):
     """Pairs of names of a row of FORMS, unordered."""
-    if "-" not in edges:
-        return {frozenset(pair) for pair in edges.split()}
-    parts, pairs = (edges.replace("Upper Hill", "Upper_Hill").replace("Mill, old", "Mill,_old").replace("D e", "D_e"),
-                    set())
-    for pair in parts.split():
-        pairs.add(frozenset(name.replace("_", " ") for name in pair.split("-")))
-    return pairs
+    pairs = (pair.split("-") if "-" in edges else pair for pair in edges.split())
+    return {frozenset(name.replace("_", " ") for name in pair) for pair in pairs}
 
 
 def pairs_in(text):
@@ -186,20 +145,6 @@ def pairs_in(text):
     return {frozenset(map(named.get, edge)) for edge in net.number}, {
         named[v] for v, ws in net.neighbours.items() if not ws
     }
-
-
-def in_form(source, form, names, edges):
-    pairs = [tuple(source.sample(sorted(edge), 2)) for edge in sorted(edges, key=sorted)]
-    lone = sorted(set(names) - set().union(*edges))
-    if form == "csv":
-        text = io.StringIO()
-        csv.writer(text).writerows([("one", "two"), *pairs])
-        return text.getvalue()
-    if form == "dot":
-        return "graph {\n" + "".join(f'"{a}" -- "{b}";\n' for a, b in pairs) + "".join(f'"{a}"\n' for a in lone) + "}\n"
-    if form == "pairs":
-        return "".join(f"{a} {b}\n" for a, b in pairs) + "".join(f"{a}\n" for a in lone)
-    return "".join(" ".join([a] + [b for c, b in pairs if c == a]) + "\n" for a in names) + "# end\n"
 
 
 def numbers(text):
@@ -237,7 +182,6 @@ FAULTS = [
     ("p edge 1 0\np edge 1 0\n", "F2 line 2", "second", False),
     ("e 1 2\np edge 2 1\n", "F3 line 1", "before", True),
     ("p edge 2\n", "F4 line 1", "EDGES is missing", False),
-    ("p\n", "F4 line 1", "NODES is missing", False),
     ("p edge\n", "F4 line 1", "NODES is missing", False),
     ("p sp 2 1\na 1 2 3\n", "F4 line 1", "`p sp` is another format", True),
     ("p tw 2 1\n1 2\n", "F4 line 1", "`p tw` is another format", True),
@@ -289,7 +233,6 @@ FAULTS = [
 
 class OwnNetworks(Case):
     def setUp(self):
-        self.folder = self.enterContext(tempfile.TemporaryDirectory())
         # Every network that the test has written.
         self.wrote = []
 
@@ -297,14 +240,10 @@ class OwnNetworks(Case):
         """The program reads each network that was written, with as many nodes, and edges as triples."""
         wrong = []
         for text in self.wrote:
-            done = run_program(PLAN, ["forests"], text)
+            status, forests, fault = called(PLAN, "forests", data=text)
             nodes = re.search(rb"^p edge (\d+)", text, re.M).group(1)
-            if (
-                done.returncode != 0
-                or not done.stdout.startswith(b"forests " + nodes)
-                or done.stdout.count(b"\n") != 1 + len(edges_of(text))
-            ):
-                wrong.append((text[:200], done.stderr))
+            if status or not forests.startswith(b"forests " + nodes) or forests.count(b"\n") != 1 + len(edges_of(text)):
+                wrong.append((text[:200], fault))
         if self.wrote:
             self.note(f"the program reads {len(self.wrote)} networks that were written", not wrong, wrong[:1])
 
@@ -322,21 +261,18 @@ class OwnNetworks(Case):
             net, pairs = network_of(text), edges_of(text)
             degrees = [len(ws) for ws in net.neighbours.values()]
             head = f"p edge {nodes} {edges}\n".encode()
-            self.note(f"{words} has its nodes and edges",
-                      (len(degrees), len(pairs), head in text) == (nodes, edges, True), (len(degrees), len(pairs)))
+            self.same(f"{words}: nodes and edges", (len(degrees), len(pairs), head in text), (nodes, edges, True))
             self.note(f"{words} has its numbers of neighbours",
                       least in (None, min(degrees)) and most in (None, max(degrees)), (min(degrees), max(degrees)))
             self.note(f"{words} says how it was made", text.startswith(f"c Made by forestlab network {words}".encode()),
                       text[:80])
             if words.split()[0] not in ("tree", "random"):
-                self.note(f"{words} has a place for each node",
-                          sorted(comments(text, "at")) == list(range(1, nodes + 1)))
-        self.note("the 5 by 5 queens are the example's",
-                  edges_of(self.written("queen", 5, 5)) == edges_of(example("queen5_5.col")))
-        self.note("a star is the example's", edges_of(self.written("star", 9)) == edges_of(example("star.col")))
+                self.same(f"{words}: places", sorted(comments(text, "at")), list(range(1, nodes + 1)))
+        for name, words in (("queen5_5", ("queen", 5, 5)), ("star", ("star", 9))):
+            self.same(f"the example {name}", edges_of(self.written(*words)), edges_of(example(name)))
         for text in (self.written("tree", 200, "--seed", 3), self.written("tree", 200)):
-            self.note("in a tree each node but the first has one before it",
-                      sorted(w for _, w in edges_of(text)) == list(range(2, 201)))
+            self.same("in a tree each node but the first has one before it", sorted(w for _, w in edges_of(text)),
+                      list(range(2, 201)))
         for reach in (0.05, 0.26, 1.5):
             self.disk_row(reach)
 
@@ -368,10 +304,7 @@ class OwnNetworks(Case):
                 text = self.written("random", *words.split(), "--seed", seed)
                 net = network_of(text)
                 nodes, edges = map(int, words.split()[:2])
-                reached = {1}
-                while more := {w for v in reached for w in net.neighbours[v]} - reached:
-                    reached |= more
-                found = len(reached) == nodes, net.greatest_degree, net.forest_count
+                found = len(reached(net, 1)) == nodes, net.greatest_degree, net.forest_count
                 good = all(wish in (None, there) for wish, there in zip(wanted, found))
                 self.note(f"random {words}, seed {seed}",
                           good and (len(net.neighbours), len(net.number)) == (nodes, edges), (found, text))
@@ -380,10 +313,8 @@ class OwnNetworks(Case):
 
     def test_seeds(self):
         for words in ("tree 50", "disk 50", "random 50 100"):
-            texts = [
-                by_script(*words.split(), "--seed", seed, env=dict(os.environ, PYTHONHASHSEED=str(hashing)))[1]
-                for hashing, seed in ((1, 4), (2, 4), (1, 5))
-            ]
+            texts = [forestlab("network", *words.split(), "--seed", seed, env=os.environ | {"PYTHONHASHSEED": order})[1]
+                     for order, seed in (("1", 4), ("2", 4), ("1", 5))]
             self.note(f"{words}: a seed is the same again, and another is another",
                       texts[0] == texts[1] and edges_of(texts[0]) != edges_of(texts[2]) and b"--seed 4\n" in texts[0],
                       texts[0][:80])
@@ -392,78 +323,37 @@ class OwnNetworks(Case):
         for words in REFUSED:
             status, text, fault = call(*words.split())
             self.note(f"refused words: {words}",
-                      (status, text) == (2, b"") and re.search(rb"^forestlab network[^\n]*: error: ", fault, re.M), fault)
+                      (status, text) == (2, b"") and re.search(rb"^forestlab network[^\n]*: error: ", fault, re.M),
+                      fault)
         for words in (("path", "9" * 100_000), ("read", "x", "--as", "x" * 100_000), ("path", "3", "a\nb" * 20_000)):
             status, text, fault = call(*words)
             good = (status, text) == (2, b"") and len(fault) < 1000 and fault.count(b"error: ") == 1
             self.note(f"a long word: {words[0]}", good and fault.rsplit(b"error: ")[1].count(b"\n") == 1, fault[:300])
-        status, told, fault = by_script("--help")
-        commands = re.findall(r"^  ([a-z]+) [A-Z]+", told.decode().split("positional")[0], re.M)
-        self.note("help", (status, fault, len(commands)) == (0, b"", 13), commands)
-        for command in commands:
-            status, told, fault = call(command, "--help")
-            is_shown = f"forestlab network {command} ".encode() in told
-            self.note(f"help of {command}", (status, fault) == (0, b"") and is_shown,
-                      told)
         for command in (["read"], ["tell"], ["number", "--by", "degree"], ["names"]):
-            status, text, fault = call(*command, "/nowhere.col")
-            self.note(f"{command[0]} of no file",
-                      (status, text, fault) == (1, b"", b"network: /nowhere.col: No such file or directory\n"), fault)
+            self.same(f"{command[0]} of no file", call(*command, "/nowhere.col"),
+                      (1, b"", b"network: /nowhere.col: No such file or directory\n"))
 
     def test_forms(self):
         for name, text, edges, alone, said in FORMS:
-            path = os.path.join(self.folder, "net.txt")
-            with open(path, "wb") as file:
-                file.write(text.encode())
+            path = self.file("net.txt", text)
             status, wrote, told = call("read", path)
             self.note(f"read: {name}", status == 0 and pairs_in(wrote) == (named_pairs(edges), set(alone.split())),
                       (status, wrote, told))
             self.note(f"read: {name}: what is said", f"network: {path}: ".encode() in told and said.encode() in told,
                       told)
-            self.note(f"read: {name}: read again it is the same", call("read", "-", data=wrote)[1] == wrote, wrote)
+            self.same(f"read: {name}: read again", call("read", "-", data=wrote)[1], wrote)
             self.wrote.append(wrote)
         data = "1 2\n2 3\n".encode("utf-16")
-        self.note("read: UTF-16", edges_of(self.written("read", "-", data=data)) == {(1, 2), (2, 3)})
-        self.note(
-            "read: Latin-1",
-            comments(self.written("read", "-", data="Köln Aue\n".encode("latin-1")), "name") == {1: "Köln", 2: "Aue"},
-        )
+        self.same("read: UTF-16", edges_of(self.written("read", "-", data=data)), {(1, 2), (2, 3)})
+        data = "Köln Aue\n".encode("latin-1")
+        self.same("read: Latin-1", comments(self.written("read", "-", data=data), "name"), {1: "Köln", 2: "Aue"})
         for data, form, edges in ((b"1 2 5\n2 3 9\n", "adjacency", 4), (b"1 2\n2\n3\n3 0\n", "multiline", 2),
                                   (b"a,b\n", "pairs", 1)):
             text = self.written("read", "-", "--as", form, data=data)
             self.note(f"read as {form}", len(edges_of(text)) == edges, text)
-        asked = call("read", "-", data=b"site,other\nA,B\nB,C\nC,D\n")
-        self.note("a heading that isn't known is asked for",
-                  asked[:2] == (1, b"") and b"line 1 (`site,other`) may be a heading or a pair" in asked[2], asked)
-        places = call("read", "-", data=b"name,x,y\nUlm,1,2.5\nAue,3,4\nHof,5,6\n")
-        self.note("a list of places is refused", places[:2] == (1, b"") and b"look like places" in places[2], places)
-        heading = b"north,south\na,b\n"
         for choice, edges in (("yes", 1), ("no", 2)):
-            self.note(f"read with a heading: {choice}",
-                      len(edges_of(self.written("read", "-", "--heading", choice, data=heading))) == edges)
-
-    def test_unreadable(self):
-        """What can't be read is refused in one line, with the number of the line."""
-        for data, said in [
-            (b"", b"no line with a node"),
-            (b"# x\n", b"no line with a node"),
-            (b"1 2\n\0\n", b"no text"),
-            (b"source,target\nA,B\n,C\n", b"line 3: no pair"),
-            (b"graph { a -- b", b"is the text cut"),
-            (b"graph {\n a -- }\n", b"line 2: DOT isn't read on from `}`"),
-            (b"graph { a ! b }", b"`!`"),
-            (b"p edge 2 1\ne 1 x\n", b"line 2: no edge"),
-            (b"p edge 2 1\ne 1 7\n", b"line 2: vertex 7, and the `p` line has 2"),
-            (b"p edge 2 1\np edge 2 1\n", b"line 2: a second `p` line"),
-            (b"p edge x\ne 1 2\n", b"line 1: no number of nodes"),
-            (b"p edge 20001 0\n", b"at most 20000"),
-            (b"".join(b"1 %d\n" % v for v in range(2, 1026)), b"node 1 has 1024 neighbours, and may have 1023"),
-            (b"".join(b"%d %d\n" % (v, v + 1) for v in range(1, 20001)),
-             b"20001 nodes, and a network has at most 20000"),
-        ]:
-            status, text, told = call("read", "-", data=data)
-            self.note(f"not read: {data[:30]!r}",
-                      (status, text) == (1, b"") and re.fullmatch(rb"network: -[^\n]*\n", told) and said in told, told)
+            text = self.written("read", "-", "--heading", choice, data=b"north,south\na,b\n")
+            self.note(f"read with a heading: {choice}", len(edges_of(text)) == edges, text)
 
     def test_any_form(self):
         """One function for a text of which nobody knows the form: a network of the programs is read without a word, and
@@ -483,28 +373,6 @@ class OwnNetworks(Case):
                 read_any(data, name)
             self.note(f"no form: {name}", wanted in str(caught.exception), caught.exception)
 
-    def test_random_forms(self):
-        """Two hundred networks, fifty in each of four forms, through the modules that the script runs."""
-        source, wrong = random.Random(SEED), []
-        for i in range(200):
-            names = source.sample(["n%d" % k for k in range(1, 60)] + ["north hill", "süd", "a-b"],
-                                  source.randint(2, 12))
-            edges = {frozenset(source.sample(names, 2)) for _ in range(source.randint(1, 20))}
-            form = ("csv", "dot", "adjacency", "pairs")[i % 4]
-            if form in ("adjacency", "pairs"):
-                names = [name.replace(" ", "_") for name in names]
-                edges = {frozenset(name.replace(" ", "_") for name in edge) for edge in edges}
-            text = in_form(source, form, names, edges)
-            # A first line of one name may be a title, and two names or three a line pairs, unless --as says.
-            widths = [len(line.split()) for line in text.splitlines()[:-1]]
-            may_be_other = form == "adjacency" and (widths[0] == 1 or set(widths) <= {2, 3})
-            made, _ = read(text.encode(), "net", form if may_be_other else None,
-                           True if form == "csv" else False if form == "pairs" else None)
-            lone = set(names) - set().union(*edges)
-            if pairs_in(text_of(made).encode()) != (edges, lone if form != "csv" else set()):
-                wrong.append((text, text_of(made)))
-        self.note("200 random networks in four forms", not wrong, f"{len(wrong)}: {wrong[:1]}")
-
     def test_numbers(self):
         """The same network by names, and the numbers in the order that was asked for."""
         for name in ("petersen", "disk100", "star"):
@@ -514,51 +382,27 @@ class OwnNetworks(Case):
             for words in ("--by random", "--by random --seed 9", "--by degree", "--by degree --reverse", "--by place"):
                 text = self.written("number", "-", *words.split(), data=before)
                 names = comments(text, "name")
-                self.note(f"{name} numbered {words} is the same network", pairs_in(text)[0] == wanted, text[:200])
-                self.note(
-                    f"{name} numbered {words} keeps its places",
-                    {names[v]: place for v, place in comments(text, "at").items()}
-                    == {str(v): place for v, place in places.items()},
-                )
+                self.same(f"{name} numbered {words}", pairs_in(text)[0], wanted)
+                self.same(f"{name} numbered {words} keeps its places",
+                          {int(names[v]): place for v, place in comments(text, "at").items()}, places)
                 net = network_of(text)
-                degrees = [len(net.neighbours[v]) for v in sorted(net.neighbours)]
-                across = [float(comments(text, "at")[v].split()[0]) for v in sorted(net.neighbours)]
-                if "degree" in words:
-                    self.note(f"{name} numbered {words}: the order",
-                              degrees == sorted(degrees, reverse="reverse" in words), degrees)
-                if "place" in words:
-                    self.note(f"{name} numbered {words}: the order", across == sorted(across), across)
+                order = [len(net.neighbours[v]) if "degree" in words else float(comments(text, "at")[v].split()[0])
+                         for v in sorted(net.neighbours)]
+                if "random" not in words:
+                    self.same(f"{name} numbered {words}: the order", order, sorted(order, reverse="reverse" in words))
             again = [call("number", "-", "--by", "random", "--seed", seed, data=before)[1] for seed in (1, 1, 2)]
             self.note(f"{name} numbered by chance: by its seed", again[0] == again[1] != again[2])
-        status, text, told = call("number", "-", "--by", "place", data=b"p edge 2 1\ne 1 2\nc at 1 0 0\n")
-        self.note("numbered by places that aren't there", (status, text) == (1, b"") and b"have no place" in told, told)
+        done = call("number", "-", "--by", "place", data=b"p edge 2 1\ne 1 2\nc at 1 0 0\n")
+        self.refusal("numbered by places that aren't there", done, 1, b"have no place")
 
     def test_names(self):
-        path = os.path.join(self.folder, "sites.col")
-        with open(path, "wb") as file:
-            file.write(self.written("read", "-", data=b'source,target\nUlm,"Aue, west"\n"Aue, west",Jena\n'))
-        status, text, told = call("names", path, data=b"plan\n1 1\n2 2\n3 1\n")
-        self.note("names on a plan", (status, text, told) == (0, b"Ulm 1\nAue, west 2\nJena 1\n", b""), (text, told))
-        status, text, told = call("names", path, "--csv", data=b"plan\n1 1\n2 2\n3 1\n")
-        self.note("names as CSV", (status, text) == (0, b'name,channel\nUlm,1\n"Aue, west",2\nJena,1\n'), (text, told))
+        network = self.written("read", "-", data=b'source,target\nUlm,"Aue, west"\n"Aue, west",Jena\n')
+        path, plan = self.file("sites.col", network), b"plan\n1 1\n2 2\n3 1\n"
+        for words, wanted in (([], b"Ulm 1\nAue, west 2\nJena 1\n"),
+                              (["--csv"], b'name,channel\nUlm,1\n"Aue, west",2\nJena,1\n')):
+            self.same(f"names on a plan {words}", call("names", path, *words, data=plan), (0, wanted, b""))
         for plan, code in ((b"", b"C6"), (b"plan\n1 1\n", b"C1"), (b"plan\n1 9\n", b"C5")):
-            status, text, told = call("names", path, data=plan)
-            self.note(f"names on the plan {plan}", (status, text) == (1, b"") and b"(%s)" % code in told, told)
-
-    def test_scripts(self):
-        """The script from another folder, through a symbolic link, with a file whose name has a blank, and into a
-        closed pipe."""
-        os.symlink(FORESTLAB, os.path.join(self.folder, "linked"))
-        with open(os.path.join(self.folder, "my sites.csv"), "wb") as file:
-            file.write(b"a,b\n")
-        done = subprocess.run(["./linked", "network", "read", "my sites.csv"], capture_output=True, timeout=LIMIT,
-                              cwd=self.folder)
-        self.note("through a link, from another folder",
-                  (done.returncode, done.stdout) == (0, b"c name 1 a\nc name 2 b\np edge 2 1\ne 1 2\n"), done)
-        done = subprocess.run(["bash", "-c", 'set -o pipefail; "$0" network random 2000 100000 | head -1', FORESTLAB],
-                              capture_output=True, timeout=LIMIT)
-        self.note("into a pipe that is closed", (done.returncode, done.stdout.count(b"\n"), done.stderr) == (0, 1, b""),
-                  done)
+            self.refusal(f"names on the plan {plan}", call("names", path, data=plan), 1, b"(%s)" % code)
 
     def told_of(self, data, *words):
         """{name: what} of the lines of `network tell`."""
@@ -576,19 +420,16 @@ class OwnNetworks(Case):
                       edges)
         for words, data in ((["read", "-"], b"p tw 2 1\n1 2\ni 1 2\n"),
                             (["number", "-", "--by", "degree"], b"p edge 2 0\ni 2 9\ni 1 9\n")):
-            status, text, said = call(*words, data=data)
-            self.note(f"{words}: two of one identifier",
-                      (status, text) == (1, b"") and b"1 and 2 have one identifier" in said, said)
+            self.refusal(f"{words}: two of one identifier", call(*words, data=data), 1, b"1 and 2 have one identifier")
 
     def test_bars(self):
         """A line `b V CHANNEL` goes with its vertex, which is known by its neighbours here."""
         for words in (["read", "-"], ["number", "-", "--by", "degree"], ["number", "-", "--by", "random", "--seed", 3]):
             net, made = network_of(BARRED), network_of(self.written(*words, data=BARRED))
-            found = [
-                sorted((len(net.neighbours[v]), sorted(net.barred[v])) for v in net.neighbours) for net in (net, made)
-            ]
             wanted = [(1, [1, 2047]), (2, []), (2, []), (3, [1])]
-            self.note(f"{words}: whose channels are barred", found == [wanted, wanted], found)
+            for each in (net, made):
+                found = sorted((len(each.neighbours[v]), sorted(each.barred[v])) for v in each.neighbours)
+                self.same(f"{words}: whose channels are barred", found, wanted)
         text = self.written("read", "-", data=b"p edge 3 1\ne 0 1\nb 0 7\n")
         self.note("a bar in a text that counts from 0", b"\nb 1 7\n" in text, text)
         for data, said in (
@@ -599,28 +440,18 @@ class OwnNetworks(Case):
             (b"p edge 2 1\n" + b"".join(b"b 2 %d\n" % channel for channel in range(1, 1026)),
              b"line 1026: more than 1024 channels"),
         ):
-            status, text, why = call("read", "-", data=data)
-            self.note(f"read of {data[:30]}", (status, text) == (1, b"") and said in why, why)
+            self.refusal(f"read of {data[:30]}", call("read", "-", data=data), 1, said)
         told, _ = self.told_of(BARRED)
-        self.note("tell of bars", told["barred"] == "3 channels at 2 nodes, at most 2 at one, so at most 6 channels",
-                  told)
+        self.same("tell of bars", told["barred"], "3 channels at 2 nodes, at most 2 at one, so at most 6 channels")
         self.note("tell of a network without bars", "barred" not in self.told_of(LONG_NAMES)[0])
-        with tempfile.TemporaryDirectory() as folder:
-            path = os.path.join(folder, "net.col")
-            with open(path, "wb") as file:
-                file.write(BARRED)
-            for plan, wanted in ((b"plan\n1 1\n2 3\n3 2\n4 3\n", (0, b"1 1\n2 3\n3 2\nLast 3\n")),
-                                 (b"plan\n1 1\n2 3\n3 2\n4 2\n", (1, b""))):
-                status, text, why = call("names", path, data=plan)
-                self.note(
-                    f"names on {plan}",
-                    (status, text) == wanted and (b"channel 2 is barred at vertex 4 (C8)" in why) == (status == 1),
-                    why,
-                )
+        path, plan = self.file("net.col", BARRED), b"plan\n1 1\n2 3\n3 2\n4 %d\n"
+        self.same("names with bars", call("names", path, data=plan % 3), (0, b"1 1\n2 3\n3 2\nLast 3\n", b""))
+        done = call("names", path, data=plan % 2)
+        self.refusal("names of a barred channel", done, 1, b"channel 2 is barred at vertex 4 (C8)")
 
     def test_tell(self):
         """Beside the definitions: the rounds' payloads, and the lines and bytes of a run's transcript."""
-        networks = {name: example(f"{name}.col") for name in ("triangle", "petersen", "star", "four_cycle", "chain6")}
+        networks = {name: example(name) for name in ("triangle", "petersen", "star", "four_cycle", "chain6")}
         networks |= {"a ring of 12": self.written("ring", 12), "a grid": self.written("grid", 3, 4),
                      "one": self.written("path", 1)}
         networks["long names"] = LONG_NAMES
@@ -629,7 +460,7 @@ class OwnNetworks(Case):
             net = network_of(data)
             told, warned = self.told_of(data)
             last, edges = last_pulse(net), len(net.number)
-            payloads = len(re.findall(rb"^\d+ put ", rounds_text(net), re.M))
+            payloads = payloads_of(net)
             wires = 2 * payloads + 2 * edges * (last + 1)
             run = transcript_text(len(net.neighbours), made_transcript(random.Random(SEED), net, 4))
             degrees = [len(ws) for ws in net.neighbours.values()]
@@ -682,21 +513,19 @@ class OwnNetworks(Case):
             self.note(f"the fault {fault} of {text[:40]!r}", good, told)
             self.note(f"another way in for {text[:40]!r}",
                       (len(lines) == 3 and "`forestlab network read -` can read it" in lines[1]) == is_read, told)
-            done = run_program(PLAN, ["forests"], text.encode())
-            self.note(f"the program's fault of {text[:40]!r}", done.stderr == f"forestplan: {fault}\n".encode(), done)
+            wanted = 1, b"", f"forestplan: {fault}\n".encode()
+            self.same(f"the program's fault of {text[:40]!r}", called(PLAN, "forests", data=text.encode()), wanted)
         pairs = [(v, v + d) for d in range(1, 22) for v in range(1, 20001 - d)][:400_001]
         text = "p edge 20000 1\n" + "".join("e %d %d\n" % pair for pair in pairs)
-        status, _, told = call("tell", "-", data=text.encode())
-        self.note("an edge too many", status == 1 and b"line 400002: more than 400000 different edges (F7)" in told,
-                  told)
+        said = b"line 400002: more than 400000 different edges (F7)"
+        self.refusal("an edge too many", call("tell", "-", data=text.encode()), 1, said)
 
     def test_large(self):
         """Of a large network `network tell` has the rounds counted by the program."""
         data = self.written("random", 3000, 9000)
         bound, _ = self.told_of(data)
         told, _ = self.told_of(data, "--payloads")
-        done = run_program(PLAY, ["rounds"], data)
-        payloads = len(re.findall(rb"^\d+ put ", done.stdout, re.M))
+        payloads = len(re.findall(rb"^\d+ put ", called(PLAY, "rounds", data=data)[1], re.M))
         plain = r"plain (less than a second|about \d+ seconds?), the same plan"
         long = r"(plan|transcript) (less than a second|about \d+ (second|minute|hour)s?)"
         shape = rf"{plain}; {long}, {long}; by a run of [\d,]+ wires, made just now"
@@ -704,5 +533,4 @@ class OwnNetworks(Case):
         most = bound["payloads"].removeprefix("at most ").partition(";")
         good = bound["payloads"].startswith("at most ") and most[2] == " --payloads counts them"
         self.note("a bound of the payloads", good and payloads <= int(most[0].replace(",", "")), bound)
-        self.note("payloads of a large network", told["payloads"] == f"{payloads:,}; counted by `forestplay rounds`",
-                  (told, payloads))
+        self.same("payloads of a large network", told["payloads"], f"{payloads:,}; counted by `forestplay rounds`")

@@ -6,65 +6,15 @@ bar channels."""
 import itertools
 import random
 import re
-import subprocess
 from collections import Counter
 
 from lab.definitions.colours import Network, bit, colours, first_colours, merge, plan_text, three
-from tests.cases import Case
+from lab.definitions.rounds import rounds_text
+from tests.cases import Case, called, text
 from tests.programs.black_box import PLANS, barred_plans
 from tests.settings import PLAN
 
 SEED = 2026
-LIMIT = 60
-MOST_TOLD = 4000
-
-
-def worked_rows():
-    rows = []
-    for name, text, channels in PLANS + barred_plans():
-        wanted = "plan\n" + "".join(f"{v} {channel}\n" for v, channel in enumerate(channels, 1))
-        got = plan_text(text.replace("|", "\n").encode())
-        rows.append((f"the definition on {name}", got == wanted.encode(), got))
-    triangle = Network({1: 1, 2: 2, 3: 3}, {(1, 2), (1, 3), (2, 3)})
-    barred = Network({1: 1, 2: 2, 3: 3}, {(1, 2), (1, 3), (2, 3)}, {3: {0}})
-    after = {1: 0, 2: 2, 3: 1}
-    highest_digit = Network({1: 2**127 - 1, 2: 2**128 - 1}, {(1, 2)})
-    for name, got, wanted in [
-        ("three colours of the triangle", [three(triangle, f) for f in (0, 1)],
-         [{1: 0, 2: 1, 3: 0}, {1: 1, 2: 1, 3: 0}]),
-        ("the triangle after one forest", merge(triangle, 0, {1: 0, 2: 0, 3: 0}), {1: 0, 2: 1, 3: 0}),
-        ("a bar: the first colours", first_colours(barred), {1: 0, 2: 0, 3: 1}),
-        ("a bar: after one forest", merge(barred, 0, {1: 0, 2: 0, 3: 1}), after),
-        ("a bar: after both forests", merge(barred, 1, after), after),
-        ("a bar: the span", (barred.greatest_bars, barred.span), (1, 3)),
-        ("bit step of 128 digits", bit(highest_digit, 0, highest_digit.identifiers), {1: 254, 2: 1}),
-        ("identifiers of 128 digits", colours(highest_digit), {1: 1, 2: 0}),
-    ]:
-        rows.append((f"the definition: {name}", got == wanted, got))
-    return rows
-
-
-def none(_source, _nodes):
-    return {}
-
-
-def family_rows(program, family, names_of=none, bars_of=none):
-    """One row for the bytes, and one that looks at neighbours and channels without the definition."""
-    title, networks = family
-    source = random.Random(f"{SEED} {title}")
-    different, unfit, count = [], [], 0
-    for count, (nodes, edges) in enumerate(networks(source), 1):
-        bars = bars_of(source, nodes)
-        network = text_of(source, nodes, edges, names_of(source, nodes), bars)
-        done = subprocess.run([program, "plain"], input=network, capture_output=True, timeout=LIMIT)
-        if (done.returncode, done.stdout, done.stderr) != (0, plan_text(network), b""):
-            different.append((count, network, done))
-        if not is_fit(nodes, edges, bars, done.stdout):
-            unfit.append((count, network, done.stdout))
-    return [(f"plain by the definition, {count} networks, {title}", count > 0 and not different,
-             f"{len(different)} differ, the first is {different[:1]}"[:MOST_TOLD]),
-            (f"plain has neighbours apart and few channels, {count} networks, {title}", not unfit,
-             f"{len(unfit)} have not, the first is {unfit[:1]}"[:MOST_TOLD])]
 
 
 def is_fit(nodes, edges, bars, plan):
@@ -85,7 +35,8 @@ def long_names(source, nodes):
     while True:
         given = {
             v: source.choice(
-                (source.randrange(2**128), source.randrange(2 * nodes), 2**128 - 1 - source.randrange(2 * nodes))
+                (source.randrange(2**128), source.randrange(2 * nodes),
+                 2**source.choice((32, 64, 128)) - 1 - source.randrange(2 * nodes))
             )
             for v in range(1, nodes + 1)
             if source.random() < 0.8
@@ -120,14 +71,32 @@ def text_of(source, nodes, edges, names=None, bars=None):
     return f"p edge {nodes} {len(lines)}\n".encode() + b"".join(rows)
 
 
+def reached(net, v):
+    """The distance of each vertex that can be reached from v."""
+    found, layer = {v: 0}, [v]
+    while layer:
+        layer = sorted({w for u in layer for w in net.neighbours[u]} - set(found))
+        found |= dict.fromkeys(layer, max(found.values()) + 1)
+    return found
+
+
+def payloads_of(net):
+    """How many payloads the rounds send."""
+    return len(re.findall(rb"^\d+ put ", rounds_text(net), re.M))
+
+
 def pairs_of(nodes):
     return list(itertools.combinations(range(1, nodes + 1), 2))
 
 
+def all_of(nodes):
+    """Each set of edges on so many nodes, those with few edges first."""
+    pairs = pairs_of(nodes)
+    return itertools.chain(*(itertools.combinations(pairs, count) for count in range(len(pairs) + 1)))
+
+
 def all_small(_):
-    for nodes in range(5):
-        for mask in itertools.product((False, True), repeat=len(pairs_of(nodes))):
-            yield nodes, set(itertools.compress(pairs_of(nodes), mask))
+    return ((nodes, set(edges)) for nodes in range(5) for edges in all_of(nodes))
 
 
 def random_of(count, least, greatest):
@@ -192,9 +161,8 @@ FAMILIES = [
     ("climbing on 1,000 nodes", climbing(22, 1000)),
     ("climbing on 20,000 nodes", climbing(3, 20_000)),
 ]
-# With identifiers of their own.
+# With identifiers of their own, with barred channels, and with both.
 NAMED = [("names on up to 12 nodes", random_of(150, 0, 12)), ("names on 20 to 40 nodes", random_of(50, 20, 40))]
-# With barred channels.
 BARRED = [("bars on up to 12 nodes", random_of(80, 1, 12)), ("bars on 20 to 40 nodes", random_of(20, 20, 40))]
 NAMED_AND_BARRED = [("names and bars on up to 12 nodes", random_of(80, 1, 12)),
                     ("names and bars on 20 to 40 nodes", random_of(20, 20, 40))]
@@ -202,20 +170,52 @@ NAMED_AND_BARRED = [("names and bars on up to 12 nodes", random_of(80, 1, 12)),
 
 class PlainNetworks(Case):
     def test_definition(self):
-        self.note_all(worked_rows())
+        for name, network, channels in PLANS + barred_plans():
+            wanted = "plan\n" + "".join(f"{v} {channel}\n" for v, channel in enumerate(channels, 1))
+            self.same(f"the definition on {name}", plan_text(text(network)), wanted.encode())
+        triangle = Network({1: 1, 2: 2, 3: 3}, {(1, 2), (1, 3), (2, 3)})
+        barred = Network({1: 1, 2: 2, 3: 3}, {(1, 2), (1, 3), (2, 3)}, {3: {0}})
+        after = {1: 0, 2: 2, 3: 1}
+        highest_digit = Network({1: 2**127 - 1, 2: 2**128 - 1}, {(1, 2)})
+        for name, got, wanted in [
+            ("three colours of the triangle", [three(triangle, f) for f in (0, 1)],
+             [{1: 0, 2: 1, 3: 0}, {1: 1, 2: 1, 3: 0}]),
+            ("the triangle after one forest", merge(triangle, 0, {1: 0, 2: 0, 3: 0}), {1: 0, 2: 1, 3: 0}),
+            ("a bar: the first colours", first_colours(barred), {1: 0, 2: 0, 3: 1}),
+            ("a bar: after one forest", merge(barred, 0, {1: 0, 2: 0, 3: 1}), after),
+            ("a bar: after both forests", merge(barred, 1, after), after),
+            ("a bar: the span", (barred.greatest_bars, barred.span), (1, 3)),
+            ("bit step of 128 digits", bit(highest_digit, 0, highest_digit.identifiers), {1: 254, 2: 1}),
+            ("identifiers of 128 digits", colours(highest_digit), {1: 1, 2: 0}),
+        ]:
+            self.same(f"the definition: {name}", got, wanted)
+
+    def families(self, families, names_of=lambda *_: {}, bars_of=lambda *_: {}):
+        """One row for the bytes, and one that looks at neighbours and channels without the definition."""
+        for title, networks in families:
+            source = random.Random(f"{SEED} {title}")
+            different, unfit, count = [], [], 0
+            for count, (nodes, edges) in enumerate(networks(source), 1):
+                bars = bars_of(source, nodes)
+                network = text_of(source, nodes, edges, names_of(source, nodes), bars)
+                done = called(PLAN, "plain", data=network)
+                if done != (0, plan_text(network), b""):
+                    different.append((count, network, done))
+                if not is_fit(nodes, edges, bars, done[1]):
+                    unfit.append((count, network, done))
+            self.note(f"plain by the definition, {count} networks, {title}", count > 0 and not different,
+                      f"{len(different)} differ, the first is {different[:1]}")
+            self.note(f"plain has neighbours apart and few channels, {count} networks, {title}", not unfit,
+                      f"{len(unfit)} have not, the first is {unfit[:1]}")
 
     def test_families(self):
-        for family in FAMILIES:
-            self.note_all(family_rows(PLAN, family))
+        self.families(FAMILIES)
 
     def test_names(self):
-        for family in NAMED:
-            self.note_all(family_rows(PLAN, family, long_names))
+        self.families(NAMED, long_names)
 
     def test_bars(self):
-        for family in BARRED:
-            self.note_all(family_rows(PLAN, family, bars_of=some_bars))
+        self.families(BARRED, bars_of=some_bars)
 
     def test_names_and_bars(self):
-        for family in NAMED_AND_BARRED:
-            self.note_all(family_rows(PLAN, family, long_names, some_bars))
+        self.families(NAMED_AND_BARRED, long_names, some_bars)

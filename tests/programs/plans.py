@@ -8,7 +8,8 @@ import subprocess
 
 from lab.definitions.colours import network_of, plan_text
 from lab.definitions.nodes import wire_words
-from tests.cases import Case
+from tests.cases import Case, called, text
+from tests.commands import TRIANGLE as THREE
 from tests.programs.one_worker import Run
 from tests.programs.plain_networks import BARRED, FAMILIES, SEED, some_bars, text_of
 from tests.settings import PLAN
@@ -23,8 +24,7 @@ SMALL_FAMILY, SMALL_NETWORKS = "random on up to 12 nodes", 20
 LONG = {"random on 20 to 40 nodes": len(PAIRS), "bars on 20 to 40 nodes": len(PAIRS) // 2, "climbing on 1,000 nodes": 6,
         "climbing on 20,000 nodes": 1}
 
-TRIANGLE = b"p edge 3 3\ne 1 2\ne 1 3\ne 2 3\n"
-TRIANGLE_PLAN = b"plan\n1 2\n2 3\n3 1\n"
+TRIANGLE, TRIANGLE_PLAN = text(THREE), b"plan\n1 2\n2 3\n3 1\n"
 STOPPED = b"forestplan: stopped\n"
 
 # Capacity, looks, the entries of the triangle's nodes after these looks of one worker, and what the links then hold,
@@ -61,55 +61,21 @@ WORKED_RUNS = [
      for workers in (1, 2, 8, 64) for capacity in (1, 4)]
 
 
-def answer_of(program, words, data, environment=None):
+def answer_of(*words, data):
     """Status, standard output and standard error; None for all three if the run takes too long."""
     try:
-        done = subprocess.run([program] + words, input=data, capture_output=True, timeout=LIMIT, env=environment)
+        return called(PLAN, *words, data=data, limit=LIMIT)
     except subprocess.TimeoutExpired:
         return None, None, None
-    return done.returncode, done.stdout, done.stderr
 
 
-def plan_words(workers, capacity):
-    return ["plan", "--workers", str(workers), "--capacity", str(capacity)]
+def answer_with(data, capacity, turns, command="plan"):
+    words = ["--workers", 1, "--capacity", capacity, "--turns", turns] + ["--edition", 1] * (command == "transcript")
+    return answer_of(command, *words, data=data)
 
 
-def one_row(program, words, data, *wanted):
-    got = answer_of(program, ["plan"] + words, data)
-    return f"plan {' '.join(words)} of {data[:20]!r}", got == wanted, f"wanted {wanted}, got {got}"
-
-
-def family_row(program, index):
-    """Each network of a family once, or the first ones of a long family, the pairs of workers and capacity by turns
-    over all families."""
-    families = FAMILIES + BARRED
-    title, _ = families[index]
-    before = sum(1 for family in families[:index] for _ in played_texts(family))
-    different, count = [], 0
-    for count, network in enumerate(played_texts(families[index]), 1):
-        pair = PAIRS[(before + count - 1) % len(PAIRS)]
-        got = answer_of(program, plan_words(*pair), network)
-        if got != answer_of(program, ["plain"], network) or got[0] != 0:
-            different.append((count, pair, got, network))
-    return (f"plan is plain, {count} networks, {title}", count > 0 and not different,
-            f"{len(different)} differ, the first is {different[:1]}"[:MOST_TOLD])
-
-
-def small_row(program):
-    """A few small networks with each pair."""
-    family = next(family for family in FAMILIES if family[0] == SMALL_FAMILY)
-    networks = [network for network in texts_of(family) if network.count(b"\n") > 3][:SMALL_NETWORKS]
-    different = []
-    for network in networks:
-        wanted = answer_of(program, ["plain"], network)
-        different += [(pair, network) for pair in PAIRS if answer_of(program, plan_words(*pair), network) != wanted]
-    return (f"plan is plain with each of {len(PAIRS)} pairs, {len(networks)} networks",
-            len(networks) == SMALL_NETWORKS and not different, f"{len(different)} differ: {different[:1]}"[:MOST_TOLD])
-
-
-def played_texts(family):
-    """The networks of a family that are played."""
-    return itertools.islice(texts_of(family), LONG.get(family[0]))
+def with_pair(pair, data):
+    return answer_of("plan", "--workers", pair[0], "--capacity", pair[1], data=data)
 
 
 def texts_of(family):
@@ -120,68 +86,73 @@ def texts_of(family):
         yield text_of(source, nodes, edges, bars=some_bars(source, nodes) if family in BARRED else {})
 
 
-def first_rows(program):
-    """What the first looks leave by the definition of a turn, and that each node's entries in the program's transcript
-    begin so."""
-    for capacity, looks, entries, held in FIRST_LOOKS:
-        left = Run(network_of(TRIANGLE), capacity, looks)
-        links = {at: [wire_words(wire) for wire in wires] for at, wires in left.state.link.items() if wires}
-        _, whole, _ = answer_with(program, TRIANGLE, capacity, 10**9, "transcript")
-        begun = [line for v in "123"
-                 for line in of_node(v, (whole or b"").decode().splitlines())[: len(of_node(v, entries))]]
-        got = [line for _, lines in sorted(left.lines.items()) for line in lines], links, begun
-        yield f"the first {looks} looks of one worker with capacity {capacity}", got == (entries, held, entries), got
-
-
 def of_node(v, lines):
     return [line for line in lines if line.startswith(v + " ")]
 
 
-def turn_rows(program):
-    """One worker stops with one turn less than its run needs, by the definition of a turn, and with as many it has the
-    plan. A link that held another number of wires, or another number of turns, would move that limit."""
-    for data in (TRIANGLE, b"p edge 2 0\n", b"p edge 2 1\ne 1 2\n", b"p edge 5 5\ne 1 2\ne 2 3\ne 3 4\ne 4 5\ne 1 5\n"):
-        for capacity in (1, 2, 64):
-            needed = Run(network_of(data), capacity).looks
-            got = [answer_with(program, data, capacity, turns) for turns in (needed - 1, needed)]
-            yield (f"{needed} turns for {data[:12]!r} with capacity {capacity}, and no less",
-                   got == [(3, b"", STOPPED), (0, plan_text(data), b"")], got)
-    needed = Run(network_of(TRIANGLE), 2).looks
-    words = ["plan", "--capacity=0002", "--workers=+1"]
-    got = [answer_of(program, [*words, f"--turns=+0{turns}"], TRIANGLE) for turns in (needed - 1, needed)]
-    yield "numbers of options with a sign or zeros before them", got == [(3, b"", STOPPED),
-                                                                         (0, TRIANGLE_PLAN, b"")], got
-    for capacity in (1, 4):
-        whole = Run(network_of(TRIANGLE), capacity)
-        for command, answer in (("plan", TRIANGLE_PLAN), ("transcript", whole.text())):
-            wrong = []
-            for turns in range(201):
-                got = answer_with(program, TRIANGLE, capacity, turns, command)
-                if got != ((3, b"", STOPPED) if turns < whole.looks else (0, answer, b"")):
-                    wrong.append((turns, got))
-            name = f"{command} by 0 to 200 turns of one worker with capacity {capacity}: stopped, or the answer"
-            yield name, not wrong, wrong[:3]
-
-
-def answer_with(program, data, capacity, turns, command="plan"):
-    words = [command, "--workers", "1", "--capacity", str(capacity), "--turns", str(turns)] + ["--edition", "1"] * (
-        command == "transcript"
-    )
-    return answer_of(program, words, data)
-
-
 class Plans(Case):
     def test_worked(self):
-        self.note_all(one_row(PLAN, *row) for row in WORKED_RUNS)
+        for words, data, *wanted in WORKED_RUNS:
+            self.same(f"plan {' '.join(words)} of {data[:20]!r}", answer_of("plan", *words, data=data), tuple(wanted))
 
     def test_families(self):
-        self.note_all(family_row(PLAN, index) for index in range(len(FAMILIES + BARRED)))
+        """Each network of a family once, or the first ones of a long family, the pairs of workers and capacity by turns
+        over all families."""
+        pairs = itertools.cycle(PAIRS)
+        for family in FAMILIES + BARRED:
+            different, count = [], 0
+            for count, network in enumerate(itertools.islice(texts_of(family), LONG.get(family[0])), 1):
+                pair = next(pairs)
+                got = with_pair(pair, network)
+                if got != answer_of("plain", data=network) or got[0] != 0:
+                    different.append((count, pair, got, network))
+            self.note(f"plan is plain, {count} networks, {family[0]}", count > 0 and not different,
+                      f"{len(different)} differ, the first is {different[:1]}"[:MOST_TOLD])
 
     def test_small(self):
-        self.note(*small_row(PLAN))
+        """A few small networks with each pair."""
+        family = next(family for family in FAMILIES if family[0] == SMALL_FAMILY)
+        networks = [network for network in texts_of(family) if network.count(b"\n") > 3][:SMALL_NETWORKS]
+        different = [(pair, network) for network in networks for pair in PAIRS
+                     if with_pair(pair, network) != answer_of("plain", data=network)]
+        self.note(f"plan is plain with each of {len(PAIRS)} pairs, {len(networks)} networks",
+                  len(networks) == SMALL_NETWORKS and not different, f"{len(different)} differ: {different[:1]}")
 
     def test_first_looks(self):
-        self.note_all(first_rows(PLAN))
+        """What the first looks leave by the definition of a turn, and that each node's entries in the program's
+        transcript begin so."""
+        for capacity, looks, entries, held in FIRST_LOOKS:
+            left = Run(network_of(TRIANGLE), capacity, looks)
+            links = {at: [wire_words(wire) for wire in wires] for at, wires in left.state.link.items() if wires}
+            whole = (answer_with(TRIANGLE, capacity, 10**9, "transcript")[1] or b"").decode().splitlines()
+            begun = [line for v in "123" for line in of_node(v, whole)[:len(of_node(v, entries))]]
+            got = [line for _, lines in sorted(left.lines.items()) for line in lines], links, begun
+            self.same(f"the first {looks} looks of one worker with capacity {capacity}", got, (entries, held, entries))
 
     def test_turns(self):
-        self.note_all(turn_rows(PLAN))
+        """One worker stops with one turn less than its run needs, by the definition of a turn, and with as many it has
+        the plan. A link that held another number of wires, or another number of turns, would move that limit."""
+        for data in (TRIANGLE, b"p edge 2 0\n", b"p edge 2 1\ne 1 2\n",
+                     b"p edge 5 5\ne 1 2\ne 2 3\ne 3 4\ne 4 5\ne 1 5\n"):
+            for capacity in (1, 2, 64):
+                needed = Run(network_of(data), capacity).looks
+                got = [answer_with(data, capacity, turns) for turns in (needed - 1, needed)]
+                self.same(f"{needed} turns for {data[:12]!r} with capacity {capacity}, and no less", got,
+                          [(3, b"", STOPPED), (0, plan_text(data), b"")])
+        needed = Run(network_of(TRIANGLE), 2).looks
+        got = [answer_of("plan", "--capacity=0002", "--workers=+1", f"--turns=+0{turns}", data=TRIANGLE)
+               for turns in (needed - 1, needed)]
+        self.same("numbers of options with a sign or zeros before them", got,
+                  [(3, b"", STOPPED), (0, TRIANGLE_PLAN, b"")])
+
+    def test_each_number_of_turns(self):
+        for capacity in (1, 4):
+            whole = Run(network_of(TRIANGLE), capacity)
+            for command, answer in (("plan", TRIANGLE_PLAN), ("transcript", whole.text())):
+                wrong = []
+                for turns in range(201):
+                    got = answer_with(TRIANGLE, capacity, turns, command)
+                    if got != ((3, b"", STOPPED) if turns < whole.looks else (0, answer, b"")):
+                        wrong.append((turns, got))
+                self.note(f"{command} by 0 to 200 turns of one worker with capacity {capacity}: stopped, or the answer",
+                          not wrong, wrong[:3])

@@ -1,27 +1,26 @@
 """Tests of `forestlab explore --reduce`, beside the search of all states.
 
-On each connected network of up to three nodes, in each numbering, and on two of four nodes: what goes wrong is the
+On each network of up to three nodes, and on two others: what goes wrong is the
 same, the ends are the same states, and every state of the reduced search is one of the whole search."""
 import itertools
-import os
 
 from lab.definitions.colours import Network
 from lab.schedules.space import Space
-from tests import TOP
 from tests.cases import Case, said_by
+from tests.programs.plain_networks import all_of
 
 MOST = 200_000
 
 
+TWO = Network({1: 1, 2: 2}, [(1, 2)])
+BARRED = Network({1: 9, 2: 200, 3: 5}, [(1, 2), (2, 3)], {2: [0]})
+
+
 def networks():
-    yield "one", Network({1: 1}, [])
-    yield "apart", Network({1: 1, 2: 2}, [])
-    yield "two", Network({1: 1, 2: 2}, [(1, 2)])
-    yield "triangle", Network({v: v for v in (1, 2, 3)}, [(1, 2), (1, 3), (2, 3)])
-    for middle in (1, 2, 3):
-        edges = [(v, middle) for v in (1, 2, 3) if v != middle]
-        yield f"row around {middle}", Network({v: v for v in (1, 2, 3)}, edges)
-    yield "names and a bar", Network({1: 9, 2: 200, 3: 5}, [(1, 2), (2, 3)], {2: [0]})
+    for nodes in (1, 2, 3):
+        for edges in all_of(nodes):
+            yield f"{nodes} {edges}", Network({v: v for v in range(1, nodes + 1)}, edges)
+    yield "names and a bar", BARRED
     yield "row of four", Network({v: v for v in range(1, 5)}, [(1, 2), (2, 3), (3, 4)])
 
 
@@ -54,44 +53,34 @@ class Reduced(Case):
                 self.compared(name, net, (), False)
 
     def test_puts_and_rules(self):
-        small = [(name, net) for name, net in networks() if len(net.number) <= 1]
+        small = [(name, net) for name, net in networks() if len(net.neighbours) < 3]
         for (name, net), without in itertools.product(small, ((), ("early",), ("acks",), ("acks", "early"))):
             for puts in (False, True):
                 with self.subTest(name, without=without, puts=puts):
                     self.compared(name, net, without, puts)
-        for name, net in networks():
-            if name in ("row around 2", "names and a bar"):
-                for without in (("early",), ("acks",)):
-                    with self.subTest(name, without=without):
-                        self.compared(name, net, without, False)
+        for without in (("early",), ("acks",)):
+            for net in (Network({1: 1, 2: 2, 3: 3}, [(1, 2), (2, 3)]), BARRED):
+                with self.subTest(net=net.identifiers, without=without):
+                    self.compared("three", net, without, False)
 
     def test_that_early_is_found(self):
-        net = dict(networks())["two"]
-        self.assertTrue(Space(net, ("early",), MOST, reduce=True).faults)
+        self.assertTrue(Space(TWO, ("early",), MOST, reduce=True).faults)
 
 
 class Command(Case):
     needs_programs = False
 
-    def call(self, *words):
-        return said_by("explore", *words)
-
     def test_what_it_says(self):
         """The triangle's counts by the help; and nothing of what it doesn't know."""
-        triangle = os.path.join(TOP, "examples", "triangle.col")
-        status, said, fault = self.call(triangle, "--reduce")
-        self.assertEqual((status, fault), (0, ""))
-        states = said.split(" states")[0].split(": ")[1]
-        self.assertIn(states, self.call("--help")[1])
-        self.assertIn(self.call(triangle)[1].split(" states")[0].split(": ")[1], self.call("--help")[1])
+        helped = said_by("explore", "--help")[1]
+        whole, reduced = (said_by("explore", "triangle", *words) for words in ([], ["--reduce"]))
+        for status, said, fault in (whole, reduced):
+            self.assertEqual((status, fault), (0, ""))
+            self.assertIn(said.split(" states")[0].split(": ")[1], helped)
         for word in ("schedules,", "apart,", "under way\n"):
-            self.assertNotIn(word, said.replace("so schedules, pulses apart and wires under way aren't", ""))
+            self.assertNotIn(word, reduced[1].replace("so schedules, pulses apart and wires under way aren't", ""))
 
     def test_refusals(self):
-        two = os.path.join(TOP, "examples", "two.col")
-        for words in ([two, "--reduce", "--without", "safes"], [two, "--reduce", "--without", "acks,fifo"],
+        for words in (["two", "--reduce", "--without", "safes"], ["two", "--reduce", "--without", "acks,fifo"],
                       ["--reduce", "--without", "shift"]):
-            with self.subTest(words):
-                status, said, fault = self.call(*words)
-                self.assertEqual((status, said), (2, ""))
-                self.assertIn("explore: error: ", fault)
+            self.refusal(f"{words}", said_by("explore", *words), 2, "explore: error: ")

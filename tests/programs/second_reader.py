@@ -52,31 +52,10 @@ def lines(text):
 
 def csv_row(line, mark):
     """The fields of a line of CSV: those in double quotes may have the mark, and a quote twice is one."""
-    fields, at = [], 0
-    while True:
-        while line[at:at + 1] in (" ", "\t") and line[at] != mark:
-            at += 1
-        if line[at:at + 1] == '"':
-            field, at = "", at + 1
-            while True:
-                want(at < len(line), "a quote that isn't closed")
-                if line[at] == '"' and line[at + 1:at + 2] == '"':
-                    field, at = field + '"', at + 2
-                elif line[at] == '"':
-                    at += 1
-                    break
-                else:
-                    field, at = field + line[at], at + 1
-            at += len(re.match(" *", line[at:])[0])
-            want(at == len(line) or line[at] == mark, "something between a quote and the mark")
-        else:
-            end = line.find(mark, at)
-            end = len(line) if end < 0 else end
-            field, at = line[at:end], end
-        fields.append(field.strip())
-        if at == len(line):
-            return fields
-        at += 1
+    blanks = "[ \t]*".replace(mark, "")
+    field = rf'(?:{blanks}"((?:[^"]|"")*)" *|(?!{blanks}")([^{mark}]*))'
+    want(re.fullmatch(f"{field}(?:{mark}{field})*", line), "a quote that isn't closed, or something behind it")
+    return [(quoted.replace('""', '"') or bare).strip() for quoted, bare in re.findall(f"(?:^|{mark}){field}", line)]
 
 
 def table(text, mark):
@@ -241,18 +220,15 @@ def gml(text):
     want(tokens.count("[") == tokens.count("]"), "a bracket too many")
     graphs = [value for key, value in top if key == "graph" and isinstance(value, list)]
     want(len(graphs) == 1, "not one graph")
-    nodes = [dict(value) for key, value in graphs[0] if key == "node" and isinstance(value, list)]
-    edges = [dict(value) for key, value in graphs[0] if key == "edge" and isinstance(value, list)]
     there = [(key, value) for key, value in graphs[0] if key in ("node", "edge")]
-    want(len(there) == len(nodes) + len(edges), "no list")
+    want(all(isinstance(value, list) for _, value in there), "no list")
     inner = re.findall(r"(?i)(?<![^\s\]\[])(?:node|edge)\s*\[", re.sub(r'"[^"]*"', '""', text))
     want(len(inner) == len(there), "a node or an edge elsewhere")
-    for one in nodes + edges:
-        want(all(isinstance(one.get(key, ""), str) for key in ("id", "source", "target")), "no id")
     for key, value in there:
-        names = [known for known, _ in value if known in ("id", "source", "target")]
         wanted = ["id"] if key == "node" else ["source", "target"]
-        want(sorted(name for name in names if name in wanted) == wanted, "not one id")
+        want(sorted(name for name, _ in value if name in wanted) == wanted, "not one id")
+        want(all(isinstance(part, str) for name, part in value if name in ("id", "source", "target")), "no id")
+    nodes, edges = ([dict(value) for key, value in there if key == kind] for kind in ("node", "edge"))
     labels = [{node["id"]: node[word] for node in nodes if isinstance(node.get(word), str)}
               for word in ("label", "name")]
     ids = [node["id"] for node in nodes]
@@ -292,52 +268,26 @@ def node_link(text):
 class Dot:
     """The grammar of Graphviz, letter by letter."""
 
-    MARKS = ("--", "->", "{", "}", "[", "]", ";", ",", ":", "=")
+    # A comment, a line that begins with `#`, a mark, a text in quotes, or a name.
+    TOKEN = re.compile(r"//[^\n]*|/\*.*?\*/|(?:\A|(?<=\n))#[^\n]*|(?P<mark>--|->|[][{};,:=])"
+                       r'|"(?P<text>(?:[^"\\]|\\.)*)"|(?P<name>[^\W\d]\w*|-?(?:\.\d+|\d+(?:\.\d*)?)(?![\w.]))', re.S)
+    WORDS = ("graph", "digraph", "subgraph", "node", "edge", "strict")
 
     def __init__(self, text):
-        self.pairs, self.nodes, self.tokens = [], [], []
-        text = "\n".join("" if line.startswith("#") and not self.is_open(text, at) else line
-                         for at, line in self.with_places(text))
-        while text := text.lstrip(" \t\n\r\f\v\ufeff"):
-            text = text[self.token(text):]
+        self.pairs, self.nodes, self.tokens, at = [], [], [], 0
+        while at < len(text):
+            if text[at] in " \t\n\r\f\v\ufeff":
+                at += 1
+                continue
+            token = self.TOKEN.match(text, at)
+            want(token, "no token")
+            mark, said, name = token.group("mark", "text", "name")
+            if said is not None:
+                self.tokens.append((None, said.replace("\\\n", "").replace('\\"', '"')))
+            elif mark or name:
+                self.tokens.append((mark or (name.lower() if name.lower() in self.WORDS else None), name))
+            at = token.end()
         self.tokens.reverse()
-
-    @staticmethod
-    def with_places(text):
-        at = 0
-        for line in text.split("\n"):
-            yield at, line
-            at += len(line) + 1
-
-    @staticmethod
-    def is_open(text, at):
-        """Whether a text in quotes or a comment goes on at a place."""
-        rest = re.sub(r'"(?:[^"\\]|\\.)*"|/\*.*?\*/|//[^\n]*|(?:\A|(?<=\n))#[^\n]*', "", text[:at], flags=re.S)
-        return '"' in rest or "/*" in rest
-
-    def token(self, text):
-        """How many letters the next token or comment has."""
-        if text.startswith("//"):
-            return (text + "\n").index("\n")
-        if text.startswith("/*"):
-            want("*/" in text[2:], "an open comment")
-            return text.index("*/", 2) + 2
-        mark = next((mark for mark in self.MARKS if text.startswith(mark)), None)
-        if mark:
-            self.tokens.append((mark, None))
-            return len(mark)
-        if text[0] == '"':
-            at = 1
-            while at < len(text) and text[at] != '"':
-                at += 2 if text[at] == "\\" else 1
-            want(at < len(text), "an open text")
-            self.tokens.append((None, text[1:at].replace("\\\n", "").replace('\\"', '"')))
-            return at + 1
-        name = re.match(r"[^\W\d]\w*|-?(\.\d+|\d+(\.\d*)?)(?![\w.])", text)
-        want(name, "no token")
-        self.tokens.append((name[0].lower() if name[0].lower() in ("graph", "digraph", "subgraph", "node", "edge",
-                                                                  "strict") else None, name[0]))
-        return name.end()
 
     def next(self):
         want(self.tokens, "the end")
@@ -412,8 +362,7 @@ class Dot:
 
 
 def dot(text):
-    found = Dot(text).graph
-    return found()
+    return Dot(text).graph()
 
 
 def columns(text, wanted):

@@ -8,6 +8,7 @@ from lab.definitions.colours import network_of
 from lab.definitions.nodes import synchronous_pulses
 from lab.pictures.sheet import farthest
 from tests.cases import Case, said_by
+from tests.programs.plain_networks import payloads_of, reached
 
 
 def sheet(*words):
@@ -34,9 +35,8 @@ class Played:
     """The rounds of a network, from nodes that hear and send."""
 
     def __init__(self, net):
-        self.colours, self.payloads, self.merged = {}, 0, {}
-        for p, nodes, _, sent in synchronous_pulses(net):
-            self.payloads += sum(payload is not None for payloads in sent.values() for payload in payloads)
+        self.colours, self.payloads, self.merged = {}, payloads_of(net), {}
+        for p, nodes, _, _ in synchronous_pulses(net):
             for v, node in nodes.items():
                 self.colours[p, v] = list(node.colours)
                 self.merged[p, v] = node.merged
@@ -50,10 +50,7 @@ class Answers(Case):
         net = network_of(text)
         vertices = sorted(net.neighbours)
         self.assertEqual((len(vertices), len(net.number), net.greatest_degree, net.forest_count), (8, 9, 3, 2))
-        reached = {1}
-        while more := {w for v in reached for w in net.neighbours[v]} - reached:
-            reached |= more
-        self.assertEqual(len(reached), 8)
+        self.assertEqual(len(reached(net, 1)), 8)
         played = Played(net)
         plan, parents, drops, merges, slow = tables_of(section)
         blanks = blanks_of(section)
@@ -84,8 +81,10 @@ class Answers(Case):
         # Lesson 5: two wires for each payload, and 36 safes and a close on each of the 18 links.
         self.assertIn(f"has {played.payloads} payloads", section)
         self.assertEqual(blanks[6], str(2 * played.payloads + 18 * 37))
-        ends = set(map(int, re.search(r"over the edge (\d)–(\d)", section).groups()))
-        self.assertEqual(slow[1][1], [str(max(0, distance(net, ends, v) - 1)) for v in vertices])
+        # A node gets as far as it is from the nearer end of the still edge, less one: its neighbours there stay at 0.
+        ends = map(int, re.search(r"over the edge (\d)–(\d)", section).groups())
+        far = [reached(net, end) for end in ends]
+        self.assertEqual(slow[1][1], [str(max(0, min(of[v] for of in far) - 1)) for v in vertices])
 
     def check_drops(self, net, rows):
         """The rows of pulses 6 to 12, of any colours: three shifts with the drops of 5, 4 and 3, each of which changes
@@ -119,16 +118,6 @@ class Answers(Case):
         self.assertEqual(farthest(row, (2, 3)), {1: 0, 2: 0, 3: 0, 4: 0, 5: 1, 6: 2})
 
 
-def distance(net, ends, v):
-    """How many edges lie between v and the nearer one of the ends, whatever goes over the edge between these. So far
-    from a still edge a node gets, less one: its neighbours at that edge stay at pulse 0."""
-    far, reached = 0, set(ends)
-    while v not in reached:
-        reached |= {w for u in reached for w in net.neighbours[u]}
-        far += 1
-    return far
-
-
 class Sheets(Case):
     needs_programs = False
 
@@ -156,7 +145,4 @@ class Sheets(Case):
 
     def test_refusals(self):
         for words in (["--lesson", "6"], ["--sheets", "0"], ["--sheets", "x"], ["x"]):
-            with self.subTest(words):
-                status, page, fault = sheet(*words)
-                self.assertEqual((status, page), (2, ""))
-                self.assertIn("sheet: error: ", fault)
+            self.refusal(f"{words}", sheet(*words), 2, "sheet: error: ")

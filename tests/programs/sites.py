@@ -3,12 +3,9 @@
 import math
 import os
 import random
-import subprocess
-import tempfile
 
 from lab.definitions.colours import network_of
-from tests import FORESTLAB, TOP
-from tests.cases import Case, run_program
+from tests.cases import Case, called, example, said_by
 from tests.programs.own_networks import call, comments, edges_of, pairs_in
 from tests.settings import PLAN
 
@@ -25,15 +22,6 @@ def on_ground(one, other):
 
 
 class Sites(Case):
-    def setUp(self):
-        self.folder = self.enterContext(tempfile.TemporaryDirectory())
-
-    def file(self, name, text):
-        path = os.path.join(self.folder, name)
-        with open(path, "wb") as file:
-            file.write(text if isinstance(text, bytes) else text.encode())
-        return path
-
     def refused(self, name, said, *words):
         status, wrote, told = call("read", *words)
         good = (status, wrote, told.count(b"\n")) == (1, b"", 1) and said.encode() in told
@@ -53,10 +41,9 @@ class Sites(Case):
         places = {v: tuple(map(float, rest.split())) for v, rest in comments(wrote, "at").items()}
         self.note("north is on top, and east is right",
                   places[1][1] > places[3][1] > places[4][1] and places[4][0] < places[1][0] < places[2][0], places)
-        self.note("the program reads it", run_program(PLAN, ["forests"], wrote).stdout.startswith(b"forests 4 1\n"))
-        self.refused("what is left out, if that is asked for", "--strict is asked for: 1 column not read: km; "
-                     "1 line left out, with a site", pairs, "--sites", sites,
-                     "--strict")
+        self.note("the program reads it", called(PLAN, "forests", data=wrote)[1].startswith(b"forests 4 1\n"), wrote)
+        said = "--strict is asked for: 1 column not read: km; 1 line left out, with a site"
+        self.refused("what is left out, if that is asked for", said, pairs, "--sites", sites, "--strict")
 
     def test_misspelt(self):
         """Names that aren't in the table are said, a few of them, with those that are written most alike."""
@@ -127,26 +114,21 @@ class Sites(Case):
         """Places by chance: two are joined just if they are less than the reach apart, on a plane and on the ground;
         near the poles and over the line where the longitudes meet, too."""
         source = random.Random(7)
-        for name, south, north, west, east, reach in (
-            ("a town", 52.3, 52.6, 13.1, 13.7, 4.0),
-            ("a pole", 88, 90, -180, 180, 60),
-            ("the line", -1, 1, 179, 181, 30),
-            ("the earth", -90, 90, -180, 180, 1500),
-        ):
-            places = [(source.uniform(south, north), source.uniform(west, east)) for _ in range(150)]
-            text = "id,lat,lon\n" + "".join(f"s{at},{lat!r},{lon!r}\n" for at, (lat, lon) in enumerate(places))
-            wrote = call("read", "--sites", self.file("sites.csv", text), "--reach", reach)[1]
-            wanted = {(v + 1, w + 1) for v in range(150) for w in range(v + 1, 150)
-                      if on_ground(places[v], places[w]) < reach}
-            self.note(f"near each other: {name}", edges_of(wrote) == wanted and 20 < len(wanted) < 8000, len(wanted))
-        places = [(source.randrange(100), source.randrange(100)) for _ in range(200)]
-        text = "id,x,y\n" + "".join(f"s{at},{x},{y}\n" for at, (x, y) in enumerate(places))
-        wrote = call("read", "--sites", self.file("sites.csv", text), "--reach", 10)[1]
-        wanted = {(v + 1, w + 1) for v in range(200) for w in range(v + 1, 200) if math.dist(places[v], places[w]) < 10}
-        self.note("near each other: a plane", edges_of(wrote) == wanted, len(wanted))
-        wrote = call("read", self.file("pairs.csv", "s0,s1\n"), "--sites", os.path.join(self.folder, "sites.csv"),
-                     "--reach", 10)[1]
-        self.note("and pairs besides", edges_of(wrote) == wanted | {(1, 2)}, wrote[:200])
+        rows = [(name, "lat,lon", on_ground, reach,
+                 [(source.uniform(south, north), source.uniform(west, east)) for _ in range(150)])
+                for name, south, north, west, east, reach in (
+                    ("a town", 52.3, 52.6, 13.1, 13.7, 4.0), ("a pole", 88, 90, -180, 180, 60),
+                    ("the line", -1, 1, 179, 181, 30), ("the earth", -90, 90, -180, 180, 1500))]
+        rows.append(("a plane", "x,y", math.dist, 10, [(source.randrange(100), source.randrange(100)) for _ in range(200)]))
+        for name, columns, far, reach, places in rows:
+            text = f"id,{columns}\n" + "".join(f"s{at},{a!r},{b!r}\n" for at, (a, b) in enumerate(places))
+            sites = self.file("sites.csv", text)
+            wanted = {(v, w) for w, there in enumerate(places, 1) for v, here in enumerate(places[:w - 1], 1)
+                      if far(here, there) < reach}
+            self.note(f"near each other: {name}", 20 < len(wanted) < 8000, len(wanted))
+            self.same(f"edges of {name}", edges_of(call("read", "--sites", sites, "--reach", reach)[1]), wanted)
+        wrote = call("read", self.file("pairs.csv", "s0,s1\n"), "--sites", sites, "--reach", 10)[1]
+        self.same("and pairs besides", edges_of(wrote), wanted | {(1, 2)})
 
     def test_bars(self):
         pairs, bars = self.file("pairs.csv", "Ulm,Aue\n"), "site,channel\nUlm,6\nUlm,11 6\nAue,1\nHof,1\n"
@@ -184,8 +166,7 @@ class Sites(Case):
         for words in (["--reach", "5"], [], ["--sites", sites], ["--sites", sites, "--reach", "0"],
                       ["--sites", sites, "--reach", "1e-320"], ["--sites", sites, "--reach", "nan"],
                       ["--channels", "x", sites], ["-", "--sites", "-"], ["-", "--channels", "6 6"]):
-            status, wrote, told = call("read", *words)
-            self.note(f"refused words: {words}", (status, wrote) == (2, b"") and b"error: " in told, (status, told))
+            self.refusal(f"refused words: {words}", call("read", *words), 2, b"error: ")
         odd = self.file("a\nb.csv", "Ulm,NA\n")
         self.refused("a name of two lines", "a\\nb.csv line 1: `NA` may mean", odd)
         self.refused("no file of two lines", "n\\no: No such file", "n\no")
@@ -194,36 +175,28 @@ class Sites(Case):
 
 class Channels(Case):
     def call(self, *words, data=""):
-        done = subprocess.run([FORESTLAB, "channels", *words], input=data, capture_output=True, text=True)
-        return done.returncode, done.stdout, done.stderr
+        return said_by("channels", *words, data=data.encode())
 
     def test_both_ways(self):
         plan, real = "plan\n1 2\n2 3\n3 1\n", "plan\n1 6\n2 11\n3 1\n"
         for table in (["1", "6", "11"], ["1,6,11"], ["1-11/5"], ["1-1", "6 11"]):
-            got = self.call(*table, data=plan)
-            self.note(f"to {table}", got == (0, real, ""), got)
-            got = self.call("--back", *table, data=real)
-            self.note(f"from {table}", got == (0, plan, ""), got)
+            self.same(f"to {table}", self.call(*table, data=plan), (0, real, ""))
+            self.same(f"from {table}", self.call("--back", *table, data=real), (0, plan, ""))
         got = self.call("--back", data="plan\n1 40\n2 36\n3 44\n")
-        self.note("without a table", got == (0, "plan\n1 2\n2 1\n3 3\n", "channels: 1 to 3 are 36 40 44\n"), got)
-        with open(os.path.join(TOP, "examples", "triangle.col"), encoding="utf-8") as file:
-            done = run_program(PLAN, ["check"], (file.read() + got[1]).encode())
-        self.note("a real plan is judged", done.stdout == b"proper 3\n", done)
+        self.same("without a table", got, (0, "plan\n1 2\n2 1\n3 3\n", "channels: 1 to 3 are 36 40 44\n"))
+        done = called(PLAN, "check", data=example("triangle") + got[1].encode())
+        self.same("a real plan is judged", done, (0, b"proper 3\n", b""))
 
     def test_runs(self):
         """The channels of a run, as a plan."""
         run = "node 1 pulse 30 channel 2\nnode 2 pulse 30 channel 3\nnode 3 pulse 30 channel 1\n"
         for words, wanted in ((["--run"], "plan\n1 2\n2 3\n3 1\n"), (["--run", "1-11/5"], "plan\n1 6\n2 11\n3 1\n")):
-            got = self.call(*words, data=run)
-            self.note(f"{words}", got == (0, wanted, ""), got)
-        got = self.call("--run", data="")
-        self.note("a run of no nodes", got == (0, "plan\n", ""), got)
+            self.same(f"{words}", self.call(*words, data=run), (0, wanted, ""))
+        self.same("a run of no nodes", self.call("--run"), (0, "plan\n", ""))
 
     def test_files(self):
         """The licence as a table, as spreadsheets write it."""
-        folder = self.enterContext(tempfile.TemporaryDirectory())
-        path = os.path.join(folder, "my licence.csv")
-        for text, wanted in (
+        for table, wanted in (
             ("Channel,Frequency (MHz)\r\n36,5180\r\n40,5200\r\n", (0, "plan\n1 40\n2 36\n", "")),
             ("Bemerkung;Kanal\r\ngut;36\r\ngut;40\r\n;;\r\n", (0, "plan\n1 40\n2 36\n", "")),
             ("Bemerkung;Kanal\r\ngut;36\r\n;40\r\n;;\r\n", "column bemerkung may say which channels"),
@@ -236,16 +209,10 @@ class Channels(Case):
             ("channel,power\n1,20\n6,0\n11,20\n", "column power may say which channels"),
             ("channel\n", "or it has no row"),
         ):
-            with open(path, "w", encoding="utf-8", newline="") as file:
-                file.write(text)
-            got = self.call(path, data="plan\n1 2\n2 1\n")
+            got = self.call(self.file("my licence.csv", table), data="plan\n1 2\n2 1\n")
             good = got == wanted if isinstance(wanted, tuple) else got[:2] == (2, "") and wanted in got[2]
-            self.note(f"a licence {text!r}", good, got)
-        with open(path, "w", encoding="utf-8") as file:
-            file.write("channel\n1\n6\n11\n")
-        bars = os.path.join(folder, "bars.csv")
-        with open(bars, "w", encoding="utf-8") as file:
-            file.write("site,channel\nAue,11\n")
+            self.note(f"a licence {table!r}", good, got)
+        path, bars = self.file("licence", "channel\n1\n6\n11\n"), self.file("bars.csv", "site,channel\nAue,11\n")
         wrote = call("read", "-", "--channels", path, "--bars", bars, data=b"source,target\nUlm,Aue\n")[1]
         self.note("read with a licence of a file", b"\nb 2 3\n" in wrote and b"c Channel 3 is 11\n" in wrote, wrote)
 
@@ -265,19 +232,14 @@ class Channels(Case):
             self.note(f"{words} {data!r}", got[:2] == (1, "") and said in got[2] and got[2].count("\n") == 1, got)
         for words in ([], ["x"], ["nowhere.csv"], ["1", "1"], ["1-"], ["5-1"], ["1-5/0"], ["36-63/4"], ["1-3000"],
                       ["--forth", "1"], ["--run", "--back"]):
-            got = self.call(*words, data="plan\n")
-            self.note(f"refused words: {words}", got[:2] == (2, "") and "channels: error: " in got[2], got)
+            self.refusal(f"refused words: {words}", self.call(*words, data="plan\n"), 2, "channels: error: ")
 
     def test_names(self):
         """Real numbers on a plan with names."""
-        with tempfile.NamedTemporaryFile(suffix=".col") as file:
-            file.write(call("read", "-", data=b"source,target\nUlm,Aue\n")[1])
-            file.flush()
-            got = call("names", file.name, "--channels", "36 40", data=b"plan\n1 2\n2 1\n")
-            self.note("names with real channels", got == (0, b"Ulm 40\nAue 36\n", b""), got)
-            got = call("names", file.name, data=b"plan\n1 40\n2 36\n")
-            hint = (b"channel 40 is not one of 1 to 2 (C5); if it is a real channel number: "
-                    b"forestlab channels --back TABLE\n")
-            self.note("a plan of real channels", got[:2] == (1, b"") and got[2].endswith(hint), got)
-            got = call("names", file.name, "--channels", "36", data=b"plan\n1 2\n2 1\n")
-            self.note("more channels than the licence", got[:2] == (1, b"") and b"takes 2 channels" in got[2], got)
+        path = self.file("net.col", call("read", "-", data=b"source,target\nUlm,Aue\n")[1])
+        got = call("names", path, "--channels", "36 40", data=b"plan\n1 2\n2 1\n")
+        self.same("names with real channels", got, (0, b"Ulm 40\nAue 36\n", b""))
+        hint = b"channel 40 is not one of 1 to 2 (C5); if it is a real channel number: forestlab channels --back"
+        self.refusal("a plan of real channels", call("names", path, data=b"plan\n1 40\n2 36\n"), 1, hint)
+        got = call("names", path, "--channels", "36", data=b"plan\n1 2\n2 1\n")
+        self.refusal("more channels than the licence", got, 1, b"takes 2 channels")
