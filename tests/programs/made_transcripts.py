@@ -7,7 +7,7 @@ import re
 from lab.definitions.nodes import NetState, wire_words
 from lab.transcripts.stamps import Clock
 
-MOST_LOOKS = 10_000_000
+MOST_LOOKS, MOST_TAKES = 10_000_000, 4
 MISTAKES = ("changed", "doubled", "left out", "swapped")
 
 
@@ -29,12 +29,17 @@ def made_transcript(source, net, capacity):
 
 
 def turn(_, state, v, capacity):
-    """Each event is made by the caller before the next one is asked for."""
+    """What a worker does with a node in a look, by the definition of a turn (docs/claim/DEFINITIONS.md): each event is
+    made by the caller before the next one is asked for. After a first take from a port, another one is tried if the
+    port isn't closed, and safe of this pulse wasn't taken there or its own payload waits."""
     node = state.nodes[v]
-    for port in range(len(node.ports)):
-        for _ in range(4):
-            if state.link_to(v, port) and node.can_take():
-                yield "Take", v, port
+    for port, other in enumerate(node.ports):
+        for taken in range(MOST_TAKES):
+            if not state.link_to(v, port) or not node.can_take():
+                break
+            if taken and (other.closed or other.safe and not other.waits):
+                break
+            yield "Take", v, port
     if node.can_pulse():
         yield "Pulse", v, None
     for port, other in enumerate(node.ports):
@@ -94,6 +99,18 @@ def merged_text(nodes, lines):
     """As the program writes edition 2."""
     rows = [f"{stamp} {line}" for stamp, _, line in stamped_rows(lines)]
     return "".join(line + "\n" for line in [f"transcript 2 {nodes}"] + rows).encode()
+
+
+def entries_of(text):
+    """{vertex: fields of each entry in its order}, from the vertex on: in edition 2 a stamp is before it."""
+    found = {}
+    first, *lines = text.decode().split("\n")
+    stamps = first.split()[1] == "2"
+    for line in lines:
+        if line:
+            fields = line.split()[stamps:]
+            found.setdefault(int(fields[0]), []).append(fields)
+    return found
 
 
 def mixed_text(source, nodes, lines):

@@ -3,23 +3,17 @@
 Expected verdicts are worked by hand, or come from the definitions in lab/definitions/nodes.py and stamps.py; none is
 taken from a program."""
 import random
-import re
-import subprocess
 
 from lab.definitions.colours import network_of
 from lab.transcripts.check import run_read_with_care
-from tests.cases import Case, text
+from tests.cases import Case, called, text
 from tests.programs.made_transcripts import made_transcript, merged_text, odd, transcript_text
-from tests.programs.one_worker import Run
 from tests.programs.plain_networks import cycle, path, random_of, star, text_of, tree, two_sided
-from tests.programs.transcripts import (CAPACITIES, EDGE, EDGE_LINES, EDGE_WHOLE, LIMIT, SEED, is_counted, networks,
-                                        said_of, transcript_by)
-from tests.settings import PLAN, PLAY, setting
+from tests.programs.transcripts import (CAPACITIES, EDGE, EDGE_LINES, EDGE_WHOLE, HELLO_1, HELLO_2, NO_ENTRIES, SEED,
+                                        is_counted, networks, said_by, said_of, small_networks)
+from tests.settings import PLAN, setting
 
 GREATEST = 2**64 - 1
-
-
-HELLO_1, HELLO_2 = "payload 0 hello 1", "payload 0 hello 2"
 # Two nodes apart: both make pulse P at stamp P.
 APART = "transcript 2 2|" + "".join(f"{p} {v} pulse {p}|" for p in range(1, 13) for v in (1, 2))
 # Both greet, then both take the other's greeting: the put has stamp 1, so has the counter of the one that takes.
@@ -50,12 +44,9 @@ WORKED = (
         (EDGE, f"transcript 2 2|1 put 2 {HELLO_1}|", "line 2: X1"),
         (EDGE, "transcript 1 2|1 1 pulse 1|", "line 2: X1"),
     ]
-    + [
-        (EDGE, f"transcript 2 2||{entry}|1 1 pulse 1|", "line 3: X1")
-        for entry in ("1", "1 1", "1 1 pulse", "1 1 pulse 1 1", "-1 1 pulse 1", "x 1 pulse 1", "1 pulse 1", "pulse 1",
-                      "18446744073709551616 1 pulse 1", "99999999999999999999 1 pulse 1", "1 4294967296 pulse 1",
-                      "1 1 put 2", "1 1 put 2 close 0", "+1 1 pulse 1")
-    ]
+    + [(EDGE, f"transcript 2 2||{entry}|1 1 pulse 1|", "line 3: X1") for entry in (
+        *(f"1 {entry}" for entry in NO_ENTRIES), "1", "1 pulse 1", "pulse 1", "-1 1 pulse 1", "x 1 pulse 1",
+        "18446744073709551616 1 pulse 1", "99999999999999999999 1 pulse 1", "+1 1 pulse 1")]
     + [
         # the stamps
         (EDGE, GREETED, "line 5: NotWhole"),
@@ -72,20 +63,6 @@ WORKED = (
         (EDGE, f"transcript 2 2|1 1 put 2 {HELLO_1}|2 1 put 2 safe 0|", "line 3: NothingToPut"),
     ]
 )
-
-
-def said_by(play, network, data):
-    """None if `PLAY replay` accepts it, else its fault in the form of the checker's, with lines from the transcript's
-    first."""
-    done = subprocess.run([play, "replay"], input=network + data, capture_output=True, timeout=LIMIT)
-    if (done.returncode, done.stderr) == (0, b""):
-        return None
-    found = re.fullmatch(rb"forestplay: (\w+) line (\d+)(: [ -~]+)?\n", done.stderr)
-    if done.returncode != 1 or done.stdout or not found:
-        return f"status {done.returncode}, {done.stdout[:200]!r}, {done.stderr[:200]!r}"
-    code, line = found.group(1).decode(), int(found.group(2))
-    before = network.count(b"\n")
-    return f"line {line - before if line > before else line}: {code}"
 
 
 # ---- spoiled texts
@@ -147,12 +124,10 @@ class Merged(Case):
             got = said_of(network_of(text(network)), text(transcript))[0]
             self.note(f"{said} of {transcript[:60]!r}", got == said, got)
             if not said.endswith("Nodes"):
-                got = said_by(PLAY, text(network), text(transcript))
-                self.note(f"{said} by replay of {transcript[:60]!r}",
-                          got == (None if said.startswith("whole") else said), got)
+                self.same(f"{said} by replay of {transcript[:60]!r}", said_by(text(network), text(transcript)),
+                          None if said.startswith("whole") else said)
         whole, edge = merged_text(2, EDGE_LINES), network_of(text(EDGE))
-        self.note("a merged run of an edge worked by hand", said_of(edge, whole)[0] == EDGE_WHOLE,
-                  said_of(edge, whole)[0])
+        self.same("a merged run of an edge worked by hand", said_of(edge, whole)[0], EDGE_WHOLE)
         self.note("it begins as both greet", whole.startswith(text(GREETED)), whole[:200])
         accepted = [end for end in range(0, len(whole) - 1, 11)
                     if not said_of(edge, whole[:end])[0].startswith("line ")]
@@ -175,7 +150,7 @@ class Merged(Case):
         """Each is refused, and by the program at the same line with the same code."""
         count = int(setting("spoiled"))
         source, wrong, codes = random.Random(SEED), [], set()
-        small = [(data, net) for data, net in networks() if 0 < len(net.neighbours) < 5 and len(net.number) < 5]
+        small = small_networks()
         for i in range(count):
             kind = KINDS[i % len(KINDS)]
             if kind == KINDS[0]:
@@ -184,7 +159,7 @@ class Merged(Case):
                 merged = merged_text(len(lines), lines)
             data, least = spoiled(source, kind, merged)
             said = said_of(net, data)[0]
-            got = said_by(PLAY, network, data)
+            got = said_by(network, data)
             is_refused = said.startswith("line ")
             codes.add(said.rpartition(": ")[2])
             if not is_refused or got != said or int(said[5:].partition(":")[0]) < least:
@@ -192,23 +167,6 @@ class Merged(Case):
         self.note(f"{count} spoiled merged texts are refused", not wrong, f"{len(wrong)}: {wrong[:1]}")
         wanted = {"X1", "NoSuch", "NotReady", "NothingToPut", "LinkEmpty", "WrongWire", "WrongStamp", "NotWhole"}
         self.note("refusals of each kind", wanted <= codes, codes)
-
-    # ---- the program
-    def test_one_worker(self):
-        """With one worker the whole text is known, as in edition 1; edition 2 is what the program writes without an
-        option."""
-        wrong, count = [], 0
-        for count, (network, net) in enumerate(networks(), 1):
-            capacity = CAPACITIES[count % 3]
-            words = ["--workers", "1", "--capacity", str(capacity)] + ["--edition", "2"] * (count % 2)
-            done = transcript_by(PLAN, words, network)
-            if done != (0, Run(net, capacity).merged(), b""):
-                wrong.append((network, words, done))
-        self.note(f"the transcripts of one worker of {count} networks, by the definition", not wrong,
-                  f"{len(wrong)}: {wrong[:1]}")
-        for workers in (1, 2, 4, 64):
-            done = transcript_by(PLAN, ["--workers", str(workers)], b"p col 2 0\n")
-            self.note(f"two nodes apart, {workers} workers", done == (0, text(APART), b""), done)
 
     def test_runs(self):
         """Whole runs of four and more workers: the checker accepts each, and so does `PLAY replay`, in the order of its
@@ -218,11 +176,10 @@ class Merged(Case):
         for (nodes, pairs), at in zip(networks_of_runs(source), range(count)):
             network = text_of(source, nodes, pairs)
             net = network_of(network)
-            words = ["--workers", str(source.choice((4, 5, 8, 16, 64))), "--capacity",
-                     str(source.choice((1, 2, 4, 64)))]
-            status, data, fault = transcript_by(PLAN, words, network)
+            words = ["--workers", source.choice((4, 5, 8, 16, 64)), "--capacity", source.choice((1, 2, 4, 64))]
+            status, data, fault = called(PLAN, "transcript", *words, data=network)
             good = (status, fault) == (0, b"") and is_counted(net, data, said_of(net, data)[0])
-            got = said_by(PLAY, network, data) if good else None
+            got = said_by(network, data) if good else None
             if not good or got:
                 wrong.append((network, words, status, fault, said_of(net, data)[0], got))
             entries, most = entries + data.count(b"\n") - 1, max(most, nodes)

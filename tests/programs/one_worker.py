@@ -4,9 +4,7 @@ reached the run."""
 from collections import deque
 
 from lab.definitions.nodes import NetState
-from tests.programs.made_transcripts import line_of, merged_text, transcript_text
-
-MOST_TAKES = 4
+from tests.programs.made_transcripts import line_of, merged_text, transcript_text, turn
 
 
 class Run:
@@ -14,43 +12,13 @@ class Run:
 
     def __init__(self, net, capacity, looks=None):
         self.state, self.lines, self.looks = NetState(net), {v: [] for v in net.neighbours}, 0
-        self.capacity, self.pool = capacity, deque(sorted(net.neighbours))
-        while self.pool and self.looks != looks:
-            self.look()
-
-    def look(self):
-        self.looks += 1
-        v = self.pool.popleft()
-        self.turn(v)
-        if not self.state.nodes[v].drained():
-            self.pool.append(v)
-
-    def turn(self, v):
-        node = self.state.nodes[v]
-        for port in range(len(node.ports)):
-            self.take(v, port)
-        if node.can_pulse():
-            self.make("Pulse", v)
-        for port, other in enumerate(node.ports):
-            while other.out and len(self.state.link[v, port]) < self.capacity:
-                self.make("Put", v, port)
-
-    def take(self, v, port):
-        node = self.state.nodes[v]
-        for taken in range(MOST_TAKES):
-            if not node.can_take() or taken > 0 and not self.expects(v, port):
-                return
-            if not self.state.link_to(v, port):
-                return
-            self.make("Take", v, port)
-
-    def expects(self, v, port):
-        """The port isn't closed, and safe of this pulse wasn't taken there or its own payload waits."""
-        other = self.state.nodes[v].ports[port]
-        return not other.closed and (not other.safe or other.waits)
-
-    def make(self, kind, v, port=None):
-        self.lines[v].append(line_of(self.state, (kind, v, port)))
+        pool = deque(sorted(net.neighbours))
+        while pool and self.looks != looks:
+            self.looks, v = self.looks + 1, pool.popleft()
+            for event in turn(None, self.state, v, capacity):
+                self.lines[v].append(line_of(self.state, event))
+            if not self.state.nodes[v].drained():
+                pool.append(v)
 
     def text(self):
         return transcript_text(len(self.lines), self.lines)

@@ -2,10 +2,8 @@
 
 Each run is played again here on lab/definitions/nodes.py, entry by entry, and its order beside what is possible then:
 nothing is compared with what simulate itself wrote before."""
-import os
 import random
 import re
-import tempfile
 
 from lab.definitions.colours import colours, network_of
 from lab.definitions.nodes import NetState, wire_words
@@ -15,7 +13,8 @@ from lab.schedules.space import Space
 from lab.schedules.stepwise import Stepwise
 from lab.transcripts.reading import read
 from lab.transcripts.stamps import check_stamped
-from tests.cases import Case, example, forestlab, run_program
+from tests.cases import Case, called, example, forestlab
+from tests.programs.made_transcripts import entries_of
 from tests.settings import PLAY
 
 NETWORKS = ("two", "triangle", "chain6", "barred", "petersen")
@@ -23,8 +22,7 @@ NETWORKS = ("two", "triangle", "chain6", "barred", "petersen")
 
 def played_by(command, name, text):
     """What `forestplay` says of a text after a network."""
-    done = run_program(PLAY, [command], example(name) + b"\n" + text)
-    return done.returncode, done.stdout, done.stderr
+    return called(PLAY, command, data=example(name) + b"\n" + text)
 
 
 def simulate(*words, data=b""):
@@ -137,18 +135,10 @@ def walk(net, events, source):
         kind, v, port = source.choice(possible)
         wire = state.step(kind, v, port)
         lines.append(" ".join(str(word) for word in (kind.lower(), v, port) if word is not None))
-        entries[v].append(f"{v} pulse {state.nodes[v].pulse_number}" if port is None else
-                          f"{v} {kind.lower()} {state.neighbours[v][port]} {wire_words(wire)}")
+        entry = f"{v} pulse {state.nodes[v].pulse_number}" if port is None else (
+            f"{v} {kind.lower()} {state.neighbours[v][port]} {wire_words(wire)}")
+        entries[v].append(entry.split())
     return lines, entries, state
-
-
-def entries_of(text):
-    """{vertex: its entries in the order of a transcript of edition 2}."""
-    found = {}
-    for line in text.decode().splitlines()[1:]:
-        entry = line.partition(" ")[2]
-        found.setdefault(int(entry.split(" ")[0]), []).append(entry)
-    return found
 
 
 def in_edition_1(text):
@@ -257,21 +247,13 @@ class Refusals(Case):
     needs_programs = False
 
     def test_refusals(self):
-        with tempfile.TemporaryDirectory() as folder:
-            bad = os.path.join(folder, "bad.col")
-            with open(bad, "w", encoding="ascii") as file:
-                file.write("e 1 2\n")
-            rows = [
-                (["nowhere.col"], 1, b"simulate: nowhere.col: No such file or directory\n"),
-                ([bad], 1, b"(F3)\n"),
-                (["chain6", "--slow", "2-4"], 1, b"simulate: chain6 has no edge 2-4\n"),
-                (["chain6", "--lazy", "7"], 1, b"simulate: chain6 has no node 7: its nodes are 1 to 6\n"),
-                (["chain6", "--slow", "2"], 2, b"two neighbours, as 2-3\n"),
-                (["chain6", "--policy", "kind"], 2, b""),
-                ([], 2, b""),
-            ]
-            for words, wanted, end in rows:
-                with self.subTest(" ".join(words)):
-                    status, text, fault = simulate(*words)
-                    self.assertEqual((status, text), (wanted, b""))
-                    self.assertTrue(fault.endswith(end), fault)
+        for words, status, said in (
+            (["nowhere.col"], 1, b"simulate: nowhere.col: No such file or directory\n"),
+            ([self.file("bad.col", "e 1 2\n")], 1, b"(F3)\n"),
+            (["chain6", "--slow", "2-4"], 1, b"simulate: chain6 has no edge 2-4\n"),
+            (["chain6", "--lazy", "7"], 1, b"simulate: chain6 has no node 7: its nodes are 1 to 6\n"),
+            (["chain6", "--slow", "2"], 2, b"two neighbours, as 2-3\n"),
+            (["chain6", "--policy", "kind"], 2, b"kind"),
+            ([], 2, b""),
+        ):
+            self.refusal(" ".join(words), simulate(*words), status, said)

@@ -98,7 +98,4 @@ class Forms(Case):
             (["xml"], good, 2, "invalid choice"),
         ]
         for words, data, wanted, end in cases:
-            with self.subTest(words):
-                status, said, fault = call(*words, data=data)
-                self.assertEqual((status, said), (wanted, ""))
-                self.assertIn(end, fault)
+            self.refusal(f"{words}", call(*words, data=data), wanted, end)

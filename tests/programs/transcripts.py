@@ -11,7 +11,6 @@ import random
 import re
 import signal
 import subprocess
-import tempfile
 import time
 
 from lab.definitions.colours import network_of
@@ -19,11 +18,12 @@ from lab.definitions.nodes import NetState, Refused, last_pulse, make, wire_word
 from lab.transcripts.check import Wrong, find_order, first_refused, in_order, unfinished, whole_run
 from lab.transcripts.reading import read
 from tests import FORESTLAB
-from tests.cases import Case, forestlab, text
+from tests.cases import Case, called, forestlab, text, text_in
 from tests.programs.made_transcripts import MISTAKES, made_transcript, mixed_text, transcript_text, with_mistake
 from tests.programs.one_worker import Run
 from tests.programs.plain_networks import all_small, cycle, path, random_of, some_bars, star, text_of, tree, two_sided
 from tests.settings import PLAN, PLAY
+from tests.shell import wait_until
 
 LIMIT = 60
 SEED = 2026
@@ -66,6 +66,15 @@ EDGE_LINES = {1: edge_lines(1, 2), 2: edge_lines(2, 1)}
 EDGE_WHOLE = "whole run of 2 nodes, 172 entries, 15 payloads, 68 wires"
 HELLO_1, HELLO_2 = "payload 0 hello 1", "payload 0 hello 2"
 APART = "transcript 1 2|" + "".join(f"{v} pulse {p}|" for v in (1, 2) for p in range(1, 13))
+# What is no entry, of edition 1 and with a stamp before it neither.
+NO_ENTRIES = (
+    "1", "1 pulse", "1 pulse 1 1", "1 pulse x", "1 pulse -1", "1 pulse 4294967296", "4294967296 pulse 1", "pulse 1",
+    "c", "transcript 1 2", "1 put 2", "1 put close", "1 put 2 close 0", "1 Put 2 close", "1 put 2 ack",
+    "1 put 2 ack 0 0", "1 take 2 safe 4294967296", "1 take x close", "1 take 2 payload 0 hello",
+    "1 take 2 payload 0 hello 340282366920938463463374607431768211456", "1 take 2 payload 0 best 1",
+    "1 take 2 payload 0 Hello 1", "1 put 2 payload 1 label 65536", "1 put 2 payload 13 chosen 65536",
+    "1 put 2 payload 2 colour 340282366920938463463374607431768211456", "1 put 2 payload 4294967296 hello 1",
+    "1 put 2 payload 0 hello 1 1", "1 put 2 payload 0 hello \xb2", "1\x0bpulse 1", "1 pulse 1\r\r")
 
 # (network, transcript, what is said, up to the second colon of a refusal), in which '|' is a line feed
 WORKED = (
@@ -87,6 +96,7 @@ WORKED = (
         (EDGE, "|1 put 2 close|", "line 2: X1"),
         (EDGE, "transcript 2 2|", "line 1: NotWhole"),
         (EDGE, "transcript 3 2|", "line 1: X1"),
+        (EDGE, "transcript|", "line 1: X1"),
         (EDGE, "transcript 1|", "line 1: X1"),
         (EDGE, "transcript 1 2 2|", "line 1: X1"),
         (EDGE, "transcript 1 4294967296|", "line 1: X1"),
@@ -94,18 +104,7 @@ WORKED = (
         (EDGE, "transcript 1 -2|", "line 1: X1"),
         (EDGE, "c|transcript 1 2|", "line 1: X1"),
     ]
-    + [
-        (EDGE, f"transcript 1 2||{entry}|1 pulse 1|", "line 3: X1")
-        for entry in ("1", "1 pulse", "1 pulse 1 1", "1 pulse x", "1 pulse -1", "1 pulse 4294967296",
-                      "4294967296 pulse 1", "pulse 1", "c", "transcript 1 2", "1 put 2", "1 put close",
-                      "1 put 2 close 0", "1 Put 2 close", "1 put 2 ack", "1 put 2 ack 0 0", "1 take 2 safe 4294967296",
-                      "1 take x close", "1 take 2 payload 0 hello",
-                      "1 take 2 payload 0 hello 340282366920938463463374607431768211456", "1 take 2 payload 0 best 1",
-                      "1 take 2 payload 0 Hello 1", "1 put 2 payload 1 label 65536", "1 put 2 payload 13 chosen 65536",
-                      "1 put 2 payload 2 colour 340282366920938463463374607431768211456",
-                      "1 put 2 payload 4294967296 hello 1", "1 put 2 payload 0 hello 1 1",
-                      "1 put 2 payload 0 hello \xb2", "1\x0bpulse 1", "1 pulse 1\r\r")
-    ]
+    + [(EDGE, f"transcript 1 2||{entry}|1 pulse 1|", "line 3: X1") for entry in NO_ENTRIES]
     + [
         # the search
         (EDGE, "transcript 1 2|1 take 2 close|", "line 2: LinkEmpty"),
@@ -155,6 +154,10 @@ def networks():
     return [(data, network_of(data)) for data in texts]
 
 
+def small_networks():
+    return [(data, net) for data, net in networks() if 0 < len(net.neighbours) < 5 and len(net.number) < 5]
+
+
 def is_counted(net, data, said):
     """Whether the verdict's numbers are right for every whole run with the payloads of the text: each payload is
     acknowledged, there is a safe of each pulse below the last and a closing mark for each direction of an edge, and all
@@ -172,8 +175,7 @@ def payload_puts(data):
 
 def mistaken(count):
     """(the mistake, the network's text, the network, the transcript), as many of each kind of mistake."""
-    source = random.Random(SEED)
-    small = [(data, net) for data, net in networks() if 0 < len(net.neighbours) < 5 and len(net.number) < 5]
+    source, small = random.Random(SEED), small_networks()
     for i in range(count):
         for mistake in MISTAKES:
             data, net = source.choice([row for row in small if mistake != "changed" or row[1].greatest_degree > 0])
@@ -213,20 +215,29 @@ def replayed(net, data):
     return None if is_whole else "NotWhole"
 
 
+def said_by(network, data, *words):
+    """None if `forestplay replay` accepts it, else its fault in the form of the checker's, with lines from the
+    transcript's first."""
+    status, output, fault = called(PLAY, "replay", *words, data=network + data)
+    if (status, fault) == (0, b""):
+        return None
+    found = re.fullmatch(rb"forestplay: (\w+) line (\d+)(: [ -~]+)?\n", fault)
+    if status != 1 or output or not found:
+        return f"status {status}, {output[:200]!r}, {fault[:200]!r}"
+    code, line, before = found[1].decode(), int(found[2]), network.count(b"\n")
+    return f"line {line - before if line > before else line}: {code}"
+
+
 def replayed_by(play, network, net, data):
-    """The same by `PLAY replay`: this function alone knows how its answer is read. With status 0 it writes the state;
-    that is of a whole run if all nodes are at the last pulse, all closing marks were put, and no link holds a wire."""
-    done = subprocess.run([play, "replay"], input=network + data, capture_output=True, timeout=LIMIT)
-    if (
-        done.returncode == 1
-        and done.stdout == b""
-        and (fault := re.fullmatch(rb"forestplay: (\w+) line \d+(: [ -~]+)?\n", done.stderr))
-    ):
-        return fault.group(1).decode()
-    if (done.returncode, done.stderr) != (0, b""):
-        return f"status {done.returncode}, {done.stdout[:200]!r}, {done.stderr[:200]!r}"
-    ends = re.findall(rb"node \d+ pulse %d channel \d+\n" % last_pulse(net), done.stdout)
-    links = re.findall(rb"link \d+ \d+ taken \d+\n", done.stdout)
+    """The same of entries of edition 1 one by one, without the line. What is accepted is whole if all nodes are at the
+    last pulse, all closing marks were put, and no link holds a wire."""
+    status, output, fault = called(play, "replay", data=network + data)
+    if status == 1 and output == b"" and (found := re.fullmatch(rb"forestplay: (\w+) line \d+(: [ -~]+)?\n", fault)):
+        return found[1].decode()
+    if (status, fault) != (0, b""):
+        return f"status {status}, {output[:200]!r}, {fault[:200]!r}"
+    ends = re.findall(rb"node \d+ pulse %d channel \d+\n" % last_pulse(net), output)
+    links = re.findall(rb"link \d+ \d+ taken \d+\n", output)
     closed = re.findall(rb"put\s+\d+\s+close", data)
     degrees = sum(map(len, net.neighbours.values()))
     return None if [len(ends), len(links), len(closed)] == [len(net.neighbours), degrees, degrees] else "NotWhole"
@@ -260,41 +271,19 @@ LEFT = [((1, 2, 3), "node 4 has no entry"), ((1, 2), "nodes 3 and 4 have no entr
         ((1,), "nodes 2 to 4 have no entry")]
 
 
-def script(folder, words, data):
-    done = subprocess.run(words, input=data, capture_output=True, timeout=LIMIT, cwd=folder)
-    return done.returncode, done.stdout, done.stderr
-
-
-def command(words, data):
+def check(*words, data=b""):
     return forestlab("transcript", "check", *words, data=data)
-
-
-def transcript_by(program, words, network):
-    done = subprocess.run([program, "transcript", *words], input=network, capture_output=True, timeout=LIMIT)
-    return done.returncode, done.stdout, done.stderr
 
 
 def machine_of(run):
     """The process forestplay that a running command has begun, or None if the command ends before."""
     while run.poll() is None:
-        with contextlib.suppress(OSError), open(f"/proc/{run.pid}/task/{run.pid}/children", encoding="utf-8") as file:
-            for process in file.read().split():
-                with open(f"/proc/{process}/comm", encoding="utf-8") as name:
-                    if name.read() == "forestplay\n":
-                        return int(process)
+        with contextlib.suppress(OSError):
+            for process in text_in(f"/proc/{run.pid}/task/{run.pid}/children").split():
+                if text_in(f"/proc/{process}/comm") == "forestplay\n":
+                    return int(process)
         time.sleep(0.001)
     return None
-
-
-def wait_in_poll(run):
-    """Waits until a command waits for what it has begun, whose pipe is full. Before, that would find an empty input
-    and end by itself."""
-    end = time.monotonic() + LIMIT
-    while run.poll() is None and time.monotonic() < end:
-        with open(f"/proc/{run.pid}/wchan", encoding="utf-8") as place:
-            if "poll" in place.read():
-                return
-        time.sleep(0.001)
 
 
 def written_anew(data):
@@ -313,6 +302,8 @@ class Transcripts(Case):
         for network, transcript, said in WORKED:
             got = said_of(network_of(text(network)), text(transcript))
             self.note(f"{said} of {transcript[:60]!r}", got[0] == said, got)
+            if said.endswith("X1") and transcript.startswith("transcript"):
+                self.same(f"{said} by replay of {transcript!r}", said_by(text(network), text(transcript)), said)
         edge = network_of(text(EDGE))
         whole = transcript_text(2, EDGE_LINES)
         self.note("a run of an edge worked by hand", said_of(edge, whole)[0] == EDGE_WHOLE, said_of(edge, whole))
@@ -347,8 +338,7 @@ class Transcripts(Case):
             if verdicts != [code] * len(verdicts):
                 wrong.append((mistake, network, data, code, verdicts))
         self.note("400 transcripts with a mistake, beside a replay", not wrong, f"{len(wrong)}: {wrong[:1]}")
-        self.note("all but swapped entries are refused", [accepted[mistake] for mistake in MISTAKES[:3]] == [0, 0, 0],
-                  accepted)
+        self.same("all but swapped entries are refused", [accepted[mistake] for mistake in MISTAKES[:3]], [0, 0, 0])
         self.note("swapped entries are refused or not", 0 < accepted["swapped"] < 100, accepted)
         self.note("refusals of each kind",
                   codes == {None, "X1", "NotReady", "NothingToPut", "LinkEmpty", "WrongWire", "NotWhole"}, codes)
@@ -373,51 +363,33 @@ class Transcripts(Case):
 
     def test_checker(self):
         """The checker as a command: from a file, from standard input, in the order found, and refused."""
-        whole = transcript_text(2, EDGE_LINES)
-        with tempfile.TemporaryDirectory() as folder:
-            network, transcript = os.path.join(folder, "edge.col"), os.path.join(folder, "edge.transcript")
-            for name, data in ((network, text(EDGE)), (transcript, whole)):
-                with open(name, "wb") as file:
-                    file.write(data)
-            said = (0, EDGE_WHOLE.encode() + b"\n", b"")
-            self.note("a transcript in a file", command([network, transcript], b"x") == said,
-                      command([network, transcript], b"x"))
-            self.note("a transcript as standard input", command([network], whole) == said, command([network], whole))
-            status, ordered, fault = command(["--order", network], whole)
-            self.note("an order that is a run",
-                      (status, fault, replayed(network_of(text(EDGE)), ordered)) == (0, b"", None), (status, fault))
-            self.note("its lines are the transcript's", sorted(ordered.split(b"\n")) == sorted(whole.split(b"\n")),
-                      ordered)
-            line = (b"line 2: LinkEmpty: node 1 takes close from 2, which never puts it; "
-                    b"node 2 has no entry (is the text cut?)\n")
-            done = command(["--order", network], b"transcript 1 2\n1 take 2 close\n")
-            self.note("a refusal", done == (1, b"", line), done)
-            status, told, fault = command(["--help"], b"")
-            self.note("help", (status, fault) == (0, b"") and b"forestplan transcript" in told, (status, told, fault))
-            for data in (b"", whole, b"p edge\n", b"p edge 2 1\ne 1 1\n", b"p edge 2 1\ne 1 3\n",
-                         b"p edge 2 1\ne 1 x\n", b"p a 1 0\np a 1 0\n"):
-                with open(network + "x", "wb") as file:
-                    file.write(data)
-                status, told, fault = command([network + "x", transcript], b"")
-                line = rb"transcript: [^\n]*edge\.colx[^\n]* \(F\d\)\n"
-                self.note(f"the network {data[:30]}", (status, told) == (1, b"") and re.fullmatch(line, fault),
-                          (status, told, fault))
-            for words in ([transcript + "x"], [network, transcript + "x"]):
-                line = f"transcript: {transcript}x: No such file or directory\n".encode()
-                self.note(f"a file that isn't there, {len(words)} words", command(words, b"") == (1, b"", line),
-                          command(words, b""))
-            for words, wanted in (([], 2), ([network, transcript, "x"], 2), (["--orders", network], 2), ([folder], 1),
-                                  ([network, folder], 1), ([transcript + "x"], 1)):
-                status, told, _ = command(words, whole)
-                self.note(f"the words {words}", (status, told) == (wanted, b""), (status, told))
-            for data, wanted in ((whole, {"right": True, "words": EDGE_WHOLE}),
-                                 (b"transcript 1 2\n1 take 2 close\n", {
-                                     "right": False, "line": 2, "code": "LinkEmpty",
-                                     "words": "node 1 takes close from 2, which never puts it; node 2 has no entry (is "
-                                              "the text cut?)"})):
-                status, told, fault = command(["--json", network], data)
-                self.note(f"--json: {wanted['right']}",
-                          (status, json.loads(told), fault) == (1 - wanted["right"], wanted, b""), (status, told))
+        whole, wrong = transcript_text(2, EDGE_LINES), b"transcript 1 2\n1 take 2 close\n"
+        network, transcript = self.file("edge.col", text(EDGE)), self.file("edge.transcript", whole)
+        why = "node 1 takes close from 2, which never puts it; node 2 has no entry (is the text cut?)"
+        nowhere = f"transcript: {transcript}x: No such file or directory\n".encode()
+        for words, data, wanted in (
+            ([network, transcript], b"x", (0, EDGE_WHOLE.encode() + b"\n", b"")),
+            ([network], whole, (0, EDGE_WHOLE.encode() + b"\n", b"")),
+            (["--order", network], wrong, (1, b"", f"line 2: LinkEmpty: {why}\n".encode())),
+            ([transcript + "x"], b"", (1, b"", nowhere)),
+            ([network, transcript + "x"], b"", (1, b"", nowhere)),
+        ):
+            self.same(f"check {words}", check(*words, data=data), wanted)
+        status, ordered, fault = check("--order", network, data=whole)
+        self.same("an order that is a run", (status, fault, replayed(network_of(text(EDGE)), ordered)), (0, b"", None))
+        self.same("its lines are the transcript's", sorted(ordered.split(b"\n")), sorted(whole.split(b"\n")))
+        for data in (b"", whole, b"p edge\n", b"p edge 2 1\ne 1 1\n", b"p edge 2 1\ne 1 3\n",
+                     b"p edge 2 1\ne 1 x\n", b"p a 1 0\np a 1 0\n"):
+            done = check(self.file("wrong.col", data), transcript)
+            self.note(f"the network {data[:30]}", done[:2] == (1, b"") and re.fullmatch(
+                rb"transcript: [^\n]*wrong\.col[^\n]* \(F\d\)\n", done[2]), done)
+        for words, wanted in (([], 2), ([network, transcript, "x"], 2), (["--orders", network], 2), ([self.folder], 1),
+                              ([network, self.folder], 1)):
+            self.same(f"the words {words}", check(*words, data=whole)[:2], (wanted, b""))
+        for data, wanted in ((whole, {"right": True, "words": EDGE_WHOLE}),
+                             (wrong, {"right": False, "line": 2, "code": "LinkEmpty", "words": why})):
+            status, told, fault = check("--json", network, data=data)
+            self.same(f"--json: {wanted}", (status, json.loads(told), fault), (1 - wanted["right"], wanted, b""))
 
     def test_cut(self):
         """Texts that end too early are refused, and the reader is asked whether the text is cut."""
@@ -437,58 +409,42 @@ class Transcripts(Case):
         got = said_of(edge, b"transcript 1 2\n1 put 2 payl")
         self.note("a text that ends inside a line", got[0] == "line 2: X1" and "cut" in got[1], got)
 
-    def test_scripts(self):
-        """The scripts at the top: through a symbolic link, from another folder."""
-        whole = transcript_text(2, EDGE_LINES)
-        with tempfile.TemporaryDirectory() as folder:
-            network = os.path.join(folder, "edge.col")
-            with open(network, "wb") as file:
-                file.write(text(EDGE[:-1]))
-            os.symlink(FORESTLAB, os.path.join(folder, "linked"))
-            check, replay = (["./linked", "transcript", name] for name in ("check", "replay"))
-            done = script(folder, [*check, "edge.col"], whole)
-            self.note("forestlab transcript check through a link", done == (0, EDGE_WHOLE.encode() + b"\n", b""), done)
-            for words, status in (([], 2), (["edge.col", "x", "y"], 2), (["--order", "edge.col"], 2),
-                                  (["edge.col", "nowhere"], 1), (["-"], 1)):
-                done = script(folder, [*replay, *words], whole)
-                self.note(f"forestlab transcript replay {words}",
-                          done[:2] == (status, b"") and re.search(rb"^(forestlab )?transcript(: | replay: error: )",
-                                                                  done[2], re.M), done)
-            done = script(folder, [*replay, "--help"], b"")
-            self.note("forestlab transcript replay --help",
-                      done[0] == 0 and done[2] == b"" and b"\n  forestlab transcript replay examples/" in done[1], done)
-            done = script(folder, [*replay, "edge.col"], whole[:100])
-            self.note("forestlab transcript replay of a cut text", done[:2] == (1, b"") and b"cut" in done[2], done)
-            if PLAY:
-                taken = {v: sum(f" take {v} " in line for line in EDGE_LINES[3 - v]) for v in (1, 2)}
-                wanted = "".join(f"node {v} pulse {EDGE_LAST} channel {v}\nlink {v} {3 - v} taken {taken[v]}\n"
-                                 for v in (1, 2)).encode()
-                done = script(folder, [*replay, "edge.col"], whole)
-                self.note("forestlab transcript replay of a run", done == (0, wanted, b""), done)
+    def test_replays(self):
+        """`forestlab transcript replay`, which puts the entries in an order and has the program play them."""
+        def replay(*words, data):
+            return forestlab("transcript", "replay", *words, data=data)
+
+        whole, network = transcript_text(2, EDGE_LINES), self.file("edge.col", text(EDGE[:-1]))
+        for words, status in (([], 2), ([network, "x", "y"], 2), (["--order", network], 2), ([network, "nowhere"], 1),
+                              (["-"], 1)):
+            done = replay(*words, data=whole)
+            self.note(f"replay {words}", done[:2] == (status, b"") and re.search(
+                rb"^(forestlab )?transcript(: | replay: error: )", done[2], re.M), done)
+        self.refusal("replay of a cut text", replay(network, data=whole[:100]), 1, b"cut")
+        taken = {v: sum(f" take {v} " in line for line in EDGE_LINES[3 - v]) for v in (1, 2)}
+        wanted = "".join(f"node {v} pulse {EDGE_LAST} channel {v}\nlink {v} {3 - v} taken {taken[v]}\n" for v in (1, 2))
+        self.same("replay of a run", replay(network, data=whole), (0, wanted.encode(), b""))
 
     def test_signals(self):
         """SIGTERM and SIGHUP end the machine that plays the entries, too, even one that stands still then."""
-        if not PLAY:
-            return
-        with tempfile.TemporaryDirectory() as folder:
-            network, whole = (os.path.join(folder, name) for name in ("ring.col", "whole.transcript"))
-            subprocess.run([FORESTLAB, "network", "ring", "300", "-o", network], check=True)
-            with open(network, "rb") as given, open(whole, "wb") as file:
-                subprocess.run([PLAN, "transcript", "--workers", "1"], stdin=given, stdout=file, check=True)
-            for number in (signal.SIGTERM, signal.SIGHUP):
-                with subprocess.Popen([FORESTLAB, "transcript", "replay", network, whole], stdout=subprocess.DEVNULL,
-                                      stderr=subprocess.DEVNULL) as run:
-                    machine = machine_of(run)
-                    if machine:
-                        os.kill(machine, signal.SIGSTOP)
-                        wait_in_poll(run)
-                    run.send_signal(number)
-                    status = run.wait(LIMIT)
-                is_left = bool(machine) and os.path.exists(f"/proc/{machine}")
-                if is_left:
-                    os.kill(machine, signal.SIGKILL)
-                self.note(f"{number.name}: the machine ends", machine and (status, is_left) == (128 + number, False),
-                          (machine, status, is_left))
+        ring = forestlab("network", "ring", 300)[1]
+        paths = self.file("ring.col", ring), self.file("run", called(PLAN, "transcript", "--workers", 1, data=ring)[1])
+        for number in (signal.SIGTERM, signal.SIGHUP):
+            with subprocess.Popen([FORESTLAB, "transcript", "replay", *paths], stdout=subprocess.DEVNULL,
+                                  stderr=subprocess.DEVNULL) as run:
+                machine = machine_of(run)
+                if machine:
+                    os.kill(machine, signal.SIGSTOP)
+                    # The command waits for it, whose pipe is full: before, it would find an empty input and end.
+                    place = f"/proc/{run.pid}/wchan"
+                    wait_until(lambda: run.poll() is not None or "poll" in text_in(place), LIMIT, 0.001)
+                run.send_signal(number)
+                status = run.wait(LIMIT)
+            is_left = bool(machine) and os.path.exists(f"/proc/{machine}")
+            if is_left:
+                os.kill(machine, signal.SIGKILL)
+            self.note(f"{number.name}: the machine ends", machine and (status, is_left) == (128 + number, False),
+                      (machine, status, is_left))
 
     def test_large(self):
         """Long transcripts, each read and searched in one go: 60,000 entries of few nodes, or of nodes with many
@@ -505,8 +461,8 @@ class Transcripts(Case):
         """The program's transcripts with each number of workers and each capacity by turns."""
         wrong, other_bytes, count = [], [], 0
         for count, (network, net) in enumerate(networks(), 1):
-            words = ["--edition", "1", "--workers", str(WORKERS[count % 4]), "--capacity", str(CAPACITIES[count % 3])]
-            status, data, fault = transcript_by(PLAN, words, network)
+            words = ["--edition", "1", "--workers", WORKERS[count % 4], "--capacity", CAPACITIES[count % 3]]
+            status, data, fault = called(PLAN, "transcript", *words, data=network)
             if (status, fault) != (0, b"") or not is_counted(net, data, said_of(net, data)[0]):
                 wrong.append((network, words, status, fault, said_of(net, data)))
             elif data != written_anew(data):
@@ -514,16 +470,19 @@ class Transcripts(Case):
         self.note(f"the program's transcripts of {count} networks", not wrong, f"{len(wrong)}: {wrong[:1]}")
         self.note("the program's transcripts byte for byte", not other_bytes, other_bytes[:1])
         for workers in WORKERS:
-            done = transcript_by(PLAN, ["--edition", "1", "--workers", str(workers)], b"p col 2 0\n")
-            self.note(f"two nodes apart, {workers} workers", done == (0, text(APART), b""), done)
+            done = called(PLAN, "transcript", "--edition", 1, "--workers", workers, data=b"p col 2 0\n")
+            self.same(f"two nodes apart, {workers} workers", done, (0, text(APART), b""))
 
     def test_one_worker(self):
-        """With one worker the whole text is known: what it does in a look is defined, and nobody else does anything."""
+        """With one worker the whole text is known: what it does in a look is defined, and nobody else does anything.
+        Edition 2 is what the program writes without an option."""
         wrong, count = [], 0
         for count, (network, net) in enumerate(networks(), 1):
             capacity = CAPACITIES[count % 3]
-            done = transcript_by(PLAN, ["--edition", "1", "--workers", "1", "--capacity", str(capacity)], network)
-            if done != (0, Run(net, capacity).text(), b""):
-                wrong.append((network, capacity, done))
+            run = Run(net, capacity)
+            for words, wanted in ((["--edition", 1], run.text()), (["--edition", 2] * (count % 2), run.merged())):
+                done = called(PLAN, "transcript", *words, "--workers", 1, "--capacity", capacity, data=network)
+                if done != (0, wanted, b""):
+                    wrong.append((network, words, capacity, done))
         self.note(f"the transcripts of one worker of {count} networks, by the definition", not wrong,
                   f"{len(wrong)}: {wrong[:1]}")
