@@ -2,14 +2,6 @@
 refused once threads run. It is no part of the gate. The last line is 'N passed, M failed', over the runs.
 
   python3 -m tests.by_hand.memory_stress [options]
-      --runs N           how many runs; default 1000
-      --first K          the number of the first run; default 1. What is printed on the way says how to go on after an
-                         interruption
-      --minutes M        stop after M minutes, if N runs take longer
-      --seed SEED        of networks, workers and limits, with the number of the run; default 2026. Which growth of
-                         which thread is refused is another one in each run
-      --jobs J           how many runs there are side by side; default: half the processors
-      --program PROGRAM  default: the built forestplan
 
 Of four runs one has a limit of address space from its start, as `ulimit -v` sets it. The others get one once their last
 thread has been started, of address space or of data: what they have at that time, and at most a little more. A run
@@ -17,7 +9,6 @@ passes if it ends within a minute, with the right answer, or with nothing but th
 threads, and if each thread that it started has ended. A limit under which the program can't be loaded is no run. The
 status is 0 if none failed, and memory was refused to one at least whose threads were all started. It needs a C
 compiler, `cc`."""
-import argparse
 import contextlib
 import functools
 import os
@@ -28,11 +19,10 @@ import sys
 import tempfile
 from itertools import combinations
 
-from lab.definitions.colours import network_of, plan_text
-from lab.transcripts.check import Wrong, whole_run
-from tests import TOP
-from tests.by_hand.numbered_runs import add_options, all_runs, last_line
+from tests.by_hand.numbered_runs import all_runs, last_line, options
+from tests.faults.falling_limits import CIRCLE, TRIANGLE
 from tests.faults.refused_memory import build_front
+from tests.faults.refused_threads import is_right, numbers_in
 
 LIMIT = 60
 KIB, MIB = 2**10, 2**20
@@ -41,12 +31,8 @@ FRONTS = ("started", "refuse_thread", "limit_under_way")
 NOT_LOADED = "not loaded"
 
 
-def text_of(nodes, edges):
-    return b"p edge %d %d\n" % (nodes, len(edges)) + b"".join(b"e %d %d\n" % edge for edge in edges)
-
-
-TRIANGLE, CIRCLE = text_of(3, [(1, 2), (1, 3), (2, 3)]), text_of(12, [(v, v % 12 + 1) for v in range(1, 13)])
-EIGHT, TWELVE = [text_of(nodes, list(combinations(range(1, nodes + 1), 2))) for nodes in (8, 12)]
+EIGHT, TWELVE = (f"p edge {nodes} {nodes * (nodes - 1) // 2}\n".encode() + b"".join(
+    b"e %d %d\n" % pair for pair in combinations(range(1, nodes + 1), 2)) for nodes in (8, 12))
 
 
 class Run:
@@ -60,13 +46,10 @@ class Run:
         self.words = [given.program, self.command, "--workers", str(self.workers)]
         self.is_from_start = source.random() < 1 / 4
         # A worker takes a stack of 8 MiB, and may take 64 MiB for what it allocates.
-        self.at_start = source.choice(
-            (4 * MIB + source.randrange(8 * MIB), 8 * MIB + source.randrange(80 * MIB * self.workers))
-        )
+        self.at_start = source.choice((4 * MIB + source.randrange(8 * MIB),
+                                       8 * MIB + source.randrange(80 * MIB * self.workers)))
         self.kind = source.choice(("VmSize", "VmData", "VmData"))
-        self.more = source.choice(
-            (0, 0, 0, source.randrange(64 * KIB), source.randrange(MIB), source.randrange(70 * MIB))
-        )
+        self.more = source.choice((0, 0, 0, *(source.randrange(most) for most in (64 * KIB, MIB, 70 * MIB))))
         self.after = source.choice((0, source.randrange(40), source.randrange(400)))
 
     def told(self):
@@ -91,35 +74,22 @@ class Run:
                      "LIMITED": str(to_limited)}
             if not self.is_from_start:
                 given.update(THREADS=str(self.workers), AFTER=str(self.after), KIND=self.kind, MORE=str(self.more))
-            with os.fdopen(to_loaded, "wb"), os.fdopen(to_limited, "wb"):
-                started = subprocess.Popen(self.words, stdin=network, stdout=output, stderr=errors, env=given,
-                                           pass_fds=(to_loaded, to_limited), preexec_fn=self.limit_at_start)
             try:
-                started.wait(timeout=LIMIT)
+                with os.fdopen(to_loaded, "wb"), os.fdopen(to_limited, "wb"):
+                    done = subprocess.run(self.words, stdin=network, stdout=output, stderr=errors, env=given,
+                                          pass_fds=(to_loaded, to_limited), preexec_fn=self.limit_at_start,
+                                          timeout=LIMIT)
             except subprocess.TimeoutExpired:
-                started.kill()
-                started.wait()
                 return "no end", False, None
             is_loaded, is_limited = [bool(mark.read(1)) for mark in marks]
             output.seek(0)
             errors.seek(0)
-            return ((started.returncode, output.read(), errors.read()) if is_loaded else None, is_limited,
-                    counts_in(name))
+            counts = numbers_in(name) if os.path.isfile(name) else None
+            return (done.returncode, output.read(), errors.read()) if is_loaded else None, is_limited, counts or None
 
     def limit_at_start(self):
         if self.is_from_start:
             resource.setrlimit(resource.RLIMIT_AS, (self.at_start, self.at_start))
-
-    def is_right(self, answer):
-        status, output, errors = answer
-        if (status, errors) != (0, b""):
-            return False
-        if self.command == "plan":
-            return output == plan_text(self.data)
-        try:
-            return whole_run(network_of(self.data), output)[1].startswith("whole run")
-        except Wrong:
-            return False
 
     def outcome(self, fronts, folder):
         """What came of it, and what is wrong with it, or None."""
@@ -133,20 +103,12 @@ class Run:
                 else "over before the limit")
         if answer in REFUSALS:
             said = f"{REFUSALS[answer]} refused, {'all' if started == self.workers else 'not all'} threads started"
-        elif self.is_right(answer):
+        elif is_right(self.command, answer, self.data):
             said = "right answer"
         else:
             return "wrong", f"{answer[0]}, {answer[1][:300]!r}, {answer[2][:300]!r}"
         return (f"{when}: {said}",
                 None if started == ended else f"{said}, but of {asked} threads {started} started and {ended} ended")
-
-
-def counts_in(name):
-    with contextlib.suppress(FileNotFoundError, ValueError):
-        with open(name, encoding="ascii") as file:
-            asked, started, ended = [int(word) for word in file.read().split()]
-        return asked, started, ended
-    return None
 
 
 def one_run(given, fronts, folder, number):
@@ -156,16 +118,11 @@ def one_run(given, fronts, folder, number):
 
 
 def main():
-    words = argparse.ArgumentParser(description=__doc__, formatter_class=argparse.RawDescriptionHelpFormatter)
-    add_options(words, max(1, len(os.sched_getaffinity(0)) // 2))
-    words.add_argument("--program", type=os.path.abspath,
-                       default=os.path.join(TOP, "crates", "forestplan", "out", "forestplan"))
-    given = words.parse_args()
+    jobs = max(1, len(os.sched_getaffinity(0)) // 2)
+    given = options(__doc__, jobs, ("--program", "forestplan")).parse_args()
     with tempfile.TemporaryDirectory() as folder:
         fronts = [build_front(folder, name) for name in FRONTS]
-        if any(failure is not None for _, failure in fronts):
-            sys.exit(f"the libraries before the program don't build: {fronts}")
-        counts = all_runs(given, functools.partial(one_run, given, [front for front, _ in fronts], folder))
+        counts = all_runs(given, functools.partial(one_run, given, fronts, folder))
     came = {what: count for what, count in counts.items() if what not in ("runs", "tried", "failed")}
     for what, count in sorted(came.items()):
         print(f"{count:8} {what}")

@@ -1,17 +1,29 @@
 """Runs by a seed and their number, over and over, side by side: what the scripts of many runs have in common."""
+import argparse
 import multiprocessing
+import os
 import time
 from collections import Counter
+
+from tests.settings import built
 
 BATCH = 100
 
 
-def add_options(words, jobs):
-    words.add_argument("--runs", type=int, default=1000)
-    words.add_argument("--first", type=int, default=1)
-    words.add_argument("--minutes", type=float, default=None)
-    words.add_argument("--seed", default="2026")
-    words.add_argument("--jobs", type=int, default=jobs)
+def options(about, jobs, *programs, runs=1000, seed="2026"):
+    """The parser of such a script, with an option for each of the programs (option, name)."""
+    words = argparse.ArgumentParser(description=about, formatter_class=argparse.RawDescriptionHelpFormatter)
+    add = words.add_argument
+    add("--runs", metavar="N", type=int, default=runs, help="how many runs; default %(default)s")
+    add("--first", metavar="K", type=int, default=1, help="the number of the first run; default 1. What is printed on "
+        "the way says how to go on after an interruption")
+    add("--minutes", metavar="M", type=float, help="stop after M minutes, if N runs take longer")
+    add("--seed", default=seed, help="of what is drawn, with the number of the run; default %(default)s. Which thread "
+        "does what, and when, is another thing in each run")
+    add("--jobs", metavar="J", type=int, default=jobs, help="how many runs there are side by side; default %(default)s")
+    for option, name in programs:
+        add(option, type=os.path.abspath, default=built(name), help=f"default: the built {name}")
+    return words
 
 
 def all_runs(given, one_run):

@@ -2,22 +2,11 @@
 checks each transcript. It is no part of the gate. The last line is 'N passed, M failed', over the runs.
 
   python3 -m tests.by_hand.stress [options]
-      --runs N           how many runs; default 1000
-      --first K          the number of the first run; default 1. What is printed on the way says how to go on after an
-                         interruption
-      --minutes M        stop after M minutes, if N runs take longer
-      --limit S          how many seconds a run may take; default 300. A run that takes longer is killed, and has failed
-      --seed SEED        of networks and options, with the number of the run; default 2026. Which thread does what, and
-                         when, is another thing in each run
-      --jobs J           how many runs there are side by side; default: the number of processors
-      --program PROGRAM  default: the built forestplan
-      --play PLAY        default: the built forestplay
 
 Each run is of a network of 2 to 40 nodes, with 1 to 64 workers and a capacity of 1 to 64. Meanwhile its threads are
 moved to other processors, some of the time all to one, every millisecond or so, and in some runs a busy loop beside
 takes processors too. A transcript has to be accepted by lab/transcripts/check.py, and in the order that it finds by
 `forestplay replay`."""
-import argparse
 import contextlib
 import functools
 import os
@@ -28,8 +17,7 @@ import threading
 
 from lab.definitions.colours import network_of
 from lab.transcripts.check import Wrong, in_order, whole_run
-from tests import TOP
-from tests.by_hand.numbered_runs import add_options, all_runs, last_line
+from tests.by_hand.numbered_runs import all_runs, last_line, options
 from tests.programs.plain_networks import cycle, path, some_bars, star, text_of, tree
 from tests.programs.transcripts import is_counted, replayed_by
 
@@ -131,11 +119,9 @@ def one_run(given, number):
 
 
 def main():
-    words = argparse.ArgumentParser(description=__doc__, formatter_class=argparse.RawDescriptionHelpFormatter)
-    add_options(words, len(PROCESSORS))
-    words.add_argument("--limit", type=float, default=300)
-    for name, program in (("--program", "forestplan"), ("--play", "forestplay")):
-        words.add_argument(name, type=os.path.abspath, default=os.path.join(TOP, "crates", program, "out", program))
+    words = options(__doc__, len(PROCESSORS), ("--program", "forestplan"), ("--play", "forestplay"))
+    words.add_argument("--limit", metavar="S", type=float, default=300, help="how many seconds a run may take; default "
+                       "300. A run that takes longer is killed, and has failed")
     given = words.parse_args()
     counts = all_runs(given, functools.partial(one_run, given))
     print(f"{counts['entries']} entries in all, threads moved {counts['moves']} times")

@@ -3,17 +3,14 @@
 networks with varied identifiers and bars, under the ten policies. It is outside the gate. The last line is 'N
 passed, M failed'.
 
-  python3 -m tests.by_hand.workshop_runs [--runs N] [--first K] [--minutes M] [--seed S] [--jobs J]
-
-Default: 10,000 runs from the first on, seed 1, 4 jobs."""
-import argparse
+  python3 -m tests.by_hand.workshop_runs [options]"""
 import functools
 import sys
 
 from lab.schedules.policies import POLICIES
 from lab.workshop.cases import NETWORKS, cases_of
 from lab.workshop.playing import Player
-from tests.by_hand.numbered_runs import add_options, all_runs, last_line
+from tests.by_hand.numbered_runs import all_runs, last_line, options
 from tests.workshop.base import ALPHA, ROUNDS, in_c
 
 
@@ -27,10 +24,7 @@ def one_run(ways, seed, number):
 
 
 def main() -> int:
-    words = argparse.ArgumentParser(description=__doc__, formatter_class=argparse.RawDescriptionHelpFormatter)
-    add_options(words, 4)
-    words.set_defaults(runs=10_000, seed="1")
-    given = words.parse_args()
+    given = options(__doc__, 4, runs=10_000, seed="1").parse_args()
     # In turn: rounds in Python, alpha in Python, rounds with nodes in C and Python together, and alpha again.
     ways = (("rounds", [ROUNDS], True), ("alpha", [ALPHA], True), ("rounds", [in_c(), ROUNDS], False),
             ("alpha", [ALPHA], True))
