@@ -1,28 +1,27 @@
 """What the tests of pictures share: how a picture is drawn, and the texts that it is drawn from, by the definitions."""
-import os
 import random
-import subprocess
-import tempfile
 
 from lab.definitions.colours import network_of
-from tests import TOP
-from tests.cases import Case, example, forestlab
+from lab.pictures import picture
+from tests.cases import Case, called, examples, forestlab, in_process
 from tests.pictures.marks import marks, number, parsed
-from tests.pictures.process import Painter
 from tests.programs.made_transcripts import made_transcript, transcript_text
+from tests.settings import PLAN
 
-LIMIT = 60
 SEED = 2026
 EDGE, APART = b"p edge 2 1\ne 1 2\n", b"p edge 5 3\ne 1 2\ne 2 3\ne 1 3\n"
+OPTION = {"plan": "--plan", "matrix": "--plan", "run": "--transcript", "overview": "--transcript",
+          "node": "--transcript", "tally": "--transcript"}
 
 
 def call(words, data=b"", **more):
+    """What a command in a process of its own makes of these words and this standard input."""
     return forestlab("picture", *words, data=data, **more)
 
 
-def examples():
-    names = sorted(os.listdir(os.path.join(TOP, "examples")))
-    return {name.removesuffix(".col"): example(name) for name in names if name.endswith(".col")}
+def painter(words, data=b""):
+    """The same in this process, since there are many pictures."""
+    return in_process("picture", picture.main, *words, data=data)
 
 
 def circle_of(nodes):
@@ -30,58 +29,38 @@ def circle_of(nodes):
             + "".join(f"c at {v} {v} {v * v % 7}\n" for v in range(1, nodes + 1))).encode()
 
 
-class Drawing:
-    """`draw(KIND, network, text, option..)` is the picture of a text, both given as bytes, by a Painter."""
-
-    def __init__(self, folder, painter):
-        self.folder, self.painter = folder, painter
-
-    def file(self, name, data):
-        path = os.path.join(self.folder, name)
-        with open(path, "wb") as file:
-            file.write(data)
-        return path
-
-    def run(self, kind, network, text, *options, **more):
-        option = {"plan": "--plan", "matrix": "--plan", "run": "--transcript", "overview": "--transcript",
-                  "node": "--transcript", "tally": "--transcript"}.get(kind, "--rounds")
-        words = [kind, self.file("net.col", network), option, self.file("text", text), *map(str, options)]
-        return call(words, **more) if more else self.painter(words)
-
-    def by_rounds(self, network, text, *options):
-        """The tally that is counted by a text of rounds."""
-        status, picture, fault = self.painter(
-            ["tally", self.file("net.col", network), "--rounds", self.file("text", text), *options]
-        )
-        if status:
-            raise AssertionError(f"tally is refused: {fault.decode()}")
-        return picture.decode()
-
-    def __call__(self, kind, network, text, *options):
-        status, picture, fault = self.run(kind, network, text, *options)
-        if status:
-            raise AssertionError(f"{kind} is refused: {fault.decode()}")
-        return picture.decode()
-
-
 def transcript(network, seed, capacity=4):
     net = network_of(network)
     return transcript_text(len(net.neighbours), made_transcript(random.Random(f"{SEED} {seed}"), net, capacity))
 
 
-def transcript_by(program, network, workers):
-    return subprocess.run([program, "transcript", "--workers", workers], input=network, capture_output=True,
-                          timeout=LIMIT).stdout
+def transcript_by(network, workers):
+    return called(PLAN, "transcript", "--workers", workers, data=network)[1]
 
 
 class PictureCase(Case):
-    """`self.draw` draws the texts of `self.examples` and others, by `self.painter`, in a folder of its own."""
+    examples, painter = examples(), staticmethod(painter)
 
-    @classmethod
-    def setUpClass(cls):
-        cls.folder = cls.enterClassContext(tempfile.TemporaryDirectory())
-        cls.painter = cls.enterClassContext(Painter(cls.folder, 4 * LIMIT))
-        cls.draw, cls.examples = Drawing(cls.folder, cls.painter), examples()
+    def done(self, kind, network, text, *options, **more):
+        """What `picture KIND` makes of a network and a text, both given as bytes."""
+        words = [kind, self.file("net.col", network), OPTION.get(kind, "--rounds"), self.file("text", text), *options]
+        return call(words, **more) if more else painter(words)
+
+    def picture(self, words):
+        """The picture that a call draws."""
+        status, drawn, fault = painter(words)
+        if status:
+            raise AssertionError(f"{words[0]} is refused: {fault.decode()}")
+        return drawn.decode()
+
+    def draw(self, kind, network, text, *options):
+        """The same of a network and a text."""
+        return self.picture([kind, self.file("net.col", network), OPTION.get(kind, "--rounds"), self.file("text", text),
+                             *options])
+
+    def by_rounds(self, network, text, *options):
+        """The tally that is counted by a text of rounds."""
+        return self.picture(["tally", self.file("net.col", network), "--rounds", self.file("text", text), *options])
 
     def words_rows(self, name, network, text):
         """Neither the payloads' words nor the names of pulses overlap or reach over the edge. A bold letter of DejaVu

@@ -49,8 +49,7 @@ class Broken(PictureCase):
         wanted = [rounds.colours[clash.forest], list(forest_colours(net, clash.forest).values())[:clash.pulse - 1]]
         for group, lists in zip(groups, wanted):
             shown = squares_of(group)
-            self.note(f"{name}: the colours {group.get('class')}", shown == [[c[v] for c in lists] for v in chain],
-                      shown)
+            self.same(f"{name}: the colours {group.get('class')}", shown, [[c[v] for c in lists] for v in chain])
         (frame,), (x, y) = marks(root, "wrong"), centre(marks(root, "wrong")[0])
         half = number(frame, "width") / 2, number(frame, "height") / 2
         inside = [said for mark, (_, _, said) in zip(marks(groups[0], "colour"), numbered(groups[0], "colour"))
@@ -103,8 +102,7 @@ class Broken(PictureCase):
             }
             self.note(f"{name}: who has heard what {kind}", heard == told, (heard, told))
             arrows = len(marks(group, "arrow"))
-            self.note(f"{name}: the forest's edges {kind}",
-                      arrows == sum(forest == f for forest in net.number.values()), arrows)
+            self.same(f"{name}: the forest's edges {kind}", arrows, sum(forest == f for forest in net.number.values()))
 
     def edge_row(self, name, root):
         """Nothing is cut at the right edge: a letter takes some 0.54 of its size."""

@@ -1,5 +1,4 @@
 """Pictures of plans and rounds, counted: marks, places, hues and numbers beside lab/definitions/colours.py."""
-import json
 import re
 from collections import Counter
 
@@ -7,12 +6,11 @@ from lab.definitions.colours import bit, colours, first_colours, merge, network_
 from lab.definitions.nodes import last_pulse
 from lab.definitions.rounds import forest_colours, rounds_text
 from tests.pictures.base import APART, EDGE, PictureCase, circle_of
-from tests.pictures.marks import (SVG, centre, ends, gap, marks, nearest, number, numbered, parsed, texts, title,
-                                  titles)
+from tests.pictures.marks import (centre, data_of, ends, gap, marks, nearest, number, numbered, parsed, texts,
+                                  title, titles)
 
 CHANNELS = ["#0072B2", "#E69F00", "#009E73", "#F0E442", "#CC79A7", "#56B4E9", "#D55E00", "#444444"]
 COLOURS = ["#004488", "#997700", "#994455", "#6699CC", "#EECC66", "#EE99AA"]
-TITLE = f"{SVG}title"
 HEADS = ["start", "bit steps", "shift", "drop 5", "shift", "drop 4", "shift", "drop 3"]
 INK, ALONE = "#1B1B1B", "#DDDDDD"
 
@@ -34,8 +32,8 @@ def edges_drawn(root, places, name="edge"):
                    if all(gap(places[nearest(places, end)], end) < 0.3 for end in ends(mark)))
 
 
-def places_drawn(draw, network):
-    root = parsed(draw("plan", network, plan_text(network)))
+def places_of(root):
+    """The place of each vertex of a plan."""
     return {int(title(group).split()[1].rstrip(":")): centre(marks(group, "channel")[0])
             for group in marks(root, "vertex")}
 
@@ -86,17 +84,6 @@ def pulse_text(text, pulse):
     return lines[first:end]
 
 
-def choices_of(text):
-    """{pulse: {vertex: colour chosen}} of a text of rounds."""
-    found, pulse = {}, None
-    for fields in map(str.split, text.decode().split("\n")):
-        if fields[:1] == ["pulse"]:
-            pulse = int(fields[1])
-        elif fields[1:2] == ["chose"]:
-            found.setdefault(pulse, {})[int(fields[0])] = int(fields[2])
-    return found
-
-
 class Maps(PictureCase):
     needs_programs = False
 
@@ -134,11 +121,47 @@ class Maps(PictureCase):
         self.rounds_rows("queen5_5", self.examples["queen5_5"], [1], "--forest", 1)
         self.rounds_rows("queen5_5", self.examples["queen5_5"], [4, 5], "--forest", "4..5")
 
-    def test_places(self):
-        self.crowded_rows("a crowd", CROWD)
-        self.grid_rows(10, 10)
-        self.grid_rows(4, 7)
-        self.parts_rows()
+    def test_crowd(self):
+        """Vertices that are given places too near to each other: what is drawn of them is apart."""
+        rounds = rounds_text(network_of(CROWD))
+        plan, forests = (parsed(self.draw(kind, CROWD, text)) for kind, text in (
+            ("plan", plan_text(CROWD)), ("forests", rounds)))
+        self.apart_row("plan of a crowd", [(number(mark, "r"), *centre(mark)) for mark in marks(plan, "channel")])
+        squares = marks(marks(forests, "forest")[0], "colour")
+        self.apart_row("forests of a crowd", [(number(mark, "width") / 2, *centre(mark)) for mark in squares], True)
+        nodes = data_of(self.draw("player", CROWD, rounds))["net"]["nodes"]
+        self.apart_row("player of a crowd", [(9, node["x"], node["y"]) for node in nodes])
+
+    def places(self, nodes, edges):
+        """The places of a network without any, as its plan is drawn."""
+        network = f"p edge {nodes} {len(edges)}\n" + "".join(f"e {v} {w}\n" for v, w in sorted(edges))
+        return places_of(parsed(self.draw("plan", network.encode(), plan_text(network.encode()))))
+
+    def test_grids(self):
+        """A grid without places is drawn as one: edges about equally long, and all other pairs farther apart."""
+        for wide, high in ((10, 10), (4, 7)):
+            name, nodes = f"a grid of {wide} by {high}", wide * high
+            edges = {(v, v + 1) for v in range(1, nodes + 1) if v % wide}
+            edges |= {(v, v + wide) for v in range(1, nodes - wide + 1)}
+            places = self.places(nodes, edges)
+            far = {(v, w): gap(places[v], places[w]) for v in places for w in places if v < w}
+            longest, shortest = (of(far[e] for e in edges) for of in (max, min))
+            self.note(f"{name}: its edges", longest < 1.25 * shortest, (longest, shortest))
+            nearest_other = min(length for pair, length in far.items() if pair not in edges)
+            self.note(f"{name}: others are farther apart", nearest_other > 1.15 * longest, (nearest_other, longest))
+            level = sum(min(abs(places[v][0] - places[w][0]), abs(places[v][1] - places[w][1])) < 0.12 * far[v, w]
+                        for v, w in edges)
+            self.note(f"{name}: its edges are level or upright", level > 0.9 * len(edges), (level, len(edges)))
+
+    def test_parts(self):
+        """Parts that no edge joins are drawn beside each other: their boxes have no point in common."""
+        rings = [range(1, 8), range(8, 13), range(13, 16), range(16, 17)]
+        edges = [(ring[k], ring[(k + 1) % len(ring)]) for ring in rings if len(ring) > 1 for k in range(len(ring))]
+        places = self.places(16, edges)
+        boxes = [tuple(of(places[v][at] for v in ring) for of in (min, max) for at in (0, 1)) for ring in rings]
+        wrong = [(a, b) for at, a in enumerate(boxes) for b in boxes[:at] if a[0] < b[2] and b[0] < a[2] and a[1] < b[3]
+                 and b[1] < a[3]]
+        self.note("parts are drawn beside each other", not wrong, wrong)
 
     def test_bits(self):
         for name, v in (("petersen", 6), ("queen5_5", 5), ("star", 1), ("long_names", 1)):
@@ -157,56 +180,12 @@ class Maps(PictureCase):
         ):
             self.player_rows(name, network)
 
-    def apart_row(self, name, circles):
-        """No two circles (radius, x, y) overlap."""
-        wrong = [(p, q) for at, p in enumerate(circles) for q in circles[:at] if gap(p[1:], q[1:]) < p[0] + q[0]]
-        self.note(f"{name}: no circles overlap", circles and not wrong, wrong[:3])
-
-    def squares_row(self, name, squares):
-        """No two squares (half a side, x, y) overlap."""
-        wrong = [(p, q) for at, p in enumerate(squares) for q in squares[:at]
-                 if max(abs(p[1] - q[1]), abs(p[2] - q[2])) < p[0] + q[0] - 0.1]
-        self.note(f"{name}: no squares overlap", squares and not wrong, wrong[:3])
-
-    def crowded_rows(self, name, network):
-        """Vertices that are given places too near to each other: what is drawn of them is apart."""
-        net = network_of(network)
-        root = parsed(self.draw("plan", network, plan_text(network)))
-        self.apart_row(f"plan of {name}", [(number(mark, "r"), *centre(mark)) for mark in marks(root, "channel")])
-        panel = marks(parsed(self.draw("forests", network, rounds_text(net))), "forest")[0]
-        self.squares_row(f"forests of {name}", [(number(mark, "width") / 2, *centre(mark))
-                                                for mark in marks(panel, "colour")])
-        data = json.loads(re.search(r"^var D = (.*);$", self.draw("player", network, rounds_text(net)), re.M).group(1))
-        self.apart_row(f"player of {name}", [(9, node["x"], node["y"]) for node in data["net"]["nodes"]])
-
-    def grid_rows(self, wide, high):
-        """A grid without places is drawn as one: edges about equally long, and all other pairs farther apart."""
-        edges = {(v, v + 1) for v in range(1, wide * high + 1) if v % wide} | {
-            (v, v + wide) for v in range(1, wide * (high - 1) + 1)
-        }
-        network = f"p edge {wide * high} {len(edges)}\n" + "".join(f"e {v} {w}\n" for v, w in sorted(edges))
-        places = places_drawn(self.draw, network.encode())
-        far = {(v, w): gap(places[v], places[w]) for v in places for w in places if v < w}
-        longest = max(far[e] for e in edges)
-        self.note(f"a grid of {wide} by {high}: its edges", longest < 1.25 * min(far[e] for e in edges), longest)
-        nearest_other = min(length for pair, length in far.items() if pair not in edges)
-        self.note(f"a grid of {wide} by {high}: others are farther apart", nearest_other > 1.15 * longest,
-                  (nearest_other, longest))
-        level = sum(min(abs(places[v][0] - places[w][0]), abs(places[v][1] - places[w][1])) < 0.12 * far[v, w]
-                    for v, w in edges)
-        self.note(f"a grid of {wide} by {high}: its edges are level or upright", level > 0.9 * len(edges),
-                  (level, len(edges)))
-
-    def parts_rows(self):
-        """Parts that no edge joins are drawn beside each other: their boxes have no point in common."""
-        rings = [range(1, 8), range(8, 13), range(13, 16), range(16, 17)]
-        edges = [(ring[k], ring[(k + 1) % len(ring)]) for ring in rings if len(ring) > 1 for k in range(len(ring))]
-        network = f"p edge 16 {len(edges)}\n" + "".join(f"e {v} {w}\n" for v, w in edges)
-        places = places_drawn(self.draw, network.encode())
-        boxes = [tuple(of(places[v][at] for v in ring) for of in (min, max) for at in (0, 1)) for ring in rings]
-        wrong = [(a, b) for at, a in enumerate(boxes) for b in boxes[:at] if a[0] < b[2] and b[0] < a[2] and a[1] < b[3]
-                 and b[1] < a[3]]
-        self.note("parts are drawn beside each other", not wrong, wrong)
+    def apart_row(self, name, found, are_squares=False):
+        """No two circles (radius, x, y) overlap, or no two squares (half a side, x, y)."""
+        def far(p, q):
+            return max(abs(p[1] - q[1]), abs(p[2] - q[2])) + 0.1 if are_squares else gap(p[1:], q[1:])
+        wrong = [(p, q) for at, p in enumerate(found) for q in found[:at] if far(p, q) < p[0] + q[0]]
+        self.note(f"{name}: none overlap", found and not wrong, wrong[:3])
 
     def bars_row(self, name, net, root, times):
         """Of each vertex the lowest four barred channels, crossed out, in the order of the vertices, and how many more
@@ -228,8 +207,7 @@ class Maps(PictureCase):
         net = network_of(network)
         plan = {v: c + 1 for v, c in colours(net).items()}
         root = parsed(self.draw("plan", network, plan_text(network)))
-        places = {int(title(group).split()[1].rstrip(":")): centre(marks(group, "channel")[0])
-                  for group in marks(root, "vertex")}
+        places = places_of(root)
         wanted = [f"vertex {v}: channel {c}{words_of_bars(net, v)}" for v, c in sorted(plan.items())]
         self.note(f"plan of {name}: a vertex each", titles(root, "vertex") == wanted, titles(root, "vertex"))
         self.bars_row(f"plan of {name}", net, root, len(plan) <= 100)
@@ -273,8 +251,7 @@ class Maps(PictureCase):
         self.note(f"matrix of {name}: a mark for each pair, on both sides", shown == wanted, shown - wanted)
         for side in ("row", "column"):
             numbers = [int(mark.text) for mark in marks(root, side)]
-            self.note(f"matrix of {name}: the number of each {side}", numbers == (order if len(order) <= 100 else []),
-                      numbers)
+            self.same(f"matrix of {name}: the number of each {side}", numbers, order if len(order) <= 100 else [])
         rows = [number(mark, "y") - top - (at + 0.5) * cell for at, mark in enumerate(marks(root, "row"))]
         self.note(f"matrix of {name}: each number is at its row", all(0 < off < 5 for off in rows), rows)
         sizes = {number(mark, "width") for mark in marks(root, "pair") + marks(root, "wrong")}
@@ -317,14 +294,12 @@ class Maps(PictureCase):
             arrows[child] = nearest({v: place for v, place in places.items() if v != child}, end)
         if len(places) <= 40:
             self.note(f"{name}: an arrow from each child to its parent", arrows == parents, (arrows, parents))
-        self.note(f"{name}: as many arrows as edges", len(marks(above, "arrow")) == len(parents),
-                  len(marks(above, "arrow")))
+        self.same(f"{name}: as many arrows as edges", len(marks(above, "arrow")), len(parents))
         hues = [row[1] for row in numbered(below, "channel")]
         self.note(f"{name}: channels after its merge", hues == [CHANNELS[merged[v] % 8] for v in sorted(merged)], hues)
         if len(places) <= 40:
             numbers = [row[2] for row in numbered(below, "channel")]
-            self.note(f"{name}: their numbers after its merge", numbers == [str(merged[v] + 1) for v in sorted(merged)],
-                      numbers)
+            self.same(f"{name}: their numbers after its merge", numbers, [str(merged[v] + 1) for v in sorted(merged)])
         ink = sum(mark.get("stroke") == INK for mark in marks(below, "edge"))
         self.note(f"{name}: its edges below", (ink, len(marks(below, "edge"))) == (len(parents), len(net.number)), ink)
 
@@ -338,8 +313,7 @@ class Maps(PictureCase):
         says = [text for text in texts(root) if text and text.startswith("Here forest")]
         self.note(f"rounds of {name}: it says which are left out", len(says) == (len(drawn) < net.forest_count), says)
         heads = HEADS * len(drawn)
-        self.note(f"rounds of {name}: what each pulse does", [mark.text for mark in marks(root, "group")] == heads,
-                  heads)
+        self.same(f"rounds of {name}: what each pulse does", [mark.text for mark in marks(root, "group")], heads)
         turns = []
         merged, width = first_colours(net), net.span + 1
         for f in range(net.forest_count):
@@ -358,12 +332,10 @@ class Maps(PictureCase):
             block = next(group for group in marks(root, "choices") if title(group) == f"forest {f}")
             for mark in ("choice", "after"):
                 wanted = [(mark, CHANNELS[merged[v] % 8], str(merged[v] + 1)) for v in sorted(merged)]
-                self.note(f"rounds of {name}, forest {f}: {mark}", numbered(block, mark) == wanted,
-                          numbered(block, mark))
+                self.same(f"rounds of {name}, forest {f}: {mark}", numbered(block, mark), wanted)
             wanted = [("bar", CHANNELS[c % 8], str(c + 1)) for v in sorted(net.barred)
                       for c in sorted(net.barred[v])[:4]]
-            self.note(f"rounds of {name}, forest {f}: barred channels", numbered(block, "bar") == wanted,
-                      numbered(block, "bar"))
+            self.same(f"rounds of {name}, forest {f}: barred channels", numbered(block, "bar"), wanted)
             xs = dict(zip(sorted(merged), (centre(mark)[0] for mark in marks(block, "choice"))))
             turn = {v: three(net, f)[v] * width + old[v] for v in merged}
             wrong = [(v, w) for v in xs for w in xs if (xs[v] < xs[w]) != (turn[v] < turn[w])]
@@ -415,8 +387,7 @@ class Maps(PictureCase):
             place = (following[v] >> 1, digits + (following[v] >> 1))
             self.note(f"bits of {name}, pulse {p}: the ring", ringed == (list(place) if p < 6 else []), ringed)
             shown += [int(mark.text.split(" = ")[-1]) for mark in marks(pair, "next")]
-            self.note(f"bits of {name}, pulse {p}: its title", title(pair) == f"pulse {p}: {c[v]} under {c[w]}",
-                      title(pair))
+            self.same(f"bits of {name}, pulse {p}: its title", title(pair), f"pulse {p}: {c[v]} under {c[w]}")
             c = following
         wanted = [row[v] for row in list(forest_colours(net, f).values())[1:5]]
         self.note(f"bits of {name}: the next numbers", shown == wanted, shown)
@@ -425,7 +396,7 @@ class Maps(PictureCase):
         """What the page plays is what the rounds' text says, pulse by pulse."""
         net = network_of(network)
         text, last = rounds_text(net), last_pulse(net)
-        data = json.loads(re.search(r"^var D = (.*);$", self.draw("player", network, text), re.M).group(1))
+        data = data_of(self.draw("player", network, text))
         film = data["film"]
         self.note(f"player of {name}: its pulses", [film["last"], len(film["pulses"])] == [last, last + 1], last)
         wrong = [fault for p, pulse in enumerate(film["pulses"]) for fault in pulse_faults(net, text, p, pulse)]

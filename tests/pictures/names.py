@@ -3,7 +3,6 @@ each other."""
 import os
 import shutil
 import subprocess
-import tempfile
 from itertools import combinations
 from xml.etree import ElementTree
 
@@ -58,9 +57,8 @@ class Names(PictureCase):
 
     def test_file_names(self):
         """A file's name that is no UTF-8, or has letters that XML hasn't, draws a picture all the same."""
-        folder = self.enterContext(tempfile.TemporaryDirectory()).encode()
         for name in (b"K\xf6ln.col", b"a\x07\x1b.col", b'"x" <b>&.col'):
-            path = os.path.join(folder, name)
+            path = os.path.join(self.folder.encode(), name)
             shutil.copy(os.path.join(TOP, "examples", "two.col"), path)
             done = subprocess.run([FORESTLAB.encode(), b"picture", b"rounds", path], capture_output=True, timeout=60)
             self.note(f"a file {name}", done.returncode == 0 and ElementTree.fromstring(done.stdout) is not None, done)

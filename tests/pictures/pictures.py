@@ -9,24 +9,16 @@ from collections import Counter
 
 from lab.definitions.colours import network_of, plan_text
 from lab.definitions.rounds import rounds_text
-from lab.transcripts.check import find_order
-from lab.transcripts.reading import Wrong, read
 from tests import TOP
-from tests.cases import example, run_program
-from tests.pictures.base import APART, EDGE, SEED, PictureCase, call, circle_of, examples, transcript
+from tests.cases import called, contents, example, examples, text_in
+from tests.pictures.base import APART, EDGE, SEED, PictureCase, call, circle_of, transcript
 from tests.pictures.marks import gap, parsed, texts, titles
-from tests.programs.made_transcripts import MISTAKES, made_transcript, merged_text, transcript_text, with_mistake
+from tests.programs.made_transcripts import made_transcript, merged_text, transcript_text
+from tests.programs.transcripts import found_in, mistaken
 from tests.settings import PLAN, PLAY
 
 ONE = b"p edge 1 0\n"
-WRONG_NETWORKS = {b"": b"(F1)", b"p edge 2 1\ne 1 2\np edge 2 1\n": b"(F2)", b"e 1 2\n": b"(F3)",
-                  b"p edge 2\n": b"(F4)", b"p edge 2 1\ne 1\n": b"(F4)", b"p edge 2 1\ne 1 x\n": b"(F4)",
-                  b"p map 2 1\n": b"(F4)", b"p edge 2 1\ne 1 3\n": b"(F5)", b"p edge 2 1\ne 0 1\n": b"(F5)",
-                  b"p edge 2 1\nb 1 0\n": b"(F13)", b"b 1 1\np edge 2 1\n": b"(F10)", b"p edge 2 1\nb 1\n": b"(F4)",
-                  b"p edge 2 1\ne 1 1\n": b"(F6)", b"p edge 20001 0\n": b"(F7)", b"p edge 2 1\nq 1 2\n": b"(F8)",
-                  b"p edge 0 0\n": b"no node"}
-# How often a mistake is tried until it makes a transcript wrong: most do at once.
-TRIES = 1000
+KINDS_OF_RUNS = ("run", "overview", "node", "tally")
 
 
 class Pictures(PictureCase):
@@ -39,11 +31,11 @@ class Pictures(PictureCase):
                  plan.replace(b"3 1", b"3 1 1"), plan + b"x\n"]
         for number_of, text in enumerate(plans):
             for kind in ("plan", "matrix"):
-                self.refused(f"{kind} of wrong plan {number_of}", self.draw.run(kind, petersen, text))
-        self.refused("plan of one that is not proper", self.draw.run("plan", petersen, plan.replace(b"3 1", b"3 2")),
+                self.refused(f"{kind} of wrong plan {number_of}", self.done(kind, petersen, text))
+        self.refused("plan of one that is not proper", self.done("plan", petersen, plan.replace(b"3 1", b"3 2")),
                      b"matrix draws such a plan")
-        for network, code in WRONG_NETWORKS.items():
-            self.refused(f"the network {network}", self.draw.run("plan", network, b"plan\n"), code)
+        for network, code in ((b"p edge 2 1\ne 1 1\n", b"(F6)"), (b"", b"(F1)"), (b"p edge 0 0\n", b"no node")):
+            self.refused(f"the network {network}", self.done("plan", network, b"plan\n"), code)
         source = random.Random(SEED)
         lines = rounds_text(network_of(star)).split(b"\n")
         for kind in ("forests", "rounds", "bits", "player"):
@@ -52,53 +44,28 @@ class Pictures(PictureCase):
                 at = source.randrange(1, len(lines) - 1)
                 changed = [change if k == at else line for k, line in enumerate(lines)]
                 self.refused(f"{kind} of rounds with {change} for {lines[at]}",
-                             self.draw.run(kind, star, b"\n".join(changed)))
+                             self.done(kind, star, b"\n".join(changed)))
             for at in source.sample([k for k, line in enumerate(lines) if line[-1:].isdigit()], 3):
                 changed = [line[:-1] + bytes([line[-1] ^ 1]) if k == at else line for k, line in enumerate(lines)]
                 self.refused(f"{kind} of rounds with another last digit in {lines[at]}",
-                             self.draw.run(kind, star, b"\n".join(changed)))
-            self.refused(f"{kind} of half the rounds", self.draw.run(kind, star, b"\n".join(lines[:100])))
-        for number_of in range(24):
-            kind, mistake = ("run", "overview", "node", "tally")[number_of % 4], MISTAKES[number_of // 4 % 4]
-            self.mistake_row(source, f"{kind} of a transcript, {mistake} ({number_of})", kind, mistake)
-        self.other_payload_rows(source)
+                             self.done(kind, star, b"\n".join(changed)))
+            self.refused(f"{kind} of half the rounds", self.done(kind, star, b"\n".join(lines[:100])))
+        for mistake, network, net, text in mistaken(3):
+            if net.number and found_in(net, text)[0] not in (None, "NotWhole"):
+                for kind in KINDS_OF_RUNS:
+                    self.refused(f"{kind} of a transcript, {mistake}", self.done(kind, network, text))
+        cut = transcript(petersen, "cut").split(b"\n")
+        for count in (len(cut) // 10, len(cut) // 2):
+            done = self.done("tally", petersen, b"\n".join(cut[:count]) + b"\n")
+            self.refused(f"a transcript cut at line {count}", done, b"(is the text cut?)")
         self.stamped_rows(source)
-
-    def other_payload_rows(self, source):
-        """A payload that is put and taken, or taken alone, with another number than the rounds have."""
-        lines = transcript(APART, "payloads").split(b"\n")
-        puts = [line for line in lines if re.fullmatch(rb"\d+ put \d+ payload \d+ (colour|chosen|label) \d+", line)]
-        for kind, put in zip(("run", "overview", "node", "tally"), source.sample(puts, 4)):
-            v, _, w, wire = put.split(b" ", 3)
-            other = wire[:-1] + bytes([wire[-1] ^ 1])
-            taken = {b" ".join((w, b"take", v, wire)): b" ".join((w, b"take", v, other))}
-            both = taken | {put: b" ".join((v, b"put", w, other))}
-            for wrong in (taken, both):
-                text = b"\n".join(wrong.get(line, line) for line in lines)
-                self.refused(f"{kind} with {other} for {wire} in {len(wrong)} lines", self.draw.run(kind, APART, text))
-
-    def mistake_row(self, source, name, kind, mistake):
-        """Each mistake that keeps the text from being the beginning of a run; a text that is cut off is one."""
-        net = network_of(APART)
-        lines = made_transcript(source, net, 4)
-        for _ in range(TRIES):
-            text = transcript_text(5, with_mistake(source, mistake, lines))
-            try:
-                if find_order(net, read(text)[1]).left:
-                    break
-            except Wrong:
-                break
-        else:
-            self.note(f"a mistake of the kind {mistake} is wrong", False, f"none in {TRIES} tries")
-            return
-        self.refused(name, self.draw.run(kind, APART, text))
 
     def stamped_rows(self, source):
         """A transcript of edition 2 is drawn as the same entries without stamps are, but for what the caption says of
         time; and of another stamp, or of a line left out, the line is named."""
         lines = made_transcript(source, network_of(APART), 4)
         plain, merged = transcript_text(5, lines), merged_text(5, lines)
-        for kind in ("run", "overview", "node", "tally"):
+        for kind in KINDS_OF_RUNS:
             wanted, got = (self.draw(kind, APART, text).split("\n") for text in (plain, merged))
             others = [line for line in got if line not in wanted]
             good = (
@@ -108,14 +75,14 @@ class Pictures(PictureCase):
             )
             self.note(f"{kind} of a transcript with stamps", good, others[:3])
         rows = merged.split(b"\n")
-        for kind in ("run", "overview", "node", "tally"):
+        for kind in KINDS_OF_RUNS:
             at = source.randrange(1, len(rows) - 1)
             stamp, entry = rows[at].split(b" ", 1)
             other = b"%d %s" % (int(stamp) + source.choice((1, -1)), entry)
             self.refused(f"{kind} of another stamp at line {at + 1}",
-                         self.draw.run(kind, APART, b"\n".join(rows[:at] + [other] + rows[at + 1 :])))
+                         self.done(kind, APART, b"\n".join(rows[:at] + [other] + rows[at + 1 :])))
             self.refused(f"{kind} without line {at + 1}",
-                         self.draw.run(kind, APART, b"\n".join(rows[:at] + rows[at + 1 :])))
+                         self.done(kind, APART, b"\n".join(rows[:at] + rows[at + 1 :])))
 
     def refused(self, name, done, words=b''):
         status, picture, fault = done
@@ -129,12 +96,12 @@ class Pictures(PictureCase):
                                      ("player", 41, b"use rounds")):
             network = circle_of(nodes)
             text = plan_text(network) if kind in ("plan", "matrix") else rounds_text(network_of(network))
-            self.refused(f"{kind} of {nodes} nodes", self.draw.run(kind, network, text), instead)
+            self.refused(f"{kind} of {nodes} nodes", self.done(kind, network, text), instead)
         for kind, nodes, instead in (("run", 13, b"use overview"), ("overview", 101, b"use tally")):
             network = f"p edge {nodes} 0\n".encode()
             lines = "".join(f"{v} pulse {p}\n" for v in range(1, nodes + 1) for p in range(1, 13))
             self.refused(f"{kind} of {nodes} nodes",
-                         self.draw.run(kind, network, f"transcript 1 {nodes}\n{lines}".encode()), instead)
+                         self.done(kind, network, f"transcript 1 {nodes}\n{lines}".encode()), instead)
 
     def test_pulses(self):
         """Pulses that the run doesn't have are refused, and of more than can be followed the overview says how many
@@ -144,7 +111,7 @@ class Pictures(PictureCase):
         for pulses in ("3..2", f"0..{last + 1}", f"{last + 1}..{last + 1}"):
             for words in (["run"], ["overview"], ["node", "--vertex", 1], ["tally"]):
                 self.refused(f"{words[0]} of pulses {pulses}",
-                             self.draw.run(words[0], APART, text, *words[1:], "--pulses", pulses),
+                             self.done(words[0], APART, text, *words[1:], "--pulses", pulses),
                              f"among 0 to {last}\n".encode())
         parts = Counter()
         for pulses in (f"0..{last // 2}", f"{last // 2 + 1}..{last}", f"0..{last}"):
@@ -153,7 +120,7 @@ class Pictures(PictureCase):
         self.note("the steps of both halves of a run are its steps", len(parts) > 10 and not any(parts.values()), parts)
         star = b"p edge 64 63\n" + b"".join(b"e %d 64\n" % v for v in range(1, 64))
         self.refused("overview of a pulse that no node begins",
-                     self.draw.run("overview", star, b"transcript 1 64\n", "--pulses", "1..2"), b"no node")
+                     self.done("overview", star, b"transcript 1 64\n", "--pulses", "1..2"), b"no node")
         for pulses, said in (([], "the first 40 pulses of 205"), (["--pulses", "0..100"], "101 pulses, too many"),
                              (["--pulses", "0..99"], "")):
             caption = texts(parsed(self.draw("overview", star, b"transcript 1 64\n", *pulses)))[-1]
@@ -165,12 +132,10 @@ class Pictures(PictureCase):
         several."""
         for name, network in (("one", ONE), ("two", EDGE)):
             text, rounds = transcript(network, "few"), rounds_text(network_of(network))
-            texts_of = {"plan": plan_text(network), "matrix": plan_text(network)} | dict.fromkeys(
-                ("run", "overview", "node", "tally"), text
-            )
-            for kind in ("plan", "matrix", "run", "overview", "node", "tally", "player", "forests", "rounds", "bits"):
+            texts_of = {"plan": plan_text(network), "matrix": plan_text(network)} | dict.fromkeys(KINDS_OF_RUNS, text)
+            for kind in ("plan", "matrix", *KINDS_OF_RUNS, "player", "forests", "rounds", "bits"):
                 if network == ONE and kind in ("forests", "rounds", "bits"):
-                    self.refused(f"{kind} of one node", self.draw.run(kind, network, rounds), b"has no edge")
+                    self.refused(f"{kind} of one node", self.done(kind, network, rounds), b"has no edge")
                     continue
                 picture = self.draw(kind, network, texts_of.get(kind, rounds))
                 wrong = re.findall(r"\b1 (?:node|time|wire|payload|pulse|edge|pair|transmitter|neighbour|forest)s\b",
@@ -180,40 +145,24 @@ class Pictures(PictureCase):
 
     def test_words(self):
         """The command line, help, places that aren't given, and the same bytes twice."""
-        for words in (
-            [],
-            ["plan"],
-            ["maps", "x"],
-            ["plan", "x", "y"],
-            ["run", "x", "--pulses", "3"],
-            ["overview", "x", "--pulses", "3,5"],
-            ["run", "x", "--only", "hello"],
-            ["bits", "x", "--vertex", "y"],
-            ["forests", "x", "--forest", "a"],
-            ["broken"],
-            ["broken", "x", "--without", "safes"],
-        ):
-            status, picture, fault = self.draw.painter(words)
+        for words in ("", "plan", "maps x", "plan x y", "run x --pulses 3", "overview x --pulses 3,5",
+                      "run x --only hello", "bits x --vertex y", "forests x --forest a", "broken",
+                      "broken x --without safes"):
+            words = words.split()
+            status, picture, fault = self.painter(words)
             prog = b"forestlab picture" + (b" " + words[0].encode() if words and words[0] != "maps" else b"")
             self.note(f"the words {words}",
                       (status, picture) == (2, b"") and fault.split(b"\n")[-2].startswith(prog + b": error: "), fault)
-        status, told, fault = call(["--help"])
-        kinds = re.findall(r"^  ([a-z]+) {2,}", told.decode().split("positional")[0], re.M)
-        self.note("help names standard input", b"forestlab picture plan - <" in told)
-        self.note("help", (status, fault, len(kinds)) == (0, b"", 17), kinds)
-        for kind in kinds:
-            status, told, fault = self.draw.painter([kind, "--help"])
-            self.note(f"help of {kind}",
-                      (status, fault) == (0, b"") and f"  forestlab picture {kind} examples/".encode() in told, told)
-        self.refused("a file that isn't there", call(["plan", os.path.join(self.draw.folder, "nowhere.col")]))
+        self.note("help names standard input", b"forestlab picture plan - <" in self.painter(["--help"])[1])
+        self.refused("a file that isn't there", call(["plan", os.path.join(self.folder, "nowhere.col")]))
         network = example("petersen.col")
         texts_of = {"plan": plan_text(network), "forests": rounds_text(network_of(network)),
                     "tally": transcript(network, "twice")}
         for kind, text in texts_of.items():
-            once, again = (self.draw.run(kind, network, text, env=dict(os.environ, PYTHONHASHSEED=seed))
+            once, again = (self.done(kind, network, text, env=dict(os.environ, PYTHONHASHSEED=seed))
                            for seed in "12")
             self.note(f"{kind}: the same bytes twice", once == again and once[0] == 0)
-        status, picture, fault = call(["plan", "-", "--plan", self.draw.file("text", plan_text(network))], network)
+        status, picture, fault = call(["plan", "-", "--plan", self.file("text", plan_text(network))], network)
         self.note("a network on standard input",
                   (status, fault) == (0, b"") and b"Channel plan of this network" in picture, fault)
         self.refused("two texts on standard input", call(["plan", "-", "--plan", "-"], network),
@@ -222,12 +171,12 @@ class Pictures(PictureCase):
         rounds = rounds_text(network_of(queen))
         for asked, said in (("0..6", b"at most 6 forests side by side"), ("3..12", b"forests 0 to 11"),
                             ("12..12", b"forests 0 to 11")):
-            self.refused(f"forests {asked} of 12", self.draw.run("forests", queen, rounds, "--forest", asked), said)
+            self.refused(f"forests {asked} of 12", self.done("forests", queen, rounds, "--forest", asked), said)
         plain = b"".join(line + b"\n" for line in network.split(b"\n") if not line.startswith(b"c at"))
         some = plain + b"c at 1 0 0\n"
         for name, data, said in (("given", network, b""), ("none", plain, b""),
                                  ("some", some, b"for 1 of 10 vertices")):
-            once, again = (self.draw.run("plan", data, plan_text(network), env=dict(os.environ, PYTHONHASHSEED=seed))
+            once, again = (self.done("plan", data, plan_text(network), env=dict(os.environ, PYTHONHASHSEED=seed))
                            for seed in "12")
             self.note(f"places: {name}",
                       once == again and once[0] == 0 and said in once[2] and bool(said) == bool(once[2]), once[2])
@@ -235,14 +184,12 @@ class Pictures(PictureCase):
     def test_stored(self):
         """Each stored picture is what its command in docs/pictures/draw.sh draws today."""
         folder = os.path.join(TOP, "docs", "pictures")
-        with open(os.path.join(folder, "draw.sh"), encoding="utf-8") as file:
-            commands = re.findall(r"^forestlab picture (.*) -o docs/pictures/(\S+)$", file.read(), re.M)
+        commands = re.findall(r"^forestlab picture (.*) -o docs/pictures/(\S+)$", text_in(folder, "draw.sh"), re.M)
         stored = sorted(name for name in os.listdir(folder) if name.endswith((".svg", ".html")))
         self.note("each stored picture has its command", stored == sorted(name for _, name in commands), stored)
         for words, name in commands:
             words = words.split()
-            with open(os.path.join(folder, name), "rb") as file:
-                wanted = 0, file.read(), b""
+            wanted = 0, contents(folder, name), b""
             for option, text in (([], b""), *self.proved_texts(words)):
                 got = self.painter(words + option, text)
                 self.note(f"stored: {name}, {' '.join(option) or 'as its command draws it'}", got == wanted,
@@ -256,7 +203,7 @@ class Pictures(PictureCase):
         network = example(words[1].removeprefix("examples/"))
         program, command, option = (PLAN, "plain", "--plan") if words[0] in ("plan", "matrix") else (
             PLAY, "rounds", "--rounds")
-        yield [option, "-"], run_program(program, [command], network).stdout
+        yield [option, "-"], called(program, command, data=network)[1]
 
     def test_places(self):
         """What the examples say of their places, and that each says what it shows."""

@@ -1,10 +1,7 @@
 """Pictures of what nodes have found, read off their marks; each result is worked by hand."""
-import json
-import re
-
 from tests.cases import example
 from tests.pictures.base import PictureCase
-from tests.pictures.marks import SVG, centre, ends, marks, nearest, parsed, texts, title
+from tests.pictures.marks import SVG, centre, data_of, ends, marks, nearest, parsed, texts, title
 
 ROW, TRIANGLE = b"p edge 3 2\ne 1 2\ne 2 3\n", b"p edge 3 3\ne 1 2\ne 1 3\ne 2 3\n"
 # By program and network: what the titles say of the nodes, what is beside them, and which edges are chosen.
@@ -27,7 +24,7 @@ class Results(PictureCase):
     needs_programs = False
 
     def of(self, program, network):
-        status, picture, fault = self.painter(["results", self.draw.file("net.col", network), "--program", program])
+        status, picture, fault = self.painter(["results", self.file("net.col", network), "--program", program])
         self.note(f"{program} is drawn", (status, fault) == (0, b""), fault)
         return parsed(picture.decode())
 
@@ -68,7 +65,7 @@ class Results(PictureCase):
 
     def test_an_own_program(self):
         """Each node of a row points at its last neighbour: 1 at 2, 2 and 3 at each other."""
-        file = self.draw.file("points.py", POINTING.encode())
+        file = self.file("points.py", POINTING.encode())
         root = self.of(file, ROW)
         places, found = self.edges(root)
         self.note("edges", sorted(found) == [(1, 2), (2, 3)], found)
@@ -78,9 +75,9 @@ class Results(PictureCase):
         self.note("words", [mark.text for mark in marks(root, "found")] == ["points"] * 3, found)
 
     def film_of(self, program, network):
-        status, page, fault = self.painter(["player", self.draw.file("net.col", network), "--program", program])
+        status, page, fault = self.painter(["player", self.file("net.col", network), "--program", program])
         self.note("the page", status == 0, fault)
-        return json.loads(re.search(r"(?m)^var D = (.*);$", page.decode())[1])["film"]
+        return data_of(page.decode())["film"]
 
     def test_the_player_draws_the_same(self):
         """Partners; and channels in the circles, of a program whose nodes have some."""
@@ -94,5 +91,5 @@ class Results(PictureCase):
     def test_refused(self):
         for network, words, said in ((b"p edge 0 0\n", [], b"no node"), (b"p edge 401 0\n", [], b"at most 400 nodes"),
                                      (ROW, ["--program", "nothing"], b"no program nothing")):
-            status, picture, fault = self.painter(["results", self.draw.file("net.col", network), *words])
+            status, picture, fault = self.painter(["results", self.file("net.col", network), *words])
             self.note(f"{said}", (status, picture) == (1, b"") and said in fault and fault.count(b"\n") == 1, fault)

@@ -11,22 +11,9 @@ from lab.transcripts.stamps import Clock
 from tests.cases import example
 from tests.pictures.base import EDGE, PictureCase, circle_of, transcript, transcript_by
 from tests.pictures.marks import ends, gap, marks, number, parsed, texts, title, titles
-from tests.programs.made_transcripts import transcript_text
-from tests.settings import PLAN
+from tests.programs.made_transcripts import entries_of, transcript_text
 
 WIRES = ("payload", "ack", "safe", "close")
-
-
-def entries_of(text):
-    """{vertex: fields of each entry in its order}, from the vertex on: in edition 2 a stamp is before it."""
-    found = {}
-    first, *lines = text.decode().split("\n")
-    stamps = first.split()[1] == "2"
-    for line in lines:
-        if line:
-            fields = line.split()[stamps:]
-            found.setdefault(int(fields[0]), []).append(fields)
-    return found
 
 
 def takes_of(text):
@@ -135,7 +122,7 @@ class Runs(PictureCase):
         for name, network, v in (("triangle", self.examples["triangle"], 1), ("petersen", self.examples["petersen"], 4),
                                  ("a ring", circle_of(14), 3)):
             runs = {f"made {seed}": transcript(network, seed, seed) for seed in (1, 4)}
-            runs |= {f"{workers} workers": transcript_by(PLAN, network, workers) for workers in "24"}
+            runs |= {f"{workers} workers": transcript_by(network, workers) for workers in "24"}
             self.run_rows(name, network, runs, v)
 
     def test_words(self):
@@ -143,9 +130,6 @@ class Runs(PictureCase):
         for seed in range(4):
             count = self.words_rows(f"triangle, made {seed}", triangle, transcript(triangle, seed))
             self.note(f"run of triangle, made {seed}: payloads have their words", count > 5, count)
-
-    def test_cut(self):
-        self.cut_rows(self.examples["petersen"], transcript(self.examples["petersen"], "cut"))
 
     def whole_run_rows(self, name, network, text):
         """Of a run that is drawn whole: an arrow for each take, a bar for each payload up to the tick that reads it."""
@@ -354,29 +338,16 @@ class Runs(PictureCase):
         self.note("node of a long run: what it says",
                   "in pulses 0 to 39 of the run" in texts(parsed(self.draw("node", network, text)))[1])
         root, whole = parsed(self.draw("tally", network, text)), parsed(
-            self.draw.by_rounds(network, rounds_text(net), "--pulses", f"0..{last}")
+            self.by_rounds(network, rounds_text(net), "--pulses", f"0..{last}")
         )
         self.tally_marks("a long run", root, net, text, (0, 39), last)
         self.tally_marks("a long run, all of it by the rounds", whole, net, text, (0, last), last)
         self.note("tally of a long run: what it says",
                   any("the first 40 pulses of 409" in words for words in texts(root)))
-        by_rounds = parsed(self.draw.by_rounds(network, rounds_text(net)))
+        by_rounds = parsed(self.by_rounds(network, rounds_text(net)))
         self.tally_marks("a long run, by the rounds", by_rounds, net, text, (0, 39), last)
         self.note("tally by the rounds says so", "; counted by the rounds" in texts(by_rounds)[1], texts(by_rounds)[1])
         at = next(k for k, line in enumerate(lines[5]) if line == "5 put 7 safe 20")
         wrong = dict(lines) | {5: lines[5][:at] + ["5 put 7 safe 21"] + lines[5][at + 1:]}
-        status, picture, _ = self.draw.run("overview", network, transcript_text(12, wrong))
+        status, picture, _ = self.done("overview", network, transcript_text(12, wrong))
         self.note("a long text with a mistake in these pulses", (status, picture) == (1, b""))
-
-    def cut_rows(self, network, text):
-        """A text that ends too early is said to."""
-        lines = text.split(b"\n")
-        nodes = len(network_of(network).neighbours)
-        for part in (0.1, 0.3, 0.6, 0.95):
-            at = int(len(lines) * part)
-            v = int(lines[at - 1].split()[0])
-            status, picture, fault = self.draw.run("tally", network, b"\n".join(lines[:at]) + b"\n")
-            missing = f"node {nodes} has no entry" if v == nodes - 1 else (
-                f"nodes {v + 1} to {nodes} have no entry" if v < nodes else f"the entries of node {v} end at pulse ")
-            self.note(f"a transcript cut at line {at}",
-                      (status, picture) == (1, b"") and b"(is the text cut?)" in fault and missing.encode() in fault, fault)

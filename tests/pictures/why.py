@@ -5,7 +5,6 @@ that is named is one of the rounds by the definitions; and a colour stays the sa
 not to depend change."""
 import random
 import re
-import xml.etree.ElementTree as ElementTree
 
 from lab.definitions.colours import Network, colours, network_of, three
 from lab.definitions.rounds import rounds_text
@@ -14,6 +13,7 @@ from lab.definitions.pulses import Rounds
 from lab.pictures.layout import distances
 from lab.pictures.why_picture import Cone
 from tests.cases import Case, example, said_by
+from tests.pictures.marks import marks, parsed, texts
 
 HAND = [
     "why node 2 of triangle has channel 3",
@@ -134,25 +134,16 @@ class Picture(Case):
         """As many squares and circles are faded as aren't in the cone."""
         for name, vertex in (("triangle", 2), ("petersen", 6)):
             with self.subTest(name):
-                status, picture, fault = why(name, vertex)
-                self.assertEqual((status, fault), (0, ""))
-                root = ElementTree.fromstring(picture)
-                faded = sum(element.get("class") == "faded" for element in root.iter())
-                cone = cone_of(name, vertex)
+                root, cone = parsed(why(name, vertex)[1]), cone_of(name, vertex)
                 nodes, forests = cone.network.nodes, len(cone.forests())
                 kept = sum(fact[0] != "identifier" for fact in cone.facts)
-                self.assertEqual(faded, nodes * forests * (11 + 1) - kept)
-                words = " ".join(element.text or "" for element in root.iter())
-                self.assertIn(f"why node {vertex} has channel", words)
+                self.assertEqual(len(marks(root, "faded")), nodes * forests * (11 + 1) - kept)
+                self.assertIn(f"why node {vertex} has channel", " ".join(filter(None, texts(root))))
 
     def test_refusals(self):
-        cases = [(("triangle", 4), 1, "triangle has no vertex 4"), (("drops", 5), 0, ""),
-                 (("triangle", "x"), 2, "invalid int value")]
-        for words, wanted, end in cases:
-            with self.subTest(words):
-                status, said, fault = why(*words)
-                self.assertEqual((status, bool(said)), (wanted, not wanted))
-                self.assertIn(end, fault)
+        self.refusal("no such vertex", why("triangle", 4), 1, "triangle has no vertex 4")
+        self.refusal("no number", why("triangle", "x"), 2, "invalid int value")
+        self.assertEqual(why("drops", 5)[::2], (0, ""))
 
     def test_no_forest(self):
         status, _, fault = said_by("picture", "why", "/dev/stdin", "--vertex", "1", "--rounds", "/dev/null",

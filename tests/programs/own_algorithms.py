@@ -3,21 +3,18 @@
 
 What nodes find is worked out here from the network (independent sets, trees, greatest identifiers, distances), not by
 the definitions of the programs."""
-import glob
-import json
 import os
 import random
-import re
-import tempfile
 import textwrap
 
-from lab.definitions.colours import Network
+from lab.definitions.colours import Network, network_of
 from lab.definitions.nodes import synchronous_run
 from lab.definitions.programs import PROGRAMS, program_at
 from lab.schedules.reading import network_at
 from tests import TOP
-from tests.cases import Case, forestlab
-from tests.programs.plain_networks import random_of, tree
+from tests.cases import Case, examples, forestlab, said_by, text_in
+from tests.pictures.marks import data_of
+from tests.programs.plain_networks import random_of, reached, tree
 
 SEED = 2026
 MOST_NODES = 30
@@ -88,22 +85,12 @@ def script(name, *words, data=b""):
 
 def some_networks():
     """The examples, and random networks with identifiers in any order."""
-    for path in sorted(glob.glob(os.path.join(TOP, "examples", "*.col"))):
-        name, net = network_at(path)
+    for name, net in ((name, network_of(data)) for name, data in examples().items()):
         if len(net.neighbours) <= MOST_NODES:
             yield name, net
     source = random.Random(SEED)
     for k, (nodes, edges) in enumerate(random_of(20, 1, 9)(source)):
         yield f"random {k}", Network(dict(enumerate(source.sample(range(1, 40), nodes), 1)), edges)
-
-
-def reached(net, v):
-    """The distance of each vertex that can be reached from v."""
-    found, layer = {v: 0}, [v]
-    while layer:
-        layer = sorted({w for u in layer for w in net.neighbours[u]} - set(found))
-        found |= dict.fromkeys(layer, max(found.values()) + 1)
-    return found
 
 
 class OwnAlgorithms(Case):
@@ -116,8 +103,8 @@ class OwnAlgorithms(Case):
     def test_layers(self):
         """Distances from the node of identifier 1, each with the first port that leads one closer."""
         for name, net in some_networks():
-            away = reached(net, next((v for v in net.identifiers if net.identifiers[v] == 1), None)) if (
-                1 in net.identifiers.values()) else {}
+            root = [v for v, number in net.identifiers.items() if number == 1]
+            away = reached(net, *root) if root else {}
             for v, node in synchronous_run(net, PROGRAMS["layers"]).items():
                 wanted = "layer none" if v not in away else f"layer {away[v]}"
                 if away.get(v):
@@ -138,31 +125,22 @@ class OwnAlgorithms(Case):
             net = Network({v: v for v in names}, {(min(e), max(e)) for e in tree(source, names)})
             found = {node.result() for node in synchronous_run(net, program_at(COUNT)).values()}
             self.note(f"a tree of {count} nodes counted", found == {f"nodes {count}"}, found)
-        found = {node.result() for node in synchronous_run(network_at("four_cycle")[1],
-                                                           program_at(COUNT)).values()}
+        found = {node.result() for node in synchronous_run(network_at("four_cycle")[1], program_at(COUNT)).values()}
         self.note("a ring isn't counted", found == {"nodes unknown"}, found)
 
     def test_schedules(self):
         """Every order on two nodes leads to what the rounds find; a run by seed is checked, and drawn."""
-        with tempfile.TemporaryDirectory() as folder:
-            for program in ("leader", "layers", SET, COUNT):
-                status, text, fault = script("explore", "two", "--program", program)
-                nodes = synchronous_run(network_at("two")[1], program_at(program))
-                end = "one end: " + ", ".join(f"{v} {node.result()}" for v, node in nodes.items())
-                good = (status, text.decode().splitlines()[-1:], fault) == (0, [end], b"")
-                self.note(f"every order of {program}", good, text)
-                status, run, fault = script("simulate", "chain6", "--program", program, "--seed", "3")
-                path = os.path.join(folder, "run")
-                with open(path, "wb") as file:
-                    file.write(run)
-                done = script("transcript check", "chain6", path, "--program", program)
-                self.note(f"a run of {program}", (status, done[0], done[2]) == (0, 0, b"")
-                          and done[1].startswith(b"whole run of 6 nodes, "), done)
-                last = run.replace(b" safe 0", b" safe 1", 1)
-                with open(path, "wb") as file:
-                    file.write(last)
-                done = script("transcript check", "chain6", path, "--program", program)
-                self.note(f"a wrong run of {program}", done[0] == 1 and b"WrongWire" in done[2], done)
+        for program in ("leader", "layers", SET, COUNT):
+            status, text, fault = said_by("explore", "two", "--program", program)
+            nodes = synchronous_run(network_at("two")[1], program_at(program))
+            end = "one end: " + ", ".join(f"{v} {node.result()}" for v, node in nodes.items())
+            self.same(f"every order of {program}", (status, text.splitlines()[-1:], fault), (0, [end], ""))
+            _, run, _ = script("simulate", "chain6", "--program", program, "--seed", "3")
+            done, wrong = (script("transcript check", "chain6", "-", "--program", program, data=data)
+                           for data in (run, run.replace(b" safe 0", b" safe 1", 1)))
+            good = done[::2] == (0, b"") and done[1].startswith(b"whole run of 6 nodes, ")
+            self.note(f"a run of {program}", good, done)
+            self.refusal(f"a wrong run of {program}", wrong, 1, b"WrongWire")
 
     def test_what_me_knows(self):
         """By hand: a row of three whose middle is the greatest has one forest, and two channels are barred at node 1."""
@@ -170,14 +148,9 @@ class OwnAlgorithms(Case):
                                    "{me.greatest_bars} {me.barred} {last(me)}'")
         text += "def last_pulse(nodes, degree, forests, bars):\n    return 10 * nodes + degree + forests + bars\n" \
                 "def last(me):\n    return last_pulse(me.nodes, me.greatest_degree, me.forests, me.greatest_bars)\n"
-        with tempfile.TemporaryDirectory() as folder:
-            path = os.path.join(folder, "knows.py")
-            with open(path, "w", encoding="utf-8") as file:
-                file.write(text)
-            net = Network({1: 4, 2: 9, 3: 5}, [(1, 2), (2, 3)], {1: [0, 6]})
-            found = [node.result() for node in synchronous_run(net, program_at(path)).values()]
-        wanted = ["4 1 3 2 1 2 (1, 7) 35", "9 2 3 2 1 2 () 35", "5 1 3 2 1 2 () 35"]
-        self.note("what `me` knows", found == wanted, found)
+        net = Network({1: 4, 2: 9, 3: 5}, [(1, 2), (2, 3)], {1: [0, 6]})
+        found = [node.result() for node in synchronous_run(net, program_at(self.file("knows.py", text))).values()]
+        self.same("what `me` knows", found, ["4 1 3 2 1 2 (1, 7) 35", "9 2 3 2 1 2 () 35", "5 1 3 2 1 2 () 35"])
 
     def test_what_me_may_keep(self):
         """Nodes are compared by value: an object, chance or an iterator in `me` makes no more states than plain numbers
@@ -191,8 +164,7 @@ class OwnAlgorithms(Case):
             text = "import random\nclass Table:\n    pass\n" + FLOOD.replace(*lines)
             text = text.replace("me.best", "me.table.best") if "Table()" in lines[1] else text
             text = text.replace("me.table.table.best", "me.table.best")
-            got = self.told(text)
-            self.note(name, got == plain, got)
+            self.same(name, self.told(text), plain)
         for what, named in (("(n for n in [1])", "generator"), ("open(__file__)", "TextIOWrapper"),
                             ("{1: [lambda: 0, (n for n in [1])]}", "generator")):
             got = self.told(FLOOD.replace("me.best = ", f"me.kept = {what}\n    me.best = "))
@@ -237,10 +209,9 @@ class OwnAlgorithms(Case):
         ):
             got = self.told(text)
             self.note(first, got[0] == first.startswith("broken") and got[1].startswith(first), got)
-        with open(os.path.join(TOP, "docs", "learn", "OWN_ALGORITHM.md"), encoding="utf-8") as page, open(SET,
-                                                                                              encoding="utf-8") as file:
-            block = page.read().partition("Of an independent set:\n\n")[2].partition("\n\n## ")[0]
-            text = file.read() + "\n" + textwrap.dedent(block) + "\n"
+        page = text_in("docs", "learn", "OWN_ALGORITHM.md")
+        block = page.partition("Of an independent set:\n\n")[2].partition("\n\n## ")[0]
+        text = text_in(SET) + "\n" + textwrap.dedent(block) + "\n"
         for change, first in ((("", ""), "every schedule of two"), (('words == "set in"', "words"), "broken after")):
             got = self.told(text.replace(*change))
             good = got[0] == first.startswith("broken") and got[1].startswith(first)
@@ -263,60 +234,44 @@ class OwnAlgorithms(Case):
 
     def told(self, text, *words, command="explore", network="two"):
         """Status, output and errors of a command with a file of this text."""
-        with tempfile.TemporaryDirectory() as folder:
-            path = os.path.join(folder, "flood.py")
-            with open(path, "w", encoding="utf-8") as file:
-                file.write(text)
-            status, out, errors = script(command, network, "--program", path, *words)
-        return status, out.decode(), errors.decode()
+        return said_by(command, network, "--program", self.file("flood.py", text), *words)
 
     def test_pictures(self):
-        for kind, name in (("rounds", "petersen"), ("run", "chain6"), ("overview", "chain6"),
-                           ("node", "path"), ("tally", "path"), ("schedules", "two")):
+        for kind, name in (("rounds", "petersen"), ("run", "chain6"), ("overview", "chain6"), ("node", "path"),
+                           ("tally", "path"), ("schedules", "two"), ("player", "petersen")):
             status, text, fault = script("picture", kind, name, "--program", SET)
-            self.note(f"picture {kind}", (status, text[:4], fault) == (0, b"<svg", b""), fault)
-        status, text, fault = script("picture", "player", "petersen", "--program", SET)
-        self.note("picture player", (status, text[:15], fault) == (0, b"<!doctype html>", b""), fault)
-        self.note_all(self.rows_of_a_tree())
+            good = (status, fault) == (0, b"") and text.startswith((b"<svg", b"<!doctype"))
+            self.note(f"picture {kind}", good, fault)
         _, text, _ = script("picture", "rounds", "path", "--program", SET)
         # Node 3 is in at pulse 1, 2 out at 2, and 1 in at 3.
         self.note("what is found", text.count(b'class="found"') == 6, text)
 
-    def rows_of_a_tree(self):
+    def test_drawn(self):
         """A row of six, whose nodes say a colour and the port to the node before: by hand, in pulse 6 five edges are
         drawn, all nodes have their colours, and only what is too long to be read below a node is shortened."""
-        path = os.path.join(self.enterContext(tempfile.TemporaryDirectory()), "tree.py")
         for right, said in (("True", False), ("'no tree'", True)):
-            with open(path, "w", encoding="utf-8") as file:
-                file.write(TREE.replace("RIGHT", right))
+            path = self.file("tree.py", TREE.replace("RIGHT", right))
             _, page, fault = script("picture", "player", "chain6", "--program", path)
-            data = json.loads(re.search(rb"^var D = (.*);$", page, re.M).group(1))
-            last = data["film"]["pulses"][-1]
+            last = data_of(page.decode())["film"]["pulses"][-1]
             wanted = {"1": [None, None]} | {str(v): [v - 2, v - 1] for v in range(2, 7)}
-            yield f"a tree, {right}", (last["drawn"], fault) == (wanted, b""), (last["drawn"], fault)
-            yield f"words of it, {right}", last["results"][5] == "layer 5 by the port 0", last["results"]
+            self.same(f"a tree, {right}", (last["drawn"], fault), (wanted, b""))
+            self.same(f"words of it, {right}", last["results"][5], "layer 5 by the port 0")
             _, picture, _ = script("picture", "rounds", "chain6", "--program", path)
             for text in (page, picture):
                 is_said = b"right: no tree" in text or b"the end: no tree" in text
-                yield f"what isn't right, {right}", is_said == said, text
+                self.note(f"what isn't right, {right}", is_said == said, text)
         for returned, why in (("1", "a pair"), ("(9, None)", "a colour below 8"), ("(1, 5)", "a port")):
-            with open(path, "w", encoding="utf-8") as file:
-                file.write(TREE.replace("return (me.layer - 1 if me.layer else None), me.by", f"return {returned}"))
-            done = script("picture", "player", "chain6", "--program", path)
-            yield f"drawn returns {returned}", done[:2] == (1, b"") and why.encode() in done[2], done
+            text = TREE.replace("return (me.layer - 1 if me.layer else None), me.by", f"return {returned}")
+            done = script("picture", "player", "chain6", "--program", self.file("tree.py", text))
+            self.refusal(f"drawn returns {returned}", done, 1, why.encode())
 
     def test_wrong_files(self):
-        with tempfile.TemporaryDirectory() as folder:
-            path = os.path.join(folder, "mine.py")
-            for lines, said in WRONG:
-                with open(path, "w", encoding="utf-8") as file:
-                    file.write(lines)
-                # A run by seed has no need of what is found.
-                for name in ("explore",) if "`result`" in said else ("simulate", "explore"):
-                    done = script(name, "two", "--program", path)
-                    self.note(f"{name}{said}", done == (1, b"", f"{name}: {path}{said}\n".encode()), done)
-        status, _, fault = script("simulate", "two", "--program", "tree")
-        self.note("an unknown name",
-                  status == 1 and fault.startswith(b"simulate: there is no program tree: there are "), fault)
-        done = script("simulate", "two", "--program", "nowhere.py")
-        self.note("no such file", done == (1, b"", b"simulate: nowhere.py: No such file or directory\n"), done)
+        for lines, said in WRONG:
+            path = self.file("mine.py", lines)
+            # A run by seed has no need of what is found.
+            for name in ("explore",) if "`result`" in said else ("simulate", "explore"):
+                done = script(name, "two", "--program", path)
+                self.same(f"{name}{said}", done, (1, b"", f"{name}: {path}{said}\n".encode()))
+        for name, said in (("tree", b"simulate: there is no program tree: there are "),
+                           ("nowhere.py", b"simulate: nowhere.py: No such file or directory\n")):
+            self.refusal(f"no program {name}", script("simulate", "two", "--program", name), 1, said)
