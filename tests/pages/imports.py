@@ -11,7 +11,7 @@ import re
 
 from build.crate_lists import listed
 from tests import TOP
-from tests.cases import Case
+from tests.cases import Case, text_in
 
 GHOST = r"\bRattle\.(\w+)\."
 CODE = r"(?<![\w:.])([a-z_]\w*)::"
@@ -23,8 +23,7 @@ def files_of(crate):
     """Each file of a crate's sources, its path with its text, comments left out."""
     for part in ("src", "specs", "proofs"):
         for path in sorted(glob.glob(os.path.join(TOP, "crates", crate, part, "**", "*.*t"), recursive=True)):
-            with open(path, encoding="utf-8") as file:
-                yield os.path.relpath(path, TOP), re.sub(r"^\s*(//|-- ).*$", "", file.read(), flags=re.M)
+            yield os.path.relpath(path, TOP), re.sub(r"^\s*(//|-- ).*$", "", text_in(path), flags=re.M)
 
 
 def named_by(crate):
@@ -65,8 +64,7 @@ class Imports(Case):
             path = os.path.join(TOP, "crates", crate, "src", "lib.rt")
             if not os.path.isfile(path):
                 continue
-            with open(path, encoding="utf-8") as file:
-                head = " ".join(re.findall(r"^//! ?(.*)$", file.read(), re.M))
+            head = " ".join(re.findall(r"^//! ?(.*)$", text_in(path), re.M))
             callers = {name for found in re.findall(CALLERS, head) for name in re.findall(r"\w+", found)} & lists.keys()
             wrong = sorted(name for name in callers if crate not in lists[name])
             count += len(callers)

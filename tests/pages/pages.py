@@ -14,7 +14,7 @@ import re
 
 from lab.definitions.nodes import NetState, text_of_wire
 from tests import TOP
-from tests.cases import Case
+from tests.cases import Case, text_in
 from tests.pages.tutorial_facts import channels_of, dropped, example, pulses_of
 
 PAGES = ["README.md"] + sorted(os.path.relpath(path, TOP)
@@ -23,8 +23,7 @@ WIDEST = 150
 
 
 def lines_of(page):
-    with open(os.path.join(TOP, page), encoding="utf-8") as file:
-        return file.read().split("\n")
+    return text_in(page).split("\n")
 
 
 def tables_of(lines):
@@ -104,39 +103,33 @@ def heading_anchor(line):
 def clauses_of_crate(crate):
     """The names of the clauses and ghost members of each function and type of a crate, by the name of the function."""
     found = {}
-    folder = os.path.join(TOP, "crates", crate, "src")
-    for root, _, names in os.walk(folder):
-        for name in (n for n in names if n.endswith(".rt")):
-            with open(os.path.join(root, name), encoding="utf-8") as file:
-                owner = None
-                for line in file:
-                    head = re.match(r"\s*(?:pub(?:\(\w+\))? )?(?:fn|trait|struct|enum|type|const) (\w+)", line)
-                    for title in re.findall(r"\bimpl(?:<[^{]*?>)? (?:[\w:<>, ]* for )?(\w+)", line):
-                        found.setdefault(title, set())
-                    if head:
-                        owner = head.group(1)
-                        found.setdefault(owner, set())
-                    clause = re.match(r"\s*(?:ensures|requires) (\w+) ", line)
-                    ghost = re.match(r"\s*(?:pub )?ghost (\w+)\s*[:=]", line)
-                    if owner and clause:
-                        found[owner].add(clause.group(1))
-                    if ghost:
-                        found.setdefault("ghost", set()).add(ghost.group(1))
+    for path in glob.glob(os.path.join(TOP, "crates", crate, "src", "**", "*.rt"), recursive=True):
+        owner = None
+        for line in lines_of(path):
+            head = re.match(r"\s*(?:pub(?:\(\w+\))? )?(?:fn|trait|struct|enum|type|const) (\w+)", line)
+            for title in re.findall(r"\bimpl(?:<[^{]*?>)? (?:[\w:<>, ]* for )?(\w+)", line):
+                found.setdefault(title, set())
+            if head:
+                owner = head.group(1)
+                found.setdefault(owner, set())
+            clause = re.match(r"\s*(?:ensures|requires) (\w+) ", line)
+            ghost = re.match(r"\s*(?:pub )?ghost (\w+)\s*[:=]", line)
+            if owner and clause:
+                found[owner].add(clause.group(1))
+            if ghost:
+                found.setdefault("ghost", set()).add(ghost.group(1))
     return found
 
 
 def laws_of_crates():
     """Each public law, a function with an empty body, by its path: `crate::function`, or `crate::laws::function`."""
     found = set()
-    for crate in os.listdir(os.path.join(TOP, "crates")):
-        for module in ("lib", "laws"):
-            file = os.path.join(TOP, "crates", crate, "src", f"{module}.rt")
-            if os.path.isfile(file):
-                with open(file, encoding="utf-8") as text:
-                    names = re.findall(r"^pub fn (\w+)[^\n]*\n(?:    .*\n)+\{\}$", text.read(), re.M)
-                with open(os.path.join(TOP, "crates", crate, "src", "lib.rt"), encoding="utf-8") as text:
-                    inside = "laws::" if module == "laws" and "pub mod laws;" in text.read() else ""
-                found |= {f"{crate}::{inside}{name}" for name in names}
+    for file in glob.glob(os.path.join(TOP, "crates", "*", "src", "l*.rt")):
+        *_, crate, _, module = file.split(os.sep)
+        is_inside = module == "laws.rt" and "pub mod laws;" in text_in("crates", crate, "src", "lib.rt")
+        if module in ("lib.rt", "laws.rt"):
+            found |= {f"{crate}::{'laws::' * is_inside}{name}" for name in re.findall(
+                r"^pub fn (\w+)[^\n]*\n(?:    .*\n)+\{\}$", text_in(file), re.M)}
     return found
 
 
@@ -144,21 +137,27 @@ class Pages(Case):
     needs_programs = False
 
     def test_names(self):
-        for page in PAGES:
-            self.check_names(page)
-
-    def test_last_names(self):
+        """Files named in backquotes: with their folder, in a crate, or without a folder; and where links lead."""
         there, count = last_names(), 0
         for page in PAGES:
             for number, line in enumerate(lines_of(page), 1):
-                for name in re.findall(r"`(?:[\w/]+/)?(\w*[a-z]\w*\.(?:py|rt|antt|js|sh))`", line):
-                    count += 1
-                    self.note(f"{page}:{number} {name}", name in there or "NAME" in name, "no file has this name")
+                found = [(name, os.path.exists(os.path.join(TOP, folder, name))) for folder, pattern in (
+                    ("", r"`((?:crates|docs|tests|lab|build|bin|bench|examples)/[\w./-]+)`"),
+                    ("crates", r"`(\w+/(?:src|specs|proofs)(?:/[\w./-]+)?)`")) for name in re.findall(pattern, line)]
+                last = re.findall(r"`(?:[\w/]+/)?(\w*[a-z]\w*\.(?:py|rt|antt|js|sh))`", line)
+                found += [(name, name in there) for name in last]
+                count += len(last)
+                for name, good in found:
+                    self.note(f"{page}:{number} {name}", good or "NAME" in name, "there is no such file")
+                for target in re.findall(r"\]\((?!https?:)([^)]*)\)", line):
+                    self.note(f"{page}:{number} {target}", self.leads(page, target), "the link leads nowhere")
         self.note("files that pages name", count > 300, count)
 
-    def test_excerpts(self):
-        for page in PAGES:
-            self.check_excerpts(page)
+    def leads(self, page, target):
+        path, _, anchor = target.partition("#")
+        path = os.path.normpath(os.path.join(os.path.dirname(page), path)) if path else page
+        return os.path.exists(os.path.join(TOP, path)) and (
+            not anchor or anchor in {heading_anchor(head) for head in lines_of(path) if head.startswith("#")})
 
     def test_tutorial(self):
         count = 0
@@ -170,43 +169,17 @@ class Pages(Case):
                 self.note(f"docs/learn/TUTORIAL.md:{number}", got == wanted, f"wanted {wanted}")
         self.note("tables of the tutorial", count == 4, count)
 
-    def check_names(self, page):
-        lines = lines_of(page)
-        for number, line in enumerate(lines, 1):
-            for name in re.findall(r"`((?:crates|docs|tests|lab|build|bin|bench|examples)/[\w./-]+)`", line):
-                if "NAME" not in name:
-                    self.note(f"{page}:{number} {name}", os.path.exists(os.path.join(TOP, name)),
-                              "there is no such file")
-            for name in re.findall(r"`(\w+/(?:src|specs|proofs)(?:/[\w./-]+)?)`", line):
-                self.note(f"{page}:{number} {name}", os.path.exists(os.path.join(TOP, "crates", name)),
-                          "there is no such file of a crate")
-            for target in re.findall(r"\]\(([^)]*)\)", line):
-                if re.match(r"https?:", target):
-                    continue
-                path, _, anchor = target.partition("#")
-                path = os.path.normpath(os.path.join(os.path.dirname(page), path)) if path else page
-                good = os.path.exists(os.path.join(TOP, path))
-                if good and anchor:
-                    good = anchor in {heading_anchor(head) for head in lines_of(path) if head.startswith("#")}
-                self.note(f"{page}:{number} {target}", good, "the link leads nowhere")
-
-    def check_excerpts(self, page):
+    def test_excerpts(self):
         """Excerpts leave lines out, so their lines are looked for one after another."""
-        lines = iter(enumerate(lines_of(page), 1))
-        for _, line in lines:
-            if line.strip() not in ("```rust", "```antt"):
-                continue
-            number, head = next(lines)
-            path = head.strip().removeprefix("// ").removeprefix("-- ")
-            excerpt = []
-            for _, line in lines:
-                if line.strip() == "```":
-                    break
-                if line.strip() not in ("// ..", "-- .."):
-                    excerpt.append(line.strip())
-            source = iter([line.strip() for line in lines_of(path)])
-            missing = [line for line in excerpt if line not in source]
-            self.note(f"{page}:{number} excerpt of {path}", not missing, f"not there, or not in this order: {missing}")
+        for page in PAGES:
+            found = re.findall(r"(?m)^ *```(?:rust|antt)\n *(?://|--) (\S+)\n((?:.*\n)*?) *```$", text_in(page))
+            fences = len(re.findall(r"(?m)^ *```(?:rust|antt)$", text_in(page)))
+            self.same(f"{page}: fences that name their file", len(found), fences)
+            for path, block in found:
+                excerpt = [line.strip() for line in block.splitlines() if line.strip() not in ("// ..", "-- ..")]
+                source = iter([line.strip() for line in lines_of(path)])
+                missing = [line for line in excerpt if line not in source]
+                self.same(f"{page} excerpt of {path}: lines that aren't there, or not in this order", missing, [])
 
     def test_promises(self):
         """A promise is written as `crate::function`: `clause`, `clause`; it may go on in the next line."""

@@ -10,7 +10,7 @@ import os
 import re
 
 from tests import TOP
-from tests.cases import Case
+from tests.cases import Case, text_in
 
 LEFT = {
     # its two crates share no crate that is about lists, results or widths
@@ -48,10 +48,9 @@ def lemmas_in(pattern, head=""):
     """Each lemma at the head of a line in some files, or each that begins so: its name, its file, and its plain
     statement."""
     for path in sorted(glob.glob(pattern, recursive=True)):
-        with open(path, encoding="utf-8") as file:
-            for public, name, statement in LEMMA.findall(file.read()):
-                if public.startswith(head) and not OWN.search(statement):
-                    yield name, path, plain(statement)
+        for public, name, statement in LEMMA.findall(text_in(path)):
+            if public.startswith(head) and not OWN.search(statement):
+                yield name, path, plain(statement)
 
 
 def of_library():
@@ -62,11 +61,10 @@ def of_library():
     passed, found = {}, {}
     lemmas = os.path.join(top, "std", "proofs", "lemmas", "**", "*.antt")
     for path in glob.glob(lemmas, recursive=True):
-        with open(path, encoding="utf-8") as file:
-            for names in re.findall(r"^pub use [\w.+-]+\.\{([^}]*)\}", file.read(), re.M):
-                for name in names.split(","):
-                    own, _, outer = name.strip().partition(" as ")
-                    passed[own] = outer or own
+        for names in re.findall(r"^pub use [\w.+-]+\.\{([^}]*)\}", text_in(path), re.M):
+            for name in names.split(","):
+                own, _, outer = name.strip().partition(" as ")
+                passed[own] = outer or own
     for name, _, statement in lemmas_in(lemmas, "pub "):
         found[statement] = name
     for part in ("core/proofs", "logic/Borrow/Author", "logic/Lib"):

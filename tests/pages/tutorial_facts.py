@@ -1,20 +1,18 @@
 """What docs/learn/TUTORIAL.md says of small networks and of rows, worked out from the definitions
-(lab/definitions/colours.py, lab/definitions/nodes.py) or by hand: rows (name, good, what). What it says of nodes that
-break a rule is in tests/programs/schedules.py."""
+(lab/definitions/colours.py, lab/definitions/nodes.py) or by hand. What it says of nodes that break a rule is in
+tests/programs/schedules.py."""
 import itertools
-import os
 
 from lab.definitions.colours import Network, colours, first_colours, merge, network_of, three
 from lab.definitions.nodes import NetState, last_pulse, synchronous_run
 from lab.definitions.recolouring import with_passes
 from lab.definitions.rounds import forest_colours
-from tests import TOP
-from tests.cases import Case
+from tests.cases import Case, contents
+from tests.programs.plain_networks import all_of
 
 
 def example(name):
-    with open(os.path.join(TOP, name), "rb") as file:
-        return network_of(file.read())
+    return network_of(contents(name))
 
 
 def pulses_of(net, f):
@@ -31,48 +29,12 @@ def fewest_colours(nodes, edges):
                 if all(c[v - 1] != c[w - 1] for v, w in edges))
 
 
-def too_many_row():
-    """Of the networks of up to four nodes, these two alone take a channel more than is needed."""
-    found = []
-    for nodes in range(1, 5):
-        pairs = list(itertools.combinations(range(1, nodes + 1), 2))
-        for edges in itertools.chain(*(itertools.combinations(pairs, r) for r in range(len(pairs) + 1))):
-            net = Network({v: v for v in range(1, nodes + 1)}, set(edges))
-            if channels_of(net) > fewest_colours(nodes, edges):
-                found.append(edges)
-    return "networks with a channel too many", found == [((1, 3), (1, 4), (2, 4)), ((1, 4), (2, 3), (2, 4))], found
-
-
-def row_of_six_row():
-    """If node 1 makes no pulse and the others do all that they can, they come as far as the tutorial says."""
-    state = NetState(example("examples/chain6.col"))
-    while event := next((event for event in state.possible() if event[:2] != ("Pulse", 1)), None):
-        state.step(*event)
-    pulses = [node.pulse_number for _, node in sorted(state.nodes.items())]
-    return "pulses of a row of six with node 1 at rest", pulses == [0, 1, 2, 3, 4, 5], pulses
-
-
 def rounds_in_order(row):
     """How many rounds a row takes if each node chooses in the round after the last of its lower neighbours."""
     chosen = {}
     for k, v in sorted(enumerate(row), key=lambda place: place[1]):
-        chosen[v] = 1 + max([chosen[w] for w in row[max(k - 1, 0) : k] + row[k + 1 : k + 2] if w < v], default=0)
+        chosen[v] = 1 + max([chosen[w] for w in row[max(k - 1, 0):k] + row[k + 1:k + 2] if w < v], default=0)
     return max(chosen.values())
-
-
-def order_rows():
-    for row, wanted in (([1, 3, 2, 4], 2), ([1, 2, 3, 4], 4), (list(range(1, 20001)), 20000)):
-        found = rounds_in_order(row)
-        yield f"choosing in order on a row of {len(row)}", found == wanted, found
-
-
-def step_rows():
-    """By hand, with 2**128 + 3 as the root: 1, 2, 3 find the digits 0, 0, 128, and have 1, 0, 256, the root 1; then the
-    digits 0, 8, 0 and 1, 16, 0; then 0, 4, 0 and 1, 9, 0; then 3, 0, 0 and 6, 1, 0."""
-    net = Network({1: 1, 2: 2, 3: 3, 4: 2**128 + 3}, {(1, 2), (2, 3), (3, 4)})
-    lists = [list(c.values()) for c in pulses_of(net, 0)[1:5]]
-    wanted = [[1, 0, 256, 1], [1, 16, 0, 1], [1, 9, 0, 1], [6, 1, 0, 1]]
-    yield "four bit steps with a name of 129 digits", lists == wanted, lists
 
 
 def dropped(net, f):
@@ -81,75 +43,79 @@ def dropped(net, f):
     return [(p, v) for p in (8, 10, 12) for v in sorted(net.neighbours) if lists[p][v] != lists[p - 1][v]]
 
 
-def drop_rows():
-    """The example, by hand from the colours after pulse 6. At pulse 7 node 1 has 5, which node 2 had; before it had 1,
-    and node 2 now has 4: so at 8 it takes 0. At 9 it has 4, the next colour of node 2; before it had 0, and node 2 now
-    has 0: so at 10 it takes 1. At 11 node 3 has 3, which node 4 had; before it had 1, and node 4 now has 0: so at 12 it
-    takes 2.
-
-    Smaller networks: a forest is a higher parent, or none, for each node, and it is forest 0 of the network of its
-    edges.
-    """
-    found = dropped(example("examples/drops.col"), 0)
-    yield "drops of the row of nine", found == [(8, 1), (10, 1), (12, 3)], found
-    count = 0
-    for nodes in range(2, 8):
-        for parents in itertools.product(*([None, *range(v + 1, nodes + 1)] for v in range(1, nodes + 1))):
-            net = Network({v: v for v in range(1, nodes + 1)}, {(v, w) for v, w in enumerate(parents, 1) if w})
-            count += bool(dropped(net, 0))
-    yield "forests of up to seven nodes in which a drop changes a colour", count == 0, count
-
-
-def bar_rows():
-    """The ring of four with a bar, by hand: after pulse 12 nodes 1 and 3 have 0 in forest 0, and 2 and 4 have 1. So 3
-    is first, by (0, 0), and takes 0; then 1, by (0, 1), takes 1; then 2 and 4, by (1, 0): 2 has heard both and takes 2,
-    4 has heard 3 alone and takes 1. In forest 1, the edge of 1 and 4, node 1 is before 4: 3 takes 0, 1 takes 1, 4 has
-    heard both and takes 2, and so does 2.
-    """
-    net = example("examples/barred.col")
-    merges = [first_colours(net), merge(net, 0, first_colours(net)), colours(net)]
-    wanted = [{1: 1, 2: 0, 3: 0, 4: 0}, {1: 1, 2: 2, 3: 0, 4: 1}, {1: 1, 2: 2, 3: 0, 4: 2}]
-    yield "the ring of four with a bar", (merges, last_pulse(net)) == (wanted, 36), merges
-    yield "three colours of the ring of four", three(net, 0) == {1: 0, 2: 1, 3: 0, 4: 1} and three(net, 1)[1] < three(
-        net, 1
-    )[4], three(net, 1)
-    star = example("examples/star.col")
-    barred = Network(star.identifiers, star.number, {9: {0}})
-    found = [colours(net) for net in (star, barred)]
-    yield "the star with a bar", found == [{v: 1 for v in range(1, 9)} | {9: 0},
-                                           {v: 0 for v in range(1, 9)} | {9: 1}], found
-
-
-def pass_rows():
-    """The passes of exercise 7 (d), by hand as its answer has them: pulses R + N (D + B + 1), R being 36 of the ring and
-    21 of the two nodes."""
-    ring, two = example("examples/barred.col"), Network({1: 1, 2: 2}, {(1, 2)}, {1: {1}})
-    for net, ends in ((ring, [(40, [2, 1, 2, 1]), (44, [2, 3, 1, 3]), (48, [2, 1, 2, 1])]), (two, [(24, [3, 1])])):
-        for passes, wanted in enumerate(ends, 1):
-            program = with_passes(passes)
-            found = program.last_pulse(net), [node.colour + 1 for node in synchronous_run(net, program).values()]
-            yield f"{passes} passes with a bar on {len(net.neighbours)} nodes", found == wanted, found
-    yield "the plan of two nodes with a bar", colours(two) == {1: 0, 2: 1}, colours(two)
-
-
 class TutorialFacts(Case):
     needs_programs = False
 
-    def test_facts(self):
-        self.note(*too_many_row())
-        self.note(*row_of_six_row())
+    def test_too_many(self):
+        """Of the networks of up to four nodes, these two alone take a channel more than is needed."""
+        found = []
+        for nodes in range(1, 5):
+            for edges in all_of(nodes):
+                net = Network({v: v for v in range(1, nodes + 1)}, set(edges))
+                if channels_of(net) > fewest_colours(nodes, edges):
+                    found.append(edges)
+        self.same("networks with a channel too many", found, [((1, 3), (1, 4), (2, 4)), ((1, 4), (2, 3), (2, 4))])
+
+    def test_row_of_six(self):
+        """If node 1 makes no pulse and the others do all that they can, they come as far as the tutorial says."""
+        state = NetState(example("examples/chain6.col"))
+        while event := next((event for event in state.possible() if event[:2] != ("Pulse", 1)), None):
+            state.step(*event)
+        pulses = [node.pulse_number for _, node in sorted(state.nodes.items())]
+        self.same("pulses of a row of six with node 1 at rest", pulses, [0, 1, 2, 3, 4, 5])
 
     def test_orders(self):
-        self.note_all(order_rows())
+        for row, wanted in (([1, 3, 2, 4], 2), ([1, 2, 3, 4], 4), (list(range(1, 20001)), 20000)):
+            self.same(f"choosing in order on a row of {len(row)}", rounds_in_order(row), wanted)
 
     def test_steps(self):
-        self.note_all(step_rows())
+        """By hand, with 2**128 + 3 as the root: 1, 2, 3 find the digits 0, 0, 128, and have 1, 0, 256, the root 1; then
+        the digits 0, 8, 0 and 1, 16, 0; then 0, 4, 0 and 1, 9, 0; then 3, 0, 0 and 6, 1, 0."""
+        net = Network({1: 1, 2: 2, 3: 3, 4: 2**128 + 3}, {(1, 2), (2, 3), (3, 4)})
+        lists = [list(c.values()) for c in pulses_of(net, 0)[1:5]]
+        self.same("four bit steps with a name of 129 digits", lists,
+                  [[1, 0, 256, 1], [1, 16, 0, 1], [1, 9, 0, 1], [6, 1, 0, 1]])
 
     def test_drops(self):
-        self.note_all(drop_rows())
+        """The example, by hand from the colours after pulse 6. At pulse 7 node 1 has 5, which node 2 had; before it had
+        1, and node 2 now has 4: so at 8 it takes 0. At 9 it has 4, the next colour of node 2; before it had 0, and node
+        2 now has 0: so at 10 it takes 1. At 11 node 3 has 3, which node 4 had; before it had 1, and node 4 now has 0:
+        so at 12 it takes 2.
+
+        Smaller networks: a forest is a higher parent, or none, for each node, and it is forest 0 of the network of its
+        edges."""
+        self.same("drops of the row of nine", dropped(example("examples/drops.col"), 0), [(8, 1), (10, 1), (12, 3)])
+        count = 0
+        for nodes in range(2, 8):
+            for parents in itertools.product(*([None, *range(v + 1, nodes + 1)] for v in range(1, nodes + 1))):
+                net = Network({v: v for v in range(1, nodes + 1)}, {(v, w) for v, w in enumerate(parents, 1) if w})
+                count += bool(dropped(net, 0))
+        self.same("forests of up to seven nodes in which a drop changes a colour", count, 0)
 
     def test_bars(self):
-        self.note_all(bar_rows())
+        """The ring of four with a bar, by hand: after pulse 12 nodes 1 and 3 have 0 in forest 0, and 2 and 4 have 1. So
+        3 is first, by (0, 0), and takes 0; then 1, by (0, 1), takes 1; then 2 and 4, by (1, 0): 2 has heard both and
+        takes 2, 4 has heard 3 alone and takes 1. In forest 1, the edge of 1 and 4, node 1 is before 4: 3 takes 0, 1
+        takes 1, 4 has heard both and takes 2, and so does 2."""
+        net = example("examples/barred.col")
+        merges = [first_colours(net), merge(net, 0, first_colours(net)), colours(net)]
+        wanted = [{1: 1, 2: 0, 3: 0, 4: 0}, {1: 1, 2: 2, 3: 0, 4: 1}, {1: 1, 2: 2, 3: 0, 4: 2}]
+        self.same("the ring of four with a bar", (merges, last_pulse(net)), (wanted, 36))
+        self.same("three colours of the ring of four", three(net, 0), {1: 0, 2: 1, 3: 0, 4: 1})
+        self.assertLess(three(net, 1)[1], three(net, 1)[4])
+        star = example("examples/star.col")
+        barred = Network(star.identifiers, star.number, {9: {0}})
+        for given, channel in ((star, 0), (barred, 1)):
+            ends = {v: 1 - channel for v in range(1, 9)} | {9: channel}
+            self.same(f"the star whose centre has {channel}", colours(given), ends)
 
     def test_passes(self):
-        self.note_all(pass_rows())
+        """The passes of exercise 7 (d), by hand as its answer has them: pulses R + N (D + B + 1), R being 36 of the ring
+        and 21 of the two nodes."""
+        ring, two = example("examples/barred.col"), Network({1: 1, 2: 2}, {(1, 2)}, {1: {1}})
+        for net, ends in ((ring, [(40, [2, 1, 2, 1]), (44, [2, 3, 1, 3]), (48, [2, 1, 2, 1])]), (two, [(24, [3, 1])])):
+            for passes, wanted in enumerate(ends, 1):
+                program = with_passes(passes)
+                found = program.last_pulse(net), [node.colour + 1 for node in synchronous_run(net, program).values()]
+                self.same(f"{passes} passes with a bar on {len(net.neighbours)} nodes", found, wanted)
+        self.same("the plan of two nodes with a bar", colours(two), {1: 0, 2: 1})
