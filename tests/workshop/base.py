@@ -11,6 +11,7 @@ from lab.workshop.cases import Case, Chance, network_of
 from lab.workshop.playing import Player
 from lab.workshop.protocol import COLOURING
 from tests import FORESTLAB, TOP
+from tests.cases import Case as Rows
 
 DOOR = [FORESTLAB, "workshop"]
 EXAMPLES = os.path.join(TOP, "examples", "workshop")
@@ -37,6 +38,33 @@ def played(assignment: str, name: str | Network, *commands: list[str], policy: s
     case = Case(0, network(name) if isinstance(name, str) else name, policy, seed)
     player.play(case)
     return case
+
+
+class Played(Rows):
+    def found(self, right: tuple | None, assignment: str, given: str | Network, *commands: list[str], **more):
+        """The row of a run with what is wrong in it, (verdict, node, pulse), or None; returns the finding."""
+        finding = played(assignment, given, *commands, **more).finding
+        got = finding and (finding.kind, finding.node, finding.pulse)
+        words = " ".join([*commands[0][-2:], *map(str, more.values())])
+        name = f"{assignment} on {getattr(given, 'name', given)} of {words}"
+        self.note(name, got == right, finding and finding.text())
+        return finding
+
+    def right(self, *given, **more) -> None:
+        self.found(None, *given, **more)
+
+    def garbage(self, words: str, assignment: str, line: str, program: str) -> None:
+        """The row of a node that answers with a line that is none, and a part of what is said of it."""
+        finding = played(assignment, "two", answering(line), program=program).finding
+        said = dict(finding.lines)["wrong"]
+        self.note(f"{assignment} of {program}: {line}", finding.kind == "garbage" and words in said, finding.text())
+
+
+def answering(*lines: str) -> list[str]:
+    """A node that answers each message with these lines."""
+    text = "".join(line + "\n" for line in [*lines, "end"])
+    return [sys.executable, "-S", "-c", f"import sys\nfor line in sys.stdin:\n    if line == 'end\\n':\n        "
+                                        f"print({text!r}, end='', flush=True)"]
 
 
 def command_line(*words: str) -> list[str]:

@@ -4,9 +4,8 @@ import json
 import os
 import subprocess
 import sys
-import tempfile
-import unittest
 
+from tests.cases import Case, text_in
 from tests.workshop.base import ALPHA, GREEDY, ROUNDS, call
 from tests.workshop.mistakes import MISTAKES
 
@@ -30,14 +29,7 @@ thread.join()
 """
 
 
-class Command(unittest.TestCase):
-    def setUp(self):
-        self.holder = tempfile.TemporaryDirectory()
-        self.folder = self.holder.name
-
-    def tearDown(self):
-        self.holder.cleanup()
-
+class Command(Case):
     def path(self, *names):
         return os.path.join(self.folder, *names)
 
@@ -59,36 +51,27 @@ class Command(unittest.TestCase):
             (["rounds", "two", "--runs", "0", "--", *ROUNDS], 2, "0 is no number from 1 on"),
             (["rounds", "two", "--", "/nonexistent/node"], 2, "can't be started: No such file"),
         ):
-            with self.subTest(words[:4]):
-                done = call(*words)
-                self.assertEqual(done.returncode, status, done.stdout + done.stderr)
-                self.assertIn(said, done.stderr)
-                self.assertNotIn("Traceback", done.stderr)
-                self.assertEqual(done.stdout == "", bool(said))
+            done = call(*words)
+            self.note(f"{words[:4]}", done.returncode == status and said in done.stderr
+                      and bool(said) == (not done.stdout) and "Traceback" not in done.stderr, done)
 
     def test_a_file_that_can_t_be_started(self):
         for mode, words in ((0o644, "Permission denied; `chmod +x FILE` lets"), (0o755, "`#!/usr/bin/env python3`")):
-            with self.subTest(words):
-                with open(self.path("node"), "w", encoding="ascii") as file:
-                    file.write("print('end')\n")
-                os.chmod(self.path("node"), mode)
-                done = call("rounds", "two", "--", self.path("node"))
-                self.assertEqual((done.returncode, done.stdout), (2, ""))
-                self.assertIn(words, done.stderr)
+            os.chmod(self.file("node", "print('end')\n"), mode)
+            done = call("rounds", "two", "--", self.path("node"))
+            self.note(words, (done.returncode, done.stdout) == (2, "") and words in done.stderr, done)
 
     def test_the_result_for_a_program(self):
         done = call("alpha", "alone4", "path1", "--policies", "newest", "--runs", "3", "--json", "--one-process", "--",
                     *self.wrong("close_never", "alpha"))
-        got = json.loads(done.stdout)
+        got, right = json.loads(done.stdout), {"case": 1, "network": "path1", "nodes": 1, "policy": "newest"}
+        stuck = {"case": 0, "network": "alone4", "nodes": 4, "policy": "newest", "verdict": "stuck", "node": 1,
+                 "pulse": 30}
         self.assertEqual(done.returncode, 1)
         self.assertEqual({name: got[name] for name in ("workshop", "assignment", "seed", "runs", "right")},
                          {"workshop": 1, "assignment": "alpha", "seed": "1", "runs": 3, "right": 1})
-        self.assertEqual(got["cases"][0],
-                         {"case": 1, "network": "path1", "nodes": 1, "policy": "newest", "verdict": "right"})
+        self.assertEqual(got["cases"][:2], [right | {"verdict": "right"}, stuck])
         self.assertEqual([row["verdict"] for row in got["cases"]], ["right", "stuck", "stuck"])
-        stuck = {"case": 0, "network": "alone4", "nodes": 4, "policy": "newest", "verdict": "stuck", "node": 1,
-                 "pulse": 30}
-        self.assertEqual(got["cases"][1], stuck)
 
     def test_the_smallest_case_has_no_node_too_many(self):
         """A close that is never put shows on two nodes, and on no fewer."""
@@ -106,8 +89,8 @@ class Command(unittest.TestCase):
         self.assertRegex(call("rounds", "path1", "--", sys.executable, "-S", "-c", code).stdout, "no line `channel C`")
 
     def test_a_case_by_its_number(self):
-        all_of = json.loads(call("rounds", "random6", "--runs", "4", "--json", "--one-process", "--", *ROUNDS).stdout)
-        one = json.loads(call("rounds", "random6", "--case", "2", "--json", "--one-process", "--", *ROUNDS).stdout)
+        all_of, one = (json.loads(call("rounds", "random6", *words, "--json", "--one-process", "--", *ROUNDS).stdout)
+                       for words in (["--runs", "4"], ["--case", "2"]))
         self.assertEqual(one["cases"], [row for row in all_of["cases"] if row["case"] == 2])
 
     def test_anybody_can_repeat_the_verdict(self):
@@ -120,8 +103,7 @@ class Command(unittest.TestCase):
                 kept, here = f"kept of {kind}", self.path("a folder")
                 os.makedirs(here, exist_ok=True)
                 self.assertEqual(call(kind, "path3", "--keep", kept, "--", *command, cwd=here).returncode, 1)
-                with open(os.path.join(here, kept, "verdict.txt"), encoding="utf-8") as text:
-                    lines = text.read().partition("The same without the workshop:\n")[2].splitlines()
+                lines = text_in(here, kept, "verdict.txt").partition("The same without the workshop:\n")[2].splitlines()
                 self.assertEqual(len(lines), len(expected))
                 for line, words in zip(lines, expected):
                     done = subprocess.run(["bash", "-c", line], cwd=here, capture_output=True, text=True)
@@ -132,12 +114,10 @@ class Command(unittest.TestCase):
         os.mkdir(logs)
         done = call("alpha", "path3", "--keep", self.path("kept"), "--", sys.executable, "-S", "-c", TEE, logs, *ALPHA)
         self.assertEqual(done.returncode, 0, done.stdout)
-        with open(self.path("kept", "run.transcript"), encoding="ascii") as text:
-            rows = [line.split(" ", 2)[1:] for line in text.read().splitlines()[1:]]
+        rows = [line.split(" ", 2)[1:] for line in text_in(self.path("kept", "run.transcript")).splitlines()[1:]]
         seen = 0
         for name in os.listdir(logs):
-            with open(os.path.join(logs, name), encoding="ascii") as text:
-                lines = [line[2:] for line in text.read().splitlines()]
+            lines = [line[2:] for line in text_in(logs, name).splitlines()]
             v = next(int(line.split()[1]) for line in lines if line.startswith("identifier"))
             neighbours = {1: [2], 2: [1, 3], 3: [2]}[v]
             did = [line.split(" ") for line in lines if line.startswith(("take ", "put ", "pulse "))]

@@ -7,13 +7,13 @@ import signal
 import subprocess
 import sys
 import tempfile
-import time
 import unittest
 
 from lab.workshop.cases import Case
 from lab.workshop.findings import Fault
 from lab.workshop.guard import USERS, Guard, beside, give, kept_in
 from lab.workshop.playing import Player
+from tests.shell import wait_until
 from tests.workshop.base import LIMIT, call, command_line, network
 from tests.workshop.misbehaving import MARK, left, left_at_last
 
@@ -38,6 +38,7 @@ def away(seconds):
             os.execvp("sleep", ["sleep", str(seconds)])
         os._exit(0)
 """
+PYTHON = "--", sys.executable, "-S", "-c"
 END = "\nsys.stderr.write(' '.join(said))\nsys.stderr.flush()\nos._exit(7)\n"
 FORGED = json.dumps({"workshop": 1, "runs": 1, "right": 1, "cases": [{"verdict": "right"}]})
 # What reaches the workshop, as anybody: each has to be refused.
@@ -71,7 +72,7 @@ class Forgers(unittest.TestCase):
         self.assertEqual(left_at_last(), [])
 
     def test_nothing_reaches_the_workshop(self):
-        done = call("rounds", "two", "--json", "--", sys.executable, "-S", "-c", program(REACHING))
+        done = call("rounds", "two", "--json", *PYTHON, program(REACHING))
         self.assertEqual(done.returncode, 1, done)
         result = json.loads(done.stdout)
         self.assertEqual([case["verdict"] for case in result["cases"]], ["ended"])
@@ -83,17 +84,16 @@ class Forgers(unittest.TestCase):
 
     def test_nor_anothers_node(self):
         """Nodes of two people in one network: the second can't end, trace, or speak for the first."""
-        waits = [sys.executable, "-S", "-c", "import time; time.sleep(100)"]
+        waits = [*PYTHON, "import time; time.sleep(100)"]
         find = "OTHER = next(int(p) for p in os.listdir('/proc') if p.isdigit() and int(p) < os.getpid() and " \
                "open(f'/proc/{p}/stat').read().split()[3] == str(WORKSHOP))\n"
         attacks = {"kills": "os.kill(OTHER, signal.SIGKILL)", "traces": "trace(OTHER)",
                    "speaks": "open(f'/proc/{OTHER}/fd/1', 'w').write('end\\n')"}
-        forger = [sys.executable, "-S", "-c", program(attacks, find)]
-        done = call("rounds", "two", "--timeout", "2", "--", *waits, "--", *forger)
+        done = call("rounds", "two", "--timeout", "2", *waits, *PYTHON, program(attacks, find))
         self.assertIn("whose  node 1: ", done.stdout)
         self.assertIn("also   in the same pulse node 2", done.stdout)
-        forger[-1] = forger[-1].replace("int(p) < os", "int(p) > os")
-        done = call("rounds", "two", "--timeout", "2", "--", *forger, "--", *waits)
+        find = find.replace("int(p) < os", "int(p) > os")
+        done = call("rounds", "two", "--timeout", "2", *PYTHON, program(attacks, find), *waits)
         self.assertEqual(set(got(done.stdout).values()), {"PermissionError"}, done.stdout)
 
     def test_nothing_stays(self):
@@ -101,17 +101,15 @@ class Forgers(unittest.TestCase):
         for count in (1, 60):
             with self.subTest(count):
                 more = f"for _ in range({count}):\n    away({MARK})\n"
-                done = call("rounds", "two", "--", sys.executable, "-S", "-c", program({}, more))
+                done = call("rounds", "two", *PYTHON, program({}, more))
                 self.assertEqual(done.returncode, 1, done)
                 self.assertEqual(left_at_last(), [])
 
     def test_nor_if_the_workshop_is_killed(self):
         """The nodes themselves end with it."""
-        waits = [sys.executable, "-S", "-c", f"import time; time.sleep({MARK})", MARK]
-        workshop = subprocess.Popen(command_line("rounds", "two", "--", *waits), stdout=subprocess.PIPE)
-        until = time.monotonic() + LIMIT
-        while len(left()) < 3 and time.monotonic() < until:     # the workshop's own words have the mark, too
-            time.sleep(0.001)
+        words = command_line("rounds", "two", *PYTHON, f"import time; time.sleep({MARK})", MARK)
+        workshop = subprocess.Popen(words, stdout=subprocess.PIPE)
+        wait_until(lambda: len(left()) > 2, LIMIT, 0.001)       # the workshop's own words have the mark, too
         workshop.send_signal(signal.SIGKILL)
         workshop.communicate(timeout=LIMIT)
         self.assertEqual(left_at_last(), [])
@@ -132,21 +130,21 @@ class Forgers(unittest.TestCase):
         more = ("import mmap\nfor _ in range(2):\n    if os.fork() == 0:\n        shared = mmap.mmap(-1, 150 << 20)\n"
                 "        for at in range(0, len(shared), 4096):\n            shared[at] = 1\n"
                 "        time.sleep(60)\ntime.sleep(60)\n")
-        done = call("rounds", "path1", "--memory", "200", "--", sys.executable, "-S", "-c", program({}, more))
+        done = call("rounds", "path1", "--memory", "200", *PYTHON, program({}, more))
         self.assertIn("wrong: flood", done.stdout)
         self.assertIn("it takes more than 200 megabytes of memory", done.stdout)
 
     def test_what_it_prints_is_harmless(self):
         """No letter that a terminal obeys, and no line of its own."""
         code = BEGIN + "print('\\x1b[2J\\x1b]0;x\\x07right\\u202e\\r\\nright')\nsys.stderr.write('\\x1b[31m')\n"
-        done = call("rounds", "two", "--", sys.executable, "-S", "-c", code)
+        done = call("rounds", "two", *PYTHON, code)
         self.assertEqual(done.returncode, 1)
         self.assertNotRegex(done.stdout, "[\x00-\x09\x0b-\x1f\x7f\u202e]")
         self.assertNotRegex(done.stdout, r"(?m)^right$")
 
     def test_the_environment_is_small(self):
         more = "said.append('names=' + '+'.join(sorted(os.environ)))\n"
-        done = call("rounds", "two", "--", sys.executable, "-S", "-c", program({}, more),
+        done = call("rounds", "two", *PYTHON, program({}, more),
                     env={**os.environ, "SECRET": "x", "PYTHONUNBUFFERED": "1", "HOME": "/", "LANG": "C.UTF-8"})
         names = set(got(done.stdout)["names"].split("+"))
         self.assertLessEqual(names, {"HOME", "LANG", "PATH", "TMPDIR", "LC_CTYPE"})
@@ -180,14 +178,18 @@ class Guards(unittest.TestCase):
         os.chmod(room, 0o711)
         with open(os.path.join(folder, "kept"), "w", encoding="ascii") as file:
             file.write("ours")
-        guard = Guard(folder, [room])
+        said = self.said_in(folder, [room], code, "two")
+        self.assertEqual(got(said), {"met": "1", "kept": "'ours'"}, said)
+        self.assertEqual(sorted(os.listdir(room)), ["submission", "submission-0", "submission-1"])
+
+    def said_in(self, folder, closed, code, given):
+        """What is found of a node of this code, which is guarded in a folder."""
+        guard = Guard(folder, closed)
         if guard.user is not None:
             give(folder, guard.user)
-        player = Player("rounds", [["python3", "-S", "-c", code]], 20.0, 2048, False, None, guard=guard)
-        case = Case(0, network("two"), "", "1")
-        player.play(case)
-        self.assertEqual(got(" ".join(case.finding.text())), {"met": "1", "kept": "'ours'"}, case.finding.text())
-        self.assertEqual(sorted(os.listdir(room)), ["submission", "submission-0", "submission-1"])
+        case = Case(0, network(given), "", "1")
+        Player("rounds", [["python3", "-S", "-c", code]], 30.0, 2048, False, None, guard=guard).play(case)
+        return " ".join(case.finding.text())
 
     def test_files_without_a_name(self):
         """They take as much room, on the disk or in memory, and no folder has them."""
@@ -195,13 +197,7 @@ class Guards(unittest.TestCase):
             more = (f"for _ in range(20):\n    file = {opened}\n    for _ in range(15):\n"
                     "        os.write(file, bytes(1 << 20))\ntime.sleep(60)\n")
             folder = os.path.realpath(self.enterContext(tempfile.TemporaryDirectory()))
-            guard = Guard(folder, [])
-            if guard.user is not None:
-                give(folder, guard.user)
-            player = Player("rounds", [["python3", "-S", "-c", program({}, more)]], 30.0, 2048, False, None, guard=guard)
-            case = Case(0, network("path1"), "", "1")
-            player.play(case)
-            said = " ".join(case.finding.text())
+            said = self.said_in(folder, [], program({}, more), "path1")
             self.assertIn("it wrote more than 256 megabytes", said, (opened, said))
 
     def test_a_full_folder(self):

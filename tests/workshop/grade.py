@@ -9,8 +9,6 @@ import platform
 import re
 import shutil
 import socket
-import tempfile
-import unittest
 from unittest import mock
 
 from lab.schedules.policies import POLICIES
@@ -19,7 +17,7 @@ from lab.workshop.cases import NETWORKS
 from lab.workshop.guard import Guard
 from lab.workshop.workshop import main
 from lab.wrong import Wrong
-from tests import TOP
+from tests.cases import Case, text_in
 from tests.workshop.base import EXAMPLES, call
 from tests.workshop.forgers import BEGIN, OUTSIDE, got, program
 from tests.workshop.misbehaving import MARK, left_at_last
@@ -29,9 +27,8 @@ ZERO = "import sys\nfor line in sys.stdin:\n    if line == 'end\\n':\n        pr
 MUTE = "import sys\nfor line in sys.stdin:\n    if line == 'end\\n':\n        print('end')\n"
 
 
-class Grades(unittest.TestCase):
+class Grades(Case):
     def setUp(self):
-        self.folder = os.path.realpath(self.enterContext(tempfile.TemporaryDirectory()))
         os.chmod(self.folder, 0o755)
         self.subs = os.path.join(self.folder, "submissions")
 
@@ -43,8 +40,7 @@ class Grades(unittest.TestCase):
         folder = os.path.join(self.subs, student)
         os.makedirs(folder, exist_ok=True)
         for name, text in files.items():
-            with open(os.path.join(folder, re.sub("_(py|js|c)$", r".\1", name)), "w", encoding="utf-8") as file:
-                file.write(text)
+            self.file(os.path.join(folder, re.sub("_(py|js|c)$", r".\1", name)), text)
         return folder
 
     def graded(self, *words: str, runs: str = "2", timeout: str = "30") -> dict:
@@ -82,16 +78,14 @@ class Grades(unittest.TestCase):
         names = {"subs": self.subs, "other": os.path.join(self.subs, "ben", "rounds_node.py"),
                  "right": os.path.join(RIGHT, "rounds_node.py"), "loot": os.path.join(self.folder, "loot"),
                  "port": server.getsockname()[1]}
-        attacks = {name: attack.format(WORKSHOP="WORKSHOP", **names).replace("{WORKSHOP}", "{WORKSHOP}")
-                   for name, attack in OUTSIDE.items()}
+        attacks = {name: attack.format(**names) for name, attack in OUTSIDE.items()}
         own = {"own": "open('kept', 'w').write('x')",
                "home": "os.environ['HOME'] == os.getcwd() == os.environ['TMPDIR']"}
         self.submit("anna", rounds_node_py=program(attacks | own, f"away({MARK})\n"))
         self.submit("ben", rounds_node_py=program({}))
         done = call("grade", self.subs, "--runs", "1", "--timeout", "30", "--reports", os.path.join(self.folder, "to"))
         self.assertEqual(done.returncode, 0, done)
-        with open(os.path.join(self.folder, "to", "anna.txt"), encoding="utf-8") as text:
-            found = got(text.read())
+        found = got(text_in(self.folder, "to", "anna.txt"))
         self.assertEqual({name: found.pop(name) for name in own}, {"own": "1", "home": "True"}, found)
         self.assertEqual(found.keys(), attacks.keys())
         self.assertEqual(set(found.values()), {"PermissionError"}, found)
@@ -126,8 +120,7 @@ class Grades(unittest.TestCase):
         self.assertIn(verdicts.pop("cleo"), ("ended", "flood"))
         self.assertEqual(verdicts, {"anna": "ended", "ben": "differs"})
         self.assertEqual((kept(), os.listdir(room)), (before, []))
-        with open(os.path.join(reports, "anna.txt"), encoding="utf-8") as text:
-            found = got(text.read())
+        found = got(text_in(reports, "anna.txt"))
         self.assertEqual((found.pop("mine"), found.pop("flags"), found.keys()),
                          ("None", "True", attacks.keys() - {"mine", "flags"}), found)
         if platform.machine() == "x86_64":
@@ -252,7 +245,7 @@ class Grades(unittest.TestCase):
         self.assertEqual(found["anna"]["in_all"], "80")
 
 
-class Points(unittest.TestCase):
+class Points(Case):
     """By hand, of the table in TEACHING: 99 of 100 runs give 39, nine of ten policies 36, and all plans 10."""
 
     def test_they_add_up(self):
@@ -266,8 +259,7 @@ class Points(unittest.TestCase):
                          [39, 36, 0])
 
     def test_the_parts_are_a_hundred(self):
-        with open(os.path.join(TOP, "docs", "learn", "TEACHING.md"), encoding="utf-8") as text:
-            table = text.read().partition("**Points.**")[2].partition("\n\n**")[0]
+        table = text_in("docs", "learn", "TEACHING.md").partition("**Points.**")[2].partition("\n\n**")[0]
         found = {name: int(number) for name, number in re.findall(r"(?m)^\| (\w+) \| (\d+) \|", table)}
         self.assertEqual(sum(found.values()), 100)
         self.assertEqual({name: found[name] for name in grade.POINTS}, grade.POINTS)

@@ -4,11 +4,11 @@ import os
 import signal
 import subprocess
 import sys
-import tempfile
 import time
-import unittest
 
 from tests import TOP
+from tests.cases import Case, contents, text_in
+from tests.shell import wait_until
 from tests.workshop.base import ALPHA, DOOR, LIMIT, played
 
 # A number of seconds that no other process sleeps: so a child that is left can be found.
@@ -49,8 +49,7 @@ def left() -> list[str]:
     found = []
     for pid in filter(str.isdecimal, os.listdir("/proc")):
         try:
-            with open(f"/proc/{pid}/cmdline", "rb") as text:
-                words = text.read().decode("utf-8", "replace").split("\0")
+            words = contents(f"/proc/{pid}/cmdline").decode("utf-8", "replace").split("\0")
         except OSError:
             continue
         if MARK in words:
@@ -60,9 +59,7 @@ def left() -> list[str]:
 
 def left_at_last() -> list[str]:
     """The same after a while: whoever is killed dies when the system comes to it."""
-    until = time.monotonic() + PATIENCE
-    while left() and time.monotonic() < until:
-        time.sleep(0.02)
+    wait_until(lambda: not left(), PATIENCE)
     return left()
 
 
@@ -72,25 +69,21 @@ def command(how: str, file: str = MARK) -> list[str]:
     return [sys.executable, "-S", "-c", code, MARK]
 
 
-class Misbehaving(unittest.TestCase):
+class Misbehaving(Case):
     def tearDown(self):
         self.assertEqual(left_at_last(), [])
 
     def test_each_is_named(self):
-        with tempfile.TemporaryDirectory() as folder:
-            for how, kind, words in ROWS:
-                with self.subTest(how):
-                    network = "path1" if how == "loops" else "two"
-                    node = command(how, os.path.join(folder, "big") if how == "file" else MARK)
-                    found = played("rounds", network, node, timeout=0.3 if how in SHORT else 2).finding
-                    self.assertEqual(found and found.kind, kind, found and found.text())
-                    if kind:
-                        self.assertIn(words, dict(found.lines)["wrong"])
-                    self.assertEqual(left_at_last(), [])
+        for how, kind, words in ROWS:
+            node = command(how, os.path.join(self.folder, "big") if how == "file" else MARK)
+            network, timeout = "path1" if how == "loops" else "two", 0.3 if how in SHORT else 2
+            found = played("rounds", network, node, timeout=timeout).finding
+            good = (found and found.kind) == kind and (not kind or words in dict(found.lines)["wrong"])
+            self.note(how, good, found and found.text())
+            self.same(f"{how}: none is left", left_at_last(), [])
 
     def test_the_place_of_a_crash_is_named(self):
-        with open(os.path.join(TOP, "tests", "workshop", "broken_node.py"), encoding="utf-8") as text:
-            lines = text.read().splitlines()
+        lines = text_in("tests", "workshop", "broken_node.py").splitlines()
         line = 1 + next(k for k, words in enumerate(lines) if "raise ValueError" in words)
         found = dict(played("rounds", "two", command("crashes")).finding.lines)
         self.assertIn(f'broken_node.py", line {line}, in crash | ', found["wrong"])
@@ -119,11 +112,10 @@ class Misbehaving(unittest.TestCase):
             (["chose 1"], "garbage", "`chose 1` is a line of rounds alone"),
             (["put 0 close", "colour 0 3"], "NothingToPut", "put 0 close"),
         ):
-            with self.subTest(more):
-                program = code % (os.path.join(TOP, "examples", "workshop", "python"), more)
-                found = played("alpha", "two", [sys.executable, "-S", "-c", program, MARK]).finding
-                self.assertEqual((found.kind, found.pulse), (kind, 2))
-                self.assertIn(words, dict(found.lines)["wrong"])
+            program = code % (os.path.join(TOP, "examples", "workshop", "python"), more)
+            found = played("alpha", "two", [sys.executable, "-S", "-c", program, MARK]).finding
+            good = (found.kind, found.pulse) == (kind, 2) and words in dict(found.lines)["wrong"]
+            self.note(f"{more}", good, found.text())
 
     def test_ending_the_workshop_ends_the_programs(self):
         rows = (("loops", signal.SIGTERM, 143), ("child", signal.SIGINT, 130), ("hangs", signal.SIGHUP, 129))
@@ -135,9 +127,7 @@ class Misbehaving(unittest.TestCase):
                 before = signal.signal(number, lambda *_: None)
                 workshop = subprocess.Popen(words, stdout=pipe, stderr=pipe, start_new_session=True)
                 signal.signal(number, before)
-                until = time.monotonic() + LIMIT
-                while len(left()) < 4 and time.monotonic() < until:     # the workshop's own words have the mark, too
-                    time.sleep(0.02)
+                wait_until(lambda: len(left()) > 3, LIMIT)      # the workshop's own words have the mark, too
                 time.sleep(0.3)
                 workshop.send_signal(number)
                 self.assertEqual((workshop.wait(LIMIT), workshop.stdout.read()), (status, b""))

@@ -3,11 +3,9 @@ those of the synchroniser on alone4 without one, under `newest`."""
 import importlib.util
 import os
 import sys
-import tempfile
-import unittest
 
 from lab.workshop.cases import NETWORKS
-from tests.workshop.base import ALPHA, EXAMPLES, played
+from tests.workshop.base import ALPHA, EXAMPLES, Played
 
 specification = importlib.util.spec_from_file_location("mistakes_of_nodes", os.path.join(EXAMPLES, "mistakes.py"))
 MISTAKES = importlib.util.module_from_spec(specification)
@@ -43,18 +41,12 @@ ALPHA_MISTAKES = {
 }
 
 
-class Mistakes(unittest.TestCase):
-    @classmethod
-    def setUpClass(cls):
-        cls.folder = tempfile.TemporaryDirectory()
-        MISTAKES.write(cls.folder.name)
-
-    @classmethod
-    def tearDownClass(cls):
-        cls.folder.cleanup()
+class Mistakes(Played):
+    def setUp(self):
+        MISTAKES.write(self.folder)
 
     def node(self, name, kind):
-        return [sys.executable, "-S", os.path.join(self.folder.name, name, f"{kind}_node.py")]
+        return [sys.executable, "-S", os.path.join(self.folder, name, f"{kind}_node.py")]
 
     def test_each_has_a_row(self):
         self.assertEqual((set(COLOURING), set(ALPHA_MISTAKES)), (set(MISTAKES.COLOURING), set(MISTAKES.ALPHA)))
@@ -64,26 +56,19 @@ class Mistakes(unittest.TestCase):
         can_show = {name for name, rights in COLOURING.items() if rights != (None, None)}
         on_most4 = {name for name in can_show if COLOURING[name][0]}
         self.assertEqual(can_show - on_most4, {"drop_all", "names_text"})
-        for words in ("rest3", "most4"):
-            self.assertIn(words, NETWORKS.split(","))
+        self.assertLessEqual({"rest3", "most4"}, set(NETWORKS.split(",")))
         with open(os.path.join(EXAMPLES, "most4.col"), encoding="ascii") as text:
             self.assertIn(f"{len(on_most4)} of the {len(can_show)} typical mistakes", text.readline())
 
     def test_of_the_colouring(self):
         for name, rights in COLOURING.items():
             for network, right in zip(("most4", "rest3"), rights):
-                with self.subTest(mistake=name, network=network):
-                    found = played("rounds", network, self.node(name, "rounds"), is_shared=True).finding
-                    self.assertEqual(found and (found.kind, found.node, found.pulse), right and ("differs", *right))
+                self.found(right and ("differs", *right), "rounds", network, self.node(name, "rounds"), is_shared=True)
 
     def test_of_the_synchroniser(self):
         for name, right in ALPHA_MISTAKES.items():
-            with self.subTest(mistake=name):
-                command, is_shared = self.node(name, "alpha"), name != "leaves"
-                found = played("alpha", "alone4", command, policy="newest", is_shared=is_shared).finding
-                self.assertEqual(found and (found.kind, found.node, found.pulse), right)
+            self.found(right, "alpha", "alone4", self.node(name, "alpha"), policy="newest", is_shared=name != "leaves")
 
     def test_blame_is_of_the_node_whose_mistake_it_is(self):
         """Two right nodes, and one at the end of the row that makes pulses without its neighbours' safes."""
-        found = played("alpha", "path3", ALPHA, ALPHA, self.node("safes_none", "alpha")).finding
-        self.assertEqual((found.kind, found.node, found.pulse), ("NotReady", 3, 0))
+        self.found(("NotReady", 3, 0), "alpha", "path3", ALPHA, ALPHA, self.node("safes_none", "alpha"))

@@ -2,14 +2,10 @@
 path4, a row of the nodes 1 to 4, is worked by hand. Of the layers: node 1 sends `hops 0` in pulse 0, node 2 `hops 1` in
 pulse 1, node 3 `hops 2` in pulse 2, and pulse 3 is the last of path4; of path3 it is 2, at which node 3 sends nothing.
 Of the leader: node 2 of path3 learns of 3 in pulse 1, node 1 in pulse 2."""
-import contextlib
-import io
 import json
 import os
 import subprocess
 import sys
-import tempfile
-import unittest
 
 from lab.networks.network_text import Network
 from lab.schedules.policies import POLICIES
@@ -18,7 +14,8 @@ from lab.workshop.protocol import own_data
 from lab.workshop.options import parsed
 from lab.workshop.right_rounds import RightRounds
 from lab.workshop.workshop import main
-from tests.workshop.base import EXAMPLES, network, played, python
+from tests.cases import in_process, text_in
+from tests.workshop.base import EXAMPLES, Played, answering, network, python
 from tests.workshop.mistakes import MISTAKES
 
 ROUNDS, ALPHA = (python("python", f"layers_{name}_node.py") for name in ("rounds", "alpha"))
@@ -76,31 +73,17 @@ def leader(kind: str, sign: str = "<=") -> list[str]:
     return [sys.executable, "-S", "-c", code]
 
 
-def answering(*lines: str) -> list[str]:
-    """A node that answers each message with these lines."""
-    text = "".join(line + "\n" for line in [*lines, "end"])
-    return [sys.executable, "-S", "-c", f"import sys\nfor line in sys.stdin:\n    if line == 'end\\n':\n        "
-                                        f"print({text!r}, end='', flush=True)"]
-
-
 def called(*words: str) -> tuple[int, str, str]:
     """Status, standard output and standard error of a call in this process."""
-    out, errors = io.StringIO(), io.StringIO()
-    with contextlib.redirect_stdout(out), contextlib.redirect_stderr(errors):
-        try:
-            status = main(list(words))
-        except SystemExit as why:
-            status = why.code
-    return status, out.getvalue(), errors.getvalue()
+    status, out, errors = in_process("workshop", main, *words)
+    return status, out.decode(), errors.decode()
 
 
-class OtherPrograms(unittest.TestCase):
-    def good(self, case):
-        self.assertIsNone(case.finding, case.finding and case.finding.text())
-
-    def found(self, *given, **more):
-        finding = played(*given, **more).finding
-        return finding and (finding.kind, finding.node, finding.pulse)
+class OtherPrograms(Played):
+    def wrong_node(self, name: str, kind: str) -> list[str]:
+        """The command of a node with a mistake."""
+        MISTAKES.write(self.folder, [name])
+        return [sys.executable, "-S", os.path.join(self.folder, name, f"layers_{kind}_node.py")]
 
     def test_what_is_right(self):
         rounds = RightRounds(network("path3"), "layers")
@@ -113,8 +96,7 @@ class OtherPrograms(unittest.TestCase):
             (network("path3"), "leader", ["leader 3"] * 3),
             (RING, "leader", [f"leader {1 << 100}"] * 4 + ["leader 2"]),
         ):
-            with self.subTest(network=given.name, program=program):
-                self.assertEqual(RightRounds(given, program).results, dict(enumerate(right, 1)))
+            self.same(f"{program} on {given.name}", RightRounds(given, program).results, dict(enumerate(right, 1)))
 
     def test_a_node_learns_its_own_data_and_no_forests(self):
         rounds = RightRounds(network("path3"), "layers")
@@ -123,71 +105,55 @@ class OtherPrograms(unittest.TestCase):
                           "barred 0"])
 
     def test_right_layers(self):
-        for given in ("path1", "two", "path5", "triangle", "alone4", "random6", "barred", RING):
-            for assignment, command in OF_ASSIGNMENT.items():
-                with self.subTest(network=given, assignment=assignment):
-                    self.good(played(assignment, given, command, program="layers"))
-
-    def test_right_layers_under_each_policy(self):
+        for assignment, command in OF_ASSIGNMENT.items():
+            for given in ("path1", "two", "path5", "triangle", "alone4", "random6", "barred", RING):
+                self.right(assignment, given, command, program="layers")
         for policy in POLICIES:
-            with self.subTest(policy):
-                self.good(played("alpha", RING, ALPHA, policy=policy, is_shared=True, program="layers"))
+            self.right("alpha", RING, ALPHA, policy=policy, is_shared=True, program="layers")
 
     def test_a_right_leader(self):
         for given in ("path1", "path5", RING):
             for assignment, kind in (("rounds", "RoundsNode"), ("alpha", "AlphaNode")):
-                with self.subTest(network=given, assignment=assignment):
-                    self.good(played(assignment, given, leader(kind), program="leader"))
+                self.right(assignment, given, leader(kind), program="leader")
 
     def test_a_leader_that_is_heard_again(self):
         """With `<` in place of `<=` node 3 of path3, which knows of 3 alone, hears it from node 2 in pulse 2."""
-        finding = played("rounds", "path3", leader("RoundsNode", "<"), program="leader").finding
-        self.assertEqual((finding.node, finding.pulse), (3, 2))
-        self.assertEqual(finding.text()[:4], [
+        finding = self.found(("differs", 3, 2), "rounds", "path3", leader("RoundsNode", "<"), program="leader")
+        self.same("its words", finding.text()[:4], [
             "where  node 3, pulse 2", "came   leader 3 by port 0", "wrong  put 0 leader 3", "right  nothing by port 0"])
-        self.assertEqual(self.found("alpha", "path3", leader("AlphaNode", "<"), program="leader"), ("WrongWire", 3, 2))
+        self.found(("WrongWire", 3, 2), "alpha", "path3", leader("AlphaNode", "<"), program="leader")
 
     def test_mistakes(self):
-        self.assertEqual(set(LAYERS), set(MISTAKES.LAYERS))
-        with tempfile.TemporaryDirectory() as folder:
-            MISTAKES.write(folder, LAYERS)
-            for name, rights in LAYERS.items():
-                for assignment, right in zip(("rounds", "alpha"), rights):
-                    node = [sys.executable, "-S", os.path.join(folder, name, f"layers_{assignment}_node.py")]
-                    with self.subTest(mistake=name, assignment=assignment):
-                        finding = played(assignment, "path4", node, policy="newest", program="layers").finding
-                        self.assertEqual((finding.kind, finding.node, finding.pulse), right)
-                        if assignment == "rounds":
-                            self.assertEqual(finding.text(), WORDS[name])
-                        else:
-                            self.assertIn(f"why    {ONCE if right[0] == 'WrongWire' else FIRST}", finding.text())
+        self.same("all of them", set(LAYERS), set(MISTAKES.LAYERS))
+        for name, rights in LAYERS.items():
+            for assignment, right in zip(("rounds", "alpha"), rights):
+                node = self.wrong_node(name, assignment)
+                finding = self.found(right, assignment, "path4", node, policy="newest", program="layers")
+                if assignment == "rounds":
+                    self.same(f"words of {name}", finding.text(), WORDS[name])
+                else:
+                    why = f"why    {ONCE if right[0] == 'WrongWire' else FIRST}"
+                    self.note(f"words of {name} without a clock", why in finding.text(), finding.text())
 
     def test_what_is_no_line_or_no_wire_of_the_program(self):
         forms = "`layer N by PORT`, `layer 0`, `layer none` and `end`"
         for assignment, line, words in (
             ("rounds", "colour 0 1", f"which are `put PORT WORD NUMBER`, {forms}"),
-            ("rounds", "channel 1", "`channel 1` is no line of an answer"),
             ("rounds", "layer 1 by", "`layer 1 by` is no line of an answer"),
             ("rounds", "layer far", "`layer far` is no line of an answer"),
             ("alpha", "chose 1", f"which are `put PORT WIRE`, `pulse P`, {forms}"),
-            ("alpha", "leader 3", "`leader 3` is no line of an answer"),
             ("alpha", "put 0 payload 0 hello 1", "`hello` is no payload, which is hops"),
             ("alpha", f"put 0 payload 0 hops {1 << 32}", f"`{1 << 32}` is no number below {1 << 32}"),
         ):
-            with self.subTest(assignment=assignment, line=line):
-                finding = played(assignment, "two", answering(line), program="layers").finding
-                self.assertEqual(finding.kind, "garbage")
-                self.assertIn(words, dict(finding.lines)["wrong"])
+            self.garbage(words, assignment, line, "layers")
 
     def test_a_result_that_isn_t_said(self):
         """A node that is silent is right in every pulse if nobody is the root, up to the last."""
-        finding = played("rounds", "alone4", answering(), program="layers").finding
-        self.assertEqual((finding.kind, finding.node, finding.pulse), ("differs", 1, 3))
-        self.assertIn("wrong  no line `layer N by PORT` or `layer 0` or `layer none`", finding.text())
-        self.good(played("rounds", "alone4", answering("layer none"), program="layers"))
-
-    def test_numbers_with_zeros_before_them(self):
-        self.good(played("rounds", "path1", answering("layer 00"), program="layers"))
+        finding = self.found(("differs", 1, 3), "rounds", "alone4", answering(), program="layers")
+        said = "wrong  no line `layer N by PORT` or `layer 0` or `layer none`"
+        self.note("its words", said in finding.text(), finding.text())
+        self.right("rounds", "alone4", answering("layer none"), program="layers")
+        self.right("rounds", "path1", answering("layer 00"), program="layers")
 
     def test_most_networks_have_a_root(self):
         """And those of the colouring are as they always were; bars come by chance for the colouring alone."""
@@ -212,41 +178,29 @@ class OtherPrograms(unittest.TestCase):
              "recolouring\n"),
             (["open", "two", "--program", "layers", "--", "x"], "forestlab workshop: error: --program is of rounds and alpha\n"),
         ):
-            with self.subTest(words[:4]):
-                status, out, errors = called(*words)
-                self.assertEqual((status, out), (2, ""))
-                self.assertEqual(errors.splitlines(keepends=True)[-1], said)
+            status, out, errors = called(*words)
+            self.same(f"{words[:4]}", (status, out, errors.splitlines(keepends=True)[-1]), (2, "", said))
 
     def test_the_result_for_a_program(self):
-        status, out, _ = called("rounds", "path3", "--program", "layers", "--json", "--", *ROUNDS)
-        got = json.loads(out)
-        self.assertEqual((status, got["right"], got["assignment"], got["program"]), (0, 1, "rounds", "layers"))
+        got = json.loads(called("rounds", "path3", "--program", "layers", "--json", "--", *ROUNDS)[1])
+        self.same("a result", (got["right"], got["assignment"], got["program"]), (1, "rounds", "layers"))
 
     def test_anybody_can_repeat_the_verdict(self):
         """The commands name the program; they are run as soon as the built program knows it."""
         rows = (("alpha", [("forestplay replay --program layers", "forestplay: WrongWire line"),
                            ("--program layers", "WrongWire")]),
                 ("rounds", [("forestplay rounds --program layers", ""), ("diff", "1 put 2 payload 1 hops 0")]))
-        with tempfile.TemporaryDirectory() as folder:
-            MISTAKES.write(folder, ["layers_again"])
-            for assignment, expected in rows:
-                node = [sys.executable, "-S", os.path.join(folder, "layers_again", f"layers_{assignment}_node.py")]
-                kept = os.path.join(folder, assignment)
-                self.assertEqual(called(assignment, "path3", "--program", "layers", "--keep", kept, "--", *node)[0], 1)
-                with open(os.path.join(kept, "verdict.txt"), encoding="utf-8") as text:
-                    lines = text.read().partition("The same without the workshop:\n")[2].splitlines()
-                self.assertEqual(len(lines), len(expected))
-                for line, (words, said) in zip(lines, expected):
-                    with self.subTest(line):
-                        self.assertIn(words, line)
-                        done = subprocess.run(["bash", "-c", line], cwd=os.getcwd(), capture_output=True, text=True)
-                        self.assertIn(said, done.stdout + done.stderr)
+        for assignment, expected in rows:
+            kept, node = os.path.join(self.folder, assignment), self.wrong_node("layers_again", assignment)
+            done = called(assignment, "path3", "--program", "layers", "--keep", kept, "--", *node)
+            self.same(f"the status of {assignment}", done[0], 1)
+            lines = text_in(kept, "verdict.txt").partition("The same without the workshop:\n")[2].splitlines()
+            self.same(f"lines of {assignment}", len(lines), len(expected))
+            for line, (words, said) in zip(lines, expected):
+                done = subprocess.run(["bash", "-c", line], capture_output=True, text=True)
+                self.note(line, words in line and said in done.stdout + done.stderr, done)
 
     def test_the_run_is_drawn_up_to_what_is_wrong(self):
-        with tempfile.TemporaryDirectory() as folder:
-            MISTAKES.write(folder, ["layers_again"])
-            node = [sys.executable, "-S", os.path.join(folder, "layers_again", "layers_alpha_node.py")]
-            picture = os.path.join(folder, "run.svg")
-            self.assertEqual(called("alpha", "path3", "--program", "layers", "--picture", picture, "--", *node)[0], 1)
-            with open(picture, encoding="utf-8") as text:
-                self.assertIn("not possible", text.read())
+        picture, node = os.path.join(self.folder, "run.svg"), self.wrong_node("layers_again", "alpha")
+        called("alpha", "path3", "--program", "layers", "--picture", picture, "--", *node)
+        self.assertIn("not possible", text_in(picture))

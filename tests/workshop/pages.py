@@ -1,10 +1,10 @@
 """The pages of the workshop: PROTOCOL is short enough, what they print is printed, and their numbers are those of
 the code. And what the folder of a class has, and what it hasn't."""
+import glob
 import os
 import re
 import subprocess
 import tempfile
-import unittest
 
 from build.install import install
 from build.pack import name_of, write
@@ -12,19 +12,19 @@ from lab.schedules.policies import POLICIES
 from lab.transcripts.fields import PAYLOADS
 from lab.workshop import cases, class_files, guard, options, processes, protocol
 from tests import FORESTLAB, TOP
-from tests.workshop.base import LIMIT, call, python
+from tests.cases import Case, called, text_in
+from tests.workshop.base import call, python
 from tests.workshop.mistakes import MISTAKES
 
 
 def page(name: str) -> str:
-    with open(os.path.join(TOP, "docs", "learn", name), encoding="utf-8") as text:
-        return text.read()
+    return text_in("docs", "learn", name)
 
 
 NUMBERS = {"five": "5", "ten": "10", "twelve": "12"}
 
 
-class Pages(unittest.TestCase):
+class Pages(Case):
     def test_the_protocol_is_read_in_ten_minutes(self):
         words = [word for word in page("PROTOCOL.md").split() if re.search(r"\w", word)]
         self.assertLessEqual(len(words), 1100)
@@ -32,16 +32,11 @@ class Pages(unittest.TestCase):
     def test_the_protocol_has_every_verdict(self):
         """All words that a finding is called by in the code."""
         said = set()
-        for folder in ("workshop",):
-            for name in os.listdir(os.path.join(TOP, "lab", folder)):
-                if name.endswith(".py"):
-                    with open(os.path.join(TOP, "lab", folder, name), encoding="utf-8") as text:
-                        said |= set(re.findall(r'(?:Finding|Fault)\("(\w+)"', text.read()))
+        for path in glob.glob(os.path.join(TOP, "lab", "workshop", "*.py")):
+            said |= set(re.findall(r'(?:Finding|Fault)\("(\w+)"', text_in(path)))
         self.assertGreater(len(said), 6)
         table = page("PROTOCOL.md").partition("## What is wrong")[2]
-        for word in said - {"start"}:
-            with self.subTest(word):
-                self.assertIn(f"`{word}`", table)
+        self.assertEqual({word for word in said - {"start"} if f"`{word}`" not in table}, set())
 
     def test_the_first_failure_of_the_skeleton_is_as_the_page_has_it(self):
         block = page("WORKSHOP.md").partition("reports what your node has to do next:\n\n")[2].partition("\n\n")[0]
@@ -71,33 +66,25 @@ class Pages(unittest.TestCase):
             (teaching, len(POLICIES), r"each of the (\w+) policies of which"),
             (teaching, len(cases.NETWORKS.split(",")), r"of which all (\w+) runs are right"),
         ):
-            with self.subTest(words):
-                found = re.search(words, text)[1].replace(",", "")
-                self.assertEqual(NUMBERS.get(found, found), f"{number:.0f}")
+            found = re.search(words, text)[1].replace(",", "")
+            self.same(words, NUMBERS.get(found, found), f"{number:.0f}")
         self.assertEqual(guard.limits_of(1, 1, 17).written < guard.limits_of(1, 1, 16).written, True)
 
     def test_the_page_has_each_policy_and_each_payload(self):
-        for name in POLICIES:
-            with self.subTest(name):
-                self.assertIn(f"`{name}`", page("WORKSHOP.md"))
-        for name in map(bytes.decode, PAYLOADS["colouring"]):
-            with self.subTest(name):
-                self.assertIn(f"`{name}`", page("PROTOCOL.md"))
+        for names, text in ((POLICIES, "WORKSHOP.md"), (map(bytes.decode, PAYLOADS["colouring"]), "PROTOCOL.md")):
+            self.same(text, [name for name in names if f"`{name}`" not in page(text)], [])
 
 
-class ClassFolder(unittest.TestCase):
+class ClassFolder(Case):
     @classmethod
     def setUpClass(cls):
-        cls.holder = tempfile.TemporaryDirectory()
-        cls.addClassCleanup(cls.holder.cleanup)
-        cls.folder = cls.holder.name
+        cls.folder = cls.enterClassContext(tempfile.TemporaryDirectory())
         install(cls.folder, is_class=True)
         cls.found = {os.path.relpath(os.path.join(at, name), cls.folder)
                      for at, _, names in os.walk(cls.folder) for name in names}
 
     def text(self, path: str) -> str:
-        with open(os.path.join(self.folder, path), encoding="utf-8") as text:
-            return text.read()
+        return text_in(self.folder, path)
 
     def test_no_link_of_a_page_leads_to_what_isn_t_there(self):
         """Those that it has in the repository, to pages of the teacher, are words in the folder of a class."""
@@ -119,8 +106,7 @@ class ClassFolder(unittest.TestCase):
                             ("[all](../pictures)",) * 2, ("[x](https://x.org/a)",) * 2, ("[part](#part)",) * 2,
                             ("![C](../pictures/d.svg)",) * 2, ("see [D](../claim/D.md#part).", "see D."),
                             ("(run it; as\ncode: [D](D.md))", "(run it)"), ("(run it; as [B](B.md))",) * 2):
-            with self.subTest(text):
-                self.assertEqual(class_files.page_for_a_class(text, "docs/learn/A.md", paths), right)
+            self.same(text, class_files.page_for_a_class(text, "docs/learn/A.md", paths), right)
 
     def test_it_has_no_solution(self):
         for path in ("lab/definitions", "lab/pictures", "lab/transcripts/check.py", "lab/schedules/ruled_node.py",
@@ -164,8 +150,5 @@ class ClassFolder(unittest.TestCase):
         for words, status in ((["workshop", "rounds", "two", "--", *node], 1), (["network", "tell", "petersen"], 0),
                               *(([name, "examples/two.col"], 2)
                                 for name in ("picture", "explore", "simulate", "transcript", "sheet"))):
-            with self.subTest(words[0]):
-                done = subprocess.run([os.path.join(self.folder, "bin", "forestlab"), *words], cwd=self.folder,
-                                      env=environment, capture_output=True, text=True, timeout=LIMIT)
-                self.assertEqual(done.returncode, status, done.stderr)
-                self.assertNotIn("Traceback", done.stderr)
+            done = called(os.path.join(self.folder, "bin", "forestlab"), *words, cwd=self.folder, env=environment)
+            self.note(words[0], done[0] == status and b"Traceback" not in done[2], done)

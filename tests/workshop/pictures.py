@@ -1,14 +1,11 @@
 """Pictures of runs that aren't possible are refused; with --wrong they are drawn up to what is wrong."""
 import os
 import re
-import subprocess
-import tempfile
-import unittest
 
-from tests import FORESTLAB, TOP
-from tests.workshop.base import LIMIT, call, python
+from tests.cases import Case, called, example, said_by, text_in
+from tests.settings import PLAN
+from tests.workshop.base import call, python
 
-TWO = os.path.join(TOP, "examples", "two.col")
 GREETED = """\
 transcript 2 2
 1 1 put 2 payload 0 hello 1
@@ -29,88 +26,61 @@ ROWS = (
 )
 
 
-class Pictures(unittest.TestCase):
-    def setUp(self):
-        self.holder = tempfile.TemporaryDirectory()
-        self.addCleanup(self.holder.cleanup)
-        self.text = os.path.join(self.holder.name, "run")
-
-    def picture(self, kind, more, *options):
-        with open(self.text, "w", encoding="ascii") as file:
-            file.write(GREETED + more)
-        return subprocess.run([FORESTLAB, "picture", kind, TWO, "--transcript", self.text, *options],
-                              capture_output=True, text=True, timeout=LIMIT)
+class Pictures(Case):
+    def picture(self, kind, more, *options, begin=GREETED):
+        return said_by("picture", kind, "two", "--transcript", self.file("run", begin + more), *options)
 
     def test_what_isn_t_possible_is_refused(self):
         for kind in ("run", "overview", "node", "tally"):
             for more, _, _ in ROWS:
-                with self.subTest(kind=kind, more=more):
-                    done = self.picture(kind, more)
-                    self.assertEqual((done.returncode, done.stdout), (1, ""))
-                    self.assertIn(" line 9: ", done.stderr)
+                self.refusal(f"{kind} with {more!r}", self.picture(kind, more), 1, " line 9: ")
 
     def test_it_is_drawn_up_to_there(self):
         for more, entry, words in ROWS:
             with self.subTest(more):
-                done = self.picture("run", more, "--wrong")
-                self.assertEqual(done.returncode, 0, done.stderr)
-                self.assertIn(f"Red: line 9, {entry}, isn't possible there. The judge: {words}.", done.stdout)
-                self.assertEqual(len(re.findall('<g class="wrong"', done.stdout)), 1)
+                _, drawn, _ = self.picture("run", more, "--wrong")
+                self.assertIn(f"Red: line 9, {entry}, isn't possible there. The judge: {words}.", drawn)
+                self.assertEqual(len(re.findall('<g class="wrong"', drawn)), 1)
                 # The acknowledgement that node 2 put last, and nothing else.
-                self.assertEqual(re.findall(r"<title>([^<]*), not taken</title>", done.stdout), ["2 to 1: ack 0"])
+                self.assertEqual(re.findall(r"<title>([^<]*), not taken</title>", drawn), ["2 to 1: ack 0"])
 
     def test_a_run_that_is_only_cut_is_drawn_as_far_as_it_goes(self):
-        done = self.picture("run", "")
-        self.assertEqual(done.returncode, 0)
-        self.assertNotIn("all that are put in these pulses", done.stdout)
-        self.assertIn("2 payloads: those that are put in these pulses as far as this text goes.", done.stdout)
-        done = self.picture("run", "", "--wrong")
-        self.assertIn("the run doesn't reach its end (NotWhole)", done.stdout)
-        self.assertNotIn('class="wrong"', done.stdout)
+        drawn, wrong = (self.picture("run", "", *words)[1] for words in ([], ["--wrong"]))
+        self.assertNotIn("all that are put in these pulses", drawn)
+        self.assertIn("2 payloads: those that are put in these pulses as far as this text goes.", drawn)
+        self.assertIn("the run doesn't reach its end (NotWhole)", wrong)
+        self.assertNotIn('class="wrong"', wrong)
 
     def test_the_vertex_at_which_it_stopped_is_marked(self):
-        for v, status in ((1, 0), (2, 0), (0, 1), (3, 1)):
-            with self.subTest(v):
-                done = self.picture("run", "", "--wrong", "--stopped", str(v))
-                self.assertEqual(done.returncode, status, done.stderr)
-                self.assertEqual(f"(NotWhole): it stops at node {v}." in done.stdout, status == 0)
-                self.assertEqual(f"two has no vertex {v}" in done.stderr, status == 1)
-                marks = re.findall('<g class="wrong"><title>([^<]*)<', done.stdout)
-                self.assertEqual(marks, [f"node {v}, where the run stops"] * (status == 0))
+        for v in (1, 2):
+            _, drawn, _ = self.picture("run", "", "--wrong", "--stopped", v)
+            found = re.findall('<g class="wrong"><title>([^<]*)<', drawn), f"(NotWhole): it stops at node {v}." in drawn
+            self.same(f"it stopped at {v}", found, ([f"node {v}, where the run stops"], True))
+        for v in (0, 3):
+            done = self.picture("run", "", "--wrong", "--stopped", v)
+            self.refusal(f"it stopped at {v}", done, 1, f"two has no vertex {v}")
+        self.refusal("without --wrong", self.picture("run", "", "--stopped", 1), 2, "--stopped is for --wrong")
         # An entry that isn't possible says more than where the run ended.
-        done = self.picture("run", ROWS[0][0], "--wrong", "--stopped", "1")
-        self.assertIn("The judge: NotReady", done.stdout)
-        self.assertNotIn("it stops at", done.stdout)
-        done = self.picture("run", "", "--stopped", "1")
-        self.assertEqual((done.returncode, done.stdout), (2, ""))
-        self.assertIn("--stopped is for --wrong", done.stderr)
+        _, drawn, _ = self.picture("run", ROWS[0][0], "--wrong", "--stopped", 1)
+        self.assertIn("The judge: NotReady", drawn)
+        self.assertNotIn("it stops at", drawn)
 
     def test_a_right_run_is_drawn_as_always(self):
-        transcript = subprocess.run([os.path.join(TOP, "bin", "forestplan"), "transcript", "--workers", "1"],
-                                    stdin=open(TWO, "rb"), capture_output=True, text=True, timeout=LIMIT).stdout
-        with open(self.text, "w", encoding="ascii") as file:
-            file.write(transcript)
-        words = [FORESTLAB, "picture", "run", TWO, "--transcript", self.text]
-        plain, wrong = (subprocess.run([*words, *more], capture_output=True, text=True, timeout=LIMIT).stdout
-                        for more in ([], ["--wrong"]))
+        run = called(PLAN, "transcript", "--workers", 1, data=example("two"))[1].decode()
+        plain, wrong = (self.picture("run", "", *words, begin=run)[1] for words in ([], ["--wrong"]))
         self.assertIn("all that are put in these pulses", plain)
         self.assertEqual(plain, wrong)
 
     def test_of_edition_1_there_is_no_first_wrong_line(self):
-        with open(self.text, "w", encoding="ascii") as file:
-            file.write("transcript 1 2\n1 pulse 1\n")
-        done = subprocess.run([FORESTLAB, "picture", "run", TWO, "--transcript", self.text, "--wrong"],
-                              capture_output=True, text=True, timeout=LIMIT)
-        self.assertEqual((done.returncode, done.stdout), (1, ""))
-        self.assertIn("--wrong needs a transcript of edition 2", done.stderr)
+        done = self.picture("run", "1 pulse 1\n", "--wrong", begin="transcript 1 2\n")
+        self.refusal("edition 1", done, 1, "--wrong needs a transcript of edition 2")
 
     def test_the_workshop_draws_what_is_wrong(self):
         """A skeleton that acknowledges nothing is stuck, and its two greetings are drawn."""
-        file = os.path.join(self.holder.name, "run.svg")
+        file = os.path.join(self.folder, "run.svg")
         done = call("alpha", "two", "--picture", file, "--", *python("skeletons", "alpha_node.py"))
         self.assertEqual(done.returncode, 1)
-        with open(file, encoding="utf-8") as text:
-            svg = text.read()
+        svg = text_in(file)
         self.assertRegex(svg, r"\(NotWhole\): it stops at node [12]\.")
         self.assertRegex(done.stdout, f"node {re.search(r'it stops at node ([12])', svg)[1]} at pulse 0 doesn't put")
         self.assertEqual(len(re.findall('<g class="payload"', svg)), 2)

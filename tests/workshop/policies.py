@@ -1,8 +1,7 @@
 """Each policy on steps of which it is plain by its rule which one it chooses."""
-import unittest
-
 from lab.schedules.policies import POLICIES, Step, policy_of
 from lab.workshop.cases import NETWORKS, cases_of
+from tests.cases import Case
 
 VERTICES, EDGES = [1, 2, 3], [(1, 2), (2, 3)]
 # Links 2-1, 1-2 and 2-3 hold wires, and node 3 can make a pulse: put first is the safe, last the second wire of 2-1.
@@ -15,12 +14,13 @@ def chosen(name, seed="1", count=60, steps=STEPS):
     return policy, [steps.index(policy.choose(steps)) for _ in range(count)]
 
 
-class Policies(unittest.TestCase):
+class Policies(Case):
+    needs_programs = False
+
     def test_by_their_rules(self):
         for name, right in (("random", {0, 1, 2, 3}), ("newest", {0}), ("oldest", {1}), ("late-acks", {1, 2, 3}),
                             ("late-safes", {0, 2, 3})):
-            with self.subTest(name):
-                self.assertEqual(set(chosen(name)[1]), right)
+            self.same(name, set(chosen(name)[1]), right)
 
     def test_a_slow_link_a_slow_node_and_a_fast_one(self):
         for seed in map(str, range(6)):
@@ -34,8 +34,7 @@ class Policies(unittest.TestCase):
 
     def test_what_waits_comes_if_nothing_else_can(self):
         for name in POLICIES:
-            with self.subTest(name):
-                self.assertEqual(set(chosen(name, steps=STEPS[:1])[1]), {0})
+            self.same(name, set(chosen(name, steps=STEPS[:1])[1]), {0})
 
     def test_bursts_stay_on_a_link_and_turns_go_round(self):
         policy = policy_of("bursts", VERTICES, EDGES, "1")
@@ -55,8 +54,7 @@ class Policies(unittest.TestCase):
 
     def test_the_same_seed_chooses_the_same(self):
         for name in POLICIES:
-            with self.subTest(name):
-                self.assertEqual(chosen(name, "7")[1], chosen(name, "7")[1])
+            self.same(name, chosen(name, "7")[1], chosen(name, "7")[1])
         self.assertNotEqual(chosen("random", "7")[1], chosen("random", "8")[1])
 
     def test_a_network_without_edges_has_no_slow_link(self):

@@ -4,8 +4,6 @@
 hear of it. Node 2 chooses anew in pulse 31 and takes 0, node 1 in pulse 32 and takes 1, node 3 in pulse 33."""
 import os
 import sys
-import tempfile
-import unittest
 
 from lab.networks.network_text import Network
 from lab.schedules.policies import POLICIES
@@ -13,12 +11,11 @@ from lab.workshop import cases
 from lab.workshop.options import parsed
 from lab.workshop.protocol import SEQUELS, own_data
 from lab.workshop.right_rounds import RightRounds, forests_of
-from tests.workshop.base import network, played, python
+from tests.workshop.base import Played, answering, network, played, python
 from tests.workshop.mistakes import MISTAKES
-from tests.workshop.other_programs import answering
+from tests.workshop.other_programs import RING as WITHOUT_BARS
 
-RING = Network("ring and one", 5, [(1, 2), (2, 3), (3, 4), (1, 4)], {}, {}, {1: 40, 2: 1 << 100, 3: 1, 4: 7, 5: 2},
-               {1: [1], 4: [2]})
+RING = Network("barred ring", 5, WITHOUT_BARS.edges, {}, {}, WITHOUT_BARS.identifiers, {1: [1], 4: [2]})
 # Its colour is 1, since 0 is barred, and 1 again. The last pulse is 14, two after those of the colouring.
 BARRED = Network("barred one", 1, [], {}, {}, {1: 1}, {1: [1]})
 RESULTS = {"matching": ["partner none", "partner 1", "partner 1"], "independent-set": ["out", "out", "in"],
@@ -45,31 +42,26 @@ FOUND = {
         "anew_old": (("differs", 2, 31), ("WrongWire", 2, 31)),
     },
 }
-# What is said of some of them with a clock, after the line of the case.
-WORDS = {
-    "matching_again": [
-        "where  node 2, pulse 16", "came   free 0 by port 0", "wrong  put 0 take 0", "right  nothing by port 0",
-        "why    pulse 16 is the second of the turn of colour 1 in forest 0: a node of this colour there that has no "
-        "partner takes the child of the least port by which `free 0` has come, and sends it `take 0`; this node has "
-        "colour 1 there, `free 0` has come by port 0, and it has its partner by port 1 since pulse 15"],
-    "matching_all": [
-        "where  node 1, pulse 13", "came   nothing", "wrong  put 1 free 0", "right  nothing by port 1",
-        "why    pulse 13 is the first of the turn of colour 0 in forest 0: a node without a partner sends `free 0` to "
-        "its parent in this forest, and nothing else is sent; this node has its parent there by port 0, and it has no "
-        "partner"],
-    "set_beside": [
-        "where  node 1, pulse 32", "came   joined 0 by port 1", "wrong  put 0 joined 1", "right  nothing by port 0",
-        "why    pulse 32 is the turn of the nodes of colour 1, channel 2: one of them joins if no neighbour has sent "
-        "`joined`, and then sends `joined 1` by each port, but nothing in the last pulse; this node has colour 1, and "
-        "`joined` has come by port 1"],
-    "anew_last": [
-        "where  node 3, pulse 33", "came   anew 1 by port 0", "wrong  channel 1", "right  channel 3",
-        "why    a node's channel is the colour that it has chosen anew, plus one; it chose in pulse 33: it had colour 0 "
-        "by the plan, neighbours have sent colours 0 and 1"],
-    "anew_bars": [
-        "where  node 1, pulse 14", "came   nothing", "wrong  channel 1", "right  channel 2",
-        "why    a node's channel is the colour that it has chosen anew, plus one; it chose in pulse 13: it had colour 1 "
-        "by the plan, colour 0 is barred at it"],
+# Why, of some of them with a clock.
+WHY = {
+    "matching_again":
+        "pulse 16 is the second of the turn of colour 1 in forest 0: a node of this colour there that has no partner "
+        "takes the child of the least port by which `free 0` has come, and sends it `take 0`; this node has colour 1 "
+        "there, `free 0` has come by port 0, and it has its partner by port 1 since pulse 15",
+    "matching_all":
+        "pulse 13 is the first of the turn of colour 0 in forest 0: a node without a partner sends `free 0` to its "
+        "parent in this forest, and nothing else is sent; this node has its parent there by port 0, and it has no "
+        "partner",
+    "set_beside":
+        "pulse 32 is the turn of the nodes of colour 1, channel 2: one of them joins if no neighbour has sent `joined`, "
+        "and then sends `joined 1` by each port, but nothing in the last pulse; this node has colour 1, and `joined` "
+        "has come by port 1",
+    "anew_last":
+        "a node's channel is the colour that it has chosen anew, plus one; it chose in pulse 33: it had colour 0 by the "
+        "plan, neighbours have sent colours 0 and 1",
+    "anew_bars":
+        "a node's channel is the colour that it has chosen anew, plus one; it chose in pulse 13: it had colour 1 by the "
+        "plan, colour 0 is barred at it",
 }
 
 
@@ -77,69 +69,60 @@ def node(program, assignment):
     return [*python("python", "sequel_node.py"), program, assignment]
 
 
-class Sequels(unittest.TestCase):
-    def good(self, case):
-        self.assertIsNone(case.finding, case.finding and case.finding.text())
+class Sequels(Played):
+    def wrong_node(self, name, program, assignment):
+        """The command of a node with a mistake."""
+        MISTAKES.write(self.folder, [name])
+        return [sys.executable, "-S", os.path.join(self.folder, name, "sequel_node.py"), program, assignment]
 
     def test_what_is_right(self):
         for program, results in RESULTS.items():
-            with self.subTest(program):
-                rounds = RightRounds(network("triangle"), program)
-                self.assertEqual((rounds.forests, rounds.last), (2, LAST[program]))
-                self.assertEqual(rounds.results, dict(enumerate(results, 1)))
+            rounds = RightRounds(network("triangle"), program)
+            self.same(program, (rounds.forests, rounds.last, rounds.results),
+                      (2, LAST[program], dict(enumerate(results, 1))))
 
     def test_a_node_learns_its_forests(self):
         rounds = RightRounds(RING, "recolouring")
-        self.assertEqual(own_data(RING, 4, "rounds", rounds.forests, rounds.last),
-                         ["workshop 1 rounds", "identifier 7", "degree 2", "nodes 5", "delta 2", "bars 1", "forests 2",
-                          "last 40", "barred 1 2"])
+        self.same("its own data", own_data(RING, 4, "rounds", rounds.forests, rounds.last),
+                  ["workshop 1 rounds", "identifier 7", "degree 2", "nodes 5", "delta 2", "bars 1", "forests 2",
+                   "last 40", "barred 1 2"])
 
     def test_forests_by_hand(self):
         """The middle of a star is below all others, or above them."""
         edges = [(1, 2), (1, 3), (1, 4)]
         for names, forests in (({1: 1, 2: 2, 3: 3, 4: 4}, 3), ({1: 9, 2: 2, 3: 3, 4: 4}, 1)):
-            self.assertEqual(forests_of(Network("star", 4, edges, {}, {}, names)), forests)
+            self.same(f"{names}", forests_of(Network("star", 4, edges, {}, {}, names)), forests)
 
     def test_right_nodes(self):
         for program in SEQUELS:
             for given in ("path1", "two", "triangle", "most4", "rest3", "drops", RING, BARRED):
                 for assignment in ("rounds", "alpha"):
-                    with self.subTest(program=program, network=given, assignment=assignment):
-                        self.good(played(assignment, given, node(program, assignment), is_shared=True, program=program))
-
-    def test_right_nodes_under_each_policy(self):
+                    self.right(assignment, given, node(program, assignment), is_shared=True, program=program)
         for policy, program in zip(POLICIES, SEQUELS * len(POLICIES)):
-            with self.subTest(policy):
-                command = node(program, "alpha")
-                self.good(played("alpha", RING, command, policy=policy, is_shared=True, program=program))
+            self.right("alpha", RING, node(program, "alpha"), policy=policy, is_shared=True, program=program)
+        # A node alone is silent, and says its result in each pulse.
+        for program, line in (("matching", "partner none"), ("independent-set", "in"), ("recolouring", "channel 001")):
+            self.right("rounds", "path1", answering(line), program=program)
 
     def test_mistakes(self):
-        self.assertEqual({name for names in FOUND.values() for name in names}, set(MISTAKES.SEQUELS))
-        with tempfile.TemporaryDirectory() as folder:
-            MISTAKES.write(folder, MISTAKES.SEQUELS)
-            for program, names in FOUND.items():
-                for name, rights in names.items():
-                    for assignment, right in zip(("rounds", "alpha"), rights):
-                        with self.subTest(mistake=name, assignment=assignment):
-                            self.mistake(folder, program, name, assignment, right)
-
-    def mistake(self, folder, program, name, assignment, right):
-        command = [sys.executable, "-S", os.path.join(folder, name, "sequel_node.py"), program, assignment]
-        given = BARRED if name == "anew_bars" else "triangle"
-        finding = played(assignment, given, command, policy="newest", is_shared=True, program=program).finding
-        node_found = finding.node if right[1] else None
-        self.assertEqual((finding.kind, node_found, finding.pulse), right)
-        if assignment == "rounds" and name in WORDS:
-            self.assertEqual(finding.text(), WORDS[name])
+        self.same("all of them", {name for names in FOUND.values() for name in names}, set(MISTAKES.SEQUELS))
+        for program, names in FOUND.items():
+            for name, rights in names.items():
+                given = BARRED if name == "anew_bars" else "triangle"
+                for assignment, right in zip(("rounds", "alpha"), rights):
+                    command = self.wrong_node(name, program, assignment)
+                    finding = played(assignment, given, command, policy="newest", is_shared=True,
+                                     program=program).finding
+                    got = finding.kind, finding.node if right[1] else None, finding.pulse
+                    self.note(f"{name} of {assignment}", got == right, finding.text())
+                    if assignment == "rounds" and name in WHY:
+                        self.same(f"why {name} is wrong", dict(finding.lines)["why"], WHY[name])
 
     def test_a_mistake_of_the_colouring(self):
         """Up to the cut the words are those of the colouring."""
-        with tempfile.TemporaryDirectory() as folder:
-            MISTAKES.write(folder, ["label_falling"])
-            command = [sys.executable, "-S", os.path.join(folder, "label_falling", "sequel_node.py"), "matching", "rounds"]
-            finding = played("rounds", "triangle", command, is_shared=True, program="matching").finding
-            self.assertEqual((finding.kind, finding.node, finding.pulse), ("differs", 1, 1))
-            self.assertIn("its parents are the neighbours above its own identifier, 1", dict(finding.lines)["why"])
+        command = self.wrong_node("label_falling", "matching", "rounds")
+        finding = self.found(("differs", 1, 1), "rounds", "triangle", command, is_shared=True, program="matching")
+        self.assertIn("its parents are the neighbours above its own identifier, 1", dict(finding.lines)["why"])
 
     def test_what_is_no_line_or_no_wire_of_the_program(self):
         for program, assignment, line, words in (
@@ -151,23 +134,13 @@ class Sequels(unittest.TestCase):
              "`joined` is no payload, which are hello, label, colour, chosen, free, take"),
             ("recolouring", "alpha", f"put 0 payload 0 anew {1 << 16}", f"`{1 << 16}` is no number below {1 << 16}"),
         ):
-            with self.subTest(program=program, line=line):
-                finding = played(assignment, "two", answering(line), program=program).finding
-                self.assertEqual(finding.kind, "garbage")
-                self.assertIn(words, dict(finding.lines)["wrong"])
-
-    def test_results_with_zeros(self):
-        """A node alone is silent, and says its result in each pulse."""
-        for program, line in (("matching", "partner none"), ("independent-set", "in"), ("recolouring", "channel 001")):
-            with self.subTest(program):
-                self.good(played("rounds", "path1", answering(line), program=program))
+            self.garbage(words, assignment, line, program)
 
     def test_bars_come_by_chance_where_they_count(self):
         for program, has_bars in (("matching", False), ("independent-set", True), ("recolouring", True)):
-            with self.subTest(program):
-                made = cases.cases_of(["ring5"], [""], 20, "1", program=program)
-                self.assertEqual(any(case.network.bars for case in made), has_bars)
+            made = cases.cases_of(["ring5"], [""], 20, "1", program=program)
+            self.same(program, any(case.network.bars for case in made), has_bars)
 
     def test_the_command_line(self):
         for program in SEQUELS:
-            self.assertEqual(parsed(["rounds", "two", "--program", program, "--", "x"]).program, program)
+            self.same(program, parsed(["rounds", "two", "--program", program, "--", "x"]).program, program)

@@ -4,11 +4,10 @@ import os
 import shutil
 import subprocess
 import sys
-import tempfile
-import unittest
 
 from lab.workshop.playing import APART
-from tests.workshop.base import EXAMPLES, call, played
+from tests.cases import text_in
+from tests.workshop.base import EXAMPLES, Played, call
 
 FOLDER = os.path.join(EXAMPLES, "skeletons")
 IN_JAVA = ("RoundsNode.java", "AlphaNode.java")
@@ -88,8 +87,7 @@ static void go_on(void) {
 def filled_in(name: str, folder: str, *parts: tuple[str, str]) -> str:
     """A skeleton in which texts are replaced, each of which it has once."""
     path = os.path.join(folder, name)
-    with open(os.path.join(FOLDER, name), encoding="utf-8") as file:
-        text = file.read()
+    text = text_in(FOLDER, name)
     for right, mine in parts:
         assert text.count(right) == 1, (name, right)
         text = text.replace(right, mine)
@@ -98,12 +96,7 @@ def filled_in(name: str, folder: str, *parts: tuple[str, str]) -> str:
     return path
 
 
-class Skeletons(unittest.TestCase):
-    def setUp(self):
-        holder = tempfile.TemporaryDirectory()
-        self.addCleanup(holder.cleanup)
-        self.folder = holder.name
-
+class Skeletons(Played):
     def in_c(self, source: str) -> list[str]:
         to = os.path.join(self.folder, os.path.basename(source).removesuffix(".c"))
         subprocess.run(["cc", "-Wall", "-Werror", "-o", to, source], check=True)
@@ -166,6 +159,4 @@ class Skeletons(unittest.TestCase):
         for rounds in self.in_java(filled_in("RoundsNode.java", self.folder, *ROUNDS_IN_JAVA)):
             rows += [("rounds", name, rounds, "", True) for name in ("path1", "random6")]
         for kind, name, command, policy, is_shared in rows:
-            with self.subTest(kind=kind, network=name, is_shared=is_shared):
-                case = played(kind, name, command, policy=policy, program="layers", is_shared=is_shared)
-                self.assertIsNone(case.finding, case.finding and case.finding.text())
+            self.right(kind, name, command, policy=policy, program="layers", is_shared=is_shared)

@@ -1,14 +1,7 @@
 """What `forestlab transcript check` says of a run that isn't right: whose entry, which rule, who owes what, which
 field."""
-import os
-import subprocess
-import tempfile
-import unittest
+from tests.cases import Case, said_by
 
-from tests import FORESTLAB, TOP
-from tests.workshop.base import LIMIT
-
-TWO = os.path.join(TOP, "examples", "two.col")
 HELLO_1, HELLO_2 = "payload 0 hello 1", "payload 0 hello 2"
 # A pulse's worth of two nodes without the acknowledgements.
 GREETED = f"1 1 put 2 {HELLO_1}|1 2 put 1 {HELLO_2}|2 1 take 2 {HELLO_2}|2 2 take 1 {HELLO_1}|"
@@ -90,17 +83,16 @@ ROWS = (
 )
 
 
-def said(text: str, *words: str) -> str:
-    done = subprocess.run([FORESTLAB, "transcript", "check", TWO, *words], input=text.replace("|", "\n"),
-                          capture_output=True, text=True, timeout=LIMIT)
-    return done.stderr.rstrip("\n") if done.returncode == 1 else f"status {done.returncode}"
+class Transcripts(Case):
+    needs_programs = False
 
+    def says(self, text: str, line: str, *words: str) -> None:
+        status, _, said = said_by("transcript", "check", "two", *words, data=text.replace("|", "\n").encode())
+        self.same(f"{text} {words}", (status, said), (1, f"{line}\n"))
 
-class Transcripts(unittest.TestCase):
     def test_of_edition_2(self):
         for entries, line in ROWS:
-            with self.subTest(entries):
-                self.assertEqual(said("transcript 2 2|" + entries), line)
+            self.says("transcript 2 2|" + entries, line)
 
     def test_of_edition_1(self):
         for entries, line in (
@@ -114,8 +106,7 @@ class Transcripts(unittest.TestCase):
             (f"1 put 2 {HELLO_1}|1 take 2 {HELLO_2}|2 put 1 odd|", "line 4: X1: not an entry: `odd` is no wire, which "
                                                                    "are payload, ack, safe, close"),
         ):
-            with self.subTest(entries):
-                self.assertEqual(said("transcript 1 2|" + entries), line)
+            self.says("transcript 1 2|" + entries, line)
 
     def test_of_edition_3(self):
         """A text that names its program is refused by another one's, with its name."""
@@ -127,29 +118,17 @@ class Transcripts(unittest.TestCase):
             ("my_own", "layers", "line 1: WrongProgram: a transcript of my_own, not of layers: --program my_own"),
             ("lay\x1bers", "layers", "line 1: X1: neither `transcript 1 N`, `transcript 2 N` nor `transcript 3 NAME N`"),
         ):
-            with self.subTest(name=name, program=program):
-                self.assertEqual(said(named.format(name), "--program", program), line)
+            self.says(named.format(name), line, "--program", program)
 
     def test_a_text_that_ends_inside_a_line(self):
-        self.assertEqual(said("transcript 2 2|1 1 put 2 pay"),
-                         "line 2: X1: not an entry: `pay` is no wire, which are payload, ack, safe, close, and no line "
-                         "feed after it (is the text cut?)")
+        self.says("transcript 2 2|1 1 put 2 pay",
+                  "line 2: X1: not an entry: `pay` is no wire, which are payload, ack, safe, close, and no line feed "
+                  "after it (is the text cut?)")
 
     def test_bars_that_a_program_ignores(self):
         """Each command that reads a network for another program says so once; the colouring minds bars."""
-        barred = "p edge 2 1\ne 1 2\nb 1 3\n"
         for words in (["simulate"], ["explore", "--limit", "100000"], ["picture", "watch"]):
             for program, noted in (("colouring", 0), ("leader", 1), ("layers", 1)):
-                with self.subTest(command=words[0], program=program):
-                    done = subprocess.run([FORESTLAB, *words, "-", "--program", program],
-                                          input=barred, capture_output=True, text=True, timeout=LIMIT)
-                    self.assertEqual(done.returncode, 0, done.stderr)
-                    self.assertEqual(done.stderr.count(f"{words[0]}: {program} ignores the bars of the network"), noted)
-
-    def test_the_command_is_found_through_a_link(self):
-        with tempfile.TemporaryDirectory() as folder:
-            link = os.path.join(folder, "check")
-            os.symlink(FORESTLAB, link)
-            done = subprocess.run([link, "transcript", "check", TWO], input=b"transcript 2 2\n", capture_output=True,
-                                  cwd=folder, timeout=LIMIT)
-            self.assertEqual(done.returncode, 1)
+                done = said_by(*words, "-", "--program", program, data=b"p edge 2 1\ne 1 2\nb 1 3\n")
+                count = done[2].count(f"{words[0]}: {program} ignores the bars of the network")
+                self.note(f"{words[0]} of {program}", (done[0], count) == (0, noted), done)

@@ -1,6 +1,5 @@
 """What the workshop says, against numbers that are worked by hand."""
 import io
-import unittest
 from unittest import mock
 
 from lab.networks.network_text import Network
@@ -11,6 +10,7 @@ from lab.workshop.report import PROGRESS_SECONDS, Progress
 from lab.workshop.right_rounds import RightRounds
 from lab.workshop.why_alpha import At, early
 from lab.workshop.why_rounds import Why
+from tests.cases import Case
 from tests.workshop.base import network
 
 # A row in which node 1 is in the middle, and node 3 is the root: identifiers 2 - 7 - 11. By hand: bit steps of 2, 7 and
@@ -46,15 +46,13 @@ OF_COLOURS = (
 )
 
 
-class Words(unittest.TestCase):
+class Words(Case):
     def test_of_a_row_of_three(self):
         rounds = RightRounds(ROW)
         for v, p, w, words in OF_ROW:
-            with self.subTest(node=v, pulse=p):
-                self.assertEqual(Why(rounds, v).of_port(p, w), words)
+            self.same(f"port of node {v} in pulse {p}", Why(rounds, v).of_port(p, w), words)
         for v, p, words in OF_COLOURS:
-            with self.subTest(node=v, pulse=p):
-                self.assertEqual(Why(rounds, v).of_forest(p, 0), words)
+            self.same(f"colour of node {v} in pulse {p}", Why(rounds, v).of_forest(p, 0), words)
 
     def test_of_a_merge_of_two_nodes(self):
         """By hand: their three-colours are 0 and 1, both have the merged colour 0, and there are 2 colours. So node
@@ -69,8 +67,7 @@ class Words(unittest.TestCase):
             (2, 15, 1, 1, "it is its turn. In this merge neighbours sent it colour 0; the least that is left is 1; "
                           "its neighbours in forest 0 get it, by port 0"),
         ):
-            with self.subTest(node=v, pulse=p):
-                self.assertEqual(Why(rounds, v).of_choice(p), turn.format(p, colour, own, rest))
+            self.same(f"node {v} in pulse {p}", Why(rounds, v).of_choice(p), turn.format(p, colour, own, rest))
         self.assertEqual(rounds.results, {1: "channel 1", 2: "channel 2"})
 
 
@@ -85,7 +82,7 @@ def pulses(first, last):
             for words in (f"take 2 safe {p - 1}", f"take 3 safe {p - 1}", f"pulse {p}", f"put 2 safe {p}")]
 
 
-class AlphaWords(unittest.TestCase):
+class AlphaWords(Case):
     @classmethod
     def setUpClass(cls):
         cls.rounds = RightRounds(ROW)
@@ -126,8 +123,7 @@ class AlphaWords(unittest.TestCase):
             (3, 2, "in pulse 1 node 3's neighbours sent it label 0 by port 0: the inbox of its pulse 2"),
             (2, 2, "node 2's neighbours sent it nothing in pulse 1, so the inbox of its pulse 2 is empty"),
         ):
-            with self.subTest(node=v, pulse=p):
-                self.assertEqual(self.rounds.heard_words(v, p), words)
+            self.same(f"node {v} in pulse {p}", self.rounds.heard_words(v, p), words)
 
     def test_a_node_that_can_t_have_said_safe(self):
         pulse = "a node makes its next pulse once it has said safe and has the safes of all its neighbours"
@@ -143,8 +139,7 @@ class AlphaWords(unittest.TestCase):
             ("ack 0 by port 1; safe 0 by port 1", "put 0 safe 0", f"{safe}; {one}"),
             ("safe 0 by port 1", "put 0 safe 0", said),
         ):
-            with self.subTest(lacks=lacks, words=words):
-                self.assertEqual(rule_of(self.at(lacks=lacks), words), right)
+            self.same(f"{words} without {lacks}", rule_of(self.at(lacks=lacks), words), right)
         last = self.at(*pulses(1, self.rounds.last))
         self.assertEqual(rule_of(last, f"put 0 safe {last.last}"), f"{safe}; its pulse, {last.last}, is the last")
 
@@ -160,10 +155,9 @@ class AlphaWords(unittest.TestCase):
             ({1: "payload 1 label 0"}, False, label), ({}, True, f"{pulse}, and this node has"),
             ({0: "close"}, False, "close is put on each link as the node makes its last pulse"),
         ):
-            with self.subTest(puts=puts):
-                at = self.at("pulse 1")
-                at.puts, at.can_pulse = puts, can_pulse
-                self.assertEqual(rules_of_dues(at), right)
+            at = self.at("pulse 1")
+            at.puts, at.can_pulse = puts, can_pulse
+            self.same(f"{puts}", rules_of_dues(at), right)
 
 
 PYTHON = """\
@@ -203,7 +197,7 @@ Node.js v20.20.2
 """
 
 
-class LastErrors(unittest.TestCase):
+class LastErrors(Case):
     def test_the_place_of_the_mistake_is_among_them(self):
         for text, words in (
             (PYTHON, '`File "my_node.py", line 19, in pulse | return self.to(self.ports[0]) + self.to(port) | File '
@@ -216,11 +210,10 @@ class LastErrors(unittest.TestCase):
                          "(/home/a/node.js:4:47) | Node.js v20.20.2`"),
             ("", ""), ("\n  ^^^ \n", ""),
         ):
-            with self.subTest(text[:20]):
-                self.assertEqual(last_errors(text.encode()), words)
+            self.same(repr(text[:20]), last_errors(text.encode()), words)
 
 
-class Smaller(unittest.TestCase):
+class Smaller(Case):
     def test_a_smaller_case_is_looked_for(self):
         """It is said every ten seconds."""
         stream = io.StringIO()
