@@ -16,17 +16,14 @@ import subprocess
 import sys
 import tempfile
 
-from lab.definitions.colours import colours, network_of
+from lab.definitions.colours import colours
 from lab.definitions.nodes import last_pulse, ports_of, synchronous_pulses
 from lab.schedules.space import Space
 from tests import TOP
+from tests.programs.schedules import net_of
 
 MODEL = os.path.join(TOP, "bench", "spin", "alpha.pml")
-NETWORKS = {"two": b"p edge 2 1\ne 1 2\n", "path": b"p edge 3 2\ne 1 2\ne 2 3\n",
-            "triangle": b"p edge 3 3\ne 1 2\ne 1 3\ne 2 3\n", "star of four": b"p edge 4 3\ne 1 4\ne 2 4\ne 3 4\n",
-            "ring of four": b"p edge 4 4\ne 1 2\ne 2 3\ne 3 4\ne 1 4\n"}
-LARGE = {"path of four": b"p edge 4 3\ne 1 2\ne 2 3\ne 3 4\n",
-         "all of four": b"p edge 4 6\ne 1 2\ne 1 3\ne 1 4\ne 2 3\ne 2 4\ne 3 4\n"}
+LARGE = ("row of four", "all of four")
 # Of each network: rules left out, puts as events, reduced.
 PLAIN, PUTS, WITHOUT_ACKS = ("", False, False), ("", True, False), ("acks", False, False)
 REDUCED, REDUCED_PUTS = ("", False, True), ("", True, True)
@@ -103,7 +100,7 @@ def main():
         words.error("spin and gcc are needed")
     passed, cases = 0, CASES + ALL * given.all
     for name, without, puts, reduce in cases:
-        net = network_of((NETWORKS | LARGE)[name])
+        net = net_of(name)
         space = Space(net, [without] if without else [], MOST, puts, reduce=reduce)
         got = searched(net, without, puts, reduce)
         good = got == (space.count + 3, len(space.target) + 4, 0) and not space.faults

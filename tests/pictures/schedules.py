@@ -2,7 +2,6 @@
 tests/programs/schedules.py compares with the definitions and with `forestplay events`. What is read here is the JSON
 and the SVG alone."""
 import json
-import os
 import random
 import re
 from collections import Counter
@@ -11,14 +10,15 @@ from lab.definitions.colours import colours, network_of
 from lab.definitions.nodes import NetState
 from lab.schedules.space import Space
 from lab.words import in_words
-from tests.pictures.base import SEED, PictureCase
-from tests.pictures.marks import centre, ends, marks, parsed, texts, title, titles
+from tests.pictures.base import SEED, PictureCase, painter
+from tests.pictures.marks import centre, data_of, ends, marks, parsed, texts, title, titles
+from tests.programs.schedules import put_all, text_of
 
-TWO, STAR = b"p edge 2 1\ne 1 2\n", b"p edge 4 3\ne 1 4\ne 2 4\ne 3 4\n"
-ALL_OF_FOUR, FIVE = b"p edge 4 6\ne 1 2\ne 1 3\ne 1 4\ne 2 3\ne 2 4\ne 3 4\n", b"p edge 5 1\ne 1 2\n"
+TWO, STAR, ALL_OF_FOUR = (text_of(name).encode() for name in ("two", "star of four", "all of four"))
+FIVE = b"p edge 5 1\ne 1 2\n"
 
 
-def drawn(painter, kind, network, *options):
+def drawn(kind, network, *options):
     status, picture, fault = painter([kind, "-", *options], network)
     if status:
         raise AssertionError(f"{kind} is refused: {fault.decode()}")
@@ -74,8 +74,8 @@ class Table:
         return depth
 
 
-def table_of(painter, network, *options):
-    return Table(json.loads(drawn(painter, "adversary", network, "--json", *options)))
+def table_of(network, *options):
+    return Table(json.loads(drawn("adversary", network, "--json", *options)))
 
 
 def plain(words):
@@ -94,18 +94,6 @@ def row_of(space, v, node, value):
             f", and for safe {p} of {in_words(lacks)}" if asks else "")
 
 
-def put_all(net, state, lines):
-    for v in sorted(net.neighbours):
-        for port in range(len(net.neighbours[v])):
-            while state.nodes[v].ports[port].out:
-                state.step("Put", v, port)
-                lines.append(f"put {v} {port}")
-
-
-def net_port_to(net, v, w):
-    return sorted(net.neighbours[v]).index(w)
-
-
 def columns_of(root):
     """How many states, right and wrong ones, each column has, from the left."""
     groups = marks(root, "state") + marks(root, "state wrong")
@@ -120,7 +108,7 @@ class Schedules(PictureCase):
     def setUpClass(cls):
         super().setUpClass()
         cls.networks = {"two": TWO, "path": cls.examples["path"], "triangle": cls.examples["triangle"]}
-        cls.tables = {name: table_of(cls.painter, network) for name, network in cls.networks.items()}
+        cls.tables = {name: table_of(network) for name, network in cls.networks.items()}
 
     def test_tables(self):
         for name, network in self.networks.items():
@@ -147,14 +135,14 @@ class Schedules(PictureCase):
 
     def test_beyond(self):
         for without, low, high in ((("safes",), 0, 24), (("safes",), 72, 84), (("early",), 0, 30)):
-            self.beyond_rows(TWO, without, low, high)
+            self.broken_rows("two", TWO, without, (low, high))
 
     def test_given_run(self):
         self.given_run_rows(self.tables["two"])
 
     def table_rows(self, name, network, without=()):
         """The table against the explorer's space, state by state and step by step."""
-        table = table_of(self.painter, network, *(["--without", ",".join(without)] if without else []))
+        table = table_of(network, *(["--without", ",".join(without)] if without else []))
         net = network_of(network)
         space = Space(net, without, beyond=bool(without))
         count = len(space.vertices)
@@ -163,8 +151,8 @@ class Schedules(PictureCase):
                  or [(*row[:4], row[5]) for row in table.nodes(s)]
                  != [row_of(space, v, node, value) for (v, node), value in zip(space.nodes(s).items(), values[s])]]
         self.note(f"table of {name}: each state", len(table.node[0][1]) == space.count and not wrong, wrong[:3])
-        ports = [(v, w, net_port_to(net, v, w), net_port_to(net, w, v)) for v in net.neighbours
-                 for w in sorted(net.neighbours[v])]
+        port_to = NetState(net).port_to
+        ports = [(v, w, port_to[v, w], port_to[w, v]) for v in net.neighbours for w in sorted(net.neighbours[v])]
         shown = [(link["from"], link["to"], link["put"], link["take"]) for link in table.data["links"]]
         self.note(f"table of {name}: its links and ports", shown == ports, shown)
         wrong = [
@@ -178,14 +166,12 @@ class Schedules(PictureCase):
                  for s, row in table.data["faults"].items() for e, k in row.items()}
         self.note(f"table of {name}: what goes wrong",
                   shown == faults and bool(faults) == (without not in [(), ("acks",)]), list(shown.items())[:3])
-        return table
 
     def page_rows(self, name, network):
         """The page has the table that --json writes, and needs nothing from elsewhere."""
-        page = drawn(self.painter, "adversary", network)
-        data = json.loads(re.search(r"^var D = (.*);$", page, re.M).group(1))
-        self.note(f"page of {name}: its table",
-                  data["table"] == json.loads(drawn(self.painter, "adversary", network, "--json")))
+        page = drawn("adversary", network)
+        data = data_of(page)
+        self.same(f"page of {name}: its table", data["table"], json.loads(drawn("adversary", network, "--json")))
         self.note(f"page of {name}: nothing from elsewhere",
                   not re.search(r"(src|href)=|@import|url\(|fetch\(|XMLHttp", page)
                   and set(re.findall(r"https?://[^\"' ]+", page)) == {"http://www.w3.org/2000/svg"})
@@ -211,10 +197,10 @@ class Schedules(PictureCase):
                 self.note(f"dares of {name}: {dare['words']}", dare["answer"].startswith("No") == (not can)
                      and (not can or f"with {min(can)} take" in dare["answer"]), dare)
 
-    def lattice_rows(self, name, network, table, low, high, *options):
+    def lattice_rows(self, name, network, table, low, high):
         """The picture of a whole space: its columns, its steps, and a bold run from column to column."""
         window = [] if high is None else ["--columns", f"{low}..{high}"]
-        root = parsed(drawn(self.painter, "schedules", network, *window, *options))
+        root = parsed(drawn("schedules", network, *window))
         depth = table.depths()
         counts = Counter(depth.values())
         shown = columns_of(root)
@@ -238,71 +224,53 @@ class Schedules(PictureCase):
                     w = None if port is None else sorted(network_of(network).neighbours[v])[port]
                     wanted["pulse" if port is None else table.wires(s)[w, v][0].split()[0]] += 1
         self.note(f"lattice of {name}: what its steps are", kinds == wanted, (kinds, wanted))
-        return root
 
-    def broken_rows(self, name, network, without):
-        """The picture up to the first events that go wrong: as many red marks, and a bold run that ends in one."""
-        space = Space(network_of(network), without)
-        root = parsed(drawn(self.painter, "schedules", network, "--without", ",".join(without)))
-        (s, e), said = next(iter(space.faults.items()))
-        last = space.depth[s] + (e is not None)
+    def broken_rows(self, name, network, without, window=None):
+        """The picture up to the first events that go wrong, with a bold run that ends in one; or with --columns also
+        what comes after: there a node that has made a wrong pulse is red."""
+        space = Space(network_of(network), without, beyond=window is not None)
+        words = ["--columns", "{}..{}".format(*window)] if window else []
+        root = parsed(drawn("schedules", network, "--without", ",".join(without), *words))
+        low, high = window or (0, 10**9)
+        refused = sum(e is not None and low <= space.depth[s] < high and space.steps(s)[e][1] is None
+                      for s, e in space.faults)
+        drawn_states = [s for s in range(space.count) if low <= space.depth[s] <= high]
+        wrong = {space.steps(s)[e][1] if e is not None else s for s, e in space.faults} - {None} if not window else {
+            s for s in drawn_states if any(node.wrong for node in space.nodes(s).values())}
+        name = f"{name} without {without}, columns {window}"
         red = len(marks(root, "state wrong"))
-        self.refused = sum(e is not None and space.steps(s)[e][1] is None for s, e in space.faults)
-        wrong = {space.steps(s)[e][1] if e is not None else s for s, e in space.faults} - {None}
-        self.note(f"{name} without {without}: red marks", red == self.refused + len(wrong) and red > 0,
-                  (red, self.refused, len(wrong)))
-        self.note(
-            f"{name} without {without}: a shortest run is bold",
-            len(marks(root, "bold")) == last
-            and max(x for group in marks(root, "bold") for x, _ in ends(list(group)[1]))
-            == max(centre(list(group)[1])[0] for group in marks(root, "state wrong")),
-            len(marks(root, "bold")),
-        )
+        self.note(f"{name}: red marks", red == refused + len(wrong) > 0, (red, refused, len(wrong)))
+        if window:
+            self.same(f"{name}: other marks", len(marks(root, "state")), len(drawn_states) - len(wrong))
+            return
+        (s, e), said = next(iter(space.faults.items()))
+        last, bold = space.depth[s] + (e is not None), marks(root, "bold")
+        ends_at = max(x for group in bold for x, _ in ends(list(group)[1]))
+        self.same(f"{name}: a shortest run is bold", (len(bold), ends_at),
+                  (last, max(centre(list(group)[1])[0] for group in marks(root, "state wrong"))))
         words = " ".join(texts(root))
         found = re.search(r"(\d+) events \((\d+) takes and pulses\) are enough to go wrong", words)
         listed = len(space.with_puts(space.path_to_fault()))
         good = found and found.groups() == (str(listed), str(last)) and plain(said) in plain(words)
-        self.note(f"{name} without {without}: its words", good, words[:400])
-
-    def beyond_rows(self, network, without, low, high):
-        """With --columns, what comes after the first event that goes wrong is there too: a node that has made a wrong
-        pulse is red."""
-        space = Space(network_of(network), without, beyond=True)
-        root = parsed(
-            drawn(self.painter, "schedules", network, "--without", ",".join(without), "--columns", f"{low}..{high}")
-        )
-        wrong = sum(low <= space.depth[s] <= high and any(node.wrong for node in space.nodes(s).values())
-                    for s in range(space.count))
-        self.refused = sum(e is not None and low <= space.depth[s] < high and space.steps(s)[e][1] is None
-                           for s, e in space.faults)
-        red = len(marks(root, "state wrong"))
-        self.note(f"two without {without}, {low} to {high} events: red marks",
-                  red == wrong + self.refused and wrong + self.refused > 0, (red, wrong, self.refused))
-        right = sum(low <= space.depth[s] <= high for s in range(space.count)) - wrong
-        shown = len(marks(root, "state"))
-        self.note(f"two without {without}, {low} to {high} events: other marks", shown == right, (shown, right))
+        self.note(f"{name}: its words", good, words[:400])
 
     def given_run_rows(self, table):
         """The run of a list of events, as the page writes it, is the bold one."""
-        source, net, state, s, lines, takes = random.Random(SEED), network_of(TWO), NetState(network_of(TWO)), 0, [], []
-        put_all(net, state, lines)
+        source, state, s, takes = random.Random(SEED), NetState(network_of(TWO)), 0, []
+        lines = put_all(state)
         while table.steps[s]:
             (kind, v, port, _), s = source.choice(table.steps[s])
             state.step(kind.capitalize(), v, port)
             takes.append(f"{kind} {v}" if port is None else f"{kind} {v} {port}")
-            lines.append(takes[-1])
-            put_all(net, state, lines)
-        path = os.path.join(self.folder, "run.events")
-        with open(path, "w", encoding="utf-8") as file:
-            file.write("\n".join(lines) + "\n")
-        root = parsed(drawn(self.painter, "schedules", TWO, "--columns", "0..40", "--events", path))
+            lines += [takes[-1], *put_all(state)]
+        path = self.file("run.events", "\n".join(lines) + "\n")
+        root = parsed(drawn("schedules", TWO, "--columns", "0..40", "--events", path))
         bold = sorted((ends(list(group)[1])[0][0], title(group).split(":")[0]) for group in marks(root, "bold"))
         self.note("the run that is given is bold", [words for _, words in bold] == takes[:40], bold[:5])
         for events, words in (("put 1 0\ntake 2 0\ntake 2 0\n", b"line 4: `take 2 0` is not possible there"),
                               ("put 9 0\n", b"line 2: `put 9 0` is not possible there"),
                               ("put 2 0\nput 1 1\n", b"line 3: `put 1 1` is not possible there")):
-            with open(path, "w", encoding="utf-8") as file:
-                file.write(f"c a run\n{events}")
+            path = self.file("run.events", f"c a run\n{events}")
             self.refused("a text that is no run", "schedules", TWO, "--events", path, words=words)
 
     def refused(self, name, kind, network, *options, words=b'', status=1):

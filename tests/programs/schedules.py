@@ -4,30 +4,29 @@ The numbers of states and steps are compared with a trial's, which was written b
 and step by step, with lab/definitions/nodes.py; lists of events with what `forestplay events` makes of them; and the
 rounds without a rule with nodes that hear and send."""
 import gc
-import itertools
 import os
 import random
-import subprocess
-import tempfile
 from collections import Counter
 
 from lab.definitions.colours import Network, colours, network_of, other_than
 from lab.definitions.nodes import Colouring, NetState, bit_step, last_pulse, synchronous_pulses
 from lab.schedules import ruled_rounds, rules
 from lab.schedules.space import Space, TooMany
-from tests import FORESTLAB, TOP
-from tests.cases import Case, said_by
+from tests import TOP
+from tests.cases import Case, called, said_by, text_in
 from tests.programs.events import answer_of
+from tests.programs.plain_networks import all_of, pairs_of, payloads_of
 from tests.settings import PLAN, PLAY
 
-LIMIT = 120
 MOST = 200_000  # states; more show that a search goes on and on
 SEED = 2026
 
 NETWORKS = {"two": "p edge 2 1|e 1 2|", "path": "p edge 3 2|e 1 2|e 2 3|", "star": "p edge 3 2|e 1 2|e 1 3|",
             "triangle": "p edge 3 3|e 1 2|e 1 3|e 2 3|", "apart": "p edge 3 1|e 1 3|",
             "barred": "p edge 2 1|e 1 2|b 1 1|b 2 3|", "alone": "p edge 1 0|",
-            "row of four": "p edge 4 3|e 1 2|e 2 3|e 3 4|", "ring of four": "p edge 4 4|e 1 2|e 2 3|e 3 4|e 1 4|"}
+            "row of four": "p edge 4 3|e 1 2|e 2 3|e 3 4|", "ring of four": "p edge 4 4|e 1 2|e 2 3|e 3 4|e 1 4|",
+            "star of four": "p edge 4 3|e 1 4|e 2 4|e 3 4|",
+            "all of four": "p edge 4 6|e 1 2|e 1 3|e 1 4|e 2 3|e 2 4|e 3 4|"}
 
 # (network, puts apart, states, steps), as a trial found them that searched copies of whole states.
 TRIAL = [("two", False, 281, 430), ("path", False, 3551, 8843), ("triangle", False, 16473, 50723),
@@ -96,12 +95,6 @@ def shown(state, v):
 
 # The number of events, and the ends.
 
-def payloads_of(net):
-    """How many payloads the rounds send."""
-    return sum(payload is not None for _, _, _, sent in synchronous_pulses(net) for payloads in sent.values()
-               for payload in payloads)
-
-
 def count_of_events(net):
     """n·R + 2·wires, wires being 2·payloads + 2·edges·(R + 1)."""
     wires = 2 * payloads_of(net) + 2 * len(net.number) * (last_pulse(net) + 1)
@@ -119,9 +112,7 @@ def numbered(network, lines):
 
 
 def played(play, network, lines):
-    data = network + "".join(line + "\n" for line in lines)
-    done = subprocess.run([play, "events"], input=data.encode(), capture_output=True, timeout=LIMIT)
-    return done.returncode, done.stdout, done.stderr
+    return called(play, "events", data=(network + "".join(line + "\n" for line in lines)).encode())
 
 
 def state_text(space, s, taken):
@@ -208,10 +199,7 @@ def goes_wrong(net, rule):
 
 
 def all_networks(nodes):
-    pairs = list(itertools.combinations(range(1, nodes + 1), 2))
-    for count in range(len(pairs) + 1):
-        for edges in itertools.combinations(pairs, count):
-            yield Network({v: v for v in range(1, nodes + 1)}, set(edges))
+    return [Network({v: v for v in range(1, nodes + 1)}, set(edges)) for edges in all_of(nodes)]
 
 
 # The nodes of the smallest network, found by a trial over nodes that hear and send, or worked by hand (digit).
@@ -220,9 +208,7 @@ SMALLEST = {"digit": (2, [(1, 2)]), "shift": (5, [(1, 3), (3, 5)]), "root": (2, 
 
 
 def network_at_random(source, nodes):
-    edges = {pair for pair in itertools.combinations(range(1, nodes + 1), 2) if source.random() < 0.4}
-    return Network({v: v for v in range(1, nodes + 1)}, edges)
-
+    return Network({v: v for v in range(1, nodes + 1)}, {pair for pair in pairs_of(nodes) if source.random() < 0.4})
 
 
 # (words, status, standard error)
@@ -258,8 +244,7 @@ class Schedules(Case):
     def test_trials(self):
         for name, puts, states, steps in TRIAL:
             space = Space(net_of(name), puts=puts, limit=MOST)
-            self.note(f"numbers of {name}", (space.count, steps and len(space.target)) == (states, steps),
-                      (space.count, len(space.target)))
+            self.same(f"numbers of {name}", (space.count, steps and len(space.target)), (states, steps))
             if not puts:
                 self.end_rows(name, space)
 
@@ -271,7 +256,7 @@ class Schedules(Case):
         self.note(f"events of each schedule of {name}, {wanted}",
                   levels and [space.depth[s] for s in space.ends] == [wanted], [space.depth[s] for s in space.ends])
         ends = [{v: node.colour for v, node in space.nodes(s).items()} for s in space.ends]
-        self.note(f"end of {name}", ends == [colours(space.net)], ends)
+        self.same(f"end of {name}", ends, [colours(space.net)])
 
     def test_formulas(self):
         for name in ("alone", "apart", "barred", "two", "path", "star"):
@@ -286,7 +271,7 @@ class Schedules(Case):
                 ways[s] = sum(count(t) for _, t in space.steps(s)) or 1
             return ways[s]
 
-        self.note("schedules of two", space.schedules == count(0), count(0))
+        self.same("schedules of two", space.schedules, count(0))
 
     def test_walks(self):
         """A hundred random walks: each state beside the definitions, and some of them, and the last, beside the
@@ -319,50 +304,41 @@ class Schedules(Case):
         self.note("a hundred random walks by forestplay events", not differ, differ[:1])
         self.note("a put only as a take needs it", not needless, needless[:1])
 
+    def explored(self, name, *words):
+        return explored(self.file(f"{name}.col", text_of(name)), "--limit", str(MOST), *words)
+
     def test_broken(self):
         for name, without, what, count, fault in BROKEN:
-            with tempfile.NamedTemporaryFile("w", suffix=".col") as file:
-                file.write(text_of(name))
-                file.flush()
-                status, said, _ = explored(file.name, "--limit", str(MOST), "--without", without)
-                _, listed, _ = explored(file.name, "--limit", str(MOST), "--without", without, "--list")
-                _, apart, _ = explored(file.name, "--limit", str(MOST), "--without", without, "--puts")
-            lines = listed.splitlines()
-            first = said.split("\n")[0]
+            (status, said, _), (_, listed, _), (_, apart, _) = (
+                self.explored(name, "--without", without, *more) for more in ([], ["--list"], ["--puts"]))
+            lines, first = listed.splitlines(), said.split("\n")[0]
             rest = sum(not line.startswith("put ") for line in lines)
             events = f"{count} event{'s' * (count != 1)} ({rest} take{' or pulse' if rest == 1 else 's and pulses'})"
             self.note(f"{name} without {without}",
                       status == 1 and (what is None or first == f"broken after {events}: {what}"), said)
-            self.note(f"the list of {name} without {without}",
-                      [line.split(":")[0] for line in said.splitlines()[1 : 1 + len(lines)]] == lines, (said, lines))
-            self.note(f"{name} without {without}, puts apart: as many events",
-                      apart.split(": ")[0] == first.split(": ")[0], apart)
+            self.same(f"the list of {name} without {without}",
+                      [line.split(":")[0] for line in said.splitlines()[1:1 + len(lines)]], lines)
+            self.same(f"{name} without {without}, puts apart", apart.split(": ")[0], first.split(": ")[0])
             got = played(PLAY, text_of(name), lines)
             wanted = answer_of(net_of(name), numbered(text_of(name), lines))
-            self.note(f"forestplay on the list of {name} without {without}", got == wanted, (got, wanted))
+            self.same(f"forestplay on the list of {name} without {without}", got, wanted)
             wanted = f"forestplay: {fault} line ".encode() if fault else b""
             self.note(f"forestplay refuses it as it should, {name} without {without}",
                       got[2].startswith(wanted) and got[0] == (1 if fault else 0), got)
 
     def test_whole_lists(self):
         """One whole list of each network, by the program; and its end beside `plain`."""
+        events, wires = count_of_events(net_of("two"))
+        apart = self.explored("two", "--puts")[1]
+        wanted = f"\neach has {events} events: {wires} puts, {wires} takes and {events - 2 * wires} pulses\n"
+        self.note("what explore says of two, puts apart", wanted in apart, apart)
         for name in ("alone", "apart", "two", "path", "triangle"):
-            with tempfile.NamedTemporaryFile("w", suffix=".col") as file:
-                file.write(text_of(name))
-                file.flush()
-                _, listed, _ = explored(file.name, "--limit", str(MOST), "--list")
-                _, said, _ = explored(file.name, "--limit", str(MOST))
-                _, apart, _ = explored(file.name, "--limit", str(MOST), "--puts") if name == "two" else (0, "", "")
-            events, wires = count_of_events(net_of(name))
-            wanted = f"\neach has {events} events: {wires} puts, {wires} takes and {events - 2 * wires} pulses\n"
-            self.note(f"what explore says of {name}, puts apart", name != "two" or wanted in apart, apart)
+            listed, said = (self.explored(name, *more)[1] for more in (["--list"], []))
             status, out, _ = played(PLAY, text_of(name), listed.splitlines())
             channels = [line.split()[-1] for line in out.decode().splitlines() if "channel" in line]
-            plan = subprocess.run([PLAN, "plain"], input=text_of(name).encode(), capture_output=True,
-                                  timeout=LIMIT).stdout
+            plan = called(PLAN, "plain", data=text_of(name).encode())[1].decode().splitlines()[1:]
             self.note(f"a whole list of {name}", status == 0 and len(channels) == len(net_of(name).neighbours), out)
-            self.note(f"the end of {name} is the plan",
-                      [line.split()[1] for line in plan.decode().splitlines()[1:]] == channels, plan)
+            self.same(f"the end of {name} is the plan", [line.split()[1] for line in plan], channels)
             self.note(f"what explore says of the end of {name}",
                       said.endswith(f"\none end: channels {' '.join(channels)}\n"), said)
 
@@ -378,17 +354,13 @@ class Schedules(Case):
         wrong = [plan for s, plan in zip(beyond.ends, plans) if plan != colours(beyond.net)]
         self.note("beyond the first fault, two without safes: neighbours far apart", beyond.farthest > 1,
                   beyond.farthest)
-        self.note(
-            "only a wrong pulse leads to another plan",
-            all(any(node.wrong for node in beyond.nodes(s).values()) for s, plan in zip(beyond.ends, plans)
-                if plan in wrong),
-            wrong,
-        )
+        right = [s for s, plan in zip(beyond.ends, plans)
+                 if plan in wrong and not any(node.wrong for node in beyond.nodes(s).values())]
+        self.note("only a wrong pulse leads to another plan", not right, wrong)
 
     def test_rounds(self):
         source = random.Random(SEED)
-        tried = [net for nodes in range(1, 5) for net in all_networks(nodes)] + source.sample(list(all_networks(5)),
-                                                                                              100)
+        tried = [net for nodes in range(1, 5) for net in all_networks(nodes)] + source.sample(all_networks(5), 100)
         for rule in [*rules.OF_ROUNDS, "none"]:
             without = () if rule == "none" else (rule,)
             differ = [net.neighbours for net in tried
@@ -422,8 +394,7 @@ class Schedules(Case):
     def test_rules(self):
         """Each rule has its part of docs/learn/GALLERY.md, and names a wrong body that is there, in one of the two
         folders."""
-        with open(os.path.join(TOP, "docs", "learn", "GALLERY.md"), encoding="utf-8") as file:
-            gallery = file.read()
+        gallery = text_in("docs", "learn", "GALLERY.md")
         for word, rule in rules.ALL.items():
             part = gallery.partition(f"\n### `{word}`: ")[2].partition("\n### ")[0]
             self.note(f"{word} in the gallery", f"--without {word}" in part and rule.edit in part)
@@ -433,33 +404,14 @@ class Schedules(Case):
 
     def test_words(self):
         for words, status, fault in FAULTS:
-            self.note(f"explore {' '.join(words)}", explored(*words) == (status, "", fault), explored(*words))
+            self.same(f"explore {' '.join(words)}", explored(*words), (status, "", fault))
         for words, fault in REFUSED:
-            got = explored(*words)
-            self.note(f"explore {' '.join(words)}", got[:2] == (2, "") and fault in got[2], got)
+            self.refusal(f"explore {' '.join(words)}", explored(*words), 2, fault)
         self.note("explore at the limit", explored("examples/triangle.col", "--limit", "16473")[0] == 0)
-        status, said, fault = explored("--help")
-        self.note("explore --help", (status, fault) == (0, "") and all(f"  {word} " in said for word in rules.ALL),
-                  said)
-        with open("/dev/full", "wb") as full:
-            done = subprocess.run([FORESTLAB, "explore", "examples/two.col"], cwd=TOP, stdout=full,
-                                  stderr=subprocess.PIPE, timeout=LIMIT)
-        self.note(
-            "a full device",
-            (done.returncode, done.stderr) == (1, b"explore: the output can't be written: No space left on device\n"),
-            done,
-        )
-        with tempfile.TemporaryDirectory() as folder:
-            link = os.path.join(folder, "linked")
-            os.symlink(FORESTLAB, link)
-            done = subprocess.run([link, "explore", os.path.join(TOP, "examples/two.col")], cwd=folder,
-                                  capture_output=True, timeout=LIMIT)
-            self.note("explore by a link",
-                      done.returncode == 0 and done.stdout.startswith(b"every schedule of two: 281 states"), done)
-        try:
-            self.note("more states than the limit", Space(net_of("two"), limit=280) is None)
-        except TooMany:
-            self.note("more states than the limit", True)
+        said = explored("--help")[1]
+        self.note("explore --help", all(f"  {word} " in said for word in rules.ALL), said)
+        with self.subTest("more states than the limit"), self.assertRaises(TooMany):
+            Space(net_of("two"), limit=280)
 
     def test_fields_of_a_program(self):
         """A node may count by port in a dictionary: in a row of three each payload is counted once, in every schedule."""
