@@ -52,8 +52,8 @@ def copy(crate, room):
 
 
 def copy_build(room):
-    """Copies what proves from the store: build/ without its help texts, and the door that it calls."""
-    leave = shutil.ignore_patterns("__pycache__", "help")
+    """Copies what proves from the store: build/, and the door that it calls."""
+    leave = shutil.ignore_patterns("__pycache__")
     shutil.copytree(os.path.join(TOP, "build"), os.path.join(room, "build"), ignore=leave)
     os.mkdir(os.path.join(room, "lab"))
     for name in LAB:

@@ -8,6 +8,16 @@ begin() {
   exec python3 -S "$lab/../$1" "${@:2}"
 }
 
+# Prints what needs no program, and ends this shell then: say_known NAME [arguments]. That is the version, and at `-h` or
+# `--help` the text of lab/help/, which is what the program has of `--help`.
+say_known() {
+  local text=$1${3:+-$2}
+  [ "${*:2}" != --version ] || begin lab version "$1"
+  [[ $# -le 3 && ${!#} =~ ^(-h|--help)$ && -r $lab/help/$text.txt ]] || return 0
+  cat "$lab/help/$text.txt" 2>/dev/null || { echo "$1: stream" >&2; exit 4; }
+  exit 0
+}
+
 # The program FILE in place of this shell: run_program FILE NAME [arguments]. A file that may not grow is a fault of the
 # stream then, and no signal that ends it. On a terminal a line is written now and then while a long run goes on; in a
 # pipe, none. The C library is asked for large pages, unless the caller says something else: large networks run faster

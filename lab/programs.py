@@ -19,7 +19,7 @@ SCRIPT = """\
 # Runs the program of this name, which is in lib/, with the arguments given.
 top=$(dirname "$(dirname "$(readlink -f "${BASH_SOURCE[0]}")")") name=$(basename "$(readlink -f "$0")")
 source "$top/lab/door.sh"
-[ "$*" != --version ] || begin lab version "$name"
+say_known "$name" "$@"
 run_program "$top/lib/$name" "$name" "$@"
 """
 

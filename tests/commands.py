@@ -11,7 +11,7 @@ STEPS = ["greet", "orient", "seed", "step", "step", "step", "step", "shift", "dr
 
 @dataclass(frozen=True)
 class Command:
-    """A command of a program. Its help texts are build/help/NAME_help.txt and NAME_help_short.txt."""
+    """A command of a program. Its help text is lab/help/PROGRAM-NAME.txt."""
 
     program: str
     name: str
@@ -72,8 +72,10 @@ COMMANDS = (
             words=("--workers", "2")),
 )
 PROGRAM_OF = {command.name: command.program for command in COMMANDS}
-# The programs, each with the name of its help text.
-PROGRAMS = {"forestplan": "help", "forestplay": "forestplay_help"}
+PROGRAMS = ("forestplan", "forestplay")
+# The words of each call for help, and the name of its text in lab/help/.
+HELPS = ([([program], program) for program in PROGRAMS]
+         + [([command.program, command.name], f"{command.program}-{command.name}") for command in COMMANDS])
 
 
 def commands_of(program):

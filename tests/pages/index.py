@@ -147,7 +147,8 @@ class Index(Case):
         page = text_in("docs", "claim", "FORMATS.md")
         for command in ("plan", "transcript"):
             line = next(line for line in page.split("\n") if line.startswith(f"    forestplan {command} "))
-            options = set(re.findall(r"^\s+(?:-\w, )?(--\w+)", text_in("build", "help", f"{command}_help.txt"), re.M))
+            options = set(re.findall(r"^\s+(?:-\w, )?(--\w+)", text_in("lab", "help", f"forestplan-{command}.txt"),
+                                     re.M))
             with self.subTest(command=command):
                 self.assertGreater(len(options), 3)
                 self.assertEqual(set(re.findall(r"--\w+", line)), options - {"--help"})

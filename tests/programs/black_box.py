@@ -4,14 +4,13 @@ status byte by byte.
 Expected answers are worked by hand, or come from the plain definition in lab/definitions/colours.py; none is taken from
 the program.
 """
-import itertools
 import os
 import subprocess
 
 from lab.definitions.colours import forests_text, plan_text
 from tests import TOP
 from tests.cases import Case, run_program, text
-from tests.commands import COMMANDS, PROGRAMS, commands_of
+from tests.commands import COMMANDS, HELPS, commands_of
 from tests.settings import PLAN, PLAY, SECOND_PLAN
 
 LIMIT = 300
@@ -243,14 +242,17 @@ class BlackBox(Case):
                     b"forestplan: F7 line 401002\n")
 
     def test_help(self):
-        """Each help text whole, of both programs, as build/help/ has it."""
-        texts = [(program, [], name) for program, name in PROGRAMS.items()]
-        texts += [(command.program, [command.name], f"{command.name}_help") for command in COMMANDS]
-        for (program, words, name), (option, end) in itertools.product(texts, [("--help", ""), ("-h", "_short")]):
-            with open(os.path.join(TOP, "build", "help", f"{name}{end}.txt"), "rb") as file:
+        """Each help text whole, of both programs, as lab/help/ has it, but for the words on `-h`: at both options the
+        scripts print the stored text."""
+        for (program, *words), name in HELPS:
+            with open(os.path.join(TOP, "lab", "help", f"{name}.txt"), "rb") as file:
                 wanted = file.read()
-            done = run_program(PATHS[program], [*words, option], b"no network")
-            self.expect(f"help by {program} {words} {option}", done, 0, wanted, b"")
+            said = wanted.replace(b" Print help\n", b" Print help (see a summary with '-h')\n")
+            done = run_program(PATHS[program], [*words, "--help"], b"no network")
+            self.expect(f"help by {program} {words}", done, 0, said, b"")
+            for option in ("--help", "-h"):
+                done = run_program(os.path.join(TOP, "bin", program), [*words, option], b"no network")
+                self.expect(f"help by the script {program} {words} {option}", done, 0, wanted, b"")
 
     def test_refused_words(self):
         """Each text whole. The first line is the fault, then maybe a tip, the usage of what was named, and where help

@@ -12,12 +12,12 @@ from build.__main__ import MODULES
 from lab.__main__ import COMMANDS as OF_LAB
 from tests import TOP
 from tests.cases import Case, run_program, text
-from tests.commands import APART, BUILDERS, COMMANDS, PROGRAMS, SCRIPTS, commands_of
+from tests.commands import APART, BUILDERS, COMMANDS, HELPS, PROGRAMS, SCRIPTS, commands_of
 from tests.programs.slow_reader import ANSWERS, answer_to
 from tests.settings import PLAN, PLAY
 
 PATHS = {"forestplan": PLAN, "forestplay": PLAY}
-HELP = os.path.join(TOP, "build", "help")
+HELP = os.path.join(TOP, "lab", "help")
 # Seconds; a busy machine takes long for the many calls.
 LIMIT = 300
 
@@ -43,10 +43,9 @@ class Commands(Case):
                       differences(found, names))
 
     def test_help_texts(self):
-        names = [*PROGRAMS.values(), *(f"{command.name}_help" for command in COMMANDS)]
-        wanted = sorted(name + end for name in names for end in (".txt", "_short.txt"))
+        wanted = sorted(f"{name}.txt" for _, name in HELPS)
         there = sorted(os.listdir(HELP))
-        self.note("build/help/ has the texts of the commands in tests/commands.py", there == wanted,
+        self.note("lab/help/ has the texts of the commands in tests/commands.py", there == wanted,
                   differences(there, wanted))
 
     def test_answers(self):

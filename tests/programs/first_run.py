@@ -16,7 +16,7 @@ import time
 
 from tests import TOP
 from tests.cases import Case
-from tests.commands import commands_of
+from tests.commands import HELPS
 from tests.shell import without_rt
 
 # Seconds; a busy machine is slow.
@@ -203,12 +203,15 @@ class FirstRun(Case):
 
     def run_stored_helps(self, tree):
         """Help is asked for before anything is built: it is the stored text."""
-        texts = [((), "help"), *(((command.name,), f"{command.name}_help") for command in commands_of("forestplan"))]
-        for (words, name), (option, end) in itertools.product(texts, [("--help", ""), ("-h", "_short")]):
-            with open(os.path.join(TOP, "build", "help", f"{name}{end}.txt"), encoding="utf-8") as file:
+        texts = [(words, name) for (program, *words), name in HELPS if program == "forestplan"]
+        for (words, name), option in itertools.product(texts, ("--help", "-h")):
+            with open(os.path.join(TOP, "lab", "help", f"{name}.txt"), encoding="utf-8") as file:
                 wanted = file.read()
             got = tree.call(*words, option)
             self.note(f"{' '.join([*words, option])} of a program that isn't built", got == (0, wanted, ""), got)
+            if words:
+                done = subprocess.run([os.path.join(TOP, "try"), *words, option], capture_output=True, text=True)
+                self.note(f"try {' '.join([*words, option])}", (done.returncode, done.stdout) == (0, wanted), done)
         for redirected in (">/dev/full", ">&-"):
             done = subprocess.run(["bash", "-c", f'exec "$0" plain --help {redirected}',
                                    os.path.join(tree.top, "forestplan")], capture_output=True, env=tree.environment)

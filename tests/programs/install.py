@@ -1,7 +1,7 @@
 """Tests of `python3 build install`, with the programs as they are built in this tree.
 
 What is installed has to run from another folder, through symbolic links, and from a copy of the folder; its manual
-pages have to be the help texts, which build/help/ has."""
+pages have to be the help texts, which lab/help/ has."""
 import hashlib
 import os
 import re
@@ -19,7 +19,7 @@ from lab.definitions.colours import network_of, plan_text
 from lab.definitions.rounds import rounds_text
 from tests import FORESTLAB, TOP
 from tests.cases import Case, text
-from tests.commands import APART, COMMANDS, PROGRAMS, commands_of
+from tests.commands import APART, COMMANDS, HELPS, PROGRAMS
 from tests.commands import SCRIPTS as OF_BIN
 from tests.pages.pages import PAGES, lines_of
 from tests.shell import run_line
@@ -194,11 +194,14 @@ class Install(Case):
         pages = os.path.join(self.target, "share", "man", "man1")
         self.note("a manual page for each",
                   sorted(os.listdir(pages)) == sorted(f"{name}.1" for name in NAMES), os.listdir(pages))
-        for name, helped in PROGRAMS.items():
-            texts = {"DESCRIPTION": helped}
-            texts |= {f"{name.upper()} {it.name.upper()}": f"{it.name}_help" for it in commands_of(name)}
-            wanted = {title: contents(os.path.join(TOP, "build", "help", f"{file}.txt")).decode()
+        for name in PROGRAMS:
+            texts = {" ".join(words).upper() if words[1:] else "DESCRIPTION": file
+                     for words, file in HELPS if words[0] == name}
+            wanted = {title: contents(os.path.join(TOP, "lab", "help", f"{file}.txt")).decode()
                       for title, file in texts.items()}
+            for option in ("-h", "--help"):
+                got = run([os.path.join(self.target, "bin", name), option], env=ENVIRONMENT)
+                self.note(f"{name} {option}", got == (0, wanted["DESCRIPTION"].encode(), b""), got)
             page = contents(os.path.join(pages, f"{name}.1")).decode()
             self.note(f"the manual page of {name} is its help", lines_of_page(page) == wanted, page[:500])
         page = contents(os.path.join(pages, "forestlab.1")).decode()
