@@ -68,8 +68,8 @@ def files_of(model):
 
 
 def words_in(model):
-    """The words of a model's code and of its files' names, without comments: if the program had one of them as its name,
-    the code would have two things of one name."""
+    """The words of a model's code and of its files' names, without comments: if the program had one of them as its
+    name, the code would have two things of one name."""
     texts = (f"{file} " + re.sub("(--|//).*", "", text) for _, _, file, text in files_of(model))
     return {word for text in texts for word in re.findall("[A-Za-z_]+", text)}
 

@@ -1,5 +1,5 @@
-"""Prints an index of the crates from bytes to bytes: each public function, with its clauses and the first sentence of its
-comment, as the sources have them now."""
+"""Prints an index of the crates from bytes to bytes: each public function, with its clauses and the first sentence of
+its comment, as the sources have them now."""
 import argparse
 import os
 import re

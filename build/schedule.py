@@ -1,4 +1,5 @@
-"""Reckons how long a first call takes, by a model of its schedule: what another order or fewer edges between crates give.
+"""Reckons how long a first call takes, by a model of its schedule: what another order, or fewer edges between crates,
+give.
 
   schedule.py [--processors N ..] [--without CRATE:LOWER ..] [--seconds CRATE=N ..] [--each] [CRATE ..]
 

@@ -1,7 +1,7 @@
 """How a command that is written in Python ends: with one line in place of a traceback, whatever happens.
 
-What was given may be wrong; a closed or full output, too little memory and Ctrl-C are no faults of the command. A reader that has gone away is no
-fault at all."""
+What was given may be wrong; a closed or full output, too little memory and Ctrl-C are no faults of the command. A
+reader that has gone away is no fault at all."""
 import contextlib
 import io
 import os

@@ -9,10 +9,10 @@ chromatic number of a graph, 1967) and greedy by number take the nodes in a fixe
 networkx is there, its own numbers of the first two are in the last column. The networks are made anew each time, by
 seeds.
 
-The plan comes from `forestplan plain`; where that isn't built, from the slow definitions, which is said. Once, twice and
-thrice are the plan whose classes have chosen anew, the greatest channel first, in as many passes. (`forestplay --program
-recolouring --passes N` does it, too; where it is built and knows the option, its channels are compared with those found
-here.)
+The plan comes from `forestplan plain`; where that isn't built, from the slow definitions, which is said. Once, twice
+and thrice are the plan whose classes have chosen anew, the greatest channel first, in as many passes. (`forestplay
+--program recolouring --passes N` does it, too; where it is built and knows the option, its channels are compared with
+those found here.)
 """
 import argparse
 import heapq

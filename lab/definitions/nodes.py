@@ -147,8 +147,8 @@ def bit_step(own: int, parent: int | None) -> int:
 
 
 def synchronous_pulses(net: Network, program: type = Colouring, order: Iterable[int] = ()) -> Iterator[tuple]:
-    """(pulse, nodes, inboxes, sent) of each pulse of the synchronous run, from 0: the nodes after it, and what each read
-    in it and sends at each port. They are made and called in an order, by default that of the network."""
+    """(pulse, nodes, inboxes, sent) of each pulse of the synchronous run, from 0: the nodes after it, and what each
+    read in it and sends at each port. They are made and called in an order, by default that of the network."""
     ports = {v: ports_of(net, v) for v in net.neighbours}
     nodes = {v: program(net, v) for v in order or net.neighbours}
     inboxes, sent = {}, {v: nodes[v].greet() for v in nodes}

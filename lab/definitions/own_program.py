@@ -12,9 +12,9 @@
     always(results, neighbours)    the same, of what nodes have found so far, at any time
     drawn(me)                  a pair for pictures: a colour from 0 or None, and a port or None, if the file has it
 
-`me` is the node: `me.id`, `me.degree` (how many ports it has, from 0), `me.barred` (the channels, from 1, that are barred
-at it, ascending), `me.nodes`, `me.greatest_degree`, `me.forests` (U), `me.greatest_bars` (B), `me.random` (chance by a
-seed: lab/definitions/lots.py), and whatever the file keeps there. A payload is a pair: a word of small
+`me` is the node: `me.id`, `me.degree` (how many ports it has, from 0), `me.barred` (the channels, from 1, that are
+barred at it, ascending), `me.nodes`, `me.greatest_degree`, `me.forests` (U), `me.greatest_bars` (B), `me.random`
+(chance by a seed: lab/definitions/lots.py), and whatever the file keeps there. A payload is a pair: a word of small
 letters, and a number from 0. What to send is one payload for all ports, a list with a payload or None for each, or
 None. At the last pulse nothing may be sent.
 

@@ -201,8 +201,8 @@ def add_words(command, name):
         command.add_argument("--channels", metavar="TABLE", help="the channels that all may use, as '1 6 11', or a CSV "
                              "file with a column `channel`: the first is channel 1 of the plan; bars are of these "
                              "numbers, and `forestlab channels` puts them back")
-        command.add_argument("--ignore", metavar="NAMES", help="columns and keys that say nothing of nodes or edges, as "
-                             "weight,km: they aren't counted as left out")
+        command.add_argument("--ignore", metavar="NAMES", help="columns and keys that say nothing of nodes or edges, "
+                             "as weight,km: they aren't counted as left out")
         command.add_argument("--strict", action="store_true", help="refuses it if something would be left out")
     if name == "tell":
         command.add_argument("--payloads", action="store_true", help="counts the payloads, however many they are")

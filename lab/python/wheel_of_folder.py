@@ -1,5 +1,6 @@
-"""What pip calls to install the module `forestplan` from an installed folder: a wheel of the module, and of the programs
-and of lab/, which go to share/forestplan of the environment. It needs pip alone, no other package and no network."""
+"""What pip calls to install the module `forestplan` from an installed folder: a wheel of the module, and of the
+programs and of lab/, which go to share/forestplan of the environment. It needs pip alone, no other package and no
+network."""
 import base64
 import hashlib
 import os

@@ -11,8 +11,9 @@ HELP = """\
 Writes a transcript with stamps, edition 2 or 3, for other tools.
 
   json:   a JSON object a line: the first with the number of nodes, and in edition 3
-          with the program; then one for each entry, {"stamp", "node", "kind", "neighbour", "wire", "pulse", ..}; a take has
-          the number of the line of its put as "put"
+          with the program; then one for each entry, {"stamp", "node", "kind",
+          "neighbour", "wire", "pulse", ..}; a take has the number of the line of its put
+          as "put"
   shiviz: a log for ShiViz (bestchai.bitbucket.io/shiviz), with vector clocks
 """
 MORE_HELP = """\

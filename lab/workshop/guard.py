@@ -43,9 +43,9 @@ CREATE_RULESET, ADD_RULE, RESTRICT_SELF = 444, 445, 446
 EXECUTE, WRITE, READ, LIST, MAKE_BLOCK, TRUNCATE = (1 << bit for bit in (0, 1, 2, 3, 11, 14))
 OF_FILES, LOOKS = EXECUTE | WRITE | READ | TRUNCATE, EXECUTE | READ | LIST
 TCP, SIGNALS_AND_SOCKETS = 3, 3
-# Numbers of Linux on x86-64. Refused are calls that change rights, owners, marks and times of files, lock them, or watch
-# folders; memory, semaphores, queues and keys by name; sockets, but for pairs of them, and calls by way of a ring; priorities;
-# and of limits and schedules those of other processes.
+# Numbers of Linux on x86-64. Refused are calls that change rights, owners, marks and times of files, lock them, or
+# watch folders; memory, semaphores, queues and keys by name; sockets, but for pairs of them, and calls by way of a
+# ring; priorities; and of limits and schedules those of other processes.
 SECCOMP, FILTER, X86_64, OTHER_NUMBERS = 22, 2, 0xC000003E, 0x40000000
 REFUSED = (90, 91, 92, 93, 94, 260, 268, 452, 188, 189, 190, 463, 132, 235, 261, 280, 254, 301, 29, 64, 68, 240, 248,
            249, 250, 41, 425, 141, 251, 73)
@@ -212,8 +212,8 @@ def give(folder: str, user: int) -> None:
 
 
 def call_filter() -> bytes:
-    """The program by which Linux judges each call: the machine's kind, the call's number, of `fcntl` what it does, and of
-    some the process that they are about."""
+    """The program by which Linux judges each call: the machine's kind, the call's number, of `fcntl` what it does, and
+    of some the process that they are about."""
     load, is_equal, is_least, answer = 0x20, 0x15, 0x35, 0x06
     rows = [(load, 0, 0, 4), (is_equal, 0, "no", X86_64), (load, 0, 0, 0), (is_least, "no", 0, OTHER_NUMBERS),
             *((is_equal, "no", 0, number) for number in REFUSED),

@@ -1,5 +1,5 @@
-"""Why a node of any program has to do something in a pulse. Of a program that goes on after the colouring: up to its cut
-what the colouring says, and then the rule of the pulse, with this node's numbers."""
+"""Why a node of any program has to do something in a pulse. Of a program that goes on after the colouring: up to its
+cut what the colouring says, and then the rule of the pulse, with this node's numbers."""
 from lab.workshop.findings import listed
 from lab.workshop.protocol import COLOURING
 from lab.workshop.right_rounds import RightRounds
@@ -95,7 +95,9 @@ class OfMatching(After):
         for q in range(self.start, p + 1):
             found += [(q, ports[w]) for w, words in self.rounds.puts[q].get(self.v, {}).items()
                       if words.startswith("take ")]
-        return f"it has its partner by port {min(found)[1]} since pulse {min(found)[0]}" if found else "it has no partner"
+        if not found:
+            return "it has no partner"
+        return f"it has its partner by port {min(found)[1]} since pulse {min(found)[0]}"
 
     def of_result(self) -> str:
         return "a node's partner is by the port by which it sent `take`, or by which `take` came; after pulse " \

@@ -24,7 +24,8 @@ class RightRounds:
         self.ports = {v: {w: port for port, w in enumerate(network.neighbours[v])} for v in network.vertices}
         self.phase, self.puts, self.colours, self.chose, self.results = [], [], [], [], {}
         head, *lines = self.asked("forestplay", "rounds", program).splitlines()
-        self.forests, self.last = forests_of(network) if program in (COLOURING, *SEQUELS) else None, int(head.split()[-1])
+        self.forests = forests_of(network) if program in (COLOURING, *SEQUELS) else None
+        self.last = int(head.split()[-1])
         for line in lines:
             self.read(line.split(" "))
         self.heard = self.inboxes()

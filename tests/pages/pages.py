@@ -4,7 +4,8 @@
   lab/definitions/nodes.py), not from the program. tutorial_facts.py has the rest of what it says.
 - Each excerpt of code, a fence whose first line names its file, has its lines in that file, in this order; a comment
   `..` means lines that are left out.
-- README.md or docs/work/LAYERS.md names each crate. No line of a page is wider than 150 columns.
+- README.md or docs/work/LAYERS.md names each crate. No line of a page is wider than 150 columns, and none of a Python
+  file than 120.
 - Each file named in backquotes exists, also if it is named without its folder; each link leads to a page and a
   heading, and each function and clause that docs/claim/PROMISES.md names is in the code. It names each public law.
 """
@@ -19,7 +20,7 @@ from tests.pages.tutorial_facts import channels_of, dropped, example, pulses_of
 
 PAGES = ["README.md"] + sorted(os.path.relpath(path, TOP)
                                for path in glob.glob(os.path.join(TOP, "docs", "**", "*.md"), recursive=True))
-WIDEST = 150
+WIDEST, WIDEST_OF_PYTHON = 150, 120
 
 
 def lines_of(page):
@@ -209,6 +210,10 @@ class Pages(Case):
         self.note("crates in README.md and docs/work/LAYERS.md", not missing, f"not named: {missing}")
 
     def test_lengths(self):
-        wide = [f"{page}:{number}" for page in PAGES for number, line in enumerate(lines_of(page), 1)
-                if len(line) > WIDEST]
-        self.note(f"lines of pages wider than {WIDEST} columns", not wide, wide[:5])
+        python = [os.path.relpath(path, TOP) for folder in ("lab", "build", "tests", "bench", "examples")
+                  for path in glob.glob(os.path.join(TOP, folder, "**", "*.py"), recursive=True)]
+        self.note("files of Python", len(python) > 200, len(python))
+        for kind, files, widest in (("pages", PAGES, WIDEST), ("Python", python, WIDEST_OF_PYTHON)):
+            wide = [f"{file}:{number}" for file in files for number, line in enumerate(lines_of(file), 1)
+                    if len(line) > widest]
+            self.note(f"lines of {kind} wider than {widest} columns", not wide, wide[:5])

@@ -17,8 +17,8 @@ TABS = ("rounds", "run", "adversary", "check", "pictures")
 # Keeps each picture that the page makes.
 KEEP = """(() => { const make = URL.createObjectURL.bind(URL); window.kept = [];
   URL.createObjectURL = blob => { kept.push(blob); return make(blob); }; })()"""
-# What nodes find in the triangle, whose plan is 2 3 1, once a field is changed. Node 3 takes node 2 in forest 0, so 1 is
-# left over. In the first pass node 2 chooses first, then 1, then 3; so in the second it is 3, then 1, then 2.
+# What nodes find in the triangle, whose plan is 2 3 1, once a field is changed. Node 3 takes node 2 in forest 0, so 1
+# is left over. In the first pass node 2 chooses first, then 1, then 3; so in the second it is 3, then 1, then 2.
 FOUND = [
     ("program4", "matching", ["partner none", "partner 1", "partner 1"]),
     ("program4", "independent-set", ["out", "out", "in"]),

@@ -110,8 +110,8 @@ class TutorialFacts(Case):
             self.same(f"the star whose centre has {channel}", colours(given), ends)
 
     def test_passes(self):
-        """The passes of exercise 7 (d), by hand as its answer has them: pulses R + N (D + B + 1), R being 36 of the ring
-        and 21 of the two nodes."""
+        """The passes of exercise 7 (d), by hand as its answer has them: pulses R + N (D + B + 1), R being 36 of the
+        ring and 21 of the two nodes."""
         ring, two = example("examples/barred.col"), Network({1: 1, 2: 2}, {(1, 2)}, {1: {1}})
         for net, ends in ((ring, [(40, [2, 1, 2, 1]), (44, [2, 3, 1, 3]), (48, [2, 1, 2, 1])]), (two, [(24, [3, 1])])):
             for passes, wanted in enumerate(ends, 1):

@@ -17,8 +17,8 @@ from tests.pictures.marks import marks, parsed, texts
 
 HAND = [
     "why node 2 of triangle has channel 3",
-    "8 of 49 messages decided it, and the identifiers of 2 of 3 nodes. The farthest of them is node 3, 1 edge away by the "
-    "shortest way.",
+    "8 of 49 messages decided it, and the identifiers of 2 of 3 nodes. The farthest of them is node 3, 1 edge away by "
+    "the shortest way.",
     "pulse 26, merge of forest 1: the turn of node 2, with colour 1 in the forest and 1 so far; it chooses colour 2, "
     "channel 3",
     "  channel 1 is taken: node 3 told it so in pulse 22",
@@ -71,8 +71,8 @@ class Messages(Case):
             text = set(rounds_text(net).decode().splitlines())
             said = why(name, vertex, "--text")[1]
             part = said.partition("the messages that decided it, pulse by pulse:\n")[2]
-            rows = re.findall(r"^(\d+) told (\d+) (colour|chosen) (\d+) in pulse (\d+), in (the merge of )?forest (\d+)$",
-                              part, re.M)
+            rows = re.findall(r"^(\d+) told (\d+) (colour|chosen) (\d+) in pulse (\d+), in (the merge of )?forest "
+                              r"(\d+)$", part, re.M)
             self.note(f"{name}: as many as are counted", len(rows) == int(said.splitlines()[1].split(" ")[0]) > 0, rows)
             self.note(f"{name}: by pulse", [int(row[4]) for row in rows] == sorted(int(row[4]) for row in rows))
             for v, w, kind, number, pulse, merge, forest in rows:

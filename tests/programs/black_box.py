@@ -328,7 +328,8 @@ class BlackBox(Case):
             shown = word if isinstance(word, str) else "\N{REPLACEMENT CHARACTER}"
             self.expect_refused([word], f"unrecognized subcommand '{shown}'||Usage: forestplay <COMMAND>", reads, PLAY)
         for it in commands_of("forestplay"):
-            self.expect_refused([it.name, "extra"], f"unexpected argument 'extra' found||Usage: {it.usage}", reads, PLAY)
+            self.expect_refused([it.name, "extra"], f"unexpected argument 'extra' found||Usage: {it.usage}", reads,
+                                PLAY)
 
     def expect_refused(self, words, fault, hint="", program=PLAN):
         wanted = f"error: {fault}||For more information, try '--help'.|{hint}".replace("|", "\n")

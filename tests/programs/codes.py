@@ -36,7 +36,8 @@ FAULTS = [
     ("check", TRIANGLE + "b 1 2|plan|1 2|", "C8 vertex 1", "vertex 1 has a channel that is barred at it"),
     ("events", EDGE + "put 1 0: hello|", "NoEvent line 3", "line 3 is no event"),
     ("events", EDGE + "pulse 1|", "NotReady line 3: ack 0 of 2; safe 0 of 2", "in line 3 a node can't make its next"),
-    ("events", EDGE + "put 1 0|put 1 0|", "NothingToPut line 4: list of 1 for 2", "in line 4 a node has nothing to put"),
+    ("events", EDGE + "put 1 0|put 1 0|", "NothingToPut line 4: list of 1 for 2",
+     "in line 4 a node has nothing to put"),
     ("events", EDGE + "take 1 0|", "LinkEmpty line 3: link from 2 to 1", "in line 3 the link has no wire"),
     ("events", EDGE + "put 1 2|", "NoSuch line 3", "in line 3 there is no such vertex or port"),
     ("replay", RUN + "1 1 puts 2 close|", "X1 line 4", "line 4 isn't a line of a transcript"),
@@ -88,8 +89,8 @@ class Codes(Case):
 
     def test_what_is_no_code(self):
         for words, wanted, said in (
-            (["C9"], 1, "network: C9 is neither a file nor a code of the programs: docs/claim/FORMATS.md has all codes\n"),
-            (["E6"], 1, "network: E6 is neither a file nor a code of the programs: docs/claim/FORMATS.md has all codes\n"),
+            *(([code], 1, f"network: {code} is neither a file nor a code of the programs: docs/claim/FORMATS.md has "
+               "all codes\n") for code in ("C9", "E6")),
             (["nowhere.col"], 1, "network: nowhere.col: No such file or directory\n"),
             (["C8", "and", "C9"], 2, "one FILE, or a code and where it is, as `C8 vertex 1`\n"),
         ):

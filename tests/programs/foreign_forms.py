@@ -221,7 +221,8 @@ class ForeignForms(Case):
                  "edge [ source 2 target 3 ] ]")
         for text, said in ((group, b"groups of nodes, without an edge of their own, are no nodes: 1"),
                            (group.replace("isGroup", "x"), b"nodes aren't named by their label: A comes twice"),
-                           (group.replace("isGroup 1", 'name "B"'), b"nodes aren't named by their name: some have none"),
+                           (group.replace("isGroup 1", 'name "B"'),
+                            b"nodes aren't named by their name: some have none"),
                            ("p edge 3 2\ne 1 2\nx 1 3\nd 2\n", b"lines `n`, `d`, `v` and `x` not read: 2"),
                            ("c name 1 A\nc name 2 A\np edge 2 1\ne 1 2\n", b"two nodes are named A")):
             status, _, told = call("read", "-", data=text.encode())

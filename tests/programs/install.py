@@ -74,7 +74,7 @@ def listed_commands(lines):
     for number, line in enumerate(lines, 1):
         if re.match(r" {4}forest(lab|plan|play) ", line):
             for command in re.split(r" {2,}", line.strip()):
-                if command.startswith("forestlab ") and not re.search(r" -- |~/|\b(pairs\.csv|submissions)\b|lab studio$", command):
+                if re.match(r"forestlab (?!.*( -- |~/|\b(pairs\.csv|submissions)\b)|studio$)", command):
                     yield number, command
 
 
@@ -495,7 +495,8 @@ class Install(Case):
         self.note("nothing else of a crate", not os.path.exists(os.path.join(there, "crates", "cole_vishkin", "out")))
         got = run(["python3", os.path.join(there, "build"), "prove", "cole_vishkin"], env=ENVIRONMENT)
         self.note("what proves is there, and wants the toolchain",
-                  got[:2] == (2, b"") and got[2].startswith(b"prove: the toolchain's command rt is not on the PATH"), got)
+                  got[:2] == (2, b"") and got[2].startswith(b"prove: the toolchain's command rt is not on the PATH"),
+                  got)
         with open(os.path.join(there, "crates.txt"), "a", encoding="utf-8") as file:
             file.write("mine: cole_vishkin\n")
         changed = os.path.join(there, "crates", "colour_base", "src", "lib.rt")

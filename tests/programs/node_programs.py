@@ -80,7 +80,8 @@ ROUNDS = [
 # A node alone hears and sends nothing: 13 is 13 + 6 U of the matching, and R + D + B + 1 of the others.
 ROUNDS += [(program, "p edge 1 0|",
             f"rounds 3 {program} 1 0 13|" + "".join(f"pulse {p}|" for p in range(14)) + f"1 {result}|")
-           for program, result in (("matching", "partner none"), ("independent-set", "in"), ("recolouring", "channel 1"))]
+           for program, result in (("matching", "partner none"), ("independent-set", "in"),
+                                   ("recolouring", "channel 1"))]
 FIRST, FIRST_STAMPED = "transcript 1 2|1 put 2 payload 0 ", "transcript 2 2|"
 NAMED = "transcript 3 leader 2||1 1 put 2 payload 0 "
 # Entries of a transcript of an edge, and what is said of them: words of another program, and numbers out of range.
@@ -94,9 +95,11 @@ REFUSED = [
     ("layers", FIRST + "hops 1|", "WrongWire line 4: expected payload 0 hops 0"),
     # A name comes before what is wrong in later lines, and after nothing else than faults of the network.
     ("leader", NAMED + "leader 1|", "NotWhole line 5"), ("leader", NAMED + "hops 0|", "X1 line 5"),
-    ("layers", NAMED + "hops 0|", "WrongProgram line 3: leader"), ("colouring", NAMED + "x|", "WrongProgram line 3: leader"),
+    ("layers", NAMED + "hops 0|", "WrongProgram line 3: leader"),
+    ("colouring", NAMED + "x|", "WrongProgram line 3: leader"),
     ("colouring", "transcript 3 colouring 2|", "NotWhole line 3"),
-    ("layers", "transcript 3 leader x|", "WrongProgram line 3: leader"), ("leader", "transcript 3 leader x|", "X1 line 3"),
+    ("layers", "transcript 3 leader x|", "WrongProgram line 3: leader"),
+    ("leader", "transcript 3 leader x|", "X1 line 3"),
     ("leader", "transcript 3 leader|", "X1 line 3"), ("leader", "transcript 3 2|", "X1 line 3"),
     ("leader", "transcript 3 leader 2 2|", "X1 line 3"), ("leader", "transcript 2 leader 2|", "X1 line 3"),
     # Hyphens are inside a name; and the payloads of a sequel are its own and the colouring's, each within its bound.
@@ -146,8 +149,8 @@ class Programs(Case):
                       done)
 
     def test_transcripts(self):
-        """The transcript of a run is one run, which its own program replays and the others refuse: by the name in the first
-        line, and without it by the first payload."""
+        """The transcript of a run is one run, which its own program replays and the others refuse: by the name in the
+        first line, and without it by the first payload."""
         for program, first, payload in (("colouring", "transcript 2 2", "hello 1"),
                                         ("leader", "transcript 3 leader 2", "leader 1"),
                                         ("layers", "transcript 3 layers 2", "hops 0")):
@@ -173,7 +176,8 @@ class Programs(Case):
             unnamed = text(FIRST_STAMPED) + done.stdout.split(b"\n", 1)[1]
             for other in ("colouring", "leader", *sequels):
                 again = run_program(PLAY, ["replay", "--program", other], text(EDGE) + done.stdout)
-                self.judged(f"{program} replayed as {other}", again, other == program, f"WrongProgram line 3: {program}")
+                self.judged(f"{program} replayed as {other}", again, other == program,
+                            f"WrongProgram line 3: {program}")
                 again = run_program(PLAY, ["replay", "--program", other], text(EDGE) + unnamed)
                 self.note(f"{program} without its name as {other}", again.returncode == (other != program), again)
 

@@ -143,7 +143,8 @@ class OwnAlgorithms(Case):
             self.refusal(f"a wrong run of {program}", wrong, 1, b"WrongWire")
 
     def test_what_me_knows(self):
-        """By hand: a row of three whose middle is the greatest has one forest, and two channels are barred at node 1."""
+        """By hand: a row of three whose middle is the greatest has one forest, and two channels are barred at node
+        1."""
         text = GOOD.replace("'x'", "f'{me.id} {me.degree} {me.nodes} {me.greatest_degree} {me.forests} "
                                    "{me.greatest_bars} {me.barred} {last(me)}'")
         text += "def last_pulse(nodes, degree, forests, bars):\n    return 10 * nodes + degree + forests + bars\n" \

@@ -104,7 +104,8 @@ class Passes(Case):
                 self.note(f"{command} with {passes!r}", good, done)
             for words, said in WRONG:
                 done = play([command, *words.split()], EDGE)
-                self.note(f"{command} {words}", (done.returncode, done.stdout) == (2, b"") and said in done.stderr, done)
+                self.note(f"{command} {words}", (done.returncode, done.stdout) == (2, b"") and said in done.stderr,
+                          done)
         for command in ("plan", "plain", "transcript", "forests", "check"):
             done = run_program(PLAN, [command, "--passes", "1"], text(EDGE))
             self.note(f"forestplan {command}", (done.returncode, done.stdout) == (2, b""), done)

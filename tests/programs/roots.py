@@ -32,7 +32,8 @@ ENDS = [
     (5, network([4, 3, 2, 9, 1], [(3, 5), (1, 3)]), 4,
      [("layer 2 by 0", 3), ("layer none", None), ("layer 1 by 1", 5), ("layer none", None), ("layer 0", None)]),
 ]
-# What is refused: the command, the root, the input and the fault. The text comes first, then the root, the network last.
+# What is refused: the command, the root, the input and the fault. The text comes first, then the root, the network
+# last.
 FAULTS = [
     ("run", 4, ROW, "NoRoot vertex 4"), ("rounds", 20000, ROW, "NoRoot vertex 20000"),
     ("run", 1, "p edge 0 0|", "NoRoot vertex 1"), ("rounds", 9, "p edge 2 1|e 1 1|", "F6 line 2"),

@@ -414,7 +414,8 @@ class Schedules(Case):
             Space(net_of("two"), limit=280)
 
     def test_fields_of_a_program(self):
-        """A node may count by port in a dictionary: in a row of three each payload is counted once, in every schedule."""
+        """A node may count by port in a dictionary: in a row of three each payload is counted once, in every
+        schedule."""
         space = Space(network_of(b"p edge 3 2\ne 1 2\ne 2 3\n"), program=Counting)
         found = [{v: node.result for v, node in space.nodes(end).items()} for end in space.ends]
         self.note("counts", found == [{1: "{0: 2}", 2: "{0: 2, 1: 2}", 3: "{0: 2}"}] and not space.faults, found)

@@ -196,7 +196,8 @@ class Lists(Case):
         status, text, fault = simulate("two", "--events", "-", data=b"put 1 0\ntake 2 0\nput 2 0\n")
         self.assertEqual((status, text), (0, b"transcript 2 2\n1 1 put 2 payload 0 hello 1\n"
                                              b"2 2 take 1 payload 0 hello 1\n3 2 put 1 payload 0 hello 2\n"))
-        self.assertEqual(fault, b"simulate: after the last event node 1 is at pulse 0 of 18; --to-the-end plays the rest\n")
+        self.assertEqual(fault,
+                         b"simulate: after the last event node 1 is at pulse 0 of 18; --to-the-end plays the rest\n")
 
     def test_refusals(self):
         for events, end in (

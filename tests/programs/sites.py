@@ -119,7 +119,8 @@ class Sites(Case):
                 for name, south, north, west, east, reach in (
                     ("a town", 52.3, 52.6, 13.1, 13.7, 4.0), ("a pole", 88, 90, -180, 180, 60),
                     ("the line", -1, 1, 179, 181, 30), ("the earth", -90, 90, -180, 180, 1500))]
-        rows.append(("a plane", "x,y", math.dist, 10, [(source.randrange(100), source.randrange(100)) for _ in range(200)]))
+        rows.append(("a plane", "x,y", math.dist, 10,
+                     [(source.randrange(100), source.randrange(100)) for _ in range(200)]))
         for name, columns, far, reach, places in rows:
             text = f"id,{columns}\n" + "".join(f"s{at},{a!r},{b!r}\n" for at, (a, b) in enumerate(places))
             sites = self.file("sites.csv", text)

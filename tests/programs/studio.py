@@ -114,7 +114,8 @@ class Refusals(Server):
                 ("plan", {"network": "p edge 2 1\ne 1 3\n"}, "(F5)"), ("broken", {"without": "x"}, "no such rule"),
                 ("picture", {"kind": "x"}, "there is no picture x"),
                 *(("picture", {"kind": "results"} | asked, words) for asked, words in (
-                    ({"program": "x"}, "there is no program"), ({"program": "matching", "passes": 2}, "not for matching"),
+                    ({"program": "x"}, "there is no program"),
+                    ({"program": "matching", "passes": 2}, "not for matching"),
                     *(({"program": "recolouring", "passes": passes}, "there are 1 to 3 passes")
                       for passes in (0, 4, "2", [2])))),
                 ("steps", {"without": "x"}, "no such rule"), ("steps", {"steps": "1"}, "isn't possible there"),

@@ -106,7 +106,8 @@ class Grades(Case):
                     "watches": "SYSTEM.inotify_add_watch(SYSTEM.inotify_init(), b'..', 0xFFF) >= 0",
                     "lock": "fcntl.flock(os.open('rounds_node.py', os.O_RDONLY), fcntl.LOCK_SH)",
                     "range": "fcntl.lockf(os.open('rounds_node.py', os.O_RDONLY), fcntl.LOCK_SH)",
-                    "flags": "fcntl.fcntl(0, fcntl.F_GETFD) >= 0", "mine": "resource.setrlimit(resource.RLIMIT_CORE, (0, 0))"}
+                    "flags": "fcntl.fcntl(0, fcntl.F_GETFD) >= 0",
+                    "mine": "resource.setrlimit(resource.RLIMIT_CORE, (0, 0))"}
         self.submit("anna", rounds_node_py=program(attacks, "import fcntl, resource\n"))
         self.submit("cleo", rounds_node_py=program({}, deep))
         self.submit("ben", rounds_node_py=ZERO)

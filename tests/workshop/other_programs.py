@@ -176,7 +176,8 @@ class OtherPrograms(Played):
             (["alpha", "two", "--program", "layer", "--", "x"],
              "workshop: there is no program layer, which are colouring, leader, layers, matching, independent-set, "
              "recolouring\n"),
-            (["open", "two", "--program", "layers", "--", "x"], "forestlab workshop: error: --program is of rounds and alpha\n"),
+            (["open", "two", "--program", "layers", "--", "x"],
+             "forestlab workshop: error: --program is of rounds and alpha\n"),
         ):
             status, out, errors = called(*words)
             self.same(f"{words[:4]}", (status, out, errors.splitlines(keepends=True)[-1]), (2, "", said))

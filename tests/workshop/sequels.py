@@ -1,7 +1,8 @@
-"""The workshop for the programs that go on after the colouring. What is right on a triangle is worked by hand: in forest
-0 node 1 is below 2, and 2 below 3, and in forest 1 node 1 is below 3. The colours of 1, 2, 3 are 0, 1, 0 in forest 0, and
-1, 2, 0 in the plan, after pulse 30. So node 3 takes node 2 in pulse 14. Node 3 joins the set in pulse 31, and the others
-hear of it. Node 2 chooses anew in pulse 31 and takes 0, node 1 in pulse 32 and takes 1, node 3 in pulse 33."""
+"""The workshop for the programs that go on after the colouring. What is right on a triangle is worked by hand: in
+forest 0 node 1 is below 2, and 2 below 3, and in forest 1 node 1 is below 3. The colours of 1, 2, 3 are 0, 1, 0 in
+forest 0, and 1, 2, 0 in the plan, after pulse 30. So node 3 takes node 2 in pulse 14. Node 3 joins the set in pulse 31,
+and the others hear of it. Node 2 chooses anew in pulse 31 and takes 0, node 1 in pulse 32 and takes 1, node 3 in pulse
+33."""
 import os
 import sys
 
@@ -21,8 +22,8 @@ BARRED = Network("barred one", 1, [], {}, {}, {1: 1}, {1: [1]})
 RESULTS = {"matching": ["partner none", "partner 1", "partner 1"], "independent-set": ["out", "out", "in"],
            "recolouring": ["channel 2", "channel 1", "channel 3"]}
 LAST = {"matching": 25, "independent-set": 33, "recolouring": 33}
-# By program and mistake, what is found on the triangle: the verdict, the node and its pulse, with a clock and without one.
-# Which of two nodes that are wrong in one pulse is the first without a clock is the policy's matter: None.
+# By program and mistake, what is found on the triangle: the verdict, the node and its pulse, with a clock and without
+# one. Which of two nodes that are wrong in one pulse is the first without a clock is the policy's matter: None.
 FOUND = {
     "matching": {
         "matching_again": (("differs", 2, 16), ("WrongWire", 2, 16)),
@@ -53,15 +54,15 @@ WHY = {
         "parent in this forest, and nothing else is sent; this node has its parent there by port 0, and it has no "
         "partner",
     "set_beside":
-        "pulse 32 is the turn of the nodes of colour 1, channel 2: one of them joins if no neighbour has sent `joined`, "
-        "and then sends `joined 1` by each port, but nothing in the last pulse; this node has colour 1, and `joined` "
-        "has come by port 1",
+        "pulse 32 is the turn of the nodes of colour 1, channel 2: one of them joins if no neighbour has sent "
+        "`joined`, and then sends `joined 1` by each port, but nothing in the last pulse; this node has colour 1, and "
+        "`joined` has come by port 1",
     "anew_last":
-        "a node's channel is the colour that it has chosen anew, plus one; it chose in pulse 33: it had colour 0 by the "
-        "plan, neighbours have sent colours 0 and 1",
+        "a node's channel is the colour that it has chosen anew, plus one; it chose in pulse 33: it had colour 0 by "
+        "the plan, neighbours have sent colours 0 and 1",
     "anew_bars":
-        "a node's channel is the colour that it has chosen anew, plus one; it chose in pulse 13: it had colour 1 by the "
-        "plan, colour 0 is barred at it",
+        "a node's channel is the colour that it has chosen anew, plus one; it chose in pulse 13: it had colour 1 by "
+        "the plan, colour 0 is barred at it",
 }
 
 
@@ -126,7 +127,8 @@ class Sequels(Played):
 
     def test_what_is_no_line_or_no_wire_of_the_program(self):
         for program, assignment, line, words in (
-            ("matching", "rounds", "channel 1", "which are `put PORT WORD NUMBER`, `partner PORT`, `partner none` and "),
+            ("matching", "rounds", "channel 1",
+             "which are `put PORT WORD NUMBER`, `partner PORT`, `partner none` and "),
             ("matching", "rounds", "partner", "`partner` is no line of an answer"),
             ("independent-set", "rounds", "in 1", "`in 1` is no line of an answer"),
             ("recolouring", "rounds", "colour 0 1", "`colour 0 1` is no line of an answer"),

@@ -74,8 +74,8 @@ ROWS = (
     ("1 1 put 2 payload 0 best 1|", "line 2: X1: not an entry: `best` is no payload, which are hello, label, colour, "
                                     "chosen"),
     # A payload of another program.
-    ("1 1 put 2 payload 0 leader 1|", "line 2: X1: not an entry: `leader` is no payload, which are hello, label, colour, "
-                                      "chosen; --program leader has it: is that option forgotten?"),
+    ("1 1 put 2 payload 0 leader 1|", "line 2: X1: not an entry: `leader` is no payload, which are hello, label, "
+                                      "colour, chosen; --program leader has it: is that option forgotten?"),
     ("1 1 put 2 payload 0 hops 0|", "line 2: X1: not an entry: `hops` is no payload, which are hello, label, colour, "
                                     "chosen; --program layers has it: is that option forgotten?"),
     ("1 1 put 2 payload 1 label 65536|", "line 2: X1: not an entry: `65536` is no number of a label, which is below "
@@ -116,7 +116,8 @@ class Transcripts(Case):
             ("layers", "colouring", "line 1: WrongProgram: a transcript of layers, not of colouring: --program layers"),
             ("layers", "leader", "line 1: WrongProgram: a transcript of layers, not of leader: --program layers"),
             ("my_own", "layers", "line 1: WrongProgram: a transcript of my_own, not of layers: --program my_own"),
-            ("lay\x1bers", "layers", "line 1: X1: neither `transcript 1 N`, `transcript 2 N` nor `transcript 3 NAME N`"),
+            ("lay\x1bers", "layers",
+             "line 1: X1: neither `transcript 1 N`, `transcript 2 N` nor `transcript 3 NAME N`"),
         ):
             self.says(named.format(name), line, "--program", program)
 
