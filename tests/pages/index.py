@@ -9,12 +9,46 @@ import re
 from build import promises
 from build.crate_lists import listed, with_below
 from lab.__main__ import COMMANDS as OF_LAB
-from lab.networks import network_text
 from tests import TOP
 from tests.cases import Case, text_in
 from tests.pages.pages import PAGES, lines_of
 
 README_WORDS, README_COLUMNS = 900, 120
+
+# The constants of limits, and what is said of them elsewhere, with line ends as blanks.
+LIMITS = ("graph_limits/src/limits.rt", "interference/src/limits.rt", "run_options/src/lib.rt",
+          "command_line/src/programs.rt")
+SAID_OF_LIMITS = {
+    "README.md": ("{MAX_NODES:,} nodes, {MAX_EDGES:,} edges, {MAX_DEGREE:,} neighbours and {MAX_BARS:,} barred",
+                  "channels of a node, {MAX_WORKERS} threads"),
+    "docs/claim/DEFINITIONS.md": (
+        "`MAX_NODES`, {MAX_NODES:,}, `MAX_EDGES`, {MAX_EDGES:,}, `MAX_CHANNEL`, {MAX_CHANNEL:,} (",
+        "`MAX_BARS`, {MAX_BARS:,} (", "`MAX_DEGREE`, {MAX_DEGREE:,} (",
+        "`MAX_WORKERS`, {MAX_WORKERS}, `MAX_CAPACITY`, {MAX_CAPACITY}, and ",
+        "F7: NODES above {MAX_NODES:,}", "name {ABOVE_EDGES:,} different edges", "0 or above {MAX_CHANNEL:,}; F14",
+        "bar {ABOVE_BARS:,} different channels", "at most {MAX_BARS:,}, each below {MAX_CHANNEL:,}.",
+        "more than {MAX_DEGREE:,} neighbours", "1 to {MAX_WORKERS} workers and a capacity of 1 to {MAX_CAPACITY}."),
+    "docs/claim/FORMATS.md": (
+        "| F7 | NODES is above {MAX_NODES:,}, or the line names the different edge that is number {ABOVE_EDGES:,} |",
+        "| F13 | a barred channel is 0 or above {MAX_CHANNEL:,} |", "that is number {ABOVE_BARS:,} |",
+        "| N1 | a vertex has more than {MAX_DEGREE:,} neighbours", "| `--workers` | 1 | {MAX_WORKERS} |",
+        "| `--capacity` | 1 | {MAX_CAPACITY} |", "| `--turns` | 0 | {MAX_TURNS} |",
+        "| `--edition` | 1 | {MAX_EDITION} |", "a vertex, from 1 to {MAX_NODES:,}",
+        "choose anew, from 1 to {MAX_PASSES};",
+        "from 1 to {MAX_CHANNEL:,}, up to {MAX_BARS:,} of them at one vertex"),
+    "docs/claim/PROMISES.md": (
+        "{MAX_NODES:,} vertices and {MAX_EDGES:,} edges, {MAX_DEGREE:,} neighbours, {MAX_WORKERS} workers",
+        "and B at most {MAX_BARS:,}."),
+    "docs/learn/TUTORIAL.md": ("every network of up to {MAX_NODES:,} nodes",),
+    "docs/work/LOOKUP.md": ("{MAX_DEGREE:,} + {MAX_BARS:,}, below `COLOURS`, {MAX_CHANNEL:,}",),
+    "lab/networks/network_text.py": tuple(f"{name} = {{{name}}} " for name in
+                                          ("MAX_NODES", "MAX_EDGES", "MAX_DEGREE", "MAX_CHANNEL", "MAX_BARS")),
+    "lab/definitions/programs.py": ("PASSES = {ALL_PASSES} ",),
+    "lab/python/forestplan.py": (" <= number <= {MAX_CHANNEL} + ",),
+    "lab/studio/page/draw.js": (" > {MAX_CHANNEL})", "numbers from 1 to {MAX_CHANNEL:,},"),
+    "lab/studio/page/page.html": ('id="workers" type="number" min="1" max="{MAX_WORKERS}"',
+                                  'id="capacity" type="number" min="1" max="{MAX_CAPACITY}"'),
+}
 
 
 def one_line(text):
@@ -32,26 +66,6 @@ def members():
         for name, body in re.findall(r"^\s*(?:pub )?(?:struct|trait) (\w+)\b(.*?)^\}", text_in(path), re.M | re.S):
             found.setdefault(name, set()).update(re.findall(r"^\s+(?:pub )?(?:ghost )?(\w+)\s*[:=]", body, re.M))
     return found
-
-
-# What a page or a module says of a limit, as a pattern.
-LIMITS = (
-    ("lab/python/forestplan.py", r" <= number <= {MAX_CHANNEL} \+ "),
-    ("lab/studio/page/draw.js", r" > {MAX_CHANNEL}\)"),
-    *(("README.md", words) for words in (
-        "{MAX_NODES:,} nodes", "{MAX_EDGES:,} edges", "{MAX_DEGREE:,} neighbours", "{MAX_BARS:,} barred",
-        "{MAX_WORKERS:,} threads")),
-    ("docs/work/LOOKUP.md", r"{MAX_DEGREE:,} \+ {MAX_BARS:,}, below `COLOURS`, {MAX_CHANNEL:,}"),
-    *(("docs/claim/DEFINITIONS.md", f"`{name}`, {{{name}:,}}") for name in (
-        "MAX_NODES", "MAX_EDGES", "MAX_CHANNEL", "MAX_BARS", "MAX_DEGREE", "MAX_WORKERS", "MAX_CAPACITY")),
-    *(("docs/claim/PROMISES.md", words) for words in (
-        "{MAX_NODES:,} vertices", "{MAX_EDGES:,} edges", "{MAX_DEGREE:,} neighbours", "{MAX_WORKERS:,} workers")),
-    *(("docs/claim/FORMATS.md", words) for words in (
-        r"\| F7 \|[^|]*\b{MAX_NODES:,}\b", r"\| F7 \|[^|]*\b{ABOVE_EDGES:,}\b",
-        r"\| F13 \|[^|]*\b{MAX_CHANNEL:,}\b", r"\| F14 \|[^|]*\b{ABOVE_BARS:,}\b", r"\| N1 \|[^|]*\b{MAX_DEGREE:,}\b",
-        r"\| `--workers` \| \d \| {MAX_WORKERS} \|", r"\| `--capacity` \| \d \| {MAX_CAPACITY} \|",
-        r"\| `--turns` \| \d \| {MAX_TURNS} \|")),
-)
 
 
 class Index(Case):
@@ -154,18 +168,15 @@ class Index(Case):
                 self.assertEqual(set(re.findall(r"--\w+", line)), options - {"--help"})
 
     def test_limits(self):
-        """The pages have the numbers of the constants, and lab/ has the same."""
-        files = ("graph_limits/src/limits.rt", "interference/src/limits.rt", "run_options/src/lib.rt")
-        limits = {
-            name: int(number.replace("_", ""))
-            for file in files
-            for name, number in re.findall(r"^pub const (MAX_\w+): \w+ = ([\d_]+);", text_in("crates", file), re.M)
-        }
-        for name in ("MAX_NODES", "MAX_EDGES", "MAX_DEGREE", "MAX_CHANNEL", "MAX_BARS"):
-            self.same(f"{name} of lab/networks/network_text.py", getattr(network_text, name), limits[name])
+        """Pages, and what of lab/ has a limit of its own, have the numbers of the constants."""
+        text = "".join(text_in("crates", file) for file in LIMITS)
+        limits = {name: int(number.replace("_", ""))
+                  for name, number in re.findall(r"^pub const (MAX_\w+): \w+ = ([\d_]+);", text, re.M)}
         limits |= {name.replace("MAX", "ABOVE"): number + 1 for name, number in limits.items()}
-        for path, words in LIMITS:
-            self.note(f"{path}: {words}", re.search(words.format(**limits), one_line(text_in(path))))
+        limits["ALL_PASSES"] = tuple(range(1, limits["ABOVE_PASSES"]))
+        for path, rows in SAID_OF_LIMITS.items():
+            for row in rows:
+                self.note(f"{path}: {row}", row.format_map(limits) in one_line(text_in(path)), row.format_map(limits))
 
     def test_stored_transcript(self):
         """FORMATS says how many bytes a line of the stored transcript takes."""
