@@ -7,7 +7,8 @@ makes a pulse. Whoever plays a run keeps a list of the steps that are possible, 
     step = policy.choose(steps)         # one of the list
 
 All chance comes from the seed. So a run depends on the network, the policy, the seed and what the nodes do, and not
-on how fast they are. A policy decides nothing about what is right: any order of possible steps is a run."""
+on how fast they are. A policy decides nothing about what is right: any order of possible steps is a run. So the slow
+definitions (simulate.py) and students' nodes (the workshop's driver) are played under the same policies."""
 import random
 from dataclasses import dataclass
 from typing import Callable, Sequence
