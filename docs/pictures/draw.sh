@@ -6,8 +6,6 @@ PATH=$PWD/bin:$PATH
 forestlab picture plan examples/petersen.col -o docs/pictures/petersen-plan.svg
 forestlab picture matrix examples/petersen.col -o docs/pictures/petersen-matrix.svg
 forestlab picture forests examples/four_cycle.col -o docs/pictures/four_cycle-forests.svg
-forestlab picture forests examples/petersen.col -o docs/pictures/petersen-forests.svg
-forestlab picture rounds examples/petersen.col -o docs/pictures/petersen-rounds.svg
 forestlab picture rounds examples/triangle.col -o docs/pictures/triangle-rounds.svg
 forestlab picture rounds examples/drops.col -o docs/pictures/drops-rounds.svg
 forestlab picture plan examples/barred.col -o docs/pictures/barred-plan.svg
@@ -24,7 +22,6 @@ forestlab picture node examples/petersen.col --transcript docs/pictures/petersen
 forestlab picture node examples/petersen.col --vertex 1 --transcript docs/pictures/petersen.transcript -o docs/pictures/petersen-timing.svg
 forestlab picture tally examples/petersen.col --transcript docs/pictures/petersen.transcript -o docs/pictures/petersen-tally.svg
 forestlab picture schedules examples/two.col -o docs/pictures/two-schedules.svg
-forestlab picture schedules examples/path.col --columns 0..20 -o docs/pictures/path-schedules.svg
 forestlab picture schedules examples/two.col --without safes -o docs/pictures/two-without-safes.svg
 forestlab picture schedules examples/two.col --without safes --columns 0..24 -o docs/pictures/two-without-safes-beyond.svg
 forestlab picture schedules examples/two.col --without early -o docs/pictures/two-without-early.svg
