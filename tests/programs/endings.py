@@ -22,13 +22,19 @@ CALLS = {
 }
 
 
+def ended(line, *words, **given):
+    """What a line of shell ends with: its status, its output, and what it says besides."""
+    done = run_line(line, *words, limit=LIMIT, **given)
+    return done.returncode, done.stdout, done.stderr
+
+
 class Endings(Case):
     needs_programs = False
 
     def redirected(self, where, path, *words, **given):
         """What a command ends with whose stream is another one."""
         given = given or {"stdin": subprocess.DEVNULL}
-        return run_line(f'exec "$0" "$@" {where}', path, *words, limit=LIMIT, **given)
+        return ended(f'exec "$0" "$@" {where}', path, *words, **given)
 
     def test_outputs(self):
         """A closed or full output is one line and status 1, of help too, and of a script that isn't Python; a standard
@@ -49,7 +55,7 @@ class Endings(Case):
         for name, words in scripts:
             _, _, fault = self.redirected("| exec true", os.path.join(TOP, name), *words)
             self.same(f"{name} {words} without a reader", fault, b"")
-        done = run_line('set -o pipefail; "$0" network random 2000 100000 | head -1', FORESTLAB, limit=LIMIT)
+        done = ended('set -o pipefail; "$0" network random 2000 100000 | head -1', FORESTLAB)
         self.note("a reader that goes", done[::2] == (0, b"") and done[1].count(b"\n") == 1, done)
         pairs, nothing = self.file("pairs", "1,2\n"), self.file("nothing", "")
         for where in ("2>/dev/full", "2>&-"):
