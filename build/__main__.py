@@ -5,8 +5,8 @@ import os
 import sys
 
 MODULES = {"completion": "completion", "prove": "prove", "prove-crate": "prove_crate", "install": "install",
-           "new-program": "new_program", "pack": "pack", "promises": "promises", "schedule": "schedule",
-           "vendor": "vendor", "wrong-bodies": "wrong_bodies"}
+           "new-program": "new_program", "pack": "pack", "program": "program", "promises": "promises",
+           "schedule": "schedule", "vendor": "vendor", "wrong-bodies": "wrong_bodies"}
 
 
 def main():

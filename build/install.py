@@ -8,7 +8,8 @@ import subprocess
 import sys
 import tempfile
 
-from build import completion, kit, manuals, readme
+from build import completion, kit, manuals, note, program, readme
+from build.order import PROGRAMS
 from lab import checksums, version
 from lab.door import SIGNALS
 from lab.words import parser_of
@@ -17,7 +18,6 @@ from lab.workshop.class_files import IS_CLASS, class_files, finish_class, write_
 TOP = os.path.dirname(os.path.dirname(os.path.realpath(__file__)))
 
 # What is copied, each at the path that it has here.
-PROGRAMS = ("forestplan", "forestplay")
 COMMANDS = (*PROGRAMS, "forestlab")
 FOLDERS = ("examples", "docs", "lab")
 FILES = ("README.md", "CHANGELOG.md", "LICENSE-MIT", "LICENSE-APACHE")
@@ -63,23 +63,9 @@ def say(what):
     print(f"install: {what}", file=sys.stderr, flush=True)
 
 
-def built(name):
-    return os.path.join(TOP, "crates", name, "out", name)
-
-
-def build_programs():
-    """Has the programs built by their scripts, which do nothing if they are; returns the status."""
-    for name in PROGRAMS:
-        done = subprocess.run([os.path.join(TOP, "bin", name)], stdin=subprocess.DEVNULL,
-                              env=dict(os.environ, FORESTPLAN_BUILD_ONLY="1"))
-        if done.returncode:
-            return 130 if done.returncode < 0 else done.returncode
-    return 0
-
-
 def files_to_copy(is_class):
     """(source, path in the folder) of each file."""
-    yield from ((built(name), os.path.join("lib", name)) for name in PROGRAMS)
+    yield from ((note.program_at(name), os.path.join("lib", name)) for name in PROGRAMS)
     if is_class:
         yield from ((os.path.join(TOP, path), path) for path in class_files(TOP))
         return
@@ -177,7 +163,7 @@ def main():
     inside = os.path.relpath(os.path.realpath(folder), os.path.realpath(TOP))
     if inside == "." or inside.split(os.sep)[0] in FOLDERS:
         words.error("the folder has to be another one than this tree, and not inside of what is copied")
-    status = build_programs()
+    status = program.built(PROGRAMS)
     if status:
         return status
     try:

@@ -93,11 +93,9 @@ def sum_of_texts(folder):
     return sum_of(*(part for path, text in files_of(folder) for part in (path.encode(), text)))
 
 
-def keys(crates=None):
-    """For each of these crates and those below them, or each of crates.txt, the name that what it is proved from has in
-    the store. A crate that isn't asked for may be broken."""
-    with open(os.path.join(TOP, "HANDLES"), "rb") as handles:
-        common = kit_named() + handles.read()
+def sums(crates=None, common=b""):
+    """For each of these crates and those below them, or each of crates.txt, a sum of what it is proved from: its line,
+    its sources, the sums of those below, and what is common to all. A crate that isn't asked for may be broken."""
     with open(os.path.join(TOP, "crates.txt"), encoding="utf-8") as text:
         lines = {line.partition(":")[0].split()[0]: line.partition("#")[0] for line in text
                  if ":" in line.partition("#")[0]}
@@ -107,6 +105,12 @@ def keys(crates=None):
         lower = (found[name].encode() for name in below[crate])
         found[crate] = sum_of(common, lines[crate].encode(), own.encode(), *lower)
     return found
+
+
+def keys(crates=None):
+    """The same with the toolchain and HANDLES: under these sums the store has what is proved."""
+    with open(os.path.join(TOP, "HANDLES"), "rb") as handles:
+        return sums(crates, kit_named() + handles.read())
 
 
 def place(crate, key):

@@ -11,8 +11,8 @@ What is proved is offered to `rt check` of every checkout, which then builds non
 (offered.py).
 
 Standard error shows how far it is; the log of a crate is out/build/CRATE.log. Two calls at once wait for each other.
-What has to be proved is decided by what the sources say, not by the times of files. The status is 0 if all is proved, 1
-if a crate isn't, 2 if nothing could be tried, and 130 after Ctrl-C.
+What has to be proved is decided by what the sources say, not by the times of files; a program gets a note of them
+(note.py). The status is 0 if all is proved, 1 if a crate isn't, 2 if nothing could be tried, and 130 after Ctrl-C.
 """
 import argparse
 import contextlib
@@ -24,7 +24,7 @@ import subprocess
 import sys
 import time
 
-from build import kit, offered
+from build import kit, note, offered
 from build.crate_lists import TOP, listed, with_below
 from build.order import WAY, Order
 
@@ -181,7 +181,7 @@ def wait_for_turn(name, folder):
 
 def put_program(name, made, start):
     """Puts a program into its crate's out/. A source that was changed since `start` is newer."""
-    to = os.path.join(TOP, "crates", name, "out", name)
+    to = note.program_at(name)
     os.makedirs(os.path.dirname(to), exist_ok=True)
     new = f"{to}.new"
     shutil.copy(made, new)
@@ -192,7 +192,7 @@ def put_program(name, made, start):
 def prove_anew(crates, below, jobs, shown):
     """Proves crates into the store, and puts the programs among them in place; returns a crate that isn't proved, if
     there is one."""
-    start, keys = time.time(), kit.keys(crates)
+    start, keys, sources = time.time(), kit.keys(crates), kit.sums(crates)
 
     def is_proved(crate):
         with contextlib.suppress(FileNotFoundError):
@@ -215,6 +215,8 @@ def prove_anew(crates, below, jobs, shown):
             made = os.path.join(kit.place(crate, keys[crate]), crate)
             if os.path.isfile(made):
                 put_program(crate, made, start)
+                # Sources that were changed meanwhile are proved at the next call.
+                note.take(crate, sources[crate])
         offered.share(crates, keys, is_done=is_done)
     return failed
 

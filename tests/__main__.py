@@ -20,6 +20,7 @@ import sys
 import tempfile
 from concurrent.futures import ThreadPoolExecutor
 
+from build import note
 from tests import TOP
 
 # The modules that take longest, which begin first.
@@ -73,11 +74,10 @@ def what_is_missing(chosen, settings, setting):
     if not any(getattr(test, "needs_programs", True) for test in tests):
         return ""
     for name, option in (("forestplan", "plan"), ("forestplay", "play")):
-        path, script = setting(option), os.path.join(TOP, "bin", name)
+        path = setting(option)
         if not os.access(path, os.X_OK):
             return f"{os.path.relpath(path)} isn't built: ./test builds it, and so does bin/{name}"
-        is_built = os.environ | {"FORESTPLAN_IS_BUILT": "1"}
-        if path == settings[option][0] and subprocess.run([script], env=is_built).returncode:
+        if path == settings[option][0] and not note.is_built(name):
             return (f"{os.path.relpath(path)} wasn't built from the sources as they are, and no test proves anything: "
                     f"./test builds it, and so does bin/{name}; --{option} FILE names another")
     return "" if shutil.which("cc") else "there is no C compiler cc"

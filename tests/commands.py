@@ -128,5 +128,5 @@ SCRIPTS = (
     Script("sheet", ("--seed", "7", "--lesson", "2"), "", r"<!doctype html>[^\0]*</html>\n"),
 )
 # What `python3 build NAME` does for whoever builds.
-BUILDERS = ("completion", "install", "new-program", "pack", "promises", "prove", "prove-crate", "schedule",
+BUILDERS = ("completion", "install", "new-program", "pack", "program", "promises", "prove", "prove-crate", "schedule",
             "vendor", "wrong-bodies")

@@ -5,6 +5,7 @@ import os
 import shutil
 import signal
 import subprocess
+import sys
 import time
 
 from lab.programs import TOP, built
@@ -12,6 +13,8 @@ from lab.studio.asked import OPENED
 from lab.wrong import Wrong
 
 PROGRAMS = ("forestplan", "forestplay")
+# What builds those of them that it names, if they aren't built.
+BUILD = [sys.executable, "-S", os.path.join(TOP, "build"), "program"]
 # What a process that answers asks of the server's own.
 WANTED = signal.SIGUSR1
 
@@ -27,9 +30,7 @@ def are_built():
 
 
 def is_built(name):
-    asked = dict(os.environ, FORESTPLAN_IS_BUILT="1")
-    return built(name) is not None and not subprocess.run([os.path.join(TOP, "bin", name)], env=asked,
-                                                          stdin=subprocess.DEVNULL).returncode
+    return built(name) is not None and not subprocess.run([*BUILD, "--ask", name], stdin=subprocess.DEVNULL).returncode
 
 
 class Building:
@@ -45,10 +46,9 @@ class Building:
     def look(self):
         """Begins what is wanted, and takes note of what is done. Called again and again."""
         if self.is_wanted and self.process is None and not OPENED["is_proved"]:
-            command = " && ".join(f"FORESTPLAN_BUILD_ONLY=1 bin/{name}" for name in PROGRAMS)
             with open(OPENED["log"], "w", encoding="utf-8") as log:
-                self.process = subprocess.Popen(["bash", "-c", command], cwd=TOP, stdin=subprocess.DEVNULL, stdout=log,
-                                                stderr=log, start_new_session=True)
+                self.process = subprocess.Popen([*BUILD, *PROGRAMS], stdin=subprocess.DEVNULL, stdout=log, stderr=log,
+                                                start_new_session=True)
         self.is_wanted = False
         if self.process and self.process.poll() is not None:
             OPENED["is_proved"] = self.process.returncode == 0 and are_built()

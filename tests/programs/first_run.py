@@ -1,4 +1,5 @@
-"""Tests of the first call of a program, which proves and builds it: of the scripts `forestplan` and build/prove.py.
+"""Tests of the first call of a program, which proves and builds it: of the script `forestplan`, build/program.py and
+build/prove.py.
 
 They run in a tree of three crates, over a command `rt` that proves nothing: it has what the scripts use of the
 toolchain's, and its program prints a line. And each script of tests/, lab/, build/ and bench/ has to say with --help
@@ -389,10 +390,11 @@ class FirstRun(Case):
         tree.source("middle", "built alone")
         built = os.path.join(tree.top, "crates", "forestplan", "out", "forestplan")
         before = os.stat(built).st_ino
-        tree.environment["FORESTPLAN_BUILD_ONLY"] = "1"
-        got = tree.call("--help")
-        self.note("built, and not run", got[:2] == (0, "") and os.stat(built).st_ino != before, got)
-        del tree.environment["FORESTPLAN_BUILD_ONLY"]
+        for words, status, is_new in ((["--ask"], 1, False), ([], 0, True), (["--ask"], 0, True)):
+            done = subprocess.run([sys.executable, "-S", "build", "program", *words, "forestplan"], cwd=tree.top,
+                                  env=tree.environment, capture_output=True, text=True, timeout=LIMIT)
+            good = (done.returncode, done.stdout, os.stat(built).st_ino != before) == (status, "", is_new)
+            self.note(f"build program {words}, which doesn't run it", good, done)
 
     def run_kits(self, tree):
         """Another kit is named before proofs begin, and so is a command that is of none, or none at all."""

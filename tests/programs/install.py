@@ -382,11 +382,11 @@ class Install(Case):
         return tree
 
     def vouch(self, tree):
-        """Has the scripts note that the programs are made from the sources, as ./test does after the gate."""
+        """Has it noted that the programs are made from the sources, as ./test does after the gate."""
         for name in PROGRAMS:
-            script = os.path.join(tree, "bin", name)
-            texts = run([script], env=ENVIRONMENT | {"FORESTPLAN_SOURCES": "1"})[1].decode().strip()
-            done = run([script], env=ENVIRONMENT | {"FORESTPLAN_MADE_FROM": texts})
+            build = [sys.executable, "-S", os.path.join(tree, "build"), "program"]
+            sources = run([*build, "--sources", name], env=ENVIRONMENT)[1].decode().strip()
+            done = run([*build, "--made-from", sources, name], env=ENVIRONMENT)
             self.note(f"a note of {name}", done == (0, b"", b""), done)
 
     def test_changed(self):

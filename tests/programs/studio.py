@@ -265,12 +265,12 @@ class Unbuilt(Answers):
         self.top = folder.name
         for name in ("lab", "examples", "bin", "docs/learn"):
             shutil.copytree(os.path.join(TOP, name), os.path.join(self.top, name), symlinks=True)
-        # In place of the script that proves: it says so, and builds nothing.
-        with open(os.path.join(self.top, "forestplan"), "w", encoding="ascii") as file:
-            file.write("#!/bin/sh\necho $FORESTPLAN_BUILD_ONLY: 3 of 9 crates proved >&2\nsleep 30\n")
-        for name in ("forestplan", "forestplay"):
-            shutil.copy(os.path.join(self.top, "forestplan"), os.path.join(self.top, "bin", name))
-            os.chmod(os.path.join(self.top, "bin", name), 0o755)
+        shutil.copy(os.path.join(TOP, "forestplan"), self.top)
+        # In place of what proves: it says so, and builds nothing.
+        os.mkdir(os.path.join(self.top, "build"))
+        with open(os.path.join(self.top, "build", "__main__.py"), "w", encoding="ascii") as file:
+            file.write("import sys, time\nprint(*sys.argv[1:], '3 of 9 crates proved', file=sys.stderr, flush=True)\n"
+                       "time.sleep(30)\n")
         with open(os.path.join(self.top, "bin", "rt"), "w", encoding="ascii") as file:
             os.fchmod(file.fileno(), 0o755)
         path = os.environ["PATH"]
@@ -288,7 +288,8 @@ class Unbuilt(Answers):
         self.note("a build has begun", got["lines"] and not got["ended"], got)
         self.waits(lambda: self.answer("built")["answer"]["lines"] != ["it begins"])
         got = self.answer("built")["answer"]
-        self.note("a build in its own words", got["lines"] == ["1: 3 of 9 crates proved"] and not got["ended"], got)
+        self.note("a build in its own words", not got["ended"]
+                  and got["lines"] == ["program forestplan forestplay 3 of 9 crates proved"], got)
         building = processes_of(self.process.pid)
         self.process.send_signal(signal.SIGINT)
         self.note("Ctrl-C ends the server", self.process.wait(30) == 0)
