@@ -17,8 +17,6 @@ mod counted;
 #[cfg(test)]
 mod deque_checks;
 #[cfg(test)]
-mod dimacs_col_checks;
-#[cfg(test)]
 mod event_machine_checks;
 #[cfg(test)]
 mod forest_merge_checks;
