@@ -118,7 +118,7 @@ fn packed(
     let bars = packed_bars(alloc, nodes, bars)?;
     let forest_count = forest_count(ids, &starts, &ports);
     let ids = Vec::from_slice(alloc, ids)?;
-    Ok(Network::from_parts(
+    Ok(Network {
         ids,
         starts,
         ports,
@@ -126,7 +126,7 @@ fn packed(
         bars,
         greatest_degree,
         forest_count,
-    ))
+    })
 }
 
 // The neighbours of each vertex, and beside each the port that leads back.

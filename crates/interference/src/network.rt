@@ -4,7 +4,6 @@ ghost use Rattle.std.specs.Prelude.{◌≡◌, ◌↔◌, ◌<◌, ◌≤◌, �
 ghost use Rattle.interference.specs.Net.{Net, IsBarred, IsNetwork, IsVertex, bars_of, count_of, degree_of, id_of};
 ghost use Rattle.interference.specs.Net.{neighbours, back_port_of, neighbour_of, forest_count_of, greatest_bars_of};
 ghost use Rattle.interference.specs.Net.{greatest_degree_of};
-ghost use Rattle.interference.specs.Rows.{IsStored, net_from};
 
 use crate::bars::PackedBars;
 use crate::fault::Memory;
@@ -15,15 +14,15 @@ use std::marker::Model;
 /// A network. Contracts see its `Net`: identifiers, neighbours and barred colours.
 #[derive(Drop)]
 pub struct Network {
-    ids: Vec<u128>,
+    pub(crate) ids: Vec<u128>,
     // Entry v - 1 is where the neighbours of v begin, entry v where they end.
-    starts: Vec<u32>,
-    ports: Vec<u32>,
+    pub(crate) starts: Vec<u32>,
+    pub(crate) ports: Vec<u32>,
     // Beside each neighbour the port of it that leads back.
-    backs: Vec<u32>,
-    bars: PackedBars,
-    greatest_degree: u32,
-    forest_count: u32,
+    pub(crate) backs: Vec<u32>,
+    pub(crate) bars: PackedBars,
+    pub(crate) greatest_degree: u32,
+    pub(crate) forest_count: u32,
 }
 
 impl Model for Network {
@@ -40,31 +39,6 @@ impl Model for Network {
 }
 
 impl Network {
-    // A network of its packed parts.
-    pub(crate) fn from_parts(
-        ids: Vec<u128>,
-        starts: Vec<u32>,
-        ports: Vec<u32>,
-        backs: Vec<u32>,
-        bars: PackedBars,
-        greatest_degree: u32,
-        forest_count: u32,
-    ) -> Network
-        requires { IsStored ids.items starts.items ports.items backs.items
-            bars.starts.items bars.colours.items greatest_degree forest_count bars.greatest }
-        ensures { result ≡ net_from ids.items starts.items ports.items bars.starts.items bars.colours.items }
-    {
-        Network {
-            ids,
-            starts,
-            ports,
-            backs,
-            bars,
-            greatest_degree,
-            forest_count,
-        }
-    }
-
     /// Gives a proof what every network keeps, where it asks for nothing else.
     pub fn is_network(&self)
         ensures { IsNetwork self.now }

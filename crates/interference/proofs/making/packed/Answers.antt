@@ -17,11 +17,11 @@ forest_count-forest_count-requires c =
     rw (c.deref-3.ensures.value, c.deref-4.ensures.value)
     (_, _, is_packed c.args.nodes c.args.edges.now _ _ _ filled c.args.ids.now c.requires.ids c.args.bars.now _ _ _ c.in_ok-bars.ensures c.requires.network)
 
-pub from_parts-requires : goal.from_parts-requires
-from_parts-requires c =
+pub invariant_of-result : goal.invariant_of-result
+invariant_of-result c =
     let starts = c.starts_of-starts.result.items in
     let ports = c.in_ok-ports.ports.items in
-    let filled = filled-by (goal.at.from_parts-requires c).After-deref-3 in
+    let filled = filled-by (goal.at.invariant_of-result c).After-deref-3 in
     record {
       packed =
           rw c.in_ok-ids.ensures.items (is_packed c.args.nodes c.args.edges.now _ _ _ filled c.args.ids.now c.requires.ids c.args.bars.now _ _ _
@@ -39,5 +39,5 @@ from_parts-requires c =
 pub returns : goal.returns
 returns c =
     let filled = filled-by (goal.at.returns c).After-deref-3 in
-    c.from_parts.ensures ∙ rw c.in_ok-ids.ensures.items (net_is c.args.nodes c.args.edges.now _ _ _ filled c.args.ids.now c.requires.ids c.args.bars.now _ _ _
+    rw c.in_ok-ids.ensures.items (net_is c.args.nodes c.args.edges.now _ _ _ filled c.args.ids.now c.requires.ids c.args.bars.now _ _ _
     c.in_ok-bars.ensures)
