@@ -1,6 +1,7 @@
 -- How the inbox is kept: a mark a port, and a slot for each once there was a payload.
 use Rattle.std.specs.Prelude.{◌≡◌, ℕ, ◌<◌, ◌≤◌, Bool, if◌then◌else◌, List, length, slice_get, take, Option, None, map}
 use Rattle.std.specs.List.{range_with_len}
+use Rattle.interference.specs.declared.limits.TheConstants.{MAX_DEGREE}
 use Rattle.node_api.specs.Marks.{count_marks, is_marked}
 
 -- the payload of a port, if the port is marked
@@ -20,3 +21,10 @@ pub record AreMade (marks : List Bool) (made : ℕ) : Type 0 where
 pub record IsRead (marks : List Bool) (read cursor : ℕ) : Type 0 where
   pub counted : read ≡ count_marks (take cursor marks)
   pub within : cursor ≤ length marks
+
+-- Every inbox has at most MAX_DEGREE ports, room for a slot at each, and its slots and its count of what was read as above.
+pub record IsInbox (marks : List Bool) (capacity slot_count read_count cursor : ℕ) : Type 0 where
+  pub degree : length marks ≤ MAX_DEGREE
+  pub room : length marks ≤ capacity
+  pub made : AreMade marks slot_count
+  pub read : IsRead marks read_count cursor

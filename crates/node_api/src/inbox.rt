@@ -25,17 +25,15 @@ pub struct Inbox<T> {
 }
 
 impl<T> Model for Inbox<T> {
-    ghost use Rattle.std.specs.Prelude.{◌≤◌, length, vec_capacity};
-    ghost use Rattle.interference.specs.declared.limits.TheConstants.{MAX_DEGREE};
+    ghost use Rattle.std.specs.Prelude.{length, vec_capacity};
     ghost use Rattle.node_api.specs.Boxes.{Mail};
-    ghost use Rattle.node_api.specs.Slots.{AreMade, IsRead, slots_of};
+    ghost use Rattle.node_api.specs.Slots.{IsInbox, slots_of};
 
     ghost Value = { Mail T };
 
     ghost view = { λ a. record { slots = slots_of a.marks a.slots.items; cursor = a.cursor } };
 
-    ghost invariant = { λ a. (length a.marks ≤ MAX_DEGREE) × (length a.marks ≤ vec_capacity a.slots)
-        × AreMade a.marks (length a.slots.items) × IsRead a.marks a.read a.cursor };
+    ghost invariant = { λ a. IsInbox a.marks (vec_capacity a.slots) (length a.slots.items) a.read a.cursor };
 }
 
 impl<T: Copy> Inbox<T> {

@@ -19,15 +19,14 @@ pub(crate) struct Marks {
 }
 
 impl Model for Marks {
-    ghost use Rattle.std.specs.Prelude.{◌≡◌, ◌<◌, ◌≤◌, ◌*◌, ◌^◌, Bool, List, length};
-    ghost use Rattle.node_api.specs.Marks.{count_marks, marks_in};
+    ghost use Rattle.std.specs.Prelude.{Bool, List};
+    ghost use Rattle.node_api.specs.Marks.{AreMarks, marks_in};
 
     ghost Value = { List Bool };
 
     ghost view = { λ a. marks_in a.places a.words };
 
-    ghost invariant = { λ a. (a.places ≤ 64 * length a.words)
-        × (a.count ≡ count_marks (marks_in a.places a.words)) × (a.places < 2 ^ 32) };
+    ghost invariant = { λ a. AreMarks a.places a.count a.words };
 }
 
 impl Marks {

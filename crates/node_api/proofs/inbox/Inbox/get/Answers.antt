@@ -16,8 +16,8 @@ index-requires g c =
     let below : c.args.port < length a.marks =
     omega (arith, c.requires.port, ap (λ (m : Mail _). length m.slots) c.self.view_is, length-slots_of a.marks a.slots.items) in
     let there : 0 < length a.slots.items =
-    c.self.invariant.2.some (count-some a.marks c.args.port (sym c.has.ensures.marked ∙ c.if-has.true)) in
-    omega (arith, below, c.self.invariant.2.all there, a.slots.ok.0)
+    c.self.invariant.made.some (count-some a.marks c.args.port (sym c.has.ensures.marked ∙ c.if-has.true)) in
+    omega (arith, below, c.self.invariant.made.all there, a.slots.ok.0)
 
 pub returns-then-has : goal.returns-then-has
 returns-then-has g c =
@@ -25,8 +25,8 @@ returns-then-has g c =
     let below : c.args.port < length a.marks =
     omega (arith, c.requires.port, ap (λ (m : Mail _). length m.slots) c.self.view_is, length-slots_of a.marks a.slots.items) in
     let marked = sym c.has.ensures.marked ∙ c.if-has.true in
-    let there : 0 < length a.slots.items = c.self.invariant.2.some (count-some a.marks c.args.port marked) in
-    let inside : c.args.port < length a.slots.items = omega (arith, below, c.self.invariant.2.all there) in
+    let there : 0 < length a.slots.items = c.self.invariant.made.some (count-some a.marks c.args.port marked) in
+    let inside : c.args.port < length a.slots.items = omega (arith, below, c.self.invariant.made.all there) in
     record {
       payload = sym (ap (λ (m : Mail _). at_port m.slots c.args.port) (sym c.self.view_is)
           ∙ (at-marked a.marks a.slots.items c.args.port below marked

@@ -9,5 +9,5 @@ pub returns : goal.returns
 returns g c =
     let a = c.self.inside in
     let counted = subst (λ (n : ℕ). IsTrue (nat_lt a.read n) ↔ HasFrom (slots_of a.marks a.slots.items) a.cursor) (sym c.count.ensures.count)
-    (has_more a.marks a.slots.items a.read a.cursor c.self.invariant.2 c.self.invariant.3) in
+    (has_more a.marks a.slots.items a.read a.cursor c.self.invariant.made c.self.invariant.read) in
     record { more = subst (λ (mail : Mail g.row.T.Denot). IsTrue (nat_lt a.read c.count.result) ↔ HasFrom mail.slots mail.cursor) c.self.view_is counted }

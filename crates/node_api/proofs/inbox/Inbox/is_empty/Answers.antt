@@ -19,7 +19,7 @@ returns g c =
         λ free. (let free' : not c.has.result ≡ _ = free in
             ap (λ (m : Mail _). at_port m.slots c.args.port) (sym c.self.view_is)
             ∙ at-unmarked a.marks a.slots.items c.args.port (sym c.has.ensures.marked ∙ not-true c.has.result free')),
-        λ none. ap (λ (b : Bool). not b) (c.has.ensures.marked ∙ none-unmarked a.marks a.slots.items c.args.port c.self.invariant.2 below
+        λ none. ap (λ (b : Bool). not b) (c.has.ensures.marked ∙ none-unmarked a.marks a.slots.items c.args.port c.self.invariant.made below
             (ap (λ (m : Mail _). at_port m.slots c.args.port) c.self.view_is ∙ none)),
       );
     }

@@ -14,31 +14,34 @@ first_from-port-requires g c =
 pub index-requires : goal.index-requires
 index-requires g c =
     let a = c.self.inside in
+    let keeps = c.self.invariant in
     let f = c.first_from-port.ensures in
     omega (
       arith,
-      port-in_slots a.marks a.slots.items a.read a.cursor c.first_from-port.result c.self.invariant.2 c.self.invariant.3 f.later f.within f.marked f.first,
+      port-in_slots a.marks a.slots.items a.read a.cursor c.first_from-port.result keeps.made keeps.read f.later f.within f.marked f.first,
       a.slots.ok.0,
     )
 
 pub invariant_of-self : goal.invariant_of-self
 invariant_of-self g c =
     let a = c.self.inside in
-    let f = c.first_from-port.ensures in (
-      c.self.invariant.0,
-      c.self.invariant.1,
-      c.self.invariant.2,
-      read-next a.marks a.slots.items a.read a.cursor c.first_from-port.result c.self.invariant.2 c.self.invariant.3 f.later f.within f.marked f.first,
-    )
+    let keeps = c.self.invariant in
+    let f = c.first_from-port.ensures in
+    record {
+      degree = keeps.degree;
+      room = keeps.room;
+      made = keeps.made;
+      read = read-next a.marks a.slots.items a.read a.cursor c.first_from-port.result keeps.made keeps.read f.later f.within f.marked f.first;
+    }
 
 pub returns : goal.returns
 returns g c =
     let a = c.self.inside in
     let f = c.first_from-port.ensures in
     let port = c.first_from-port.result in
-    let inside = port-in_slots a.marks a.slots.items a.read a.cursor port c.self.invariant.2 c.self.invariant.3 f.later f.within f.marked f.first in
+    let inside = port-in_slots a.marks a.slots.items a.read a.cursor port c.self.invariant.made c.self.invariant.read f.later f.within f.marked f.first in
     record {
       reads = subst (λ (mail : Mail g.row.T.Denot). Reads mail c.index.result.now (record { slots = slots_of a.marks a.slots.items; cursor = port + 1 }))
-          c.self.view_is (reads-port a.marks a.slots.items a.read a.cursor port c.self.invariant.2 c.self.invariant.3 f.later f.within f.marked f.first
+          c.self.view_is (reads-port a.marks a.slots.items a.read a.cursor port c.self.invariant.made c.self.invariant.read f.later f.within f.marked f.first
           c.index.result.now (get-read a.slots.items port c.index.result.now inside c.index.ensures));
     }

@@ -9,11 +9,12 @@ pub invariant_of-self : goal.invariant_of-self
 invariant_of-self c =
     let a = c.self.inside in
     let n : ℕ = length a.words in
-    let zeros = c.clear.ensures.zeros in (
-      omega (arith, c.self.invariant.0, ap length zeros, length-replicate {A = ℕ} n 0),
-      sym (ap (λ l. count_marks (marks_in a.places l)) zeros ∙ (ap count_marks (marks_in-zeros a.places n) ∙ count-none a.places)),
-      c.self.invariant.2,
-    )
+    let zeros = c.clear.ensures.zeros in
+    record {
+      room = omega (arith, c.self.invariant.room, ap length zeros, length-replicate {A = ℕ} n 0);
+      counted = sym (ap (λ l. count_marks (marks_in a.places l)) zeros ∙ (ap count_marks (marks_in-zeros a.places n) ∙ count-none a.places));
+      small = c.self.invariant.small;
+    }
 
 pub returns : goal.returns
 returns c =

@@ -21,13 +21,13 @@ pub get-requires : goal.get-requires
 get-requires c =
     let a = c.self.inside in
     let (place, later, below, marked) = some_bit a.places a.words c.args.self.now c.args.from c.self.view_is c.requires.some in
-    record { index = omega (arith, later, below, c.self.invariant.0) }
+    record { index = omega (arith, later, below, c.self.invariant.room) }
 
 pub loop-rest-init : goal.loop-rest-init
 loop-rest-init c =
     let a = c.self.inside in
     let (place, later, below, marked) = some_bit a.places a.words c.args.self.now c.args.from c.self.view_is c.requires.some in
-    let inside : c.args.from / 64 < length a.words = omega (arith, later, below, c.self.invariant.0) in
+    let inside : c.args.from / 64 < length a.words = omega (arith, later, below, c.self.invariant.room) in
     rest-first a.words c.args.from c.get.result c.get.ensures.word
     (omega arith) inside
 
@@ -46,7 +46,7 @@ get-rest-requires c =
     let l = c.loop-rest in
     let (place, later, below, marked) = some_bit a.places a.words c.args.self.now c.args.from c.self.view_is c.requires.some in
     let none : l.rest ≡ 0 = grind (arith, nat_tests, c.loop-rest-test.true) in
-    record { index = omega (arith, beyond a.words c.args.from l.word l.rest place l.invariant none later marked, below, c.self.invariant.0) }
+    record { index = omega (arith, beyond a.words c.args.from l.word l.rest place l.invariant none later marked, below, c.self.invariant.room) }
 
 pub overflow_add-word : goal.overflow_add-word
 overflow_add-word c =
@@ -60,7 +60,7 @@ overflow_add-word c =
       below,
       ap length c.self.view_is,
       length-marks_in a.places a.words,
-      c.self.invariant.2,
+      c.self.invariant.small,
     )
 
 pub loop-rest-preserved : goal.loop-rest-preserved
@@ -70,7 +70,7 @@ loop-rest-preserved c =
     let (place, later, below, marked) = some_bit a.places a.words c.args.self.now c.args.from c.self.view_is c.requires.some in
     let none : l.rest ≡ 0 = grind (arith, nat_tests, c.loop-rest-test.true) in
     let far = beyond a.words c.args.from l.word l.rest place l.invariant none later marked in
-    let inside : l.word + 1 < length a.words = omega (arith, far, below, c.self.invariant.0) in
+    let inside : l.word + 1 < length a.words = omega (arith, far, below, c.self.invariant.room) in
     rest-next a.words c.args.from l.word l.rest l.invariant none c.get-rest.result c.get-rest.ensures.word (omega arith) inside
     (omega (arith, l.invariant.past))
 
@@ -94,7 +94,7 @@ overflow_mul-result c =
     let l = c.loop-rest in
     let (some, low) =
     found-below a.places a.words c.args.self.now c.args.from l.word l.rest l.invariant c.loop-rest-test.false c.self.view_is c.requires.some in
-    omega (arith, low, c.self.invariant.2)
+    omega (arith, low, c.self.invariant.small)
 
 pub overflow_cast-result : goal.overflow_cast-result
 overflow_cast-result c =
@@ -102,7 +102,7 @@ overflow_cast-result c =
     let l = c.loop-rest in
     let (some, low) =
     found-below a.places a.words c.args.self.now c.args.from l.word l.rest l.invariant c.loop-rest-test.false c.self.view_is c.requires.some in
-    omega (arith, low, c.self.invariant.2)
+    omega (arith, low, c.self.invariant.small)
 
 pub overflow_add-result : goal.overflow_add-result
 overflow_add-result c =
@@ -110,7 +110,7 @@ overflow_add-result c =
     let l = c.loop-rest in
     let (some, low) =
     found-below a.places a.words c.args.self.now c.args.from l.word l.rest l.invariant c.loop-rest-test.false c.self.view_is c.requires.some in
-    omega (arith, low, c.self.invariant.2)
+    omega (arith, low, c.self.invariant.small)
 
 pub returns-clause-later : goal.returns-clause-later
 returns-clause-later c =

@@ -7,7 +7,7 @@ use Rattle.node_api.proofs.marks.Marks.has.Goals as goal
 pub get-requires : goal.get-requires
 get-requires c =
     let a = c.self.inside in
-    record { index = omega (arith, c.requires.place, ap length c.self.view_is, length-marks_in a.places a.words, c.self.invariant.0) }
+    record { index = omega (arith, c.requires.place, ap length c.self.view_is, length-marks_in a.places a.words, c.self.invariant.room) }
 
 pub returns : goal.returns
 returns c =

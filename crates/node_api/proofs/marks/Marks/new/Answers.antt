@@ -9,11 +9,12 @@ use Rattle.node_api.proofs.marks.Marks.new.Goals as goal
 pub invariant_of-result : goal.invariant_of-result
 invariant_of-result c =
     let zeros = c.in_ok-words.ensures.zeros in
-    let n : ℕ = max 1 c.div_ceil.result in (
-      omega (arith, ap length zeros, length-replicate {A = ℕ} n 0, c.div_ceil.ensures),
-      sym (ap (λ l. count_marks (marks_in c.args.places l)) zeros ∙ (ap count_marks (marks_in-zeros c.args.places n) ∙ count-none c.args.places)),
-      omega (arith, c.ranges.places.fits),
-    )
+    let n : ℕ = max 1 c.div_ceil.result in
+    record {
+      room = omega (arith, ap length zeros, length-replicate {A = ℕ} n 0, c.div_ceil.ensures);
+      counted = sym (ap (λ l. count_marks (marks_in c.args.places l)) zeros ∙ (ap count_marks (marks_in-zeros c.args.places n) ∙ count-none c.args.places));
+      small = omega (arith, c.ranges.places.fits);
+    }
 
 pub returns : goal.returns
 returns c =
