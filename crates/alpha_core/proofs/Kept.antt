@@ -8,7 +8,7 @@ use Rattle.std.proofs.lemmas.List.{get_or-map, get_or-replicate, length-map, len
 use Rattle.std.proofs.lemmas.List.Elements.{All-set}
 use Rattle.std.proofs.lemmas.List.Folds.{sum_by-replicate}
 use Rattle.std.proofs.lemmas.List.Sums.{sum_by-set}
-use Rattle.alpha_core.specs.declared.marks.Kept.{Kept}
+use Rattle.alpha_core.specs.declared.marks.PortFlags.{PortFlags}
 use Rattle.alpha_core.specs.declared.marks.Marks.{Marks}
 use Rattle.alpha_core.specs.declared.when.When.{When}
 use Rattle.alpha_core.specs.declared.when.When.TheVariants.{Now, Next}
@@ -18,7 +18,7 @@ use Rattle.alpha_core.specs.When.{mark_safe, safes_before}
 use Rattle.alpha_core.proofs.Counts.{count-cons, count-map}
 
 -- the number of safes, by the two flags
-safes-is : (p : ℕ) (o : Kept) → IsInStep p o → o.safes ≡ p + safes_of (marks_with p o)
+safes-is : (p : ℕ) (o : PortFlags) → IsInStep p o → o.safes ≡ p + safes_of (marks_with p o)
 safes-is p o step = by (nat_lt p o.safes) (nat_lt (p + 1) o.safes) refl refl
   where
     by : (a b : Bool) → nat_lt p o.safes ≡ a → nat_lt (p + 1) o.safes ≡ b → o.safes ≡ p + (bit a + bit b)
@@ -32,10 +32,10 @@ not_bit true = refl
 not_bit false = refl
 
 -- one safe more of a port: that of the pulse, or that of the next
-abbrev pub one_more : Kept → Kept
+abbrev pub one_more : PortFlags → PortFlags
 one_more o = record { safes = o.safes + 1; waits = o.waits; closed = o.closed }
 
-module _ (p : ℕ) (o : Kept) where
+module _ (p : ℕ) (o : PortFlags) where
   pub safe-taken : (when : When) → o.safes ≡ p + safes_before when → marks_with p (one_more o) ≡ mark_safe when (marks_with p o)
   safe-taken Now e =
       ap (λ b. record (marks_with p (one_more o)) { safe = b }) (lt-ltb p (o.safes + 1) (omega (arith, e)))
@@ -47,23 +47,23 @@ module _ (p : ℕ) (o : Kept) where
       (lt-ltb p (o.safes + 1) (omega (arith, e)) ∙ sym (lt-ltb p o.safes (omega (arith, e))))
 
 -- One port: `o` is kept of it.
-module _ (p : ℕ) (kept : List Kept) (v : AtPulse Marks) (is : record { pulse = p; ports = marks_in p kept } ≡ v) where
+module _ (p : ℕ) (kept : List PortFlags) (v : AtPulse Marks) (is : record { pulse = p; ports = marks_in p kept } ≡ v) where
   pub inside : (i : ℕ) → i < length v.ports → i < length kept
   inside i h = omega (arith, h, ap (λ (w : AtPulse Marks). length w.ports) is, length-map kept (marks_with p))
 
-  pub seen : (i : ℕ) (o : Kept) → o ≡ get_or kept i o → i < length v.ports → marks_at v.ports i ≡ marks_with p o
+  pub seen : (i : ℕ) (o : PortFlags) → o ≡ get_or kept i o → i < length v.ports → marks_at v.ports i ≡ marks_with p o
   seen i o was h =
       ap (λ (w : AtPulse Marks). marks_at w.ports i) (sym is) ∙ get_or-map (marks_with p) kept i o no_marks (inside i h) ∙ ap (marks_with p) (sym was)
 
-  pub step-of : (i : ℕ) (o : Kept) → o ≡ get_or kept i o → i < length v.ports → All (IsInStep p) kept → IsInStep p o
+  pub step-of : (i : ℕ) (o : PortFlags) → o ≡ get_or kept i o → i < length v.ports → All (IsInStep p) kept → IsInStep p o
   step-of i o was h steps = subst (IsInStep p) (sym was) (steps i o (inside i h))
 
-  pub safes-seen : (i : ℕ) (o : Kept) → o ≡ get_or kept i o → i < length v.ports → All (IsInStep p) kept → o.safes ≡ p + safes_of (marks_at v.ports i)
+  pub safes-seen : (i : ℕ) (o : PortFlags) → o ≡ get_or kept i o → i < length v.ports → All (IsInStep p) kept → o.safes ≡ p + safes_of (marks_at v.ports i)
   safes-seen i o was h steps =
       safes-is p o (step-of i o was h steps) ∙ ap (λ m. p + safes_of m) (sym (seen i o was h))
 
   -- `m` takes its place
-  module _ (i : ℕ) (o m : Kept) (was : o ≡ get_or kept i o) (h : i < length v.ports) where
+  module _ (i : ℕ) (o m : PortFlags) (was : o ≡ get_or kept i o) (h : i < length v.ports) where
     counted : (q : Marks → Bool) →
         count_by q (marks_in p (set kept i m)) + cond (q (marks_with p o)) 1 0 ≡ count_by q (marks_in p kept) + cond (q (marks_with p m)) 1 0
     counted q =
@@ -97,7 +97,7 @@ module _ (p : ℕ) (kept : List Kept) (v : AtPulse Marks) (is : record { pulse =
         ∙ ap (λ (w : AtPulse Marks). record w { ports = set w.ports i (f (marks_at v.ports i)) }) is
 
   -- one safe more was taken at the port: of this pulse, or of the next
-  module _ (i : ℕ) (o : Kept) (was : o ≡ get_or kept i o) (h : i < length v.ports) {waits safe early closed : ℕ}
+  module _ (i : ℕ) (o : PortFlags) (was : o ≡ get_or kept i o) (h : i < length v.ports) {waits safe early closed : ℕ}
       (before : AreCounted p kept waits safe early closed) where
     pub now-counted : o.safes ≡ p + 0 → AreCounted p (set kept i (one_more o)) waits (safe + 1) early closed
     now-counted at =
@@ -120,29 +120,29 @@ module _ (p : ℕ) (kept : List Kept) (v : AtPulse Marks) (is : record { pulse =
         refl
 
 -- a count of ports that wait counts this one
-pub waits-counted : (p : ℕ) (kept : List Kept) (i : ℕ) (o : Kept) → o ≡ get_or kept i o → i < length kept →
+pub waits-counted : (p : ℕ) (kept : List PortFlags) (i : ℕ) (o : PortFlags) → o ≡ get_or kept i o → i < length kept →
     cond o.waits 1 0 ≤ count_by (λ m. m.waits) (marks_in p kept)
 waits-counted p kept i o was h =
     omega (
       arith,
       sum_by-set (λ x. cond (x.waits) 1 0) (marks_in p kept) i no_marks no_marks (omega (arith, h, length-map kept (marks_with p))),
       ap (λ x. cond {A = ℕ} (x.waits) 1 0) (get_or-map (marks_with p) kept i o no_marks h),
-      ap (λ (x : Kept). cond {A = ℕ} (x.waits) 1 0) was,
+      ap (λ (x : PortFlags). cond {A = ℕ} (x.waits) 1 0) was,
     )
 
 -- Where every port has the safe of this pulse, entering the next one changes the flags of a port by itself.
 module _ (p : ℕ) where
-  advance-one : (o : Kept) → IsInStep p o → marks_with (p + 1) o ≡ advanced (marks_with p o)
+  advance-one : (o : PortFlags) → IsInStep p o → marks_with (p + 1) o ≡ advanced (marks_with p o)
   advance-one o step =
       ap (λ b. record (marks_with p o) { safe = nat_lt (p + 1) o.safes; early_safe = b }) (le-ltb (p + 1 + 1) o.safes (omega (arith, step.1)))
 
-  pub advance-all : (kept : List Kept) → All (IsInStep p) kept → marks_in (p + 1) kept ≡ map (λ m. advanced m) (marks_in p kept)
+  pub advance-all : (kept : List PortFlags) → All (IsInStep p) kept → marks_in (p + 1) kept ≡ map (λ m. advanced m) (marks_in p kept)
   advance-all [] step = refl
   advance-all (o ∷ kept) step =
       ap (λ x. x ∷ marks_in (p + 1) kept) (advance-one o (step 0 o (omega arith)))
       ∙ ap (λ l. advanced (marks_with p o) ∷ l) (advance-all kept (λ k d h. step (suc k) d (omega arith)))
 
-  safe-each : (kept : List Kept) (k : ℕ) (d : Kept) → all_have_safe (marks_in p kept) ≡ true → k < length kept → p + 1 ≤ (get_or kept k d).safes
+  safe-each : (kept : List PortFlags) (k : ℕ) (d : PortFlags) → all_have_safe (marks_in p kept) ≡ true → k < length kept → p + 1 ≤ (get_or kept k d).safes
   safe-each [] k d e h = absurd (omega arith)
   safe-each (o ∷ kept) zero d e h = let first : nat_lt p o.safes ≡ true = (and_parts _ _ e).0 in grind (arith, nat_tests, first)
   safe-each (o ∷ kept) (suc k) d e h = safe-each kept k d (and_parts _ _ e).1 (omega arith)
@@ -151,7 +151,7 @@ module _ (p : ℕ) where
   none-early [] = refl
   none-early (m ∷ marks) = omega (arith, count-cons (λ x. x.early_safe) (advanced m) (map (λ x. advanced x) marks), none-early marks)
 
-  pub are-advanced : {waits safe early closed : ℕ} (kept : List Kept) → AreCounted p kept waits safe early closed → all_have_safe (marks_in p kept) ≡ true
+  pub are-advanced : {waits safe early closed : ℕ} (kept : List PortFlags) → AreCounted p kept waits safe early closed → all_have_safe (marks_in p kept) ≡ true
       → AreCounted (p + 1) kept waits early 0 closed
   are-advanced kept before all =
       let marks = marks_in p kept in
@@ -167,20 +167,20 @@ module _ (p : ℕ) where
       }
 
 -- new ports
-abbrev pub new_kept : Kept
+abbrev pub new_kept : PortFlags
 new_kept = record { safes = 0; waits = false; closed = false }
 
 pub new-marks : (n : ℕ) → marks_in 0 (replicate n new_kept) ≡ replicate n no_marks
 new-marks zero = refl
 new-marks (suc n) = ap (λ l. no_marks ∷ l) (new-marks n)
 
-pub new-counted : (n : ℕ) (kept : List Kept) → kept ≡ replicate n new_kept → AreCounted 0 kept 0 0 0 0
+pub new-counted : (n : ℕ) (kept : List PortFlags) → kept ≡ replicate n new_kept → AreCounted 0 kept 0 0 0 0
 new-counted n kept is =
     let none : (q : Marks → Bool) → q no_marks ≡ false → 0 ≡ count_by q (marks_in 0 kept) =
     λ q e. sym (ap (λ l. count_by q (marks_in 0 l)) is ∙ ap (λ l. count_by q l) (new-marks n)
     ∙ sum_by-replicate (λ x. cond (q x) 1 0) n no_marks ∙ omega (arith, ap (λ b. n * cond {A = ℕ} b 1 0) e)) in
     record {
-      in_step = subst (λ (l : List Kept). (k : ℕ) (d : Kept) → k < length l → IsInStep 0 (get_or l k d)) (sym is)
+      in_step = subst (λ (l : List PortFlags). (k : ℕ) (d : PortFlags) → k < length l → IsInStep 0 (get_or l k d)) (sym is)
           (λ k d h. subst (IsInStep 0) (sym (get_or-replicate n k new_kept d (omega (arith, length-replicate n new_kept)))) (omega arith, omega arith));
       waits = none (λ m. m.waits) refl;
       safes = none (λ m. m.safe) refl;

@@ -4,7 +4,7 @@ use Rattle.std.specs.Prelude.{All}
 use Rattle.std.proofs.lemmas.Bool.{cases_lt, lt-ltb, le-ltb}
 use Rattle.std.proofs.lemmas.List.{length-map}
 use Rattle.std.proofs.lemmas.List.Sums.{count_by-le-length}
-use Rattle.alpha_core.specs.declared.marks.Kept.{Kept}
+use Rattle.alpha_core.specs.declared.marks.PortFlags.{PortFlags}
 use Rattle.alpha_core.specs.declared.marks.Marks.{Marks}
 use Rattle.alpha_core.specs.Rows.{AtPulse, IsInStep, marks_at, marks_in, marks_with}
 use Rattle.alpha_core.proofs.Kept.{seen, step-of}
@@ -16,7 +16,7 @@ lt-since k p s m le is = ⊎_elim
     (λ ge. le-ltb k (s - p) ge ∙ sym (le-ltb m s (omega (arith, ge, le, is))))
     (cases_lt k (s - p))
 
-pub flags-seen : (p : ℕ) (kept : List Kept) (v : AtPulse Marks) → record { pulse = p; ports = marks_in p kept } ≡ v → (i : ℕ) (o : Kept)
+pub flags-seen : (p : ℕ) (kept : List PortFlags) (v : AtPulse Marks) → record { pulse = p; ports = marks_in p kept } ≡ v → (i : ℕ) (o : PortFlags)
     → o ≡ get_or kept i o → i < length v.ports → All (IsInStep p) kept
     → record { waits = o.waits; safe = nat_lt 0 (o.safes - p); early_safe = nat_lt 1 (o.safes - p); closed = o.closed } ≡ marks_at v.ports i
 flags-seen p kept v is i o was h steps =
@@ -26,5 +26,5 @@ flags-seen p kept v is i o was h steps =
     ∙ sym (seen p kept v is i o was h)
 
 -- no more ports are counted than there are
-pub count-fits : (p : ℕ) (kept : List Kept) (q : Marks → Bool) → count_by q (marks_in p kept) ≤ length kept
+pub count-fits : (p : ℕ) (kept : List PortFlags) (q : Marks → Bool) → count_by q (marks_in p kept) ≤ length kept
 count-fits p kept q = omega (arith, count_by-le-length q (marks_in p kept), length-map kept (marks_with p))

@@ -30,7 +30,8 @@ module _ {M : Type 0} where
     pub followed : AllFollowed (unsaid said) ports
     pub waits : said ≡ true → none_waits ports ≡ true
 
-  -- What a node keeps: its program and its outbox have its ports, its pulse is at most the last, and its ports are settled.
+  -- What a node keeps: its program and its outbox have its ports, its pulse is at most the last, and its ports are
+  -- settled.
   pub record IsAlphaNode (of_program of_outbox pulse last : ℕ) (said : Bool) (ports : List (Port M)) : Type 0 where
     pub program_ports : of_program ≡ length ports
     pub outbox_ports : of_outbox ≡ length ports

@@ -1,9 +1,11 @@
 -- An out-list whose payloads lie apart from its wires.
-use Rattle.std.specs.Prelude.{⊤, ◌≤◌, ℕ, ◌+◌, Option, None, Some, List, [], ◌∷◌, length}
+use Rattle.std.specs.Prelude.{⊤, ◌≡◌, ◌≤◌, ℕ, ◌+◌, Option, None, Some, List, [], ◌∷◌, All, count_by, length, map}
+use Rattle.std.specs.List.{zip}
 use Rattle.alpha_core.specs.declared.wire.Wire.{Wire}
 use Rattle.alpha_core.specs.declared.wire.Wire.TheVariants as wire
 use Rattle.alpha_core.specs.declared.bare.BareWire.{BareWire}
 use Rattle.alpha_core.specs.declared.bare.BareWire.TheVariants.{Payload, Ack, Safe, Close}
+use Rattle.alpha_core.specs.Rows.{is_over}
 
 -- how many payloads a wire has
 abbrev pub payload_count : BareWire → ℕ
@@ -68,3 +70,26 @@ module _ {M : Type 0} where
   PayloadFits (wire.Ack pulse) n = ⊤
   PayloadFits (wire.Safe pulse) n = ⊤
   PayloadFits wire.Close n = ⊤
+
+-- Lists of wires without payloads, each in something of type X, and the payloads of each.
+module _ {X M : Type 0} (items : X → List BareWire) where
+  abbrev pub out_of : X × List M → List (Wire M)
+  out_of p = wires_of (items p.0) p.1
+
+  abbrev pub outs_of : List X → List (List M) → List (List (Wire M))
+  outs_of ws ps = map out_of (zip ws ps)
+
+  -- each payload that a port's wires should have is there
+  abbrev pub IsWhole : X × List M → Type 0
+  IsWhole p = payloads_in (items p.0) ≡ length p.1
+
+  -- how many lists have more than so many wires
+  abbrev pub overs_of : ℕ → List X → List (List M) → ℕ
+  overs_of most ws ps = count_by (λ p. is_over most (out_of p)) (zip ws ps)
+
+  -- The counts are of the lists without room for a wire more, and of those with a wire.
+  pub record AreOutLists (ws : List X) (ps : List (List M)) (full busy : ℕ) : Type 0 where
+    pub ports : length ps ≡ length ws
+    pub whole : All IsWhole (zip ws ps)
+    pub full_is : full ≡ overs_of 3 ws ps
+    pub busy_is : busy ≡ overs_of 0 ws ps

@@ -31,20 +31,15 @@ pub(crate) struct OutLists<T> {
 }
 
 impl<T> Model for OutLists<T> {
-    ghost use Rattle.std.specs.Prelude.{◌≡◌, List, length, map, All, count_by};
-    ghost use Rattle.std.specs.List.{zip};
+    ghost use Rattle.std.specs.Prelude.{List};
     ghost use Rattle.alpha_core.specs.declared.wire.Wire.{Wire};
-    ghost use Rattle.alpha_core.specs.Rows.{is_over};
-    ghost use Rattle.alpha_core.specs.OutLists.{payloads_in, wires_of};
+    ghost use Rattle.alpha_core.specs.OutLists.{AreOutLists, outs_of};
 
     ghost Value = { List (List (Wire T)) };
 
-    ghost view = { λ a. map (λ p. wires_of p.0.items p.1) (zip a.wires.items a.payloads.items) };
+    ghost view = { λ a. outs_of (λ v. v.items) a.wires.items a.payloads.items };
 
-    ghost invariant = { λ a. (length a.payloads.items ≡ length a.wires.items)
-        × All (λ p. payloads_in p.0.items ≡ length p.1) (zip a.wires.items a.payloads.items)
-        × (a.full ≡ count_by (λ p. is_over 3 (wires_of p.0.items p.1)) (zip a.wires.items a.payloads.items))
-        × (a.busy ≡ count_by (λ p. is_over 0 (wires_of p.0.items p.1)) (zip a.wires.items a.payloads.items)) };
+    ghost invariant = { λ a. AreOutLists (λ v. v.items) a.wires.items a.payloads.items a.full a.busy };
 }
 
 impl<T: Copy> OutLists<T> {

@@ -1,5 +1,5 @@
 use Rattle.std.proofs.Common.{refl, arith}
-use Rattle.alpha_core.specs.declared.marks.Kept.{Kept}
+use Rattle.alpha_core.specs.declared.marks.PortFlags.{PortFlags}
 use Rattle.alpha_core.specs.declared.marks.Marks.{Marks}
 use Rattle.alpha_core.proofs.OutWires.{bit-le}
 use Rattle.alpha_core.proofs.Kept.{are-counted, inside, marks-set, step-of, waits-counted}
@@ -21,7 +21,7 @@ pub invariant_of-self : goal.invariant_of-self
 invariant_of-self c =
     let a = c.self.inside in
     let o = c.index-kept.result.now in
-    let m : Kept = record { safes = o.safes; waits = c.args.waits; closed = o.closed } in
+    let m : PortFlags = record { safes = o.safes; waits = c.args.waits; closed = o.closed } in
     are-counted a.pulse a.kept.items c.args.self.now c.self.view_is c.args.port o m c.index-kept.ensures c.requires.port c.self.invariant
     (step-of a.pulse a.kept.items c.args.self.now c.self.view_is c.args.port o c.index-kept.ensures c.requires.port c.self.invariant.in_step)
     (omega (
@@ -38,7 +38,7 @@ pub returns : goal.returns
 returns c =
     let a = c.self.inside in
     let o = c.index-kept.result.now in
-    let m : Kept = record { safes = o.safes; waits = c.args.waits; closed = o.closed } in
+    let m : PortFlags = record { safes = o.safes; waits = c.args.waits; closed = o.closed } in
     record {
       set = marks-set a.pulse a.kept.items c.args.self.now c.self.view_is c.args.port o m c.index-kept.ensures c.requires.port
           (λ (x : Marks). record x { waits = c.args.waits }) refl;
