@@ -12,7 +12,7 @@ use Rattle.alpha_laws.proofs.Runs.{Runs}
 use Rattle.alpha_laws.proofs.Edge as edge
 use Rattle.alpha_laws.proofs.NextWire as next_wire
 use Rattle.alpha_laws.specs.Position.{Allows}
-use Rattle.alpha_laws.specs.Kept.{taken_to, Kept, AllKept}
+use Rattle.alpha_laws.specs.Kept.{taken_to, PortKept, AllKept}
 
 -- what stands at the other end of the other end stands here
 pub over : {X : Type 0} (net : Net) → IsNetwork net → (f : ℕ → ℕ → X) (v i : ℕ) → IsVertex net v → i < degree_of net v
@@ -30,17 +30,17 @@ module _ {S M E : Type 0} {program : Program S M E} {net : Net} (ok : IsNetwork 
   abbrev back : ℕ
   back = back_port_of net v i
 
-  pub mine : Kept (last_pulse_on program net) (sends program net v (neighbour_of net v i)) (sends program net (neighbour_of net v i) v) (nodes v).view.pulse
+  pub mine : PortKept (last_pulse_on program net) (sends program net v (neighbour_of net v i)) (sends program net (neighbour_of net v i) v) (nodes v).view.pulse
       (nodes v).view.said
       (port_at (nodes v).view i) (emitted_at (nodes v) (sent v) i) (taken v i)
   mine = (kept.each v vertex).ports.each i lt
 
-  pub theirs : Kept (last_pulse_on program net) (sends program net (neighbour_of net v i) v) (sends program net v (neighbour_of net v i))
+  pub theirs : PortKept (last_pulse_on program net) (sends program net (neighbour_of net v i) v) (sends program net v (neighbour_of net v i))
       (nodes (neighbour_of net v i)).view.pulse (nodes (neighbour_of net v i)).view.said
       (port_at (nodes (neighbour_of net v i)).view (back_port_of net v i)) (emitted_at (nodes (neighbour_of net v i)) (sent (neighbour_of net v i))
       (back_port_of net v i)) (taken_over net taken v i)
   theirs = subst
-      (λ u. Kept (last_pulse_on program net) (sends program net other u) (sends program net u other) (nodes other).view.pulse (nodes other).view.said
+      (λ u. PortKept (last_pulse_on program net) (sends program net other u) (sends program net u other) (nodes other).view.pulse (nodes other).view.said
       (port_at (nodes other).view back) (emitted_at (nodes other) (sent other) back) (taken other back))
       (at-back_port net ok v i vertex lt)
       ((kept.each other (ok.vertices v i vertex lt)).ports.each back (ok.symmetric v i vertex lt))

@@ -11,10 +11,10 @@ use Rattle.alpha_core.proofs.Wires.{acks-append, payloads-append}
 use Rattle.alpha_laws.proofs.Slots.{bit_le}
 use Rattle.alpha_laws.proofs.Cursor.{place, payloads_to, moves-append, place-grows, follows-rest, payloads_to-grows, length-counts}
 use Rattle.alpha_laws.specs.Position.{start_at, moves, Follows}
-use Rattle.alpha_laws.specs.Kept.{emitted_to, taken_to, Kept}
+use Rattle.alpha_laws.specs.Kept.{emitted_to, taken_to, PortKept}
 
 module _ {M : Type 0} {last : ℕ} {own other : ℕ → Option M} {p : ℕ} {said : Bool} {port : Port M} {emitted taken : List (Wire M)}
-    (kept : Kept last own other p said port emitted taken) where
+    (kept : PortKept last own other p said port emitted taken) where
   -- the payloads that it emitted
   pub tells : payloads_of emitted ≡ sent_pulses own p ++ sent_pulse p (own p)
   tells = payloads_to-grows own last start_at emitted kept.emits ∙ ap (payloads_to own) kept.emitted_at ∙ both said (own p) refl
@@ -41,8 +41,8 @@ module _ {M : Type 0} {last : ℕ} {own other : ℕ → Option M} {p : ℕ} {sai
       count false o e = omega arith
 
 module _ {M : Type 0} {last : ℕ} {there back : ℕ → Option M} {p : ℕ} {said : Bool} {port : Port M} {emitted taken : List (Wire M)}
-    (sender : Kept last there back p said port emitted taken)
-    {p' : ℕ} {said' : Bool} {port' : Port M} {emitted' taken' : List (Wire M)} (taker : Kept last back there p' said' port' emitted' taken')
+    (sender : PortKept last there back p said port emitted taken)
+    {p' : ℕ} {said' : Bool} {port' : Port M} {emitted' taken' : List (Wire M)} (taker : PortKept last back there p' said' port' emitted' taken')
     (flight flight' : List (Wire M)) (whole : taken' ++ flight ≡ emitted) (whole' : taken ++ flight' ≡ emitted') where
   pub rest_goes : Follows there last (taken_to p' port') flight
   rest_goes = let all : Follows there last start_at (taken' ++ flight) = rw whole sender.emits in
@@ -74,8 +74,8 @@ module _ {M : Type 0} {last : ℕ} {there back : ℕ → Option M} {p : ℕ} {sa
   acks_split = sym (length-append _ _) ∙ ap length (sym (acks-append taken' flight) ∙ ap acks_of whole)
 
 module _ {M : Type 0} {last : ℕ} {there back : ℕ → Option M} {p : ℕ} {said : Bool} {port : Port M} {emitted taken : List (Wire M)}
-    (sender : Kept last there back p said port emitted taken)
-    {p' : ℕ} {said' : Bool} {port' : Port M} {emitted' taken' : List (Wire M)} (taker : Kept last back there p' said' port' emitted' taken')
+    (sender : PortKept last there back p said port emitted taken)
+    {p' : ℕ} {said' : Bool} {port' : Port M} {emitted' taken' : List (Wire M)} (taker : PortKept last back there p' said' port' emitted' taken')
     (flight flight' : List (Wire M)) (whole : taken' ++ flight ≡ emitted) (whole' : taken ++ flight' ≡ emitted') where
   pub near' : safes_at p port ≤ p' + bit said'
   near' = near taker sender flight' flight whole' whole

@@ -14,12 +14,12 @@ use Rattle.alpha_laws.proofs.Kept.{same_at, entered_at}
 use Rattle.alpha_laws.proofs.Slots.{bit_le, unpaid}
 use Rattle.alpha_laws.proofs.Entry.{none_waits, entry_goes, entry_at, entry_acks}
 use Rattle.alpha_laws.specs.Position.{start_at, move, moves}
-use Rattle.alpha_laws.specs.Kept.{Kept}
+use Rattle.alpha_laws.specs.Kept.{PortKept}
 
 module _ {M : Type 0} {last : ℕ} {own other : ℕ → Option M} {p : ℕ} {said : Bool} {port : Port M} {emitted taken : List (Wire M)}
-    (kept : Kept last own other p said port emitted taken) where
+    (kept : PortKept last own other p said port emitted taken) where
   -- Safe p is emitted on the port
-  pub says : p < last → said ≡ false → port.waits ≡ false → Kept last own other p true port (emitted ++ (Safe p ∷ [])) taken
+  pub says : p < last → said ≡ false → port.waits ≡ false → PortKept last own other p true port (emitted ++ (Safe p ∷ [])) taken
   says below not_said no_wait = record {
     emits = follows-more own last start_at emitted (Safe p ∷ []) kept.emits (rw kept.emitted_at (
       rw not_said (
@@ -47,7 +47,7 @@ module _ {M : Type 0} {last : ℕ} {own other : ℕ → Option M} {p : ℕ} {sai
 
   -- the next pulse, but for its safe
   pub pulses_on : own last ≡ None → said ≡ true → port.safe ≡ true
-      → Kept last own other (suc p) false (enters last (suc p) (own (suc p)) (advances port)) (emitted ++ entry last (suc p) (own (suc p))) taken
+      → PortKept last own other (suc p) false (enters last (suc p) (own (suc p)) (advances port)) (emitted ++ entry last (suc p) (own (suc p))) taken
   pulses_on silent was_said first =
       let below : p < last = kept.before_last was_said in
       let at : moves start_at emitted ≡ entered_at (suc p) = kept.emitted_at ∙
@@ -78,7 +78,7 @@ module _ {M : Type 0} {last : ℕ} {own other : ℕ → Option M} {p : ℕ} {sai
       two false o e = absurd (omega arith)
 
 pub starts : {M : Type 0} (last : ℕ) (own other : ℕ → Option M) → own last ≡ None
-    → Kept last own other 0 false (enters last 0 (own 0) new_port) (entry last 0 (own 0)) []
+    → PortKept last own other 0 false (enters last 0 (own 0) new_port) (entry last 0 (own 0)) []
 starts last own other silent = record {
   emits = entry_goes own last 0 (omega arith) silent;
   emitted_at = entry_at own last 0 (omega arith) silent;

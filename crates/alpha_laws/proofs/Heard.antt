@@ -11,20 +11,20 @@ use Rattle.alpha_laws.proofs.Cursor.{place, payloads_to-grows}
 use Rattle.alpha_laws.proofs.Across.{whole'}
 use Rattle.alpha_laws.proofs.Passed.{at-passed, at-early}
 use Rattle.alpha_laws.specs.Position.{start_at, moves}
-use Rattle.alpha_laws.specs.Kept.{Kept}
+use Rattle.alpha_laws.specs.Kept.{PortKept}
 use Rattle.alpha_laws.proofs.PortClaims.{acked}
 use Rattle.alpha_laws.proofs.Listed.{payloads_to_below}
 
 module _ {M : Type 0} {last : ℕ} {own other : ℕ → Option M} {p : ℕ} {said : Bool} {port : Port M} {emitted taken : List (Wire M)}
-    (kept : Kept last own other p said port emitted taken) where
+    (kept : PortKept last own other p said port emitted taken) where
   -- the payloads of the pulses done are those that the other end sent
   pub passed_at : (q : ℕ) → q < p → payload_at q taken ≡ other q
   passed_at q lt = at-passed other last q start_at taken kept.takes (omega arith) (rw kept.taken_at (omega arith))
 
 -- a payload of a pulse that was said safe was taken
 pub heard : {M : Type 0} {last : ℕ} {there back : ℕ → Option M} {p : ℕ} {said : Bool} {port : Port M} {emitted taken : List (Wire M)}
-    (sender : Kept last there back p said port emitted taken)
-    {p' : ℕ} {said' : Bool} {port' : Port M} {emitted' taken' : List (Wire M)} (taker : Kept last back there p' said' port' emitted' taken')
+    (sender : PortKept last there back p said port emitted taken)
+    {p' : ℕ} {said' : Bool} {port' : Port M} {emitted' taken' : List (Wire M)} (taker : PortKept last back there p' said' port' emitted' taken')
     (flight' : List (Wire M)) (whole' : taken ++ flight' ≡ emitted') (q : ℕ) → q < p + bit said → payload_at q taken' ≡ there q
 heard {M} {last} {there} {back} {p} {said} {port} {emitted} {taken} sender {p'} {said'} {port'} {emitted'} {taken'} taker flight' whole' q lt =
     by_cases (there q) refl

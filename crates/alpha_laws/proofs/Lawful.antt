@@ -11,7 +11,7 @@ use Rattle.alpha_core.specs.View.{Port}
 use Rattle.alpha_core.proofs.Wires.{begins_from}
 use Rattle.alpha_laws.proofs.Cursor.{payloads_to, moves-append, follows-rest, closed-ends, payloads_to-grows}
 use Rattle.alpha_laws.specs.Position.{Position, start_at, move, moves, Follows}
-use Rattle.alpha_laws.specs.Kept.{emitted_to, taken_to, Kept}
+use Rattle.alpha_laws.specs.Kept.{emitted_to, taken_to, PortKept}
 use Rattle.alpha_laws.proofs.Shown.{HasRest, data_to, data_to-grows, IsPlace, place_is, start_is, rounds_begin, pulses_begin}
 
 -- beginnings, one from another
@@ -64,7 +64,7 @@ module _ {M : Type 0} (sends : ℕ → Option M) (last : ℕ) (c : Position) (is
 
 -- what a node has emitted on a port is legal
 module _ {M : Type 0} {last : ℕ} {own other : ℕ → Option M} {p : ℕ} {said : Bool} {port : Port M} {emitted taken : List (Wire M)}
-    (kept : Kept last own other p said port emitted taken) where
+    (kept : PortKept last own other p said port emitted taken) where
   place_emitted : IsPlace own last (emitted_to last p said (own p))
   place_emitted = subst (λ c. IsPlace own last c) kept.emitted_at (place_is own last start_at emitted kept.emits (start_is own last))
 

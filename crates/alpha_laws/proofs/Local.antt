@@ -15,7 +15,7 @@ use Rattle.alpha_core.proofs.Wires.{begins_rest, data-append}
 use Rattle.alpha_laws.proofs.Shown.{data_to, data_to-grows, start_is, rounds_begin}
 use Rattle.alpha_laws.proofs.Lawful.{place_taken}
 use Rattle.alpha_laws.specs.Position.{Position, start_at, Allows}
-use Rattle.alpha_laws.specs.Kept.{paid_at, taken_to, Kept}
+use Rattle.alpha_laws.specs.Kept.{paid_at, taken_to, PortKept}
 
 module _ {M : Type 0} (sends : ℕ → Option M) (last : ℕ) where
   next_data : (s : ℕ) (ws : List (Wire M)) → s < last → rounds sends s ++ ws ≡ stream sends last → (tail : List (Wire M)) ×
@@ -43,7 +43,7 @@ module _ {M : Type 0} (sends : ℕ → Option M) (last : ℕ) where
   no_payload s (Some y) rest tail e = absurd cc
 
 module _ {M : Type 0} {last : ℕ} {own other : ℕ → Option M} {p : ℕ} {said : Bool} {port : Port M} {emitted taken : List (Wire M)}
-    (kept : Kept last own other p said port emitted taken) where
+    (kept : PortKept last own other p said port emitted taken) where
   abbrev at : Position
   at = taken_to p port
 

@@ -16,11 +16,11 @@ use Rattle.alpha_laws.proofs.Cursor.{place, place-grows, closed-ends}
 use Rattle.alpha_laws.proofs.Slots.{bit_le}
 use Rattle.alpha_laws.proofs.Edge.{rest_goes, rest_ends, place_most, tells, near'}
 use Rattle.alpha_laws.specs.Position.{move, moves, Allows, Follows}
-use Rattle.alpha_laws.specs.Kept.{taken_to, Kept}
+use Rattle.alpha_laws.specs.Kept.{taken_to, PortKept}
 
 module _ {M : Type 0} {last : ℕ} {there back : ℕ → Option M} {p : ℕ} {said : Bool} {port : Port M} {emitted taken : List (Wire M)}
-    (sender : Kept last there back p said port emitted taken)
-    {p' : ℕ} {said' : Bool} {port' : Port M} {emitted' taken' : List (Wire M)} (taker : Kept last back there p' said' port' emitted' taken')
+    (sender : PortKept last there back p said port emitted taken)
+    {p' : ℕ} {said' : Bool} {port' : Port M} {emitted' taken' : List (Wire M)} (taker : PortKept last back there p' said' port' emitted' taken')
     (flight flight' : List (Wire M)) (whole : taken' ++ flight ≡ emitted) (whole' : taken ++ flight' ≡ emitted') where
   -- the pulse of a wire that comes next is one that the taker may take
   horizon_is : horizon last p' said' ≡ p' + bit said'

@@ -12,14 +12,14 @@ use Rattle.alpha_core.specs.View.{Port, View, none_waits, new_port, port_at, set
 use Rattle.alpha_core.specs.Alpha.{emit, settles}
 use Rattle.alpha_laws.proofs.PortFlags.{no_wait_at}
 use Rattle.alpha_laws.proofs.Emits.{says}
-use Rattle.alpha_laws.specs.Kept.{Kept, KeptAt, PortsKept}
+use Rattle.alpha_laws.specs.Kept.{PortKept, KeptAt, PortsKept}
 
 -- what is kept doesn't hang on the out-list by itself
 pub kept_out : {M : Type 0} {last : ℕ} {own other : ℕ → Option M} {p : ℕ} {said : Bool} {port : Port M} {emitted taken : List (Wire M)}
     (ws emitted' : List (Wire M)) → emitted ≡ emitted'
-    → Kept last own other p said port emitted taken → Kept last own other p said (record port { out = ws }) emitted' taken
+    → PortKept last own other p said port emitted taken → PortKept last own other p said (record port { out = ws }) emitted' taken
 kept_out {M} {last} {own} {other} {p} {said} {port} {emitted} {taken} ws emitted' same kept =
-    subst (λ l. Kept last own other p said (record port { out = ws }) l taken) same record {
+    subst (λ l. PortKept last own other p said (record port { out = ws }) l taken) same record {
       emits = kept.emits;
       emitted_at = kept.emitted_at;
       takes = kept.takes;

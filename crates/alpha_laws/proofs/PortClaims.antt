@@ -14,10 +14,10 @@ use Rattle.alpha_laws.proofs.Shown.{data_to}
 use Rattle.alpha_laws.proofs.Lawful.{data_emitted, legal_emitted}
 use Rattle.alpha_laws.proofs.Listed.{one_contains, pulses_has, pulses_below, safes_moved, close_in, in_close}
 use Rattle.alpha_laws.specs.Position.{start_at}
-use Rattle.alpha_laws.specs.Kept.{emitted_to, Kept}
+use Rattle.alpha_laws.specs.Kept.{emitted_to, PortKept}
 
 module _ {M : Type 0} {last : ℕ} {own other : ℕ → Option M} {p : ℕ} {said : Bool} {port : Port M} {emitted taken : List (Wire M)}
-    (kept : Kept last own other p said port emitted taken) where
+    (kept : PortKept last own other p said port emitted taken) where
   pub acked : (q : ℕ) → q < p + bit said → is_some (own q) ≡ true → Contains (acks_of taken) q
   acked q lt e = subst (λ l. Contains l q) (sym kept.acks_are) (⊎_elim
       (λ before. Contains-append_left (sent_pulses own p) _ q (pulses_has own p q before e))

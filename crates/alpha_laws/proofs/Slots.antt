@@ -9,7 +9,7 @@ use Rattle.alpha_core.specs.View.{Port, bit, safes_at}
 use Rattle.alpha_laws.proofs.Cursor.{moves-append, follows-more}
 use Rattle.alpha_laws.proofs.Passed.{at-early}
 use Rattle.alpha_laws.specs.Position.{start_at, move, moves, Allows, Follows}
-use Rattle.alpha_laws.specs.Kept.{paid_at, taken_to, Kept}
+use Rattle.alpha_laws.specs.Kept.{paid_at, taken_to, PortKept}
 
 abbrev or_else : {M : Type 0} → Option M → Option M → Option M
 or_else None o = o
@@ -45,7 +45,7 @@ bit_le true = omega arith
 bit_le false = omega arith
 
 module _ {M : Type 0} {last : ℕ} {own other : ℕ → Option M} {p : ℕ} {said : Bool} {port : Port M} {emitted taken : List (Wire M)}
-    (kept : Kept last own other p said port emitted taken) where
+    (kept : PortKept last own other p said port emitted taken) where
   -- before the safe of this pulse no early wire was taken
   pub no_early_safe : port.safe ≡ false → port.early_safe ≡ false
   no_early_safe first = false_from_ne_true port.early_safe (λ e. let both : port.safe ≡ true = kept.nested e in cc)

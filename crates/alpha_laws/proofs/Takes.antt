@@ -9,13 +9,13 @@ use Rattle.alpha_core.proofs.Wires.{acks-append, payloads-append}
 use Rattle.alpha_laws.proofs.Kept.{same_at}
 use Rattle.alpha_laws.proofs.Slots.{slot_kept, no_early_safe, no_early, more_taken, more_at}
 use Rattle.alpha_laws.specs.Position.{Allows}
-use Rattle.alpha_laws.specs.Kept.{taken_to, Kept}
+use Rattle.alpha_laws.specs.Kept.{taken_to, PortKept}
 
 module _ {M : Type 0} {last : ℕ} {own other : ℕ → Option M} {p : ℕ} {said : Bool} {port : Port M} {emitted taken : List (Wire M)}
-    (kept : Kept last own other p said port emitted taken) where
+    (kept : PortKept last own other p said port emitted taken) where
   -- Safe q is taken, of this pulse
   pub takes_safe : (q : ℕ) → Allows other last (taken_to p port) (Safe q) → port.safe ≡ false
-      → Kept last own other p said (record port { safe = true }) emitted (taken ++ (Safe q ∷ []))
+      → PortKept last own other p said (record port { safe = true }) emitted (taken ++ (Safe q ∷ []))
   takes_safe q allowed first = record {
     emits = kept.emits;
     emitted_at = kept.emitted_at;
@@ -37,7 +37,7 @@ module _ {M : Type 0} {last : ℕ} {own other : ℕ → Option M} {p : ℕ} {sai
 
   -- and of the next one
   pub takes_early_safe : (q : ℕ) → Allows other last (taken_to p port) (Safe q) → port.safe ≡ true → port.early_safe ≡ false
-      → Kept last own other p said (record port { early_safe = true }) emitted (taken ++ (Safe q ∷ []))
+      → PortKept last own other p said (record port { early_safe = true }) emitted (taken ++ (Safe q ∷ []))
   takes_early_safe q allowed first next = record {
     emits = kept.emits;
     emitted_at = kept.emitted_at;
@@ -55,7 +55,7 @@ module _ {M : Type 0} {last : ℕ} {own other : ℕ → Option M} {p : ℕ} {sai
   }
 
   pub takes_close : Allows {M = M} other last (taken_to p port) Close →
-      Kept last own other p said (record port { closed = true }) emitted (taken ++ (Close ∷ []))
+      PortKept last own other p said (record port { closed = true }) emitted (taken ++ (Close ∷ []))
   takes_close allowed = record {
     emits = kept.emits;
     emitted_at = kept.emitted_at;
@@ -74,7 +74,7 @@ module _ {M : Type 0} {last : ℕ} {own other : ℕ → Option M} {p : ℕ} {sai
 
   -- Ack p is taken, where the port waits
   pub takes_ack : Allows {M = M} other last (taken_to p port) (Ack p) → port.waits ≡ true → said ≡ false
-      → Kept last own other p said (record port { waits = false }) emitted (taken ++ (Ack p ∷ []))
+      → PortKept last own other p said (record port { waits = false }) emitted (taken ++ (Ack p ∷ []))
   takes_ack allowed waited not_said = record {
     emits = kept.emits;
     emitted_at = kept.emitted_at;

@@ -13,7 +13,7 @@ use Rattle.alpha_laws.proofs.Takes.{takes_safe, takes_early_safe, takes_close, t
 use Rattle.alpha_laws.proofs.TakesPayload.{takes_payload, takes_early_payload}
 use Rattle.alpha_laws.proofs.Slots.{no_early_safe}
 use Rattle.alpha_laws.specs.Position.{Allows}
-use Rattle.alpha_laws.specs.Kept.{taken_to, Kept}
+use Rattle.alpha_laws.specs.Kept.{taken_to, PortKept}
 
 horizon_le : (last p : ℕ) (said : Bool) → horizon last p said ≤ suc p
 horizon_le last p said = elim (said && nat_lt p last) as (λ b. (if b then suc p else p) ≤ suc p) [ true ↦ omega arith | false ↦ omega arith ]
@@ -27,14 +27,14 @@ safe_way : {M : Type 0} (p : ℕ) (port : Port M) (q : ℕ) (b : Bool) → b ≡
 safe_way p port q b e = ap (λ c. if c then record port { safe = true } else record port { early_safe = true }) e
 
 module _ {M : Type 0} {last : ℕ} {own other : ℕ → Option M} {p : ℕ} {said : Bool} {port : Port M} {taken : List (Wire M)} (sent : List (Wire M))
-    (kept : Kept last own other p said port (sent ++ port.out) taken) where
+    (kept : PortKept last own other p said port (sent ++ port.out) taken) where
   early_free : (q : ℕ) (b : Bool) → q ≡ p + 1 + bit b → q ≤ suc p → b ≡ false
   early_free q true e le = absurd (omega arith)
   early_free q false e le = refl
 
   -- the port after a wire that is due
   pub takes_kept : (w : Wire M) → is_due last p said port w ≡ true → Allows other last (taken_to p port) w →
-      Kept last own other p said (takes p port w) (sent ++ (takes p port w).out) (taken ++ (w ∷ []))
+      PortKept last own other p said (takes p port w) (sent ++ (takes p port w).out) (taken ++ (w ∷ []))
   takes_kept (Payload q x) due allowed =
       let le : q ≤ horizon last p said = leb-true q (horizon last p said) (and_parts _ _ (and_parts _ _ (and_parts _ _ due).0).0).1 in
       ⊎_elim
@@ -42,16 +42,16 @@ module _ {M : Type 0} {last : ℕ} {own other : ℕ → Option M} {p : ℕ} {sai
       let is : q ≡ suc p = early_pulse q port.early_safe (allowed.1 ∙ rw first refl) (omega (arith, le, horizon_le last p said)) in
       let next : port.early_safe ≡ false = early_free q port.early_safe (allowed.1 ∙ rw first refl) (omega (arith, le, horizon_le last p said)) in
       let allowed' = subst (λ r. Allows other last (taken_to p port) (Payload r x)) is allowed in
-      subst (λ r. Kept last own other p said (takes p port (Payload r x)) (sent ++ (takes p port (Payload r x)).out) (taken ++ (Payload r x ∷ []))) (sym is)
-      (subst (λ x'. Kept last own other p said x' (sent ++ x'.out) (taken ++ (Payload (suc p) x ∷ [])))
+      subst (λ r. PortKept last own other p said (takes p port (Payload r x)) (sent ++ (takes p port (Payload r x)).out) (taken ++ (Payload r x ∷ []))) (sym is)
+      (subst (λ x'. PortKept last own other p said x' (sent ++ x'.out) (taken ++ (Payload (suc p) x ∷ [])))
       (payload_way p port (suc p) x false (sym (ne_eqb (suc p) p (λ e. omega arith))))
       (kept_out (port.out ++ (Ack (suc p) ∷ [])) _ (append_assoc sent port.out (Ack (suc p) ∷ [])) (takes_early_payload kept x allowed' first next))))
       (λ fresh.
       let none : port.early_safe ≡ false = no_early_safe kept fresh in
       let is : q ≡ p = allowed.1 ∙ rw none (rw fresh (omega arith)) in
       let allowed' = subst (λ r. Allows other last (taken_to p port) (Payload r x)) is allowed in
-      subst (λ r. Kept last own other p said (takes p port (Payload r x)) (sent ++ (takes p port (Payload r x)).out) (taken ++ (Payload r x ∷ []))) (sym is)
-      (subst (λ x'. Kept last own other p said x' (sent ++ x'.out) (taken ++ (Payload p x ∷ []))) (payload_way p port p x true (sym (eq-eqb p p refl)))
+      subst (λ r. PortKept last own other p said (takes p port (Payload r x)) (sent ++ (takes p port (Payload r x)).out) (taken ++ (Payload r x ∷ []))) (sym is)
+      (subst (λ x'. PortKept last own other p said x' (sent ++ x'.out) (taken ++ (Payload p x ∷ []))) (payload_way p port p x true (sym (eq-eqb p p refl)))
       (kept_out (port.out ++ (Ack p ∷ [])) _ (append_assoc sent port.out (Ack p ∷ [])) (takes_payload kept x allowed' fresh))))
       (cases_Bool port.safe)
     where
@@ -60,18 +60,19 @@ module _ {M : Type 0} {last : ℕ} {own other : ℕ → Option M} {p : ℕ} {sai
   takes_kept (Ack q) due allowed =
       let three = and_parts (not port.closed && nat_eq q p) port.waits due in
       let is : q ≡ p = eqb-true q p (and_parts (not port.closed) (nat_eq q p) three.0).1 in
-      let unsaid : said ≡ false = false_from_ne_true said (λ e. let quiet : port.waits ≡ false = kept.quiet e in let waits : port.waits ≡ true = three.1 in cc) in
-      subst (λ r. Kept last own other p said (record port { waits = false }) (sent ++ port.out) (taken ++ (Ack r ∷ []))) (sym is)
+      let unsaid : said ≡ false =
+      false_from_ne_true said (λ e. let quiet : port.waits ≡ false = kept.quiet e in let waits : port.waits ≡ true = three.1 in cc) in
+      subst (λ r. PortKept last own other p said (record port { waits = false }) (sent ++ port.out) (taken ++ (Ack r ∷ []))) (sym is)
       (takes_ack kept allowed three.1 unsaid)
   takes_kept (Safe q) due allowed =
       let le : q ≤ horizon last p said = leb-true q (horizon last p said) (and_parts _ _ (and_parts _ _ due).0).1 in
       ⊎_elim
       (λ first.
       let next : port.early_safe ≡ false = early_free q port.early_safe (allowed.1 ∙ rw first refl) (omega (arith, le, horizon_le last p said)) in
-      subst (λ x'. Kept last own other p said x' (sent ++ x'.out) (taken ++ (Safe q ∷ [])))
+      subst (λ x'. PortKept last own other p said x' (sent ++ x'.out) (taken ++ (Safe q ∷ [])))
       (safe_way p port q false (sym (ne_eqb q p (λ e. let is : q ≡ p + 1 + bit port.early_safe = allowed.1 ∙ rw first refl in omega arith))))
       (takes_early_safe kept q allowed first next))
-      (λ fresh. subst (λ x'. Kept last own other p said x' (sent ++ x'.out) (taken ++ (Safe q ∷ [])))
+      (λ fresh. subst (λ x'. PortKept last own other p said x' (sent ++ x'.out) (taken ++ (Safe q ∷ [])))
       (safe_way p port q true (sym (eq-eqb q p (let none : port.early_safe ≡ false = no_early_safe kept fresh in allowed.1 ∙
       rw none (rw fresh (omega arith)))))) (takes_safe kept q allowed fresh))
       (cases_Bool port.safe)

@@ -9,13 +9,13 @@ use Rattle.alpha_laws.proofs.Cursor.{moves-append, follows-more}
 use Rattle.alpha_laws.proofs.Kept.{same_at}
 use Rattle.alpha_laws.proofs.Slots.{slot_kept, slot_filled, other_slot, unpaid, more_taken, more_at}
 use Rattle.alpha_laws.specs.Position.{start_at, Allows}
-use Rattle.alpha_laws.specs.Kept.{taken_to, Kept}
+use Rattle.alpha_laws.specs.Kept.{taken_to, PortKept}
 
 module _ {M : Type 0} {last : ℕ} {own other : ℕ → Option M} {p : ℕ} {said : Bool} {port : Port M} {emitted taken : List (Wire M)}
-    (kept : Kept last own other p said port emitted taken) where
+    (kept : PortKept last own other p said port emitted taken) where
   -- a payload of this pulse is taken
   pub takes_payload : (x : M) → Allows other last (taken_to p port) (Payload p x) → port.safe ≡ false
-      → Kept last own other p said (emit (Ack p) (record port { present = Some x })) (emitted ++ (Ack p ∷ [])) (taken ++ (Payload p x ∷ []))
+      → PortKept last own other p said (emit (Ack p) (record port { present = Some x })) (emitted ++ (Ack p ∷ [])) (taken ++ (Payload p x ∷ []))
   takes_payload x allowed first = record {
     emits = follows-more own last start_at emitted (Ack p ∷ []) kept.emits (rw kept.emitted_at (ne_eqb p last (λ e. let lt = allowed.4 in omega arith)), tt);
     emitted_at = moves-append start_at emitted (Ack p ∷ []) ∙ kept.emitted_at;
@@ -34,7 +34,7 @@ module _ {M : Type 0} {last : ℕ} {own other : ℕ → Option M} {p : ℕ} {sai
 
   -- and of the next one
   pub takes_early_payload : (x : M) → Allows other last (taken_to p port) (Payload (suc p) x) → port.safe ≡ true → port.early_safe ≡ false
-      → Kept last own other p said (emit (Ack (suc p)) (record port { early = Some x })) (emitted ++ (Ack (suc p) ∷ [])) (taken ++ (Payload (suc p) x ∷ []))
+      → PortKept last own other p said (emit (Ack (suc p)) (record port { early = Some x })) (emitted ++ (Ack (suc p) ∷ [])) (taken ++ (Payload (suc p) x ∷ []))
   takes_early_payload x allowed first next = record {
     emits = follows-more own last start_at emitted (Ack (suc p) ∷ []) kept.emits (
       rw kept.emitted_at (ne_eqb p last (λ e. let lt = allowed.4 in omega arith)),

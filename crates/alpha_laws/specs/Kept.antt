@@ -32,7 +32,7 @@ abbrev pub taken_to : {M : Type 0} → ℕ → Port M → Position
 taken_to p port = record { safes = safes_at p port; paid = paid_at port; closed = port.closed }
 
 -- One port of a node at pulse p, with all that was emitted there and all that was taken there.
-pub record Kept {M : Type 0} (last : ℕ) (own other : ℕ → Option M) (p : ℕ) (said : Bool) (port : Port M)
+pub record PortKept {M : Type 0} (last : ℕ) (own other : ℕ → Option M) (p : ℕ) (said : Bool) (port : Port M)
     (emitted taken : List (Wire M)) : Type 0 where
   -- both lists follow their streams, up to where the port says
   pub emits : Follows own last start_at emitted
@@ -55,7 +55,7 @@ pub record Kept {M : Type 0} (last : ℕ) (own other : ℕ → Option M) (p : �
 abbrev pub KeptAt : {S M E : Type 0} → Program S M E → Net → ℕ → ℕ → ℕ → Bool → Port M → List (Wire M) →
     List (Wire M) → Type 0
 KeptAt program net v i p said port emitted taken =
-    Kept (last_pulse_on program net) (sends program net v (neighbour_of net v i))
+    PortKept (last_pulse_on program net) (sends program net v (neighbour_of net v i))
     (sends program net (neighbour_of net v i) v)
     p said port emitted taken
 
