@@ -1,5 +1,6 @@
 pub mod Bounds
 pub mod Received
+pub mod Halfway
 pub mod Deliveries
 pub mod Messages
 pub mod Walks

@@ -15,7 +15,6 @@ use std::alloc::Global;
 pub(crate) fn inboxes_of<T: Copy>(alloc: Global, net: &Network) -> Result<Vec<Inbox<T>>, Memory>
     ensures empty { IfOk result (λ inboxes. Lists (count_of net.now) (empty_inbox net.now) inboxes.items) }
 {
-    net.is_network();
     let mut inboxes = Vec::with_capacity(alloc, net.nodes() as usize)?;
     for i in 0..net.nodes() {
         inboxes.push(Inbox::new(alloc, net.degree(i + 1))?)?;
@@ -50,7 +49,6 @@ fn degrees_of(alloc: Global, net: &Network) -> Result<Vec<bool>, Memory>
     ensures size { IfOk result (λ occurs. length occurs.items ≡ greatest_degree_of net.now + 1) }
     ensures occurs { IfOk result (λ occurs. HasDegrees net.now (count_of net.now) occurs.items) }
 {
-    net.is_network();
     let mut occurs = vec![in alloc; false; net.greatest_degree() as usize + 1]?;
     for i in 0..net.nodes() {
         let degree = net.degree(i + 1) as usize;

@@ -2,7 +2,7 @@
 //! that rests and to which nothing came is passed over.
 
 ghost use Rattle.std.specs.Prelude.{◌≡◌, ◌<◌, ◌≤◌, ◌+◌, ◌^◌, ℕ, [], IfOk, false, length, slice_index_or, suc};
-ghost use Rattle.interference.specs.Net.{IsVertex, count_of};
+ghost use Rattle.interference.specs.Net.{IsNetwork, IsVertex, count_of};
 ghost use Rattle.node_api.specs.Boxes.{nothing, unread};
 ghost use Rattle.node_api.specs.Program.{RestsUntil, own_of};
 ghost use Rattle.node_api.specs.Run.{after, inbox_at, state_at};
@@ -27,7 +27,7 @@ pub(crate) struct AfterPulse {
 
 // What the engine keeps of all nodes from one pulse to the next. Entry v - 1 is of vertex v, except in `outs`.
 #[derive(Drop)]
-pub(crate) struct Kept<P: NodeProgram> {
+pub(crate) struct EngineState<P: NodeProgram> {
     pub(crate) nodes: Vec<P>,
     // Whether each vertex sent something at the pulse.
     pub(crate) loud: Vec<bool>,
@@ -41,10 +41,10 @@ pub(crate) struct Kept<P: NodeProgram> {
 }
 
 // All nodes after pulse 0.
-pub(crate) fn start<P: NodeProgram>(alloc: Global, net: &Network) -> Result<Kept<P>, Memory>
+pub(crate) fn start<P: NodeProgram>(alloc: Global, net: &Network) -> Result<EngineState<P>, Memory>
     ensures at { IfOk result (λ kept. AreAt P.program net.now 0 kept) }
+    ensures network { IfOk result (λ _. IsNetwork net.now) }
 {
-    net.is_network();
     let mut outs = outboxes_of(alloc, net)?;
     let mut inboxes = inboxes_of(alloc, net)?;
     let mut nodes = Vec::with_capacity(alloc, net.nodes() as usize)?;
@@ -57,7 +57,7 @@ pub(crate) fn start<P: NodeProgram>(alloc: Global, net: &Network) -> Result<Kept
     }
     let later = inboxes_of(alloc, net)?;
     let untils = vec![in alloc; 0u32; net.nodes() as usize]?;
-    Ok(Kept {
+    Ok(EngineState {
         nodes,
         loud,
         outs,
@@ -92,7 +92,11 @@ fn greet<P: NodeProgram>(
 
 // The pulse after `done` of all nodes. Never inlined, since its loop is where the time goes, and needs the registers.
 #[inline(never)]
-pub(crate) fn round<P: NodeProgram>(net: &Network, done: u32, kept: &mut Kept<P>) -> AfterPulse
+pub(crate) fn round<P: NodeProgram>(
+    net: &Network,
+    done: u32,
+    kept: &mut EngineState<P>,
+) -> AfterPulse
     requires done { done + 1 < 2 ^ 32 }
     requires at { AreAt P.program net.now done kept.old }
     ensures at { AreAt P.program net.now (suc done) kept.new }
@@ -100,7 +104,6 @@ pub(crate) fn round<P: NodeProgram>(net: &Network, done: u32, kept: &mut Kept<P>
     ensures least { (k d : ℕ) → k < count_of net.now
         → result.rests_until ≤ slice_index_or kept.new.untils.items k d }
 {
-    net.is_network();
     // As slices, so that the loop doesn't read the vectors again.
     let nodes = kept.nodes.as_mut_slice();
     let loud = kept.loud.as_mut_slice();

@@ -11,7 +11,7 @@ index_mut-requires c =
       c.loop-i.invariant.size,
       c.loop-i.occurs.ok.0,
       c.degree-degree.ensures.value,
-      degree-within c.args.net.now c.is_network.ensures (c.loop-i.i + 1),
+      degree-within c.args.net.now c.nodes-i-end.ensures.network (c.loop-i.i + 1),
     )
 
 pub loop-i-preserved : goal.loop-i-preserved
@@ -21,7 +21,7 @@ loop-i-preserved c =
       arith,
       c.loop-i.invariant.size,
       c.degree-degree.ensures.value,
-      degree-within net c.is_network.ensures (c.loop-i.i + 1),
+      degree-within net c.nodes-i-end.ensures.network (c.loop-i.i + 1),
     ) in
     record {
       size = length-set _ _ _ ∙ c.loop-i.invariant.size;

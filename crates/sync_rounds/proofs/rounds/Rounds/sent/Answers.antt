@@ -16,7 +16,7 @@ returns g c =
       payload = subst (λ (at : AtPulse). IsVertex at.net c.args.v → c.args.port < degree_of at.net c.args.v
           → c.get.result ≡ at_port (outbox_at m.program at.net at.pulse c.args.v) c.args.port) c.self.view_is
           (λ is_vertex below. c.get.ensures.payload
-          ∙ sent-in m.program inside.net.now c.is_network.ensures inside.pulse inside.kept.inboxes.items v port c.neighbour-w.result c.back_port.result
-          c.index.result.now c.self.invariant.0.next is_vertex below c.neighbour-w.ensures.value c.back_port.ensures.value c.index.ensures)
+          ∙ sent-in m.program inside.net.now c.self.invariant.network inside.pulse inside.kept.inboxes.items v port c.neighbour-w.result c.back_port.result
+          c.index.result.now c.self.invariant.at.next is_vertex below c.neighbour-w.ensures.value c.back_port.ensures.value c.index.ensures)
           c.requires.vertex c.requires.port;
     }
