@@ -2,7 +2,7 @@
 use Rattle.std.proofs.Common.{◌≡◌, ℕ, ◌-◌, ◌<◌, true, false, List, [], ◌∷◌, ◌++◌, length, get_or, set, Result, Ok, Err, sym, ap, ◌∙◌, arith, subst}
 use Rattle.std.specs.Prelude.{IsOk, if◌then◌else◌}
 use Rattle.std.proofs.lemmas.List.{length-map, get_or-map, map-set}
-use Rattle.interference.specs.Net.{Net, IsNetwork, IsVertex, degree_of, neighbour_of, back_port_of}
+use Rattle.interference.specs.Net.{Net, IsVertex, degree_of, neighbour_of, back_port_of}
 use Rattle.node_api.specs.Program.{Program, last_pulse_on}
 use Rattle.node_api.specs.Laws.{IsProgram}
 use Rattle.alpha_core.specs.declared.wire.Wire.{Wire}
@@ -28,13 +28,13 @@ not_ok : {A B E : Type 0} (r : Result A E) (e : E) → IsOk r → r ≡ Err e �
 not_ok (Ok x) e ok is = absurd cc
 not_ok (Err x) e ok is = absurd cc
 
-module _ {S M E : Type 0} (program : Program S M E) (laws : IsProgram program) (net : Net) (ok : IsNetwork net)
+module _ {S M E : Type 0} (program : Program S M E) (laws : IsProgram program) (net : Net)
     (nodes : List (Alpha S M)) (links : List (List (Link M))) (keeps : IsNetState program net nodes links) where
   kept : NetKept program net (state_in nodes links)
-  kept = reached_kept ok (runs program laws net ok) (state_in nodes links) keeps.0
+  kept = reached_kept keeps.network (runs program laws net keeps.network) (state_in nodes links) keeps.reached
 
   pub simulation : IsSimulation program net (state_in nodes links)
-  simulation = reached_simulates ok (runs program laws net ok) (state_in nodes links) keeps.0
+  simulation = reached_simulates keeps.network (runs program laws net keeps.network) (state_in nodes links) keeps.reached
 
   pub in_nodes : (v : ℕ) → IsVertex net v → v - 1 < length nodes
   in_nodes v vertex = omega (arith, kept.nodes, length-map nodes (λ n. n.node), vertex.0, vertex.1)
@@ -43,7 +43,8 @@ module _ {S M E : Type 0} (program : Program S M E) (laws : IsProgram program) (
   has_link v i vertex lt = (vertex.0, omega (arith, kept.rows, vertex.0, vertex.1), omega (arith, kept.row v vertex, lt))
 
   pub has_link_to : (v i : ℕ) → IsVertex net v → i < degree_of net v → HasLink links (neighbour_of net v i) (back_port_of net v i)
-  has_link_to v i vertex lt = has_link (neighbour_of net v i) (back_port_of net v i) (ok.vertices v i vertex lt) (ok.symmetric v i vertex lt)
+  has_link_to v i vertex lt =
+      has_link (neighbour_of net v i) (back_port_of net v i) (keeps.network.vertices v i vertex lt) (keeps.network.symmetric v i vertex lt)
 
   pub take_nothing : (v : ℕ) → IsVertex net v → (i : ℕ) → i < degree_of net v → (link_to net links v i).held ≡ []
       → step program net (state_in nodes links) (Take v i) ≡ Err LinkEmpty
@@ -59,7 +60,7 @@ module _ {S M E : Type 0} (program : Program S M E) (laws : IsProgram program) (
     node_is = ap (λ n. n.node) x_is ∙ sym (get_or-map (λ n. n.node) nodes (v - 1) x (start_node program net v) (in_nodes v vertex))
 
     pub last_is : x.last ≡ last_pulse_on program net
-    last_is = subst (λ n. n.last ≡ last_pulse_on program net) (sym x_is) (keeps.1 (v - 1) x (in_nodes v vertex))
+    last_is = subst (λ n. n.last ≡ last_pulse_on program net) (sym x_is) (keeps.lasts (v - 1) x (in_nodes v vertex))
 
     pub unchanged : set nodes (v - 1) x ≡ nodes
     unchanged = set-same nodes (v - 1) x (in_nodes v vertex) x_is
@@ -77,10 +78,11 @@ module _ {S M E : Type 0} (program : Program S M E) (laws : IsProgram program) (
         let made : step program net (state_in nodes links) event ≡ Ok (state_in (set nodes (v - 1) y) links') =
         is ∙ ap (λ (ns : List (Node S M)). Ok record { nodes = ns; links = links' }) (sym (map-set (λ n. n.node) nodes (v - 1) y)) in (
           made,
-          (
-            reached_step program net (state_in nodes links) (state_in (set nodes (v - 1) y) links') event keeps.0 made,
-            each-set (λ n. n.last ≡ last_pulse_on program net) nodes (v - 1) y (same ∙ last_is) keeps.1,
-          ),
+          record {
+            network = keeps.network;
+            reached = reached_step program net (state_in nodes links) (state_in (set nodes (v - 1) y) links') event keeps.reached made;
+            lasts = each-set (λ n. n.last ≡ last_pulse_on program net) nodes (v - 1) y (same ∙ last_is) keeps.lasts;
+          },
         )
 
     pulse_by : step program net (state_in nodes links) (Pulse v)

@@ -1,6 +1,6 @@
 -- The lists that a NetState keeps at the start.
 use Rattle.std.proofs.Common.{◌≡◌, ℕ, suc, zero, ◌<◌, List, [], ◌∷◌, map, length, get_or, replicate, Ok, refl, sym, ap, ◌∙◌, arith, subst}
-use Rattle.interference.specs.Net.{Net, degree_of, vertices}
+use Rattle.interference.specs.Net.{Net, IsNetwork, degree_of, vertices}
 use Rattle.node_api.specs.Program.{Program, last_pulse_on}
 use Rattle.alpha_core.specs.View.{Alpha, Node}
 use Rattle.alpha_core.specs.Program.{start_node}
@@ -17,7 +17,7 @@ map-twice : {X Y Z : Type 0} (f : Y → Z) (g : X → Y) (xs : List X) → map f
 map-twice f g [] = refl
 map-twice f g (x ∷ xs) = ap (λ l. f (g x) ∷ l) (map-twice f g xs)
 
-module _ {S M E : Type 0} (program : Program S M E) (net : Net) where
+module _ {S M E : Type 0} (program : Program S M E) (net : Net) (ok : IsNetwork net) where
   abbrev no_links : List (List (Link M))
   no_links = map (λ v. replicate (degree_of net v) no_link) (vertices net)
 
@@ -26,11 +26,12 @@ module _ {S M E : Type 0} (program : Program S M E) (net : Net) where
       (map-twice (λ n. n.node) (λ v. record { last = last_pulse_on program net; node = start_node program net v }) (vertices net))
 
   keeps : IsNetState program net (started_nodes program net (vertices net)) no_links
-  keeps = (
-    ([], ap (λ s. Ok s) (sym begins)),
-    each-map (λ n. n.last ≡ last_pulse_on program net) (λ v. record { last = last_pulse_on program net; node = start_node program net v }) (λ v. refl)
-        (vertices net),
-  )
+  keeps = record {
+    network = ok;
+    reached = ([], ap (λ s. Ok s) (sym begins));
+    lasts = each-map (λ n. n.last ≡ last_pulse_on program net) (λ v. record { last = last_pulse_on program net; node = start_node program net v })
+        (λ v. refl) (vertices net);
+  }
 
   module _ (net' : Net) (nodes : List (Alpha S M)) (links : List (List (Link M))) (net_is : net' ≡ net)
       (nodes_are : nodes ≡ started_nodes program net (vertices net)) (links_are : links ≡ no_links) where

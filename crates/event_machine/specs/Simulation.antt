@@ -1,6 +1,6 @@
 -- What holds of every state that a list of events reaches.
 use Rattle.std.specs.Prelude.{◌≡◌, List, All, Ok}
-use Rattle.interference.specs.Net.{Net}
+use Rattle.interference.specs.Net.{Net, IsNetwork}
 use Rattle.node_api.specs.Program.{Program, last_pulse_on}
 use Rattle.alpha_core.specs.View.{Alpha}
 use Rattle.alpha_laws.specs.Simulates.{Simulates}
@@ -19,6 +19,8 @@ abbrev pub IsReached : {S M E : Type 0} → Program S M E → Net → State S M 
 IsReached program net state = (events : List Event) × (run program net events ≡ Ok state)
 
 -- what a `NetState` keeps: some list of events reaches its state, and each of its nodes knows the last pulse
-abbrev pub IsNetState : {S M E : Type 0} → Program S M E → Net → List (Alpha S M) → List (List (Link M)) → Type 0
-IsNetState {S} {M} program net nodes links =
-    IsReached program net (state_in nodes links) × All (λ (n : Alpha S M). n.last ≡ last_pulse_on program net) nodes
+pub record IsNetState {S M E : Type 0} (program : Program S M E) (net : Net) (nodes : List (Alpha S M))
+    (links : List (List (Link M))) : Type 0 where
+  pub network : IsNetwork net
+  pub reached : IsReached program net (state_in nodes links)
+  pub lasts : All (λ (n : Alpha S M). n.last ≡ last_pulse_on program net) nodes

@@ -58,7 +58,6 @@ impl<P: NodeProgram> NetState<P> {
         ensures net { self.new.net ≡ self.old.net }
         ensures refused { OnErr result (self.new ≡ self.old) }
     {
-        self.net.is_network();
         if !is_vertex(&self.net, v) {
             return Err(StepRefused::NoSuch);
         }
@@ -81,7 +80,6 @@ impl<P: NodeProgram> NetState<P> {
         ensures net { self.new.net ≡ self.old.net }
         ensures refused { OnErr result (self.new ≡ self.old) }
     {
-        self.net.is_network();
         if !has_port(&self.net, v, port) {
             return Err(StepRefused::NoSuch);
         }
@@ -102,7 +100,6 @@ impl<P: NodeProgram> NetState<P> {
         ensures net { self.new.net ≡ self.old.net }
         ensures refused { OnErr result (self.new ≡ self.old) }
     {
-        self.net.is_network();
         if !has_port(&self.net, v, port) {
             return Err(StepRefused::NoSuch);
         }

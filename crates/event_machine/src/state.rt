@@ -1,7 +1,7 @@
 //! The state of a network, as it is read.
 
 ghost use Rattle.std.specs.Prelude.{◌≡◌, ◌<◌, IfOk, length};
-ghost use Rattle.interference.specs.Net.{IsVertex, degree_of, vertices};
+ghost use Rattle.interference.specs.Net.{IsNetwork, IsVertex, degree_of, vertices};
 ghost use Rattle.node_api.specs.Program.{last_pulse_on};
 ghost use Rattle.event_machine.specs.Simulation.{IsReached, IsSimulation};
 ghost use Rattle.event_machine.specs.State.{link_at, node_of, start, started_nodes};
@@ -40,6 +40,7 @@ impl<P: NodeProgram> Model for NetState<P> {
 /// The nodes of a network at pulse 0, by vertex.
 fn started_nodes<P: NodeProgram>(alloc: Global, net: &Network) -> Result<Vec<AlphaNode<P>>, Memory>
     ensures nodes { IfOk result (λ nodes. nodes.items ≡ started_nodes P.program net.now (vertices net.now)) }
+    ensures network { IsNetwork net.now }
 {
     let mut nodes = Vec::with_capacity(alloc, net.nodes() as usize)?;
     for i in 0..net.nodes() {
@@ -59,7 +60,6 @@ impl<P: NodeProgram> NetState<P> {
         ensures start { IfOk result (λ view. view ≡ record { net = net.now; state = start P.program net.now }) }
         ensures simulates { IfOk result (λ view. IsSimulation P.program view.net view.state) }
     {
-        net.is_network();
         let nodes = started_nodes(alloc, net)?;
         let links = Links::new(alloc, net)?;
         let net = net.copy(alloc)?;
@@ -72,7 +72,7 @@ impl<P: NodeProgram> NetState<P> {
         ensures reached { IsReached P.program self.now.net self.now.state }
         ensures simulates { IsSimulation P.program self.now.net self.now.state }
     {
-        self.net.is_network();
+        let _ = &self.net;
     }
 
     /// The pulse of a vertex.
@@ -89,7 +89,6 @@ impl<P: NodeProgram> NetState<P> {
         ensures node { result.now.node ≡ node_of P.program self.now.net self.now.state v }
         ensures last { result.now.last ≡ last_pulse_on P.program self.now.net }
     {
-        self.net.is_network();
         &self.nodes[(v - 1) as usize]
     }
 
@@ -99,7 +98,6 @@ impl<P: NodeProgram> NetState<P> {
         requires port { port < degree_of self.now.net v }
         ensures waiting { result ≡ length (link_at self.now.state.links v port).held }
     {
-        self.net.is_network();
         self.links.waiting(v, port)
     }
 
@@ -111,7 +109,6 @@ impl<P: NodeProgram> NetState<P> {
         ensures taken { result.0 ≡ length (link_at self.now.state.links v port).taken }
         ensures held { result.1.now ≡ (link_at self.now.state.links v port).held }
     {
-        self.net.is_network();
         self.links.parts(v, port)
     }
 

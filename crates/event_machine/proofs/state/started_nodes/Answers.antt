@@ -36,4 +36,7 @@ pub returns : goal.returns
 returns g c =
     let net = c.args.net.now in
     let end : c.loop-i.i ≡ count_of net = omega (arith, c.loop-i-test.false, c.loop-i.auto.i-end, c.nodes-i-end.ensures.count) in
-    record { nodes = c.loop-i.invariant.made ∙ ap (λ n. started_nodes g.P.NodeProgram.program net (range_with_len 1 n)) end }
+    record {
+      nodes = c.loop-i.invariant.made ∙ ap (λ n. started_nodes g.P.NodeProgram.program net (range_with_len 1 n)) end;
+      network = c.nodes.ensures.network;
+    }

@@ -8,7 +8,7 @@ returns g c =
     let m = g.P.NodeProgram in
     let a = c.self.inside in
     record {
-      reached = subst (λ s. IsReached m.program s.net s.state) c.self.view_is c.self.invariant.0;
+      reached = subst (λ s. IsReached m.program s.net s.state) c.self.view_is c.self.invariant.reached;
       simulates = subst (λ s. IsSimulation m.program s.net s.state) c.self.view_is
-          (simulation m.program m.laws a.net c.is_network.ensures a.nodes.items a.links c.self.invariant);
+          (simulation m.program m.laws a.net a.nodes.items a.links c.self.invariant);
     }

@@ -10,7 +10,7 @@ index-requires g c =
     let m = g.P.NodeProgram in
     let a = c.self.inside in
     let vertex : IsVertex a.net c.args.v = subst (λ s. IsVertex s.net c.args.v) (sym c.self.view_is) c.requires.vertex in
-    omega (arith, a.nodes.ok.0, in_nodes m.program m.laws a.net c.is_network.ensures a.nodes.items a.links c.self.invariant c.args.v vertex)
+    omega (arith, a.nodes.ok.0, in_nodes m.program m.laws a.net a.nodes.items a.links c.self.invariant c.args.v vertex)
 
 pub returns : goal.returns
 returns g c =
@@ -18,8 +18,8 @@ returns g c =
     let a = c.self.inside in
     let vertex : IsVertex a.net c.args.v = subst (λ s. IsVertex s.net c.args.v) (sym c.self.view_is) c.requires.vertex in
     record {
-      node = node_is m.program m.laws a.net c.is_network.ensures a.nodes.items a.links c.self.invariant c.args.v vertex c.index.result.now c.index.ensures
+      node = node_is m.program m.laws a.net a.nodes.items a.links c.self.invariant c.args.v vertex c.index.result.now c.index.ensures
           ∙ ap (λ s. node_of m.program s.net s.state c.args.v) c.self.view_is;
-      last = last_is m.program m.laws a.net c.is_network.ensures a.nodes.items a.links c.self.invariant c.args.v vertex c.index.result.now c.index.ensures
+      last = last_is m.program m.laws a.net a.nodes.items a.links c.self.invariant c.args.v vertex c.index.result.now c.index.ensures
           ∙ ap (λ s. last_pulse_on m.program s.net) c.self.view_is;
     }

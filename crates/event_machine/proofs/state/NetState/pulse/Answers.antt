@@ -26,8 +26,7 @@ pulsed : (g : _) (c : In-Ok g) → IsVertex c.self.inside.net c.args.v →
 pulsed g c vertex =
     let m = g.P.NodeProgram in
     let a = c.self.inside in
-    let ok = c.is_network.ensures in
-    pulse_made m.program m.laws a.net ok a.nodes.items a.links c.self.invariant c.args.v vertex c.index_mut-node.result.now
+    pulse_made m.program m.laws a.net a.nodes.items a.links c.self.invariant c.args.v vertex c.index_mut-node.result.now
     c.index_mut-node.ensures.value
     (sym c.can_pulse.ensures.can ∙ c.if-not-can_pulse.false) c.pulse.new.self c.in-Ok.ensures.pulse c.in-Ok.ensures.last
 
@@ -35,27 +34,24 @@ pub index_mut-node-requires : goal.index_mut-node-requires
 index_mut-node-requires g c =
     let m = g.P.NodeProgram in
     let a = c.self.inside in
-    let ok = c.is_network.ensures in
     let vertex = vertex-is g (goal.at.index_mut-node-requires g c).Else-not-is_vertex in
-    subst (λ n. c.args.v - 1 < n) (sym a.nodes.ok.0) (in_nodes m.program m.laws a.net ok a.nodes.items a.links c.self.invariant c.args.v vertex)
+    subst (λ n. c.args.v - 1 < n) (sym a.nodes.ok.0) (in_nodes m.program m.laws a.net a.nodes.items a.links c.self.invariant c.args.v vertex)
 
 pub invariant_of-self : goal.invariant_of-self
 invariant_of-self g c =
     let m = g.P.NodeProgram in
     let a = c.self.inside in
-    let ok = c.is_network.ensures in
     let vertex = vertex-is g (goal.at.invariant_of-self g c).Else-not-is_vertex in
-    kept_same m.program m.laws a.net ok a.nodes.items a.links c.self.invariant c.args.v vertex c.index_mut-node.result.now c.index_mut-node.ensures.value
+    kept_same m.program m.laws a.net a.nodes.items a.links c.self.invariant c.args.v vertex c.index_mut-node.result.now c.index_mut-node.ensures.value
     c.index_mut-node.result.now refl a.links refl
 
 pub returns-then-not-can_pulse-clause-step : goal.returns-then-not-can_pulse-clause-step
 returns-then-not-can_pulse-clause-step g c =
     let m = g.P.NodeProgram in
     let a = c.self.inside in
-    let ok = c.is_network.ensures in
     let vertex = vertex-is g (goal.at.returns-then-not-can_pulse-clause-step g c).Else-not-is_vertex in
     λ _. ap (λ s. step m.program s.net s.state (Pulse c.args.v)) (sym c.self.view_is)
-    ∙ pulse_not_ready m.program m.laws a.net ok a.nodes.items a.links c.self.invariant c.args.v vertex c.index_mut-node.result.now
+    ∙ pulse_not_ready m.program m.laws a.net a.nodes.items a.links c.self.invariant c.args.v vertex c.index_mut-node.result.now
     c.index_mut-node.ensures.value
     (sym c.can_pulse.ensures.can ∙ c.if-not-can_pulse.true)
 
@@ -63,16 +59,14 @@ pub unreachable-requires : goal.unreachable-requires
 unreachable-requires g c =
     let m = g.P.NodeProgram in
     let a = c.self.inside in
-    let ok = c.is_network.ensures in
     let vertex = vertex-is g (goal.at.unreachable-requires g c).Else-not-is_vertex in
-    pulse_refused m.program m.laws a.net ok a.nodes.items a.links c.self.invariant c.args.v vertex c.index_mut-node.result.now c.index_mut-node.ensures.value
+    pulse_refused m.program m.laws a.net a.nodes.items a.links c.self.invariant c.args.v vertex c.index_mut-node.result.now c.index_mut-node.ensures.value
     (sym c.can_pulse.ensures.can ∙ c.if-not-can_pulse.false) _ c.in-Err.ensures.pulse.2
 
 pub invariant_of-self-2 : goal.invariant_of-self-2
 invariant_of-self-2 g c =
     let m = g.P.NodeProgram in
     let a = c.self.inside in
-    let ok = c.is_network.ensures in
     let vertex = vertex-is g (goal.at.invariant_of-self-2 g c).Else-not-is_vertex in
     let made = pulsed g (goal.at.invariant_of-self-2 g c).In-Ok vertex in
     made.1
@@ -81,7 +75,6 @@ pub returns-clause-step : goal.returns-clause-step
 returns-clause-step g c =
     let m = g.P.NodeProgram in
     let a = c.self.inside in
-    let ok = c.is_network.ensures in
     let vertex = vertex-is g (goal.at.returns-clause-step g c).Else-not-is_vertex in
     let made = pulsed g (goal.at.returns-clause-step g c).In-Ok vertex in
     ap (λ s. step m.program s.net s.state (Pulse c.args.v)) (sym c.self.view_is) ∙ made.0
@@ -112,9 +105,8 @@ pub returns-then-not-can_pulse-clause-refused : goal.returns-then-not-can_pulse-
 returns-then-not-can_pulse-clause-refused g c =
     let m = g.P.NodeProgram in
     let a = c.self.inside in
-    let ok = c.is_network.ensures in
     let vertex = vertex-is g (goal.at.returns-then-not-can_pulse-clause-refused g c).Else-not-is_vertex in
-    ap (λ ns. record { net = a.net; state = state_in ns a.links }) (unchanged m.program m.laws a.net ok a.nodes.items a.links c.self.invariant
+    ap (λ ns. record { net = a.net; state = state_in ns a.links }) (unchanged m.program m.laws a.net a.nodes.items a.links c.self.invariant
     c.args.v vertex c.index_mut-node.result.now c.index_mut-node.ensures.value) ∙ c.self.view_is
 
 pub pulse-requires-clause-can : goal.pulse-requires-clause-can

@@ -35,11 +35,10 @@ in-place : (g : _) (c : After-index_mut-node g) → IsVertex c.self.inside.net c
 in-place g c there =
     let m = g.P.NodeProgram in
     let a = c.self.inside in
-    let x = c.index_mut-node.result.now in
-    let ok = c.is_network.ensures in (
-      in_ports m.program m.laws a.net ok a.nodes.items a.links c.self.invariant c.args.v there.0 x c.index_mut-node.ensures.value c.args.port there.1,
-      unchanged m.program m.laws a.net ok a.nodes.items a.links c.self.invariant c.args.v there.0 x c.index_mut-node.ensures.value,
-      kept_same m.program m.laws a.net ok a.nodes.items a.links c.self.invariant c.args.v there.0 x c.index_mut-node.ensures.value x refl a.links refl,
+    let x = c.index_mut-node.result.now in (
+      in_ports m.program m.laws a.net a.nodes.items a.links c.self.invariant c.args.v there.0 x c.index_mut-node.ensures.value c.args.port there.1,
+      unchanged m.program m.laws a.net a.nodes.items a.links c.self.invariant c.args.v there.0 x c.index_mut-node.ensures.value,
+      kept_same m.program m.laws a.net a.nodes.items a.links c.self.invariant c.args.v there.0 x c.index_mut-node.ensures.value x refl a.links refl,
     )
 
 -- the step of the definition is made, and what it leaves is a state of the network
@@ -51,8 +50,7 @@ put-in g c there =
     let first = first-some (port_at c.index_mut-node.result.now.node.view c.args.port).out _ (sym c.front.ensures.oldest ∙ c.in-Some.is) in
     let m = g.P.NodeProgram in
     let a = c.self.inside in
-    let ok = c.is_network.ensures in
-    put_made m.program m.laws a.net ok a.nodes.items a.links c.self.invariant c.args.v there.0 c.index_mut-node.result.now
+    put_made m.program m.laws a.net a.nodes.items a.links c.self.invariant c.args.v there.0 c.index_mut-node.result.now
     c.index_mut-node.ensures.value c.args.port there.1 _ first.0 first.1
     c.put_done.new.self c.put_done.ensures.view c.put_done.ensures.state c.put_done.ensures.last c.put.new.self c.in_ok-put.ensures.put
 
@@ -60,9 +58,8 @@ pub index_mut-node-requires : goal.index_mut-node-requires
 index_mut-node-requires g c =
     let m = g.P.NodeProgram in
     let a = c.self.inside in
-    let ok = c.is_network.ensures in
     let there = there-is g (goal.at.index_mut-node-requires g c).Else-not-has_port in
-    subst (λ n. c.args.v - 1 < n) (sym a.nodes.ok.0) (in_nodes m.program m.laws a.net ok a.nodes.items a.links c.self.invariant c.args.v there.0)
+    subst (λ n. c.args.v - 1 < n) (sym a.nodes.ok.0) (in_nodes m.program m.laws a.net a.nodes.items a.links c.self.invariant c.args.v there.0)
 
 pub front-requires-clause-port : goal.front-requires-clause-port
 front-requires-clause-port g c κs within = (in-place g c (there-is g (goal.at.front-requires-clause-port g c).Else-not-has_port)).0
@@ -71,18 +68,16 @@ pub put-requires : goal.put-requires
 put-requires g c =
     let m = g.P.NodeProgram in
     let a = c.self.inside in
-    let ok = c.is_network.ensures in
     let there = there-is g (goal.at.put-requires g c).Else-not-has_port in
-    record { link = has_link m.program m.laws a.net ok a.nodes.items a.links c.self.invariant c.args.v c.args.port there.0 there.1 }
+    record { link = has_link m.program m.laws a.net a.nodes.items a.links c.self.invariant c.args.v c.args.port there.0 there.1 }
 
 pub returns-in-None-clause-step : goal.returns-in-None-clause-step
 returns-in-None-clause-step g c =
     let m = g.P.NodeProgram in
     let a = c.self.inside in
-    let ok = c.is_network.ensures in
     let there = there-is g (goal.at.returns-in-None-clause-step g c).Else-not-has_port in
     λ _. ap (λ s. step m.program s.net s.state (Put c.args.v c.args.port)) (sym c.self.view_is)
-    ∙ put_nothing m.program m.laws a.net ok a.nodes.items a.links c.self.invariant c.args.v there.0 c.index_mut-node.result.now c.index_mut-node.ensures.value
+    ∙ put_nothing m.program m.laws a.net a.nodes.items a.links c.self.invariant c.args.v there.0 c.index_mut-node.result.now c.index_mut-node.ensures.value
     c.args.port there.1
     (first-none _ (sym c.front.ensures.oldest ∙ c.in-None.is))
 
@@ -126,12 +121,11 @@ pub returns-in_err-put-clause-growth : goal.returns-in_err-put-clause-growth
 returns-in_err-put-clause-growth g c =
     let m = g.P.NodeProgram in
     let a = c.self.inside in
-    let ok = c.is_network.ensures in
     let there = there-is g (goal.at.returns-in_err-put-clause-growth g c).Else-not-has_port in
     let first = oldest g (goal.at.returns-in_err-put-clause-growth g c).In-Some in
     if_err c.from_residual.result Memory
     (subst (λ s. Possible m.program s.net s.state (Put c.args.v c.args.port)) c.self.view_is
-    (put_possible m.program m.laws a.net ok a.nodes.items a.links c.self.invariant c.args.v there.0 c.index_mut-node.result.now c.index_mut-node.ensures.value
+    (put_possible m.program m.laws a.net a.nodes.items a.links c.self.invariant c.args.v there.0 c.index_mut-node.result.now c.index_mut-node.ensures.value
     c.args.port there.1 _ first.0 first.1))
 
 pub returns-then-not-has_port-clause-step : goal.returns-then-not-has_port-clause-step

@@ -29,7 +29,7 @@ link-there g c there =
     let a = c.self.inside in
     subst (λ k. HasLink a.links k c.back_port-back.result) (sym c.neighbour-from.ensures.value)
     (subst (λ k. HasLink a.links (neighbour_of a.net c.args.v c.args.port) k) (sym c.back_port-back.ensures.value)
-    (has_link_to m.program m.laws a.net c.is_network.ensures a.nodes.items a.links c.self.invariant c.args.v c.args.port there.0 there.1))
+    (has_link_to m.program m.laws a.net a.nodes.items a.links c.self.invariant c.args.v c.args.port there.0 there.1))
 
 -- it is the one that the definition names
 link-is : (g : _) (c : After-back_port-back g) →
@@ -57,7 +57,7 @@ taken-in g c =
     let a = c.self.inside in
     let net_from = c.neighbour-from.ensures.value in
     let net_back = c.back_port-back.ensures.value in
-    take_made m.program m.laws a.net c.is_network.ensures a.nodes.items a.links c.self.invariant c.args.v there.0
+    take_made m.program m.laws a.net a.nodes.items a.links c.self.invariant c.args.v there.0
     c.index_mut-node.result.now c.index_mut-node.ensures.value c.args.port there.1 _ first.0 first.1
     c.on_wire.new.self c.in-Ok.ensures.reaction c.in-Ok.ensures.state c.in-Ok.ensures.last c.take.new.self
     (c.take.ensures.taken
@@ -96,26 +96,23 @@ pub index_mut-node-requires : goal.index_mut-node-requires
 index_mut-node-requires g c =
     let m = g.P.NodeProgram in
     let a = c.self.inside in
-    let ok = c.is_network.ensures in
     let there = there-is g (goal.at.index_mut-node-requires g c).Else-not-has_port in
-    subst (λ n. c.args.v - 1 < n) (sym a.nodes.ok.0) (in_nodes m.program m.laws a.net ok a.nodes.items a.links c.self.invariant c.args.v there.0)
+    subst (λ n. c.args.v - 1 < n) (sym a.nodes.ok.0) (in_nodes m.program m.laws a.net a.nodes.items a.links c.self.invariant c.args.v there.0)
 
 pub on_wire-requires-clause-port : goal.on_wire-requires-clause-port
 on_wire-requires-clause-port g c κs within =
     let m = g.P.NodeProgram in
     let a = c.self.inside in
-    let ok = c.is_network.ensures in
     let there = there-is g (goal.at.on_wire-requires-clause-port g c).Else-not-has_port in
-    in_ports m.program m.laws a.net ok a.nodes.items a.links c.self.invariant c.args.v there.0 c.index_mut-node.result.now c.index_mut-node.ensures.value
+    in_ports m.program m.laws a.net a.nodes.items a.links c.self.invariant c.args.v there.0 c.index_mut-node.result.now c.index_mut-node.ensures.value
     c.args.port there.1
 
 pub on_wire-requires-clause-room : goal.on_wire-requires-clause-room
 on_wire-requires-clause-room g c κs within =
     let m = g.P.NodeProgram in
     let a = c.self.inside in
-    let ok = c.is_network.ensures in
     let there = there-is g (goal.at.on_wire-requires-clause-room g c).Else-not-has_port in
-    room m.program m.laws a.net ok a.nodes.items a.links c.self.invariant c.args.v there.0 c.index_mut-node.result.now c.index_mut-node.ensures.value
+    room m.program m.laws a.net a.nodes.items a.links c.self.invariant c.args.v there.0 c.index_mut-node.result.now c.index_mut-node.ensures.value
 
 pub take-requires-clause-link : goal.take-requires-clause-link
 take-requires-clause-link g c =
@@ -129,21 +126,19 @@ pub unreachable-requires : goal.unreachable-requires
 unreachable-requires g c =
     let m = g.P.NodeProgram in
     let a = c.self.inside in
-    let ok = c.is_network.ensures in
     let there = there-is g (goal.at.unreachable-requires g c).Else-not-has_port in
     let at = goal.at.unreachable-requires g c in
     let first = oldest g at.In-Some (link-is g at.After-back_port-back) in
-    take_refused m.program m.laws a.net ok a.nodes.items a.links c.self.invariant c.args.v there.0 c.index_mut-node.result.now c.index_mut-node.ensures.value
+    take_refused m.program m.laws a.net a.nodes.items a.links c.self.invariant c.args.v there.0 c.index_mut-node.result.now c.index_mut-node.ensures.value
     c.args.port there.1 _ first.0 first.1 _ c.in-Err.ensures.reaction
 
 pub returns-in-None-clause-step : goal.returns-in-None-clause-step
 returns-in-None-clause-step g c =
     let m = g.P.NodeProgram in
     let a = c.self.inside in
-    let ok = c.is_network.ensures in
     let there = there-is g (goal.at.returns-in-None-clause-step g c).Else-not-has_port in
     λ _. ap (λ s. step m.program s.net s.state (Take c.args.v c.args.port)) (sym c.self.view_is)
-    ∙ take_nothing m.program m.laws a.net ok a.nodes.items a.links c.self.invariant c.args.v there.0 c.args.port there.1
+    ∙ take_nothing m.program m.laws a.net a.nodes.items a.links c.self.invariant c.args.v there.0 c.args.port there.1
     (first-none _ (ap (λ l. slice_get l.held 0) (sym (link-is g (goal.at.returns-in-None-clause-step g c).After-back_port-back)) ∙ sym c.next.ensures.next ∙
     c.in-None.is))
 

@@ -9,4 +9,4 @@ waiting-requires g c =
     let a = c.self.inside in
     let vertex : IsVertex a.net c.args.v = subst (λ s. IsVertex s.net c.args.v) (sym c.self.view_is) c.requires.vertex in
     let lt : c.args.port < degree_of a.net c.args.v = subst (λ s. c.args.port < degree_of s.net c.args.v) (sym c.self.view_is) c.requires.port in
-    record { link = has_link m.program m.laws a.net c.is_network.ensures a.nodes.items a.links c.self.invariant c.args.v c.args.port vertex lt }
+    record { link = has_link m.program m.laws a.net a.nodes.items a.links c.self.invariant c.args.v c.args.port vertex lt }
