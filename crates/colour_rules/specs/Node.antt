@@ -75,6 +75,12 @@ HasForests n roles = (port : ℕ) → port < length roles → IsIn n (slice_inde
 abbrev pub AreBelow : ℕ → List ℕ → Type 0
 AreBelow n numbers = (i : ℕ) → i < length numbers → slice_index numbers i < n
 
+-- the sizes of a schedule are within the limits
+pub record IsSchedule (greatest_degree greatest_bars forests : ℕ) : Type 0 where
+  pub degree_fits : greatest_degree ≤ MAX_DEGREE
+  pub bars_fit : greatest_bars ≤ MAX_BARS
+  pub forests_fit : forests ≤ MAX_DEGREE
+
 -- what holds of a node's parts at every pulse
 pub record IsNode (sizes : Sizes) (roles : List Role) (colours before : List ℕ) (colour_before merged : ℕ)
     (barred : FinSet nat_cmp) : Type 0 where

@@ -71,7 +71,8 @@ impl Model for ColourNode {
           greatest_bars = a.greatest_bars;
           forests = a.forests;
         } in
-        IsNode sizes a.roles.items (colours_in a.id a.colours) (before_in a.colours) a.colour_before a.merged (barred_in a.taken)
+        IsNode sizes a.roles.items (colours_in a.id a.colours) (before_in a.colours) a.colour_before a.merged
+        (barred_in a.taken)
         × (span sizes < room_of a.taken) };
 }
 
@@ -86,7 +87,7 @@ impl ColourNode {
         requires { IsVertex net.now v }
         ensures { IfOk result (λ node. node ≡ made (own_of net.now v)) }
     {
-        net.is_network();
+        let nodes = net.nodes();
         let degree = net.degree(v) as usize;
         let greatest_degree = net.greatest_degree() as u16;
         let greatest_bars = net.greatest_bars() as u16;
@@ -97,7 +98,7 @@ impl ColourNode {
         let taken = TakenColours::make(alloc, net.bars(v), span)?;
         Ok(ColourNode {
             id: net.id(v),
-            nodes: net.nodes(),
+            nodes,
             greatest_degree,
             greatest_bars,
             forests,

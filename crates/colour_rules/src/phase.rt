@@ -53,10 +53,8 @@ pub struct Schedule {
 }
 
 impl Model for Schedule {
-    ghost use Rattle.std.specs.Prelude.{◌≤◌};
-    ghost use Rattle.graph_limits.specs.declared.limits.TheConstants.{MAX_BARS};
-    ghost use Rattle.interference.specs.declared.limits.TheConstants.{MAX_DEGREE};
     ghost use Rattle.node_api.specs.Program.{Sizes};
+    ghost use Rattle.colour_rules.specs.Node.{IsSchedule};
 
     ghost Value = { Sizes };
 
@@ -67,8 +65,7 @@ impl Model for Schedule {
       forests = a.forests;
     } };
 
-    ghost invariant = { λ a. (a.greatest_degree ≤ MAX_DEGREE) × (a.greatest_bars ≤ MAX_BARS)
-        × (a.forests ≤ MAX_DEGREE) };
+    ghost invariant = { λ a. IsSchedule a.greatest_degree a.greatest_bars a.forests };
 }
 
 impl Schedule {
@@ -76,7 +73,6 @@ impl Schedule {
     pub fn of(net: &Network) -> Schedule
         ensures { result ≡ sizes_of net.now }
     {
-        net.is_network();
         Schedule {
             nodes: net.nodes(),
             greatest_degree: net.greatest_degree() as u16,

@@ -20,37 +20,37 @@ use Rattle.colour_rules.proofs.node.ColourNode.make.Goals as goal
 pub overflow_cast-greatest_degree : goal.overflow_cast-greatest_degree
 overflow_cast-greatest_degree c =
     let few : c.greatest_degree-greatest_degree.result ≤ MAX_DEGREE =
-    rw c.greatest_degree-greatest_degree.ensures (greatest_degree-within c.args.net.now c.is_network.ensures) in
+    rw c.greatest_degree-greatest_degree.ensures (greatest_degree-within c.args.net.now c.nodes-nodes.ensures.network) in
     search rules
 
 pub overflow_cast-forests : goal.overflow_cast-forests
 overflow_cast-forests c =
-    let few : greatest_degree_of c.args.net.now ≤ MAX_DEGREE = greatest_degree-within c.args.net.now c.is_network.ensures in
-    let fewer : forest_count_of c.args.net.now ≤ greatest_degree_of c.args.net.now = forest_count-within c.args.net.now c.is_network.ensures in
+    let few : greatest_degree_of c.args.net.now ≤ MAX_DEGREE = greatest_degree-within c.args.net.now c.nodes-nodes.ensures.network in
+    let fewer : forest_count_of c.args.net.now ≤ greatest_degree_of c.args.net.now = forest_count-within c.args.net.now c.nodes-nodes.ensures.network in
     let here : c.forest_count-forests.result ≤ MAX_DEGREE = rw c.forest_count-forests.ensures (omega arith) in
     search rules
 
 pub overflow_cast-greatest_bars : goal.overflow_cast-greatest_bars
 overflow_cast-greatest_bars c =
     let few : c.greatest_bars-greatest_bars.result ≤ MAX_BARS =
-    rw c.greatest_bars-greatest_bars.ensures (greatest_bars-within c.args.net.now c.is_network.ensures) in
+    rw c.greatest_bars-greatest_bars.ensures (greatest_bars-within c.args.net.now c.nodes-nodes.ensures.network) in
     search rules
 
 pub overflow_add-span : goal.overflow_add-span
 overflow_add-span c =
     let few : c.greatest_degree-greatest_degree.result ≤ MAX_DEGREE =
-    rw c.greatest_degree-greatest_degree.ensures (greatest_degree-within c.args.net.now c.is_network.ensures) in
+    rw c.greatest_degree-greatest_degree.ensures (greatest_degree-within c.args.net.now c.nodes-nodes.ensures.network) in
     let bars : c.greatest_bars-greatest_bars.result ≤ MAX_BARS =
-    rw c.greatest_bars-greatest_bars.ensures (greatest_bars-within c.args.net.now c.is_network.ensures) in
+    rw c.greatest_bars-greatest_bars.ensures (greatest_bars-within c.args.net.now c.nodes-nodes.ensures.network) in
     let low : c.greatest_degree-greatest_degree.result + c.greatest_bars-greatest_bars.result < 2 ^ 16 = omega arith in
     search rules
 
 pub make-requires-2 : goal.make-requires-2
 make-requires-2 c =
     let few : c.greatest_degree-greatest_degree.result ≤ MAX_DEGREE =
-    rw c.greatest_degree-greatest_degree.ensures (greatest_degree-within c.args.net.now c.is_network.ensures) in
+    rw c.greatest_degree-greatest_degree.ensures (greatest_degree-within c.args.net.now c.nodes-nodes.ensures.network) in
     let bars : c.greatest_bars-greatest_bars.result ≤ MAX_BARS =
-    rw c.greatest_bars-greatest_bars.ensures (greatest_bars-within c.args.net.now c.is_network.ensures) in
+    rw c.greatest_bars-greatest_bars.ensures (greatest_bars-within c.args.net.now c.nodes-nodes.ensures.network) in
     omega arith
 
 -- the bars of a vertex are at most as many as the span
@@ -63,13 +63,13 @@ pub least_free-requires : goal.least_free-requires
 least_free-requires c =
     HasFree-made (c.greatest_degree-greatest_degree.result + c.greatest_bars-greatest_bars.result) c.bars.result.now (chosen_in c.in_ok-taken.taken)
     (barred_in c.in_ok-taken.taken) c.in_ok-taken.ensures.chosen c.in_ok-taken.ensures.barred
-    (few_bars c.args.net.now c.is_network.ensures c.args.v c.greatest_degree-greatest_degree.result c.greatest_bars-greatest_bars.result c.bars.result.now
-    c.greatest_bars-greatest_bars.ensures c.bars.ensures)
+    (few_bars c.args.net.now c.nodes-nodes.ensures.network c.args.v c.greatest_degree-greatest_degree.result c.greatest_bars-greatest_bars.result
+    c.bars.result.now c.greatest_bars-greatest_bars.ensures c.bars.ensures)
 
 pub invariant_of-result : goal.invariant_of-result
 invariant_of-result c =
     let net = c.args.net.now in
-    let ok : IsNetwork net = c.is_network.ensures in
+    let ok : IsNetwork net = c.nodes-nodes.ensures.network in
     let degree : ℕ = c.greatest_degree-greatest_degree.result in
     let bars : ℕ = c.greatest_bars-greatest_bars.result in
     let few : greatest_degree_of net ≤ MAX_DEGREE = greatest_degree-within net ok in
@@ -120,8 +120,8 @@ returns c =
     let bars : ℕ = c.greatest_bars-greatest_bars.result in
     let n = c.forest_count-forests.result in
     let wide : degree + bars ≡ span (sizes_of net) = rw (c.greatest_degree-greatest_degree.ensures, c.greatest_bars-greatest_bars.ensures) refl in
-    let sizes : ◌≡◌ {A = Sizes} (record { nodes = c.nodes.result; greatest_degree = degree; greatest_bars = bars; forests = n }) (sizes_of net) =
-    rw (c.nodes.ensures.count, c.greatest_degree-greatest_degree.ensures, c.greatest_bars-greatest_bars.ensures, c.forest_count-forests.ensures) refl in
+    let sizes : ◌≡◌ {A = Sizes} (record { nodes = c.nodes-nodes.result; greatest_degree = degree; greatest_bars = bars; forests = n }) (sizes_of net) =
+    rw (c.nodes-nodes.ensures.count, c.greatest_degree-greatest_degree.ensures, c.greatest_bars-greatest_bars.ensures, c.forest_count-forests.ensures) refl in
     let roles : c.in_ok-roles.roles.items ≡ replicate c.degree-degree.result Unknown = search rules in
     let colours : colours_in c.id.result c.in_ok-colours.colours ≡ replicate n 0 = c.in_ok-colours.ensures.colours c.id.result in
     let before : before_in c.in_ok-colours.colours ≡ replicate n 0 = c.in_ok-colours.ensures.before in
