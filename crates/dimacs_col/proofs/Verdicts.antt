@@ -23,15 +23,15 @@ unfolding verdict
 verdict-unknown before line e = rw e refl
 
 -- what is kept of a number
-pub record Kept (field : List ℕ) (v : ℕ) : Type 0 where
+pub record KeptNumber (field : List ℕ) (v : ℕ) : Type 0 where
   pub number : ℕ
   pub is : number_of field ≡ Some number
   pub kept_is : v ≡ kept number
 
-pub kept-from : (field : List ℕ) (v : ℕ) → kept_number field ≡ Some v → Kept field v
+pub kept-from : (field : List ℕ) (v : ℕ) → kept_number field ≡ Some v → KeptNumber field v
 kept-from field v e = from-by (number_of field) refl
   where
-    from-by : (o : Option ℕ) → number_of field ≡ o → Kept field v
+    from-by : (o : Option ℕ) → number_of field ≡ o → KeptNumber field v
     from-by None o = let none : None ≡ Some v = (rw o at e) in absurd cc
     from-by (Some n) o = let some : Some (kept n) ≡ Some v = (rw o at e) in record { number = n; is = o; kept_is = cc }
 
