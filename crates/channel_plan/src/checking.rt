@@ -17,7 +17,6 @@ fn put_row(net: &Network, table: &mut [Option<u32>], row: (u32, u32)) -> Result<
     ensures ok { IfOk result (λ _. TakesRow net.now row table.old table.new) }
     ensures fault { IfErr result (RefusesRow net.now row table.old) }
 {
-    net.is_network();
     let (v, channel) = row;
     if v == 0 || v > net.nodes() {
         return Err(CheckFault::Stranger(v));

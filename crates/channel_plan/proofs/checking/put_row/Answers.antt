@@ -24,8 +24,8 @@ overflow_add-greatest_degree c = omega (
   arith,
   c.greatest_degree.ensures,
   c.greatest_bars.ensures,
-  greatest_degree-within c.args.net.now c.is_network.ensures,
-  greatest_bars-within c.args.net.now c.is_network.ensures,
+  greatest_degree-within c.args.net.now c.nodes.ensures.network,
+  greatest_bars-within c.args.net.now c.nodes.ensures.network,
 )
 
 pub overflow_add-greatest_degree-2 : goal.overflow_add-greatest_degree-2
@@ -33,8 +33,8 @@ overflow_add-greatest_degree-2 c = omega (
   arith,
   c.greatest_degree.ensures,
   c.greatest_bars.ensures,
-  greatest_degree-within c.args.net.now c.is_network.ensures,
-  greatest_bars-within c.args.net.now c.is_network.ensures,
+  greatest_degree-within c.args.net.now c.nodes.ensures.network,
+  greatest_bars-within c.args.net.now c.nodes.ensures.network,
 )
 
 pub returns-then-channel-greatest_degree-clause-fault :
