@@ -136,7 +136,6 @@ pub fn make_links<P: NodeProgram>(
     ensures made { IfOk result
         (λ made. AreMade net.now capacity made.links.items (map (λ row. row.items) made.ends.items)) }
 {
-    net.is_network();
     let mut made = none_made::<P>(alloc, net)?;
     for v in 0..net.nodes() {
         make_edges(alloc, net, v + 1, capacity, &mut made)?;
