@@ -92,7 +92,6 @@ pub fn crossed<T: Drop>(
     ensures crossed { IfOk result (λ all. AreCrossed net.now (map (λ row. row.items) rows.items)
         (map (λ row. row.items) all.items)) }
 {
-    net.is_network();
     let mut slots = all_slots(alloc, rows)?;
     let mut all = Vec::with_capacity(alloc, net.nodes() as usize)?;
     for v in 0..net.nodes() {

@@ -8,7 +8,7 @@ use Rattle.outcomes.proofs.cross.crossed.Goals as goal
 pub loop-v-init : goal.loop-v-init
 loop-v-init g c =
     let net = c.args.net.now in
-    let ok = c.is_network.ensures in
+    let ok = c.nodes.ensures.network in
     let rows = map (λ row. row.items) c.args.rows.items in
     let is = c.in_ok-slots.ensures.slots ∙ sym (map-map (λ row. map Some row) (λ row. row.items) c.args.rows.items) in
     record {
@@ -24,7 +24,7 @@ pub crossed_row-requires-clause-full : goal.crossed_row-requires-clause-full
 crossed_row-requires-clause-full g c =
     let net = c.args.net.now in
     let vertex : IsVertex net (c.loop-v.v + 1) = (omega arith, omega (arith, c.nodes-v-end.ensures.count)) in
-    full net c.is_network.ensures c.loop-v.v (map (λ row. row.items) c.args.rows.items) (map (λ row. row.items) c.loop-v.slots.items) vertex
+    full net c.nodes.ensures.network c.loop-v.v (map (λ row. row.items) c.args.rows.items) (map (λ row. row.items) c.loop-v.slots.items) vertex
     c.requires.shape c.loop-v.invariant.left
 
 pub push_reserved-requires : goal.push_reserved-requires
@@ -33,7 +33,7 @@ push_reserved-requires g c = omega (arith, c.loop-v.invariant.count, c.loop-v.in
 pub loop-v-preserved : goal.loop-v-preserved
 loop-v-preserved g c =
     let net = c.args.net.now in
-    let ok = c.is_network.ensures in
+    let ok = c.nodes.ensures.network in
     let v = c.loop-v.v in
     let inv = c.loop-v.invariant in
     let vertex : IsVertex net (v + 1) = (omega arith, omega (arith, c.nodes-v-end.ensures.count)) in
