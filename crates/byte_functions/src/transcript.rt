@@ -91,7 +91,6 @@ pub fn run_transcript_bytes<P: ProgramText, G: Gate + Sync, R: Threads + Wait + 
 {
     whole_outcomes_replay::<P, P::Payload, Refused>();
     let network = network_of_text(alloc, input, root)?;
-    network.is_network();
     let outcome = whole_run::<P, G, R>(rt, alloc, &network, options, true, gate)?;
     let count = network.nodes();
     // The text takes the room of what it doesn't speak of any more.
