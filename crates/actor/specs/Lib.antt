@@ -7,3 +7,4 @@ pub mod Kept
 pub mod Props
 pub mod Node
 pub mod Tables
+pub mod Links

@@ -1,11 +1,11 @@
 //! All links of a run, which threads share.
 
-ghost use Rattle.std.specs.Prelude.{◌≡◌, ◌<◌, ◌≤◌, ◌++◌, ◌∷◌, [], ℕ, All, Some, IsSome, length, map};
+ghost use Rattle.std.specs.Prelude.{◌≡◌, ◌<◌, ◌≤◌, ◌++◌, ◌∷◌, [], ℕ, Some, IsSome, length, map};
 ghost use Rattle.std.specs.Prelude.{IfOk, IfErr, IfSome, IfNone, IsTrue, slice_get};
 ghost use Rattle.link_rule.specs.Legal.{IsLegalOn, LegalFor};
 ghost use Rattle.alpha_core.specs.StampedWires.{StampsRise, last_stamp};
 ghost use Rattle.link_queue.specs.Ends.{put_list, put_name, put_stamped, take_name, taken_list};
-ghost use Rattle.link_queue.specs.Ends.{HasMet, held_stamped, link_capacity, taken_stamped};
+ghost use Rattle.link_queue.specs.Ends.{HasMet, held_stamped, taken_stamped};
 ghost use Rattle.link_queue.specs.Queued.{stamped_of};
 ghost use Rattle.actor.specs.Tables.{LinkWasFull, table_of};
 
@@ -29,6 +29,8 @@ pub struct Links<J: Wiring, P: NodeProgram> {
 }
 
 impl<J: Wiring, P: NodeProgram> Links<J, P> {
+    ghost use Rattle.actor.specs.Links.{HoldAtMost};
+
     /// These links, whose queues the run has picked.
     pub fn new(list: Vec<Link<P>>) -> Links<J, P>
         requires picked { map table_of list.items ≡ J.links }
@@ -116,7 +118,7 @@ impl<J: Wiring, P: NodeProgram> Links<J, P> {
         ensures met { IfOk result
             (λ met. HasMet met (put_name put.end) (put_stamped put.end) (taken_stamped take.end)) }
         ensures room { IfOk result (λ met. (capacity : ℕ)
-            → All (λ link. link_capacity link ≤ capacity) self.now.list.items → length (held_stamped met) ≤ capacity) }
+            → HoldAtMost self.now capacity → length (held_stamped met) ≤ capacity) }
     {
         match self.link(put.index).meet(rt, alloc, put.end, take.end) {
             Ok(met) => Ok(met),
