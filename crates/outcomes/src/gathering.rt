@@ -1,8 +1,8 @@
 //! The nodes and links of a run become its outcome.
 
-ghost use Rattle.std.specs.Prelude.{◌≡◌, ◌≤◌, ℕ, All, IfOk, false, map};
+ghost use Rattle.std.specs.Prelude.{◌≡◌, ℕ, IfOk, false, map};
 ghost use Rattle.interference.specs.Net.{vertices};
-ghost use Rattle.link_queue.specs.Ends.{link_capacity};
+ghost use Rattle.actor.specs.Links.{HoldAtMost};
 ghost use Rattle.gather_laws.specs.Outcome.{IsOutcome};
 ghost use Rattle.outcomes.specs.Full.{some_full};
 
@@ -34,8 +34,7 @@ pub fn gathered<J: Wiring, P: NodeProgram, R: Wait>(
     requires nodes { map (λ b. b.value.vertex) nodes.items ≡ vertices J.net }
     requires stamps { some_full (map (λ b. b.value.aside) nodes.items) ≡ false }
     ensures outcome { IfOk result (λ outcome. (capacity : ℕ)
-        → All (λ link. link_capacity link ≤ capacity) links.now.list.items
-        → IsOutcome P.program net.now capacity J.transcript outcome) }
+        → HoldAtMost links.now capacity → IsOutcome P.program net.now capacity J.transcript outcome) }
 {
     net.is_network();
     let NodesAndEnds {

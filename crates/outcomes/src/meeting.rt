@@ -1,7 +1,8 @@
 //! Each link's ends meet.
 
 ghost use Rattle.std.specs.Prelude.{◌≡◌, ◌≤◌, ℕ, All, IfOk, length, map};
-ghost use Rattle.link_queue.specs.Ends.{held_stamped, link_capacity, put_stamped, taken_stamped};
+ghost use Rattle.link_queue.specs.Ends.{held_stamped, put_stamped, taken_stamped};
+ghost use Rattle.actor.specs.Links.{HoldAtMost};
 ghost use Rattle.outcomes.specs.Meets.{AreMet, RowsAreMet};
 
 use crate::pairs::pairs;
@@ -26,8 +27,7 @@ fn meet_row<J: Wiring, P: NodeProgram, R: Wait>(
     ensures met { IfOk result (λ mets. AreMet mets.items (map (λ x. put_stamped x.0.end) row.items)
         (map (λ x. taken_stamped x.1.end) row.items)) }
     ensures room { IfOk result (λ mets. (capacity : ℕ)
-        → All (λ link. link_capacity link ≤ capacity) links.now.list.items
-        → All (λ met. length (held_stamped met) ≤ capacity) mets.items) }
+        → HoldAtMost links.now capacity → All (λ met. length (held_stamped met) ≤ capacity) mets.items) }
 {
     let mut mets = Vec::with_capacity(alloc, row.len())?;
     for (put, take) in row {
@@ -53,8 +53,7 @@ pub fn meet_ends<J: Wiring, P: NodeProgram, R: Wait>(
     ensures met { IfOk result (λ mets. AreMet mets.items (map (λ e. put_stamped e.end) puts.items)
         (map (λ e. taken_stamped e.end) takes.items)) }
     ensures room { IfOk result (λ mets. (capacity : ℕ)
-        → All (λ link. link_capacity link ≤ capacity) links.now.list.items
-        → All (λ met. length (held_stamped met) ≤ capacity) mets.items) }
+        → HoldAtMost links.now capacity → All (λ met. length (held_stamped met) ≤ capacity) mets.items) }
 {
     let row = pairs(alloc, puts, takes)?;
     meet_row(rt, alloc, links, row)
@@ -73,7 +72,7 @@ fn meet_each<J: Wiring, P: NodeProgram, R: Wait>(
         (map (λ x. map (λ e. put_stamped e.end) x.0.items) rows.items)
         (map (λ x. map (λ e. taken_stamped e.end) x.1.items) rows.items)) }
     ensures room { IfOk result (λ all. (capacity : ℕ)
-        → All (λ link. link_capacity link ≤ capacity) links.now.list.items
+        → HoldAtMost links.now capacity
         → All (λ mets. All (λ met. length (held_stamped met) ≤ capacity) mets.items) all.items) }
 {
     let mut all = Vec::with_capacity(alloc, rows.len())?;
@@ -102,7 +101,7 @@ pub fn meet_rows<J: Wiring, P: NodeProgram, R: Wait>(
         (map (λ row. map (λ e. put_stamped e.end) row.items) puts.items)
         (map (λ row. map (λ e. taken_stamped e.end) row.items) takes.items)) }
     ensures room { IfOk result (λ all. (capacity : ℕ)
-        → All (λ link. link_capacity link ≤ capacity) links.now.list.items
+        → HoldAtMost links.now capacity
         → All (λ mets. All (λ met. length (held_stamped met) ≤ capacity) mets.items) all.items) }
 {
     let rows = pairs(alloc, puts, takes)?;
