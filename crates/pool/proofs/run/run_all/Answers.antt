@@ -101,4 +101,7 @@ returns g c =
     let count = c.len-count.ensures in
     let room = vec_len c.in_ok-places.places.slots in
     let places = c.in_ok-places.ensures.count in
-    record { order = from_one (λ b. b.value.vertex) (λ b. b.value.kept.is_vertex.0) c.in_ok-gather.field-0.items n room (omega (arith, nodes.ok.0)) c.in_ok-gather.ensures.order }
+    record {
+      order = from_one (λ b. b.value.vertex) (λ b. b.value.kept.is_vertex.0) c.in_ok-gather.field-0.items n room (omega (arith, nodes.ok.0))
+          c.in_ok-gather.ensures.order;
+    }
