@@ -16,7 +16,7 @@ use Rattle.command_line.proofs.Passing.{split}
 use Rattle.command_line.proofs.Played.{HasWord, play_found, play_rules}
 use Rattle.command_line.proofs.Played as both
 use Rattle.command_line.proofs.RunOptions.{run_found, run_rules, transcript_found, transcript_rules}
-use Rattle.command_line.specs.Asked.{FoundNamesNoProgram, IsInRange, IsPlayInRange, choice_of, has_transcript, named, played, run_of, transcript_with}
+use Rattle.command_line.specs.Asked.{FoundNamesNoProgram, IsInRange, IsPlayInRange, choice_of, named, played, run_of, transcript_with}
 use Rattle.command_line.specs.declared.programs.NodeProgramName.{NodeProgramName}
 use Rattle.command_line.specs.declared.program.Program.{Program}
 use Rattle.command_line.specs.declared.program.Program.TheVariants.{Forestplan, Forestplay}
@@ -70,7 +70,7 @@ found test ws (x ∷ xs) all none h = go (test x) none h (found test ws xs all.1
 -- a run of workers has the options that its rows have
 plan_has_request : (s : Shape) → s.name ≡ codes "plan" → s.rules ≡ run_rules → HasRequest s
 plan_has_request s name rules words none =
-    let found = run_found s words rules none false in
+    let found = run_found s words rules none in
     let good : IsGood (named (codes "plan") (rows_after s.rules [] words)) = (Plan found.0, ap (option_map Plan) found.1, found.2) in
     inl (subst (λ t. IsGood (named t (rows_after s.rules [] words))) (sym name) good)
 
@@ -78,7 +78,7 @@ transcript_has_request : (s : Shape) → s.name ≡ codes "transcript" → s.rul
 transcript_has_request s name rules words none =
     let found = transcript_found s words rules none in
     let rows = rows_after s.rules [] words in
-    let asked : transcript_with (options_of true rows) (edition_of rows) ≡ Some (Transcript found.0.0 found.1.0) =
+    let asked : transcript_with (options_of rows) (edition_of rows) ≡ Some (Transcript found.0.0 found.1.0) =
     ap₂ transcript_with found.0.1 found.1.1 in
     let good : IsGood (named (codes "transcript") rows) = (Transcript found.0.0 found.1.0, asked, found.0.2) in
     inl (subst (λ t. IsGood (named t (rows_after s.rules [] words))) (sym name) good)
@@ -107,7 +107,7 @@ run_has_request : (s : Shape) → s.rules ≡ both.run_rules → ((rows : List R
 run_has_request s rules names words none =
     let rows = rows_after s.rules [] words in
     let found = both.run_found s words rules none in
-    let options = found.1 (has_transcript (shown_of rows)) in
+    let options = found.1 in
     let run : Option Options → Option Request = λ given. option_and_then (λ o. played (Run o (shown_of rows)) rows) given in
     subst (λ asked. IsKnown asked rows) (sym (names rows ∙ ap run options.1)) (by_word (Run options.0 (shown_of rows)) rows found.0 options.2)
 

@@ -1,5 +1,5 @@
 -- If clap finds no fault in the words of a command for lessons, its program has a word, and the options of a run are in range.
-use Rattle.std.proofs.Common.{◌≡◌, ◌∙◌, Bool, true, false, List, [], ◌∷◌, ◌++◌, Option, Some, None, inl, inr, ap, codes, fold, is_some, refl, sym, subst}
+use Rattle.std.proofs.Common.{◌≡◌, ◌∙◌, true, false, List, [], ◌∷◌, ◌++◌, Option, Some, None, inl, inr, ap, codes, fold, is_some, refl, sym, subst}
 use Rattle.std.specs.List.{AllByRecursion}
 use Rattle.std.specs.Prelude.{option_and_then, slice_get}
 use Rattle.clap.specs.Faults.{level_fault}
@@ -75,7 +75,7 @@ play_found s words is none =
 -- a run has its options besides
 pub run_found : (s : Shape) (words : List Text) → s.rules ≡ run_rules → level_fault s [] nothing_held words false [] ≡ []
     → HasWord (rows_after s.rules [] words)
-    × ((transcript : Bool) → (o : Options) × (options_of transcript (rows_after s.rules [] words) ≡ Some o) × AreInRange o)
+    × ((o : Options) × (options_of (rows_after s.rules [] words) ≡ Some o) × AreInRange o)
 run_found s words is none =
     let rows = rows_after s.rules [] words in
     let before = (settled s.rules (walk s.rules [] nothing_held words).held).rows in

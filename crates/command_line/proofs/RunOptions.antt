@@ -1,5 +1,5 @@
 -- If clap finds no fault in the words of a command with the options of a run, these are in range.
-use Rattle.std.proofs.Common.{◌≡◌, ◌^◌, Bool, true, false, List, [], ◌∷◌, ◌++◌, Some, inl, inr, ap, cond, codes, fold, arith, option_map, refl, sym, subst}
+use Rattle.std.proofs.Common.{◌≡◌, ◌^◌, true, false, List, [], ◌∷◌, ◌++◌, Some, inl, inr, ap, cond, codes, fold, arith, option_map, refl, sym, subst}
 use Rattle.std.specs.List.{AllByRecursion}
 use Rattle.std.specs.Str.{bytes_eq}
 use Rattle.clap.specs.Faults.{level_fault}
@@ -48,16 +48,16 @@ transcript_expected = (
 
 -- ---- from rows that have the options
 module _ (rows : List Row) (all : AllPassed parser_at rows) where
-  abbrev pub HasOptions : Bool → Type 0
-  HasOptions transcript = (o : Options) × (options_of transcript rows ≡ Some o) × AreInRange o
+  abbrev pub HasOptions : Type 0
+  HasOptions = (o : Options) × (options_of rows ≡ Some o) × AreInRange o
 
   pub with_options : has_row (codes "workers") rows ≡ true → has_row (codes "capacity") rows ≡ true → has_row (codes "turns") rows ≡ true
-      → (transcript : Bool) → HasOptions transcript
-  with_options has_workers has_capacity has_turns transcript =
+      → HasOptions
+  with_options has_workers has_capacity has_turns =
       let workers = number_found parser_at rows (codes "workers") 1 MAX_WORKERS (2 ^ 32) has_workers all refl (omega arith) in
       let capacity = number_found parser_at rows (codes "capacity") 1 MAX_CAPACITY (2 ^ 32) has_capacity all refl (omega arith) in
       let turns = number_found parser_at rows (codes "turns") 0 MAX_TURNS (2 ^ 64) has_turns all refl (omega arith) in (
-        record { workers = workers.0; capacity = capacity.0; turns = turns.0; transcript = transcript },
+        record { workers = workers.0; capacity = capacity.0; turns = turns.0; transcript = false },
         rw (workers.1, capacity.1, turns.1) refl,
         record { some_worker = workers.2; workers = workers.3; some_capacity = capacity.2; capacity = capacity.3 },
       )
@@ -100,18 +100,18 @@ module _ (before : List Row) where
   kept k h = default_keeps (filled edition_rule) k three h
 
 pub run_found : (s : Shape) (words : List Text) → s.rules ≡ run_rules → level_fault s [] nothing_held words false [] ≡ []
-    → (transcript : Bool) → (o : Options) × (options_of transcript (rows_after s.rules [] words) ≡ Some o) × AreInRange o
-run_found s words is none transcript =
+    → (o : Options) × (options_of (rows_after s.rules [] words) ≡ Some o) × AreInRange o
+run_found s words is none =
     let rows = rows_after s.rules [] words in
     let before = (settled s.rules (walk s.rules [] nothing_held words).held).rows in
     let all : AllPassed parser_at rows = level_all parser_at s (subst (AllByRecursion (Expected parser_at)) (sym is) run_expected) words none in
     let last : (k : Text) → has_row k (three before) ≡ true → has_row k rows ≡ true =
     λ k h. subst (λ rules. has_row k (fold with_default before rules) ≡ true) (sym is) (default_keeps (filled help_rule) k (three before) h) in
     with_options rows all (last (codes "workers") (has_workers before)) (last (codes "capacity") (has_capacity before))
-    (last (codes "turns") (has_turns before)) transcript
+    (last (codes "turns") (has_turns before))
 
 pub transcript_found : (s : Shape) (words : List Text) → s.rules ≡ transcript_rules → level_fault s [] nothing_held words false [] ≡ []
-    → ((o : Options) × (options_of true (rows_after s.rules [] words) ≡ Some o) × AreInRange o)
+    → ((o : Options) × (options_of (rows_after s.rules [] words) ≡ Some o) × AreInRange o)
     × ((e : Edition) × (edition_of (rows_after s.rules [] words) ≡ Some e))
 transcript_found s words is none =
     let rows = rows_after s.rules [] words in
@@ -121,6 +121,6 @@ transcript_found s words is none =
     λ k h. subst (λ rules. has_row k (fold with_default before rules) ≡ true) (sym is) (default_keeps (filled help_rule) k (four before) h) in
     let keeps = kept before in (
       with_options rows all (last (codes "workers") (keeps (codes "workers") (has_workers before)))
-          (last (codes "capacity") (keeps (codes "capacity") (has_capacity before))) (last (codes "turns") (keeps (codes "turns") (has_turns before))) true,
+          (last (codes "capacity") (keeps (codes "capacity") (has_capacity before))) (last (codes "turns") (keeps (codes "turns") (has_turns before))),
       with_edition_row rows all (last (codes "edition") (default_comes (filled edition_rule) (three before) refl)),
     )

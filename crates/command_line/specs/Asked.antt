@@ -1,5 +1,5 @@
 -- What the words of a command line ask for.
-use Rattle.std.specs.Prelude.{◌≡◌, ◌≢◌, ◌⊎◌, List, [], ◌∷◌, Option, Some, None, Bool, false, true, if◌then◌else◌, codes}
+use Rattle.std.specs.Prelude.{◌≡◌, ◌≢◌, ◌⊎◌, List, [], ◌∷◌, Option, Some, None, if◌then◌else◌, codes}
 use Rattle.std.specs.Prelude.{option_and_then, option_map}
 use Rattle.std.specs.Str.{bytes_eq}
 use Rattle.clap.specs.Words.{Row, Text, fault_of, subcommand_of}
@@ -14,8 +14,6 @@ use Rattle.command_line.specs.NodePrograms.{NamesNoProgram, program_of, shown_of
 use Rattle.command_line.specs.RunOptions.{edition_of, options_of}
 use Rattle.command_line.specs.declared.program.Program.{Program}
 use Rattle.command_line.specs.declared.program.Program.TheVariants.{Forestplan, Forestplay}
-use Rattle.command_line.specs.declared.programs.Shown.{Shown}
-use Rattle.command_line.specs.declared.programs.Shown.TheVariants as shown
 use Rattle.command_line.specs.declared.request.Declined.{Declined}
 use Rattle.command_line.specs.declared.request.Declined.TheVariants as declined
 use Rattle.command_line.specs.declared.request.Request.{Request}
@@ -28,27 +26,21 @@ abbrev pub transcript_with : Option Options → Option Edition → Option Reques
 transcript_with options edition =
     option_and_then (λ given. option_map (λ form. Transcript given form) edition) options
 
--- whether a run has a transcript
-abbrev pub has_transcript : Shown → Bool
-has_transcript shown.States = false
-has_transcript shown.Transcript = true
-
 -- what nodes are asked to do, if there is a program of the name that is given
 abbrev pub played : Played → List Row → Option Request
 played play rows = option_map (λ program. Play program play) (program_of rows)
 
 -- the same of a run, if its options are there
 abbrev pub run_of : List Row → Option Request
-run_of rows = option_and_then (λ options. played (Run options (shown_of rows)) rows)
-    (options_of (has_transcript (shown_of rows)) rows)
+run_of rows = option_and_then (λ options. played (Run options (shown_of rows)) rows) (options_of rows)
 
 -- what the command of a name asks for, given the values of its options; each command is a line
 abbrev pub named : Text → List Row → Option Request
 named name rows =
     if bytes_eq name (codes "forests") then Some Forests
     else if bytes_eq name (codes "plain") then Some Plain
-    else if bytes_eq name (codes "plan") then option_map Plan (options_of false rows)
-    else if bytes_eq name (codes "transcript") then transcript_with (options_of true rows) (edition_of rows)
+    else if bytes_eq name (codes "plan") then option_map Plan (options_of rows)
+    else if bytes_eq name (codes "transcript") then transcript_with (options_of rows) (edition_of rows)
     else if bytes_eq name (codes "check") then Some Check
     else if bytes_eq name (codes "events") then played Events rows
     else if bytes_eq name (codes "replay") then played Replay rows

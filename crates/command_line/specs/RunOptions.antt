@@ -1,6 +1,6 @@
 -- The options of a run of workers in clap's own words, and what they read from the rows of a command.
-use Rattle.std.specs.Prelude.{◌&&◌, ◌==◌, ◌^◌, ◌∷◌, [], ℕ, Bool, List, Option, Some, None, if◌then◌else◌, nat_lt, codes}
-use Rattle.std.specs.Prelude.{option_and_then, option_map}
+use Rattle.std.specs.Prelude.{◌&&◌, ◌==◌, ◌^◌, ◌∷◌, [], ℕ, false, List, Option, Some, None, if◌then◌else◌, nat_lt}
+use Rattle.std.specs.Prelude.{codes, option_and_then, option_map}
 use Rattle.std.specs.Str.Parse.{digits_value, without_leading_plus}
 use Rattle.clap.specs.Words.{App, Row, Rule, Text, new_rule, one_of, with_rule}
 use Rattle.clap.specs.ValueTests.{is_numeral}
@@ -51,11 +51,11 @@ number_below bound text =
 abbrev pub number_of : ℕ → Text → List Row → Option ℕ
 number_of bound name rows = option_and_then (number_below bound) (one_of name rows)
 
--- what a run has, with a transcript or without, if its workers, its capacity and its turns are numbers
-abbrev pub options_of : Bool → List Row → Option Options
-options_of transcript rows =
+-- what a run has, if its workers, its capacity and its turns are numbers; no option asks for a transcript
+abbrev pub options_of : List Row → Option Options
+options_of rows =
     option_and_then (λ workers. option_and_then (λ capacity. option_and_then (λ turns.
-    Some (record { workers = workers; capacity = capacity; turns = turns; transcript = transcript }))
+    Some (record { workers = workers; capacity = capacity; turns = turns; transcript = false }))
     (number_of (2 ^ 64) (codes "turns") rows))
     (number_of (2 ^ 32) (codes "capacity") rows))
     (number_of (2 ^ 32) (codes "workers") rows)

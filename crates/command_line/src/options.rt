@@ -91,9 +91,10 @@ fn great_number(matches: &ArgMatches<'_>, name: &str) -> Option<u64>
     matches.get_one::<u64>(name)
 }
 
-/// The options that a command has, from the words or by default, for a run with a transcript or without.
-pub fn options_of(matches: &ArgMatches<'_>, transcript: bool) -> Option<Options>
-    ensures { result ≡ options_of transcript (rows_of (found_of matches.now)) }
+/// The options that a command has, from the words or by default. `transcript` is false: the call that runs the nodes
+/// sets it.
+pub fn options_of(matches: &ArgMatches<'_>) -> Option<Options>
+    ensures { result ≡ options_of (rows_of (found_of matches.now)) }
 {
     let workers = small_number(matches, "workers")?;
     let capacity = small_number(matches, "capacity")?;
@@ -102,7 +103,7 @@ pub fn options_of(matches: &ArgMatches<'_>, transcript: bool) -> Option<Options>
         workers,
         capacity,
         turns,
-        transcript,
+        transcript: false,
     })
 }
 

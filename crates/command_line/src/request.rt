@@ -3,7 +3,7 @@
 ghost use Rattle.std.specs.Prelude.{◌≡◌, ◌≢◌, None, Some, IfOk, IfErr, map};
 ghost use Rattle.clap.specs.Words.{found_of, kind_of, rows_of, subcommand_rows_of};
 ghost use Rattle.command_line.specs.Asked.{IsDeclinedBy, IsInRange, IsRefusal, MayDecline};
-ghost use Rattle.command_line.specs.Asked.{choice_of, has_transcript, hint_of, named, played, request_of, run_of};
+ghost use Rattle.command_line.specs.Asked.{choice_of, hint_of, named, played, request_of, run_of};
 
 use crate::line::whole_line;
 use crate::options::{edition_of, options_of};
@@ -73,15 +73,6 @@ pub enum Declined {
     Memory,
 }
 
-fn has_transcript(shown: Shown) -> bool
-    ensures { result ≡ has_transcript shown }
-{
-    match shown {
-        Shown::States => false,
-        Shown::Transcript => true,
-    }
-}
-
 // What nodes of the program that a command has are asked to do.
 fn played(matches: &ArgMatches<'_>, play: Play) -> Option<Request>
     ensures { result ≡ played play (rows_of (found_of matches.now)) }
@@ -93,7 +84,7 @@ fn run_of(matches: &ArgMatches<'_>) -> Option<Request>
     ensures { result ≡ run_of (rows_of (found_of matches.now)) }
 {
     let shown = shown_of(matches);
-    let options = options_of(matches, has_transcript(shown))?;
+    let options = options_of(matches)?;
     played(matches, Play::Run(options, shown))
 }
 
@@ -103,8 +94,8 @@ fn request_named(name: &str, matches: &ArgMatches<'_>) -> Option<Request>
     match name {
         "forests" => Some(Request::Forests),
         "plain" => Some(Request::Plain),
-        "plan" => Some(Request::Plan(options_of(matches, false)?)),
-        "transcript" => Some(Request::Transcript(options_of(matches, true)?, edition_of(matches)?)),
+        "plan" => Some(Request::Plan(options_of(matches)?)),
+        "transcript" => Some(Request::Transcript(options_of(matches)?, edition_of(matches)?)),
         "check" => Some(Request::Check),
         "events" => played(matches, Play::Events),
         "replay" => played(matches, Play::Replay),
