@@ -6,6 +6,7 @@ ghost use Rattle.checks.specs.SmallNets.{lone_net};
 use actor::{Links, Node, OpenGate, TurnRefused, Wiring};
 use interference::{Memory, Network};
 use pool::{NodesFault, run_nodes};
+use run_options::Options;
 use std::alloc::Global;
 use std::sync::Wait;
 use std::thread::Threads;
@@ -58,7 +59,13 @@ fn run_row<R: Threads + Wait + Sync>(
 ) -> Result<(u32, u64), NodesFault>
     requires one { map (λ b. b.value.vertex) nodes.items ≡ 1 ∷ [] }
 {
-    match run_nodes(rt, alloc, links, &OpenGate, nodes, 1, 100) {
+    let options = Options {
+        workers: 1,
+        capacity: 1,
+        turns: 100,
+        transcript: false,
+    };
+    match run_nodes(rt, alloc, links, &OpenGate, nodes, options) {
         Ok(nodes) => end_of(nodes.as_slice()),
         Err(fault) => Err(fault),
     }

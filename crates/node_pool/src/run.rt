@@ -64,15 +64,7 @@ fn run_made<J: Wiring + Send + Sync, P: NodeProgram, G: Gate + Sync, R: Threads 
     let Made { links, ends } = made;
     let nodes = start_nodes::<J, P>(alloc, net, ends, options.transcript)?;
     let links = Links::<J, P>::new(links);
-    let nodes = run_nodes(
-        rt,
-        alloc,
-        &links,
-        gate,
-        nodes,
-        options.workers,
-        options.turns,
-    )?;
+    let nodes = run_nodes(rt, alloc, &links, gate, nodes, options)?;
     unless_full(nodes.as_slice())?;
     Ok(gathered(rt, alloc, net, &links, nodes)?)
 }

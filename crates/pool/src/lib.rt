@@ -11,7 +11,7 @@
 //! `node_pool` makes nodes and links, `outcomes` gathers them.
 //!
 //! ```text
-//! let nodes = run_nodes(&rt, alloc, &links, &OpenGate, nodes, workers, turns)?;   // ascending
+//! let nodes = run_nodes(&rt, alloc, &links, &OpenGate, nodes, options)?;   // ascending
 //! ```
 //!
 //! Limits: `MAX_WORKERS` of `run_options`. Without transcripts no turn can return out-of-memory. Nothing is promised of

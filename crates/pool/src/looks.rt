@@ -20,6 +20,8 @@ pub struct Crew<'a, J: Wiring, P: NodeProgram, G: Gate> {
     pub gate: &'a G,
     pub signals: &'a Signals,
     pub nodes: u64,
+    /// How often each worker looks for a node at most.
+    pub looks: u64,
 }
 
 // The node goes to the finished places, if nothing is left for it to do, or else to the worker's own deque. If that
@@ -96,21 +98,20 @@ fn look<J: Wiring, P: NodeProgram, R: Wait, G: Gate>(
     turned
 }
 
-/// Makes at most `turns` looks, and none after a turn that ended early. The node remembers why its turn did.
+/// Makes the looks of a worker, and none after a turn that ended early. The node remembers why its turn did.
 pub fn work<J: Wiring, P: NodeProgram, R: Wait, G: Gate>(
     rt: &R,
     crew: &Crew<J, P, G>,
     thieves: &[Thief<Node<J, P>>],
     worker: u32,
     mut desk: Desk<Node<J, P>>,
-    turns: u64,
 ) -> Desk<Node<J, P>>
     requires worker { worker < length thieves.now }
     requires deques { map (λ g. deque_of g.pass) desk.guests.items ≡ map stealer_deque thieves.now }
     ensures own { worker_deque result.own ≡ worker_deque desk.own }
     ensures deques { map (λ g. deque_of g.pass) result.guests.items ≡ map stealer_deque thieves.now }
 {
-    for _ in 0..turns {
+    for _ in 0..crew.looks {
         if crew.signals.is_over(crew.nodes) {
             break;
         }

@@ -15,7 +15,7 @@ use actor::{Gate, Links, Node, Wiring};
 use crossbeam_deque::protocol::Split;
 use deque_rule::Ledger;
 use node_api::NodeProgram;
-use run_options::MAX_WORKERS;
+use run_options::{MAX_WORKERS, Options};
 use std::alloc::Global;
 use std::sync::Wait;
 use std::thread;
@@ -42,16 +42,15 @@ fn run_all<J: Wiring + Send + Sync, P: NodeProgram, G: Gate + Sync, R: Threads +
     links: &Links<J, P>,
     gate: &G,
     nodes: Vec<Box<Node<J, P>>>,
-    workers: u32,
-    turns: u64,
+    options: Options,
 ) -> Result<Vec<Box<Node<J, P>>>, ThreadsFault>
     requires nodes { map (λ b. b.value.vertex) nodes.items ≡ reverse (vertices J.net) }
-    requires workers { (1 ≤ workers) × (workers ≤ MAX_WORKERS) }
+    requires workers { (1 ≤ options.workers) × (options.workers ≤ MAX_WORKERS) }
     ensures order { IfOk result (λ all. map (λ b. b.value.vertex) all.items ≡ vertices J.net) }
 {
     let count = nodes.len();
     let places = make_places(alloc, count)?;
-    let (owns, thieves) = make_deques::<Node<J, P>>(alloc, count, workers)?;
+    let (owns, thieves) = make_deques::<Node<J, P>>(alloc, count, options.workers)?;
     let owns = deal(owns, nodes);
     let (owns, dealt) = cut::<Node<J, P>, Dealt>(alloc, owns)?;
     let desks = make_desks(alloc, count, owns)?;
@@ -61,6 +60,7 @@ fn run_all<J: Wiring + Send + Sync, P: NodeProgram, G: Gate + Sync, R: Threads +
         gate,
         signals: &signals,
         nodes: count as u64,
+        looks: options.turns,
     };
     let (crew, thieves) = (&shared, thieves.as_slice());
     let done = thread::scope(
@@ -75,15 +75,15 @@ fn run_all<J: Wiring + Send + Sync, P: NodeProgram, G: Gate + Sync, R: Threads +
             ensures guests { IfOk result (λ done. map (λ d. map (λ g. deque_of g.pass) d.guests.items) done.items
                 ≡ map (λ d. map (λ g. deque_of g.pass) d.guests.items) desks.items) }
         {
-            let children = start_all(scope, rt, alloc, crew, thieves, desks, turns)?;
+            let children = start_all(scope, rt, alloc, crew, thieves, desks)?;
             Ok(join_all(rt, crew.signals, children)?)
         },
     )?;
     Ok(gather(rt, alloc, places, dealt, done)?)
 }
 
-/// Runs the nodes, given from the last vertex down, by `workers` workers, each of which makes at most `turns` looks,
-/// and returns each node once, ascending. None of them remembers a refusal of a turn.
+/// Runs the nodes, given from the last vertex down, by `options.workers` workers, each of which makes at most
+/// `options.turns` looks, and returns each node once, ascending. None of them remembers a refusal of a turn.
 ///
 /// # Errors
 ///
@@ -96,15 +96,14 @@ pub fn run_nodes<J: Wiring + Send + Sync, P: NodeProgram, G: Gate + Sync, R: Thr
     links: &Links<J, P>,
     gate: &G,
     nodes: Vec<Box<Node<J, P>>>,
-    workers: u32,
-    turns: u64,
+    options: Options,
 ) -> Result<Vec<Box<Node<J, P>>>, NodesFault>
     requires nodes { map (λ b. b.value.vertex) nodes.items ≡ reverse (vertices J.net) }
-    requires workers { (1 ≤ workers) × (workers ≤ MAX_WORKERS) }
+    requires workers { (1 ≤ options.workers) × (options.workers ≤ MAX_WORKERS) }
     ensures order { IfOk result (λ all. map (λ b. b.value.vertex) all.items ≡ vertices J.net) }
     ensures none_refused { IfOk result (λ all. All (λ b. refusal_of b.value ≡ None) all.items) }
 {
-    let nodes = run_all(rt, alloc, links, gate, nodes, workers, turns)?;
+    let nodes = run_all(rt, alloc, links, gate, nodes, options)?;
     told(nodes.as_slice())?;
     Ok(nodes)
 }

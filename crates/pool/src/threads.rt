@@ -31,7 +31,6 @@ fn start<'s, E, J: Wiring + Send + Sync, P: NodeProgram, G: Gate + Sync, R: Thre
     thieves: &'s [Thief<Node<J, P>>],
     worker: u32,
     desk: Desk<Node<J, P>>,
-    turns: u64,
 ) -> Result<Child<Node<J, P>>, ThreadsFault>
     requires worker { worker < length thieves.now }
     requires deques { map (λ g. deque_of g.pass) desk.guests.items ≡ map stealer_deque thieves.now }
@@ -46,7 +45,7 @@ fn start<'s, E, J: Wiring + Send + Sync, P: NodeProgram, G: Gate + Sync, R: Thre
             ensures { (worker_deque result.own ≡ worker_deque desk.own)
                 × (map (λ g. deque_of g.pass) result.guests.items
                 ≡ map (λ g. deque_of g.pass) desk.guests.items) }
-        { work(rt, crew, thieves, worker, desk, turns) },
+        { work(rt, crew, thieves, worker, desk) },
     );
     match started {
         Ok(child) => Ok(child),
@@ -77,7 +76,6 @@ pub fn start_all<
     crew: &'s Crew<'s, J, P, G>,
     thieves: &'s [Thief<Node<J, P>>],
     desks: Vec<Desk<Node<J, P>>>,
-    turns: u64,
 ) -> Result<Vec<Child<Node<J, P>>>, ThreadsFault>
     requires few { vec_len desks ≤ MAX_WORKERS }
     requires workers { vec_len desks ≡ length thieves.now }
@@ -88,7 +86,7 @@ pub fn start_all<
     let mut children = Vec::with_capacity(alloc, desks.len())?;
     let mut worker = 0;
     for desk in desks {
-        children.push_reserved(start(scope, rt, crew, thieves, worker, desk, turns)?);
+        children.push_reserved(start(scope, rt, crew, thieves, worker, desk)?);
         worker += 1;
     }
     Ok(children)
