@@ -14,6 +14,7 @@ use Rattle.event_texts.specs.Reading.{Script, script_of}
 use Rattle.event_texts.specs.StateText.{state_text}
 use Rattle.event_texts.specs.declared.fault.EventFault.{EventFault}
 use Rattle.program_texts.specs.Texts.{ProgramTexts}
+use Rattle.wire_texts.specs.PayloadTexts.{PayloadTexts}
 use Rattle.answers.specs.Answers.{IsFaultOfText, LinesReadAs, ReadsAs, network_with}
 use Rattle.answers.specs.EventAnswers.{AreInStep, IsEventsAnswer, IsFaultOfEventLines, IsFaultOfEvents, IsStateReached}
 use Rattle.answers.specs.declared.fault.PlanFault.{PlanFault}
@@ -61,14 +62,14 @@ module _ {S M E : Type 0} (program : Program S M E) (root : Option Root) where
       behind input network net (λ known. IsNetwork known × IsFaultOfEventLines program known (lines_of input) fault) are reads
       (λ ok. (ok, inr (script, read, is)))
 
-  module _ (texts : ProgramTexts S) (word_of : M → List ℕ) (number_of : M → ℕ) where
+  module _ (texts : ProgramTexts S) (payloads : PayloadTexts M) where
     pub reached : (input network text : List ℕ) (net : Net) (script : Script) (state : State S M) →
         AreNetworkLines (lines_of input) (lines_of network) →
         Reads root network net → script_of (lines_of input) ≡ Ok script → run program net (events_in script) ≡ Ok state →
-        text ≡ state_text program texts word_of number_of net state → (IsNetwork net → AreInStep program net state) →
+        text ≡ state_text program texts payloads net state → (IsNetwork net → AreInStep program net state) →
         ((net : Net) → IsNetwork net → texts.Solves net (last_state program net)) →
-        IsEventsAnswer program texts word_of number_of root input text
+        IsEventsAnswer program texts payloads root input text
     reached input network text net script state are reads read ran is in_step solves =
-        behind input network net (λ known. IsNetwork known × IsStateReached program texts word_of number_of known (lines_of input) text
+        behind input network net (λ known. IsNetwork known × IsStateReached program texts payloads known (lines_of input) text
         × texts.Solves known (last_state program known)) are reads
         (λ ok. (ok, (script, state, read, ran, is, in_step ok), solves net ok))

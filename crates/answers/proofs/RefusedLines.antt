@@ -17,6 +17,7 @@ use Rattle.transcripts.specs.EntryLines.{row_of}
 use Rattle.transcripts.specs.Reading.{Transcript}
 use Rattle.transcripts.proofs.Either.{read-one-behind}
 use Rattle.transcripts.proofs.EntryNumbers.{entries-have-lines}
+use Rattle.wire_texts.specs.PayloadTexts.{PayloadTexts}
 use Rattle.answers.specs.ReplayAnswers.{HasLineOf, IsFaultOfTranscript, IsRefusal, IsTold, IsToldAs, StopsThere, fault_at, index_of, transcript_in, words_text}
 use Rattle.answers.specs.declared.replaying.ReplayFault.{ReplayFault}
 use Rattle.answers.specs.declared.replaying.ReplayFault.TheVariants as fault
@@ -70,11 +71,11 @@ module _ {S M E : Type 0} (program : Program S M E) where
       let split = ap (λ l. length l) stops.splits ∙ length-append stops.before (stops.row ∷ stops.after) in
       omega (arith, is, split)
 
-module _ {S M E : Type 0} (program : Program S M E) (word_of : M → List ℕ) (number_of : M → ℕ) where
+module _ {S M E : Type 0} (program : Program S M E) (payloads : PayloadTexts M) where
   -- The entries before the refused one, replayed once more, lead to the state in which the entries stop.
   pub says-there : (net : Net) → IsNetwork net → (rows : List (Row M)) (numbers : List ℕ) (refused : ReplayRefused) (told : ReplayFault) →
-      (stops : Stops program net rows refused) → (is : IsToldAs program word_of number_of net rows numbers refused told) →
-      is.words.items ≡ words_text program word_of number_of net stops.reached stops.row refused
+      (stops : Stops program net rows refused) → (is : IsToldAs program payloads net rows numbers refused told) →
+      is.words.items ≡ words_text program payloads net stops.reached stops.row refused
   says-there net ok rows numbers refused told stops is =
       let place = index-is program net rows refused is.index stops is.is_index in
       let before : take is.index rows ≡ stops.before =
@@ -86,11 +87,11 @@ module _ {S M E : Type 0} (program : Program S M E) (word_of : M → List ℕ) (
       let state : is.reached ≡ stops.reached =
       (decided program net ok).one_state stops.before is.reached stops.reached
       (subst (λ l. IsReplay program net l is.reached) before is.is_replay) stops.is_replay in
-      is.says ∙ ap (λ s. words_text program word_of number_of net s is.row refused) state
-      ∙ ap (λ r. words_text program word_of number_of net stops.reached r refused) row
+      is.says ∙ ap (λ s. words_text program payloads net s is.row refused) state
+      ∙ ap (λ r. words_text program payloads net stops.reached r refused) row
 
   pub told-as : (net : Net) (rows : List (Row M)) (numbers : List ℕ) (refused : ReplayRefused) (told : ReplayFault) →
-      IsTold program word_of number_of net rows numbers refused told → told ≢ fault.Memory → IsToldAs program word_of number_of net rows numbers refused told
+      IsTold program payloads net rows numbers refused told → told ≢ fault.Memory → IsToldAs program payloads net rows numbers refused told
   told-as net rows numbers refused (fault.Syntax n) so isnt = so
   told-as net rows numbers refused (fault.WrongProgram n words) so isnt = so
   told-as net rows numbers refused (fault.NotReady n words) so isnt = so
@@ -103,7 +104,7 @@ module _ {S M E : Type 0} (program : Program S M E) (word_of : M → List ℕ) (
   told-as net rows numbers refused fault.Memory so isnt = absurd (isnt refl)
 
   pub is-told : (net : Net) (rows : List (Row M)) (numbers : List ℕ) (refused : ReplayRefused) (told : ReplayFault) →
-      IsToldAs program word_of number_of net rows numbers refused told → IsTold program word_of number_of net rows numbers refused told
+      IsToldAs program payloads net rows numbers refused told → IsTold program payloads net rows numbers refused told
   is-told net rows numbers refused (fault.Syntax n) so = so
   is-told net rows numbers refused (fault.WrongProgram n words) so = so
   is-told net rows numbers refused (fault.NotReady n words) so = so
@@ -115,18 +116,18 @@ module _ {S M E : Type 0} (program : Program S M E) (word_of : M → List ℕ) (
   is-told net rows numbers refused (fault.NotWhole n) so = so
   is-told net rows numbers refused fault.Memory so = tt
 
-module _ {S M E : Type 0} (program : Program S M E) (word_of : M → List ℕ) (number_of : M → ℕ) (payload_of : List ℕ → ℕ → Option M) where
+module _ {S M E : Type 0} (program : Program S M E) (payloads : PayloadTexts M) where
   refusal : (net : Net) → IsNetwork net → (lines : List Line) (read : Transcript M) (refused : ReplayRefused) (told : ReplayFault)
-      → transcript_in payload_of lines ≡ Ok (One read) →
-      Stops program net read.1 refused → IsToldAs program word_of number_of net read.1 (entry_lines lines) refused told →
-      IsRefusal program word_of number_of payload_of net lines told
+      → transcript_in payloads lines ≡ Ok (One read) →
+      Stops program net read.1 refused → IsToldAs program payloads net read.1 (entry_lines lines) refused told →
+      IsRefusal program payloads net lines told
   refusal net ok lines read refused told e stops so =
       let is = so.is_told in
-      let rows = (entries-have-lines (codes "1") (row_of payload_of) lines read (read-one-behind payload_of lines read e)).rows_are
+      let rows = (entries-have-lines (codes "1") (row_of payloads.payload_of) lines read (read-one-behind payloads.payload_of lines read e)).rows_are
       ∙ ap (map (λ x. Some x)) stops.splits in
       let numbers = entry_lines lines in
-      let line = entry-at (entry_on payload_of lines) numbers stops.before stops.row stops.after rows in
-      let has = by-index (λ r. HasLineOf payload_of lines stops.row (fault_at numbers so.words r)) (length stops.before) line line line line tt line
+      let line = entry-at (entry_on payloads.payload_of lines) numbers stops.before stops.row stops.after rows in
+      let has = by-index (λ r. HasLineOf payloads lines stops.row (fault_at numbers so.words r)) (length stops.before) line line line line tt line
       stops.reason in
       record {
         read = read;
@@ -134,13 +135,13 @@ module _ {S M E : Type 0} (program : Program S M E) (word_of : M → List ℕ) (
         is_read = e;
         stops = stops;
         words = so.words;
-        says = says-there program word_of number_of net ok read.1 numbers refused told stops so;
+        says = says-there program payloads net ok read.1 numbers refused told stops so;
         is_told = is;
-        has_line = subst (HasLineOf payload_of lines stops.row) (sym (is ∙ ap (fault_at numbers so.words) stops.index)) has;
+        has_line = subst (HasLineOf payloads lines stops.row) (sym (is ∙ ap (fault_at numbers so.words) stops.index)) has;
       }
 
-  by-fault : (net : Net) (lines : List Line) (told : ReplayFault) → (told ≢ fault.Memory → IsRefusal program word_of number_of payload_of net lines told) →
-      IsFaultOfTranscript program word_of number_of payload_of net lines told
+  by-fault : (net : Net) (lines : List Line) (told : ReplayFault) → (told ≢ fault.Memory → IsRefusal program payloads net lines told) →
+      IsFaultOfTranscript program payloads net lines told
   by-fault net lines (fault.Syntax n) is = absurd ((is (λ e. cc)).has_line)
   by-fault net lines (fault.WrongProgram n words) is = absurd ((is (λ e. cc)).has_line)
   by-fault net lines (fault.NotReady n words) is = inl (is (λ e. cc))
@@ -153,9 +154,9 @@ module _ {S M E : Type 0} (program : Program S M E) (word_of : M → List ℕ) (
   by-fault net lines fault.Memory is = tt
 
   pub fault-refused : (net : Net) → IsNetwork net → (lines : List Line) (read : Transcript M) (refused : ReplayRefused) (told : ReplayFault) →
-      transcript_in payload_of lines ≡ Ok (One read) → (refused ≢ replay.Run run.Memory → Stops program net read.1 refused) →
-      IsTold program word_of number_of net read.1 (entry_lines lines) refused told → IsFaultOfTranscript program word_of number_of payload_of net lines told
+      transcript_in payloads lines ≡ Ok (One read) → (refused ≢ replay.Run run.Memory → Stops program net read.1 refused) →
+      IsTold program payloads net read.1 (entry_lines lines) refused told → IsFaultOfTranscript program payloads net lines told
   fault-refused net ok lines read refused told e stops is =
       by-fault net lines told (λ no.
-      let so = told-as program word_of number_of net read.1 (entry_lines lines) refused told is no in
+      let so = told-as program payloads net read.1 (entry_lines lines) refused told is no in
       refusal net ok lines read refused told e (stops (not-memory refused so.index so.is_index)) so)

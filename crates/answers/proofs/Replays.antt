@@ -12,6 +12,7 @@ use Rattle.event_texts.specs.StateText.{state_text}
 use Rattle.transcripts.specs.Behind.{AreNetworkLines, network_lines, transcript_word}
 use Rattle.transcripts.specs.Editions.{One, Two}
 use Rattle.program_texts.specs.Texts.{ProgramTexts}
+use Rattle.wire_texts.specs.PayloadTexts.{PayloadTexts}
 use Rattle.answers.specs.Answers.{IsFaultOfText, LinesReadAs, ReadsAs, network_with}
 use Rattle.answers.specs.EventAnswers.{AreInStep}
 use Rattle.answers.specs.Roots.{OfRooted}
@@ -26,16 +27,16 @@ abbrev Reads : Option Root → List ℕ → Net → Type 0
 Reads root network net = ReadsAs network (OfRooted root (λ read. IsNetwork read × (net ≡ read)))
 
 -- the state of a replay is one that events reach
-pub in-step : {S M E : Type 0} (program : Program S M E) (payload_of : List ℕ → ℕ → Option M) (net : Net) (state : State S M) (lines : List Line) →
-    IsReplayed program payload_of net lines state →
+pub in-step : {S M E : Type 0} (program : Program S M E) (payloads : PayloadTexts M) (net : Net) (state : State S M) (lines : List Line) →
+    IsReplayed program payloads net lines state →
     ((events : List Event) → run program net events ≡ Ok state → AreInStep program net state) → AreInStep program net state
-in-step program payload_of net state lines (One read, is, leads) made = made leads.events leads.is_run
-in-step program payload_of net state lines (Two read, is, leads) made = made leads.replay.replay.events leads.replay.replay.is_run
+in-step program payloads net state lines (One read, is, leads) made = made leads.events leads.is_run
+in-step program payloads net state lines (Two read, is, leads) made = made leads.replay.replay.events leads.replay.replay.is_run
 
-module _ {S M E : Type 0} (program : Program S M E) (word_of : M → List ℕ) (number_of : M → ℕ) (payload_of : List ℕ → ℕ → Option M)
+module _ {S M E : Type 0} (program : Program S M E) (payloads : PayloadTexts M)
     (root : Option Root) where
   pub fault-network : (texts : ProgramTexts S) (input network : List ℕ) (fault : PlanFault) → AreNetworkLines (lines_of input) (lines_of network) →
-      IsFaultOfText root network fault → IsFaultOfReplay program word_of number_of payload_of texts root input fault
+      IsFaultOfText root network fault → IsFaultOfReplay program payloads texts root input fault
   fault-network texts input network (plan.Col fault) are is = fault-of transcript_word (lines_of input) (lines_of network) fault are is
   fault-network texts input network (plan.NoRoot v) are (graph, reads, is) =
       (graph, graph-of transcript_word (lines_of input) (lines_of network) graph are reads, is)
@@ -60,20 +61,20 @@ module _ {S M E : Type 0} (program : Program S M E) (word_of : M → List ℕ) (
 
   pub fault-transcript : (texts : ProgramTexts S) (input network : List ℕ) (net : Net) (fault : ReplayFault) →
       AreNetworkLines (lines_of input) (lines_of network) → Reads root network net →
-      IsFaultOfNamed program word_of number_of payload_of texts.name net (lines_of input) fault →
-      IsFaultOfReplay program word_of number_of payload_of texts root input (plan.Replay fault)
+      IsFaultOfNamed program payloads texts.name net (lines_of input) fault →
+      IsFaultOfReplay program payloads texts root input (plan.Replay fault)
   fault-transcript texts input network net fault are reads is =
       behind input network net
-      (λ known. IsNetwork known × IsFaultOfNamed program word_of number_of payload_of texts.name known (lines_of input) fault) are reads
+      (λ known. IsNetwork known × IsFaultOfNamed program payloads texts.name known (lines_of input) fault) are reads
       (λ ok. (ok, is))
 
   pub reached : (texts : ProgramTexts S) (input network text : List ℕ) (net : Net) (state : State S M) → AreNetworkLines (lines_of input) (lines_of network) →
-      Reads root network net → IsReplayed program payload_of net (lines_of input) state → text ≡ state_text program texts word_of number_of net state →
+      Reads root network net → IsReplayed program payloads net (lines_of input) state → text ≡ state_text program texts payloads net state →
       (IsNetwork net → AreInStep program net state) → ((net : Net) → IsNetwork net → texts.Solves net (last_state program net)) →
-      IsOfProgram texts.name (lines_of input) → IsReplayAnswer program texts word_of number_of payload_of root input text
+      IsOfProgram texts.name (lines_of input) → IsReplayAnswer program texts payloads root input text
   reached texts input network text net state are reads played is in_step solves named =
       behind input network net
-      (λ known. IsNetwork known × ((state : State S M) × IsReplayed program payload_of known (lines_of input) state
-      × (text ≡ state_text program texts word_of number_of known state) × AreInStep program known state)
+      (λ known. IsNetwork known × ((state : State S M) × IsReplayed program payloads known (lines_of input) state
+      × (text ≡ state_text program texts payloads known state) × AreInStep program known state)
       × texts.Solves known (last_state program known) × IsOfProgram texts.name (lines_of input)) are reads
       (λ ok. (ok, (state, played, is, in_step ok), solves net ok, named))

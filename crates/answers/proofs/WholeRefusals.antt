@@ -1,5 +1,5 @@
 -- The refusal of stamped entries, with its line: from that of `replay_whole`, and from what is told of it.
-use Rattle.std.proofs.Common.{◌≡◌, ◌≢◌, ◌++◌, ◌∷◌, ◌∙◌, ℕ, Option, Some, Ok, List, ap, inr, length, map, refl, subst, sym}
+use Rattle.std.proofs.Common.{◌≡◌, ◌≢◌, ◌++◌, ◌∷◌, ◌∙◌, ℕ, Some, Ok, List, ap, inr, length, map, refl, subst, sym}
 use Rattle.std.specs.declared.vec.Vec.{Vec}
 use Rattle.std.specs.declared.alloc.Global.{Global}
 use Rattle.std.proofs.lemmas.List.{length-map, map-append}
@@ -21,6 +21,7 @@ use Rattle.entries.specs.Rows.{without_stamp}
 use Rattle.entries.specs.declared.rows.Row.{Row}
 use Rattle.entries.specs.declared.rows.StampedRow.{StampedRow}
 use Rattle.transcripts.proofs.Either.{stamped-have-lines}
+use Rattle.wire_texts.specs.PayloadTexts.{PayloadTexts}
 use Rattle.answers.specs.ReplayAnswers.{HasLine, IsEntryTold, IsFaultOfTranscript, IsStampedLine, IsStampedRefusal, IsStampedTold, IsToldAs, bare_rows}
 use Rattle.answers.specs.ReplayAnswers.{SaysWhyNot, StopsThere, fault_at, first_line_in, last_of, line_at, transcript_in}
 use Rattle.answers.specs.declared.replaying.ReplayFault.{ReplayFault}
@@ -54,49 +55,49 @@ pub stops-there : {S M E : Type 0} (program : Program S M E) (net : Net) (rows :
 stops-there program net rows refused why isnt =
     stops-bare program net rows refused (why (λ same. isnt (inner-is refused same)))
 
-module _ {S M E : Type 0} (program : Program S M E) (word_of : M → List ℕ) (number_of : M → ℕ) (payload_of : List ℕ → ℕ → Option M)
-    (net : Net) (ok : IsNetwork net) (lines : List Line) (read : StampedTranscript M) (e : transcript_in payload_of lines ≡ Ok (Two read)) where
+module _ {S M E : Type 0} (program : Program S M E) (payloads : PayloadTexts M)
+    (net : Net) (ok : IsNetwork net) (lines : List Line) (read : StampedTranscript M) (e : transcript_in payloads lines ≡ Ok (Two read)) where
   -- the line of the entry behind others
   line-of : (before after : List (StampedRow M)) (row : StampedRow M) → read.1 ≡ before ++ (row ∷ after) →
-      IsStampedLine payload_of lines row (line_at (entry_lines lines) (length before))
+      IsStampedLine payloads lines row (line_at (entry_lines lines) (length before))
   line-of before after row splits =
-      entry-at (stamped_entry_on payload_of lines) (entry_lines lines) before row after
-      ((stamped-have-lines payload_of lines read e).rows_are ∙ ap (map (λ r. Some r)) splits)
+      entry-at (stamped_entry_on payloads.payload_of lines) (entry_lines lines) before row after
+      ((stamped-have-lines payloads.payload_of lines read e).rows_are ∙ ap (map (λ r. Some r)) splits)
 
   entry-told : (refused : ReplayRefused) (told : ReplayFault) (stops : StopsAtEntry program net read.1 refused) →
-      IsToldAs program word_of number_of net (bare_rows read.1) (entry_lines lines) refused told →
-      IsEntryTold program word_of number_of payload_of net lines read.1 refused stops told
+      IsToldAs program payloads net (bare_rows read.1) (entry_lines lines) refused told →
+      IsEntryTold program payloads net lines read.1 refused stops told
   entry-told refused told stops so =
       let numbers = entry_lines lines in
       let row = stops.at.row in
       let line = line-of stops.at.before stops.at.after row stops.at.splits in
-      let has = by-index (λ r. HasLine (IsStampedLine payload_of lines row) (fault_at numbers so.words r)) (length stops.at.before) line line line line tt line
+      let has = by-index (λ r. HasLine (IsStampedLine payloads lines row) (fault_at numbers so.words r)) (length stops.at.before) line line line line tt line
       stops.reason in
       record {
         words = so.words;
-        says = says-there program word_of number_of net ok (bare_rows read.1) numbers refused told (stops-bare program net read.1 refused stops) so;
+        says = says-there program payloads net ok (bare_rows read.1) numbers refused told (stops-bare program net read.1 refused stops) so;
         is_told = so.is_told;
-        has_line = subst (HasLine (IsStampedLine payload_of lines row)) (sym (so.is_told ∙ ap (fault_at numbers so.words) stops.index)) has;
+        has_line = subst (HasLine (IsStampedLine payloads lines row)) (sym (so.is_told ∙ ap (fault_at numbers so.words) stops.index)) has;
       }
 
   refusal-of : (refused : WholeRefused) (told : ReplayFault) → told ≢ fault.Memory →
       (refused ≢ whole.Replay (replay.Run run.Memory) → WhyNotWhole program net read.1 refused) →
-      IsStampedTold program word_of number_of net read.1 (first_line_in lines) (entry_lines lines) refused told →
-      IsStampedRefusal program word_of number_of payload_of net lines told
+      IsStampedTold program payloads net read.1 (first_line_in lines) (entry_lines lines) refused told →
+      IsStampedRefusal program payloads net lines told
   refusal-of (whole.Replay refused) told isnt why is =
-      let so = told-as program word_of number_of net (bare_rows read.1) (entry_lines lines) refused told is isnt in
+      let so = told-as program payloads net (bare_rows read.1) (entry_lines lines) refused told is isnt in
       let stops = why (λ same. not-memory refused so.index so.is_index (inner-is refused same)) in
       record { read = read; refused = whole.Replay refused; is_read = e; why = stops; is_told = entry-told refused told stops so }
   refusal-of (whole.WrongStamp k) told isnt why is =
       let stops : StopsAtStamp program net read.1 k = why (λ same. cc) in
       let here = line-of stops.at.before stops.at.after stops.at.row stops.at.splits in
-      let line = subst (λ i. IsStampedLine payload_of lines stops.at.row (line_at (entry_lines lines) i)) (sym stops.index) here in
+      let line = subst (λ i. IsStampedLine payloads lines stops.at.row (line_at (entry_lines lines) i)) (sym stops.index) here in
       record {
         read = read;
         refused = whole.WrongStamp k;
         is_read = e;
         why = stops;
-        is_told = (is, subst (HasLine (IsStampedLine payload_of lines stops.at.row)) (sym is) line);
+        is_told = (is, subst (HasLine (IsStampedLine payloads lines stops.at.row)) (sym is) line);
       }
   refusal-of whole.NotWhole told isnt why is =
       record { read = read; refused = whole.NotWhole; is_read = e; why = why (λ same. cc); is_told = is }
@@ -115,10 +116,10 @@ no-text numbers words (replay.Run (run.NoSuch k)) is = is
 no-text numbers words (replay.Run run.Memory) is = is
 no-text numbers words (replay.WrongWire k) is = is
 
-module _ {S M E : Type 0} (program : Program S M E) (word_of : M → List ℕ) (number_of : M → ℕ) (payload_of : List ℕ → ℕ → Option M) where
+module _ {S M E : Type 0} (program : Program S M E) (payloads : PayloadTexts M) where
   by-fault : (net : Net) (lines : List Line) (told : ReplayFault) →
-      (told ≢ fault.Memory → IsStampedRefusal program word_of number_of payload_of net lines told) →
-      (IsOfText told → ⊥) → IsFaultOfTranscript program word_of number_of payload_of net lines told
+      (told ≢ fault.Memory → IsStampedRefusal program payloads net lines told) →
+      (IsOfText told → ⊥) → IsFaultOfTranscript program payloads net lines told
   by-fault net lines (fault.Syntax n) is never = absurd (never tt)
   by-fault net lines (fault.WrongProgram n words) is never = absurd (never tt)
   by-fault net lines (fault.NotReady n words) is never = inr (is (λ e. cc))
@@ -131,18 +132,18 @@ module _ {S M E : Type 0} (program : Program S M E) (word_of : M → List ℕ) (
   by-fault net lines fault.Memory is never = tt
 
   never-text : (net : Net) (rows : List (StampedRow M)) (first : ℕ) (numbers : List ℕ) (refused : WholeRefused) (told : ReplayFault) →
-      IsStampedTold program word_of number_of net rows first numbers refused told → IsOfText told → ⊥
+      IsStampedTold program payloads net rows first numbers refused told → IsOfText told → ⊥
   never-text net rows first numbers (whole.Replay refused) told is text =
-      let so = told-as program word_of number_of net (bare_rows rows) numbers refused told is (λ m. subst IsOfText m text) in
+      let so = told-as program payloads net (bare_rows rows) numbers refused told is (λ m. subst IsOfText m text) in
       no-text numbers so.words refused (subst IsOfText so.is_told text)
   never-text net rows first numbers (whole.WrongStamp k) told is text = subst IsOfText is text
   never-text net rows first numbers whole.NotWhole told is text = subst IsOfText is text
 
   pub whole-refused : (net : Net) → IsNetwork net → (lines : List Line) (nodes : ℕ) (rows : List (StampedRow M)) (refused : WholeRefused)
-      (told : ReplayFault) → transcript_in payload_of lines ≡ Ok (Two (nodes, rows)) →
+      (told : ReplayFault) → transcript_in payloads lines ≡ Ok (Two (nodes, rows)) →
       (refused ≢ whole.Replay (replay.Run run.Memory) → WhyNotWhole program net rows refused) →
-      IsStampedTold program word_of number_of net rows (first_line_in lines) (entry_lines lines) refused told →
-      IsFaultOfTranscript program word_of number_of payload_of net lines told
+      IsStampedTold program payloads net rows (first_line_in lines) (entry_lines lines) refused told →
+      IsFaultOfTranscript program payloads net lines told
   whole-refused net ok lines nodes rows refused told e why is =
-      by-fault net lines told (λ isnt. refusal-of program word_of number_of payload_of net ok lines (nodes, rows) e refused told isnt why is)
+      by-fault net lines told (λ isnt. refusal-of program payloads net ok lines (nodes, rows) e refused told isnt why is)
       (never-text net rows (first_line_in lines) (entry_lines lines) refused told is)

@@ -15,6 +15,7 @@ use Rattle.event_texts.specs.Reading.{Script, script_of}
 use Rattle.event_texts.specs.StateText.{state_text}
 use Rattle.event_texts.specs.declared.fault.EventFault.{EventFault}
 use Rattle.program_texts.specs.Texts.{ProgramTexts}
+use Rattle.wire_texts.specs.PayloadTexts.{PayloadTexts}
 use Rattle.answers.specs.Answers.{LinesReadAs}
 use Rattle.answers.specs.Roots.{LacksRoot, OfRooted}
 use Rattle.answers.specs.declared.fault.PlanFault.{PlanFault}
@@ -27,12 +28,11 @@ abbrev pub AreInStep : {S M E : Type 0} → Program S M E → Net → State S M 
 AreInStep program net state = (v : ℕ) → IsVertex net v → (node_of program net state v).state
     ≡ state_at program net (node_of program net state v).view.pulse v
 
-module _ {S M E : Type 0} (program : Program S M E) (texts : ProgramTexts S) (word_of : M → List ℕ)
-    (number_of : M → ℕ) where
+module _ {S M E : Type 0} (program : Program S M E) (texts : ProgramTexts S) (payloads : PayloadTexts M) where
   -- the text is that of the state to which the events in the lines lead, from the start of the program on the network
   abbrev pub IsStateReached : Net → List Line → List ℕ → Type 0
   IsStateReached net lines text = (script : Script) × (state : State S M) × (script_of lines ≡ Ok script)
-      × (run program net (events_in script) ≡ Ok state) × (text ≡ state_text program texts word_of number_of net state)
+      × (run program net (events_in script) ≡ Ok state) × (text ≡ state_text program texts payloads net state)
       × AreInStep program net state
 
   -- the answer is the text of the state that the events reach, on the network that stands before them, with the root that

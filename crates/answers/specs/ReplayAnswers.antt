@@ -29,6 +29,7 @@ use Rattle.entries.specs.declared.rows.StampedRow.{StampedRow}
 use Rattle.transcripts.specs.declared.fault.TextFault.{TextFault}
 use Rattle.transcripts.specs.declared.fault.TextFault.TheVariants as text
 use Rattle.program_texts.specs.Texts.{ProgramTexts}
+use Rattle.wire_texts.specs.PayloadTexts.{PayloadTexts}
 use Rattle.answers.specs.Answers.{LinesReadAs}
 use Rattle.answers.specs.EventAnswers.{AreInStep}
 use Rattle.answers.specs.Roots.{LacksRoot, OfRooted}
@@ -39,8 +40,8 @@ use Rattle.answers.specs.declared.replaying.ReplayFault.TheVariants as fault
 use Rattle.answers.specs.declared.root.Root.{Root}
 
 -- the transcript that follows a network, or the number of its first wrong line
-abbrev pub transcript_in : {M : Type 0} → (List ℕ → ℕ → Option M) → List Line → Result (AnyTranscript M) ℕ
-transcript_in payload_of lines = any_reading_behind payload_of lines
+abbrev pub transcript_in : {M : Type 0} → PayloadTexts M → List Line → Result (AnyTranscript M) ℕ
+transcript_in payloads lines = any_reading_behind payloads.payload_of lines
 
 -- The entries of a transcript are a replay that leads to this state of the network. Those of edition 2 are a whole one:
 -- they have the stamps that the nodes' counters give them, in their order, and the state is whole.
@@ -49,10 +50,9 @@ LeadsTo program net (One read) state = IsReplay program net read.1 state
 LeadsTo program net (Two read) state = IsWholeReplay program net read.1 state
 
 -- the entries of the transcript in the lines lead to this state of the network
-abbrev pub IsReplayed : {S M E : Type 0} → Program S M E → (List ℕ → ℕ → Option M) → Net → List Line → State S M →
-    Type 0
-IsReplayed program payload_of net lines state =
-    (read : AnyTranscript _) × (transcript_in payload_of lines ≡ Ok read) × LeadsTo program net read state
+abbrev pub IsReplayed : {S M E : Type 0} → Program S M E → PayloadTexts M → Net → List Line → State S M → Type 0
+IsReplayed program payloads net lines state =
+    (read : AnyTranscript _) × (transcript_in payloads lines ≡ Ok read) × LeadsTo program net read state
 
 -- if the transcript in the lines names its program, it is the one of this name
 abbrev pub IsOfProgram : List ℕ → List Line → Type 0
@@ -61,12 +61,12 @@ IsOfProgram name lines = (named : List ℕ) → program_in lines ≡ Some named 
 -- the answer is the text of the state that the transcript leads to, on the network that stands before it, with the root
 -- that is given, if there is one, and the last states of the synchronous run are what the program is for; the transcript
 -- names no other program
-abbrev pub IsReplayAnswer : {S M E : Type 0} → Program S M E → ProgramTexts S → (M → List ℕ) → (M → ℕ) →
-    (List ℕ → ℕ → Option M) → Option Root → List ℕ → List ℕ → Type 0
-IsReplayAnswer program texts word_of number_of payload_of root input answer =
+abbrev pub IsReplayAnswer : {S M E : Type 0} → Program S M E → ProgramTexts S → PayloadTexts M → Option Root → List ℕ
+    → List ℕ → Type 0
+IsReplayAnswer program texts payloads root input answer =
     LinesReadAs (network_lines (lines_of input)) (OfRooted root (λ net. IsNetwork net
-    × ((state : State _ _) × IsReplayed program payload_of net (lines_of input) state
-    × (answer ≡ state_text program texts word_of number_of net state) × AreInStep program net state)
+    × ((state : State _ _) × IsReplayed program payloads net (lines_of input) state
+    × (answer ≡ state_text program texts payloads net state) × AreInStep program net state)
     × texts.Solves net (last_state program net) × IsOfProgram texts.name (lines_of input)))
 
 -- the fault of a transcript's text
@@ -135,14 +135,14 @@ HasLine at (fault.WrongStamp n) = at n
 HasLine at (fault.NotWhole n) = ⊥
 HasLine at fault.Memory = Unit {0}
 
-module _ {M : Type 0} (payload_of : List ℕ → ℕ → Option M) where
+module _ {M : Type 0} (payloads : PayloadTexts M) where
   -- the line whose number a refusal has is this entry
   abbrev pub HasLineOf : List Line → Row M → ReplayFault → Type 0
-  HasLineOf lines row told = HasLine (λ n. entry_on payload_of lines n ≡ Some row) told
+  HasLineOf lines row told = HasLine (λ n. entry_on payloads.payload_of lines n ≡ Some row) told
 
   -- the line of a number is this entry with its stamp
   abbrev pub IsStampedLine : List Line → StampedRow M → ℕ → Type 0
-  IsStampedLine lines row n = stamped_entry_on payload_of lines n ≡ Some row
+  IsStampedLine lines row n = stamped_entry_on payloads.payload_of lines n ≡ Some row
 
 -- the entries of edition 2 without their stamps
 abbrev pub bare_rows : {M : Type 0} → List (StampedRow M) → List (Row M)
@@ -158,12 +158,12 @@ SaysWhyNot program net rows refused =
     refused ≢ whole.Replay (replay.Run run.Memory) → WhyNotWhole program net rows refused
 
 -- ---- how the refusal of entries is told
-module _ {S M E : Type 0} (program : Program S M E) (word_of : M → List ℕ) (number_of : M → ℕ) where
+module _ {S M E : Type 0} (program : Program S M E) (payloads : PayloadTexts M) where
   -- the words behind the refusal of an entry in a state: what its event lacks, or the pulse or wire that it comes to
   abbrev pub words_text : Net → State S M → Row M → ReplayRefused → List ℕ
   words_text net state row (replay.Run refused) = missing_text program net state (event_of net row)
   words_text net state row (replay.WrongWire k) =
-      expected_text program word_of number_of net state (event_of net row)
+      expected_text program payloads net state (event_of net row)
 
   -- What a refusal of entries is told as: the entries before the refused one are replayed once more, for the words.
   pub record IsToldAs (net : Net) (rows : List (Row M)) (lines : List ℕ) (refused : ReplayRefused)
@@ -190,28 +190,27 @@ module _ {S M E : Type 0} (program : Program S M E) (word_of : M → List ℕ) (
   IsStampedTold net rows first numbers whole.NotWhole told = told ≡ fault.NotWhole (last_of first numbers)
 
 -- ---- the refusal of a transcript
-module _ {S M E : Type 0} (program : Program S M E) (word_of : M → List ℕ) (number_of : M → ℕ)
-    (payload_of : List ℕ → ℕ → Option M) where
+module _ {S M E : Type 0} (program : Program S M E) (payloads : PayloadTexts M) where
   -- The entries of the transcript of edition 1 in the lines stop, and this is the refusal, with the number of a line in
   -- place of the entry's index, and the words for the state in which the entries stop: that line is the entry.
   pub record IsRefusal (net : Net) (lines : List Line) (told : ReplayFault) : Type 0 where
     pub read : Transcript M
     pub refused : ReplayRefused
-    pub is_read : transcript_in payload_of lines ≡ Ok (One read)
+    pub is_read : transcript_in payloads lines ≡ Ok (One read)
     pub stops : Stops program net read.1 refused
     pub words : Vec ℕ Global
-    pub says : words.items ≡ words_text program word_of number_of net stops.reached stops.row refused
+    pub says : words.items ≡ words_text program payloads net stops.reached stops.row refused
     pub is_told : told ≡ fault_at (entry_lines lines) words refused
-    pub has_line : HasLineOf payload_of lines stops.row told
+    pub has_line : HasLineOf payloads lines stops.row told
 
   -- the refusal of an entry of edition 2 that isn't possible, or has another pulse or wire, as for edition 1
   pub record IsEntryTold (net : Net) (lines : List Line) (rows : List (StampedRow M)) (refused : ReplayRefused)
       (stops : StopsAtEntry program net rows refused) (told : ReplayFault) : Type 0 where
     pub words : Vec ℕ Global
     pub says : words.items
-        ≡ words_text program word_of number_of net stops.at.reached (without_stamp stops.at.row) refused
+        ≡ words_text program payloads net stops.at.reached (without_stamp stops.at.row) refused
     pub is_told : told ≡ fault_at (entry_lines lines) words refused
-    pub has_line : HasLine (IsStampedLine payload_of lines stops.at.row) told
+    pub has_line : HasLine (IsStampedLine payloads lines stops.at.row) told
 
   -- How the refusal of stamped entries is told: that of an entry with the number of its line, which is the entry; that
   -- of the state at the end with the number of the last entry's line.
@@ -220,14 +219,14 @@ module _ {S M E : Type 0} (program : Program S M E) (word_of : M → List ℕ) (
   IsWholeTold net lines rows (whole.Replay refused) why told = IsEntryTold net lines rows refused why told
   IsWholeTold net lines rows (whole.WrongStamp k) why told =
       (told ≡ fault.WrongStamp (line_at (entry_lines lines) k))
-      × HasLine (IsStampedLine payload_of lines why.at.row) told
+      × HasLine (IsStampedLine payloads lines why.at.row) told
   IsWholeTold net lines rows whole.NotWhole why told = told ≡ fault.NotWhole (last_line_in lines)
 
   -- The entries of the transcript of edition 2 in the lines aren't a whole replay, and this is the refusal.
   pub record IsStampedRefusal (net : Net) (lines : List Line) (told : ReplayFault) : Type 0 where
     pub read : StampedTranscript M
     pub refused : WholeRefused
-    pub is_read : transcript_in payload_of lines ≡ Ok (Two read)
+    pub is_read : transcript_in payloads lines ≡ Ok (Two read)
     pub why : WhyNotWhole program net read.1 refused
     pub is_told : IsWholeTold net lines read.1 refused why told
 
@@ -235,7 +234,7 @@ module _ {S M E : Type 0} (program : Program S M E) (word_of : M → List ℕ) (
   -- out says nothing
   abbrev pub IsFaultOfTranscript : Net → List Line → ReplayFault → Type 0
   IsFaultOfTranscript net lines fault.Memory = Unit {0}
-  IsFaultOfTranscript net lines (fault.Syntax n) = transcript_in payload_of lines ≡ Err n
+  IsFaultOfTranscript net lines (fault.Syntax n) = transcript_in payloads lines ≡ Err n
   IsFaultOfTranscript net lines (fault.WrongProgram n words) = ⊥
   IsFaultOfTranscript net lines told = IsRefusal net lines told ⊎ IsStampedRefusal net lines told
 

@@ -5,14 +5,15 @@ use Rattle.node_api.specs.Program.{Program}
 use Rattle.node_api.specs.Run.{last_state}
 use Rattle.program_texts.specs.Texts.{ProgramTexts}
 use Rattle.round_texts.specs.RoundsText.{rounds_text}
+use Rattle.wire_texts.specs.PayloadTexts.{PayloadTexts}
 use Rattle.answers.specs.Answers.{ReadsAs}
 use Rattle.answers.specs.Roots.{OfRooted}
 use Rattle.answers.specs.declared.root.Root.{Root}
 
 -- the answer is the text of the synchronous run of a program on the network that the input describes, with the root that
 -- is given, if there is one, and the last states of this run are what the program is for
-abbrev pub IsRoundsAnswer : {S M E : Type 0} → Program S M E → ProgramTexts S → (M → List ℕ) → (M → ℕ) →
-    Option Root → List ℕ → List ℕ → Type 0
-IsRoundsAnswer program texts word_of number_of root input answer =
-    ReadsAs input (OfRooted root (λ net. IsNetwork net × (answer ≡ rounds_text program texts word_of number_of net)
+abbrev pub IsRoundsAnswer : {S M E : Type 0} → Program S M E → ProgramTexts S → PayloadTexts M → Option Root → List ℕ
+    → List ℕ → Type 0
+IsRoundsAnswer program texts payloads root input answer =
+    ReadsAs input (OfRooted root (λ net. IsNetwork net × (answer ≡ rounds_text program texts payloads net)
     × texts.Solves net (last_state program net)))

@@ -1,6 +1,7 @@
 //! The state that events lead to.
 
 ghost use Rattle.std.specs.Prelude.{IfOk, IfErr};
+ghost use Rattle.wire_texts.specs.PayloadTexts.{payload_texts};
 ghost use Rattle.answers.specs.EventAnswers.{IsEventsAnswer, IsFaultOfEvents};
 
 use crate::answer::network_of_text;
@@ -26,7 +27,7 @@ pub fn events_bytes<P: ProgramText>(
     root: Option<Root>,
 ) -> Result<Vec<u8>, PlanFault>
     ensures ok { IfOk result (λ text.
-        IsEventsAnswer P.program P.texts P.Payload.word_of P.Payload.number_of root input.now text.items) }
+        IsEventsAnswer P.program P.texts (payload_texts P.Payload.PayloadText.own) root input.now text.items) }
     ensures fault { IfErr result (IsFaultOfEvents P.program root input.now) }
 {
     every_run_simulates::<P, P::Payload, Refused>();

@@ -6,6 +6,7 @@ ghost use Rattle.net_core.specs.Replays.{IsReplay};
 ghost use Rattle.net_core.specs.Whole.{IsWholeReplay};
 ghost use Rattle.transcripts.specs.Behind.{transcript_lines};
 ghost use Rattle.transcripts.specs.Editions.{One, Two};
+ghost use Rattle.wire_texts.specs.PayloadTexts.{payload_texts};
 ghost use Rattle.answers.specs.ReplayAnswers.{IsFaultOfReplay, IsFaultOfTranscript, IsReplayAnswer, IsReplayed};
 ghost use Rattle.answers.specs.ReplayAnswers.{IsFaultOfName, IsOfProgram, IsStampedTold, IsTold, SaysWhyNot, StopsThere};
 ghost use Rattle.answers.specs.ReplayAnswers.{bare_rows, fault_at, fault_of_text};
@@ -129,7 +130,8 @@ fn words_of<P: NodeProgram>(
     refused: ReplayRefused,
 ) -> Result<Vec<u8>, AllocError>
     ensures { IfOk result (λ words. words.items
-        ≡ words_text P.program P.Payload.word_of P.Payload.number_of state.now.net state.now.state row.now refused) }
+        ≡ words_text P.program (payload_texts P.Payload.PayloadText.own) state.now.net state.now.state row.now
+        refused) }
 {
     match (event_of(state.network(), row), refused) {
         (None, _) => Ok(Vec::new(alloc)),
@@ -147,7 +149,7 @@ fn told<P: NodeProgram>(
     refused: ReplayRefused,
 ) -> ReplayFault
     requires stops { StopsThere P.program network.now rows.now refused }
-    ensures { IsTold P.program P.Payload.word_of P.Payload.number_of network.now rows.now lines.now refused result }
+    ensures { IsTold P.program (payload_texts P.Payload.PayloadText.own) network.now rows.now lines.now refused result }
 {
     let Some(index) = index_of(refused) else {
         return ReplayFault::Memory;
@@ -172,8 +174,9 @@ fn replayed_entries<P: NodeProgram>(
     ensures net { IfOk result (λ view. view.net ≡ network.now) }
     ensures ok { IfOk result (λ view. IsReplay P.program network.now rows.now view.state) }
     ensures fault { IfErr result (λ told. (nodes : ℕ)
-        → transcript_in P.Payload.payload_of (lines_of input.now) ≡ Ok (One (nodes, rows.now)) → IsFaultOfTranscript
-        P.program P.Payload.word_of P.Payload.number_of P.Payload.payload_of network.now (lines_of input.now) told) }
+        → transcript_in (payload_texts P.Payload.PayloadText.own) (lines_of input.now) ≡ Ok (One (nodes, rows.now))
+        → IsFaultOfTranscript P.program (payload_texts P.Payload.PayloadText.own) network.now (lines_of input.now)
+        told) }
 {
     network.is_network();
     match replay::<P>(alloc, network, rows) {
@@ -234,8 +237,8 @@ fn stamped_told<P: NodeProgram>(
     refused: WholeRefused,
 ) -> ReplayFault
     requires why { SaysWhyNot P.program network.now rows.now refused }
-    ensures { IsStampedTold P.program P.Payload.word_of P.Payload.number_of network.now rows.now first lines.now refused
-        result }
+    ensures { IsStampedTold P.program (payload_texts P.Payload.PayloadText.own) network.now rows.now first lines.now
+        refused result }
 {
     match refused {
         WholeRefused::Replay(refused) => match bare_rows(alloc, rows) {
@@ -255,11 +258,11 @@ fn replayed_whole<P: NodeProgram>(
     rows: &[StampedRow<P::Payload>],
 ) -> Result<NetState<P>, ReplayFault>
     requires read { (nodes : ℕ)
-        × (transcript_in P.Payload.payload_of (lines_of input.now) ≡ Ok (Two (nodes, rows.now))) }
+        × (transcript_in (payload_texts P.Payload.PayloadText.own) (lines_of input.now) ≡ Ok (Two (nodes, rows.now))) }
     ensures net { IfOk result (λ view. view.net ≡ network.now) }
     ensures ok { IfOk result (λ view. IsWholeReplay P.program network.now rows.now view.state) }
-    ensures fault { IfErr result (IsFaultOfTranscript P.program P.Payload.word_of P.Payload.number_of
-        P.Payload.payload_of network.now (lines_of input.now)) }
+    ensures fault { IfErr result (IsFaultOfTranscript P.program (payload_texts P.Payload.PayloadText.own) network.now
+        (lines_of input.now)) }
 {
     network.is_network();
     match replay_whole::<P>(alloc, network, rows) {
@@ -280,9 +283,9 @@ fn replayed<P: NodeProgram>(
 ) -> Result<NetState<P>, ReplayFault>
     ensures net { IfOk result (λ view. view.net ≡ network.now) }
     ensures ok { IfOk result (λ view.
-        IsReplayed P.program P.Payload.payload_of network.now (lines_of input.now) view.state) }
-    ensures fault { IfErr result (IsFaultOfTranscript P.program P.Payload.word_of P.Payload.number_of
-        P.Payload.payload_of network.now (lines_of input.now)) }
+        IsReplayed P.program (payload_texts P.Payload.PayloadText.own) network.now (lines_of input.now) view.state) }
+    ensures fault { IfErr result (IsFaultOfTranscript P.program (payload_texts P.Payload.PayloadText.own) network.now
+        (lines_of input.now)) }
 {
     match read_any_behind_network::<P::Payload>(alloc, input)? {
         Transcript::One(_, rows) => replayed_entries(alloc, network, input, rows.as_slice()),
@@ -325,10 +328,10 @@ pub fn replay_bytes<P: ProgramText>(
     input: &[u8],
     root: Option<Root>,
 ) -> Result<Vec<u8>, PlanFault>
-    ensures ok { IfOk result (λ text. IsReplayAnswer P.program P.texts P.Payload.word_of P.Payload.number_of
-        P.Payload.payload_of root input.now text.items) }
-    ensures fault { IfErr result (IsFaultOfReplay P.program P.Payload.word_of P.Payload.number_of
-        P.Payload.payload_of P.texts root input.now) }
+    ensures ok { IfOk result (λ text. IsReplayAnswer P.program P.texts (payload_texts P.Payload.PayloadText.own) root
+        input.now text.items) }
+    ensures fault { IfErr result
+        (IsFaultOfReplay P.program (payload_texts P.Payload.PayloadText.own) P.texts root input.now) }
 {
     every_run_simulates::<P, P::Payload, Refused>();
     P::rounds_solve();

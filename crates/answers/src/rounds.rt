@@ -1,6 +1,7 @@
 //! The rounds of a network, pulse by pulse.
 
 ghost use Rattle.std.specs.Prelude.{IfOk, IfErr};
+ghost use Rattle.wire_texts.specs.PayloadTexts.{payload_texts};
 ghost use Rattle.answers.specs.Answers.{IsFaultOfText};
 ghost use Rattle.answers.specs.RoundAnswers.{IsRoundsAnswer};
 
@@ -22,7 +23,7 @@ pub fn rounds_bytes<P: ProgramText>(
     root: Option<Root>,
 ) -> Result<Vec<u8>, PlanFault>
     ensures ok { IfOk result (λ text.
-        IsRoundsAnswer P.program P.texts P.Payload.word_of P.Payload.number_of root input.now text.items) }
+        IsRoundsAnswer P.program P.texts (payload_texts P.Payload.PayloadText.own) root input.now text.items) }
     ensures fault { IfErr result (IsFaultOfText root input.now) }
 {
     P::rounds_solve();

@@ -14,6 +14,7 @@ use Rattle.entries.specs.declared.rows.StampedEntry.{StampedEntry}
 use Rattle.stamps.specs.Stamps.{Rises}
 use Rattle.entries.specs.declared.rows.StampedRow.{StampedRow}
 use Rattle.stamps.specs.Merged.{AreOrdered, IsMerge, Precedes, entries_at, list_of}
+use Rattle.wire_texts.specs.PayloadTexts.{PayloadTexts}
 use Rattle.transcripts.specs.TranscriptText.{stamped_row_text, text_of}
 use Rattle.byte_functions.specs.Merge.{IsTaken, NoneLeft}
 use Rattle.stamps.proofs.Growing.{ordered_push}
@@ -157,7 +158,6 @@ module _ {M : Type 0} where
       subst (λ l. sum_by length l < sum_by length old) (sym taken.is) (omega (arith, all, was))
 
 -- a text has the lines of rows that are taken of these lists, behind the first line of an edition and of so many nodes
-abbrev pub HasMerged : {M : Type 0} → (M → List ℕ) → (M → ℕ) → List ℕ → List (List (StampedEntry M)) → List (List (StampedEntry M)) → ℕ →
-    List ℕ → Type 0
-HasMerged {M} word_of number_of words wrote lefts count text =
-    (rows : List (StampedRow M)) × IsMerging wrote lefts rows × (text ≡ text_of words (stamped_row_text word_of number_of) count rows)
+abbrev pub HasMerged : {M : Type 0} → PayloadTexts M → List ℕ → List (List (StampedEntry M)) → List (List (StampedEntry M)) → ℕ → List ℕ → Type 0
+HasMerged {M} payloads words wrote lefts count text =
+    (rows : List (StampedRow M)) × IsMerging wrote lefts rows × (text ≡ text_of words (stamped_row_text payloads) count rows)

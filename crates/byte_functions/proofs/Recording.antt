@@ -12,6 +12,7 @@ use Rattle.run_options.specs.declared.Edition.TheVariants as edition
 use Rattle.stamps.specs.Merged.{IsMerge}
 use Rattle.stamps.specs.Stamps.{Rises}
 use Rattle.dimacs_col.specs.Lines.{lines_of}
+use Rattle.wire_texts.specs.PayloadTexts.{PayloadTexts}
 use Rattle.answers.specs.Answers.{ReadsAs}
 use Rattle.answers.specs.Roots.{OfRooted}
 use Rattle.answers.specs.declared.root.Root.{Root}
@@ -36,8 +37,8 @@ module _ {S M E : Type 0} (program : Program S M E) (net : Net) (capacity : ℕ)
       subst (λ k. Rises (slice_index_or (map (λ node. node.entries) outcome.nodes) k [])) back
       (is.rises refl (suc i) (omega arith, omega (arith, lt, few, same))))
 
-module _ {S M E : Type 0} (program : Program S M E) (word_of : M → List ℕ) (number_of : M → ℕ) (words : List ℕ) (root : Option Root)
-    (input text : List ℕ) (net : Net) (capacity : ℕ) (outcome : Outcome S M)
+module _ {S M E : Type 0} (program : Program S M E) (payloads : PayloadTexts M) (words : List ℕ) (root : Option Root) (input text : List ℕ)
+    (net : Net) (capacity : ℕ) (outcome : Outcome S M)
     (reads : ReadsAs input (OfRooted root (λ read. IsNetwork read × (net ≡ read)))) (is : IsOutcome program net capacity true outcome)
     (whole : is_whole outcome ≡ true) where
   -- what holds of the network that was read
@@ -46,18 +47,18 @@ module _ {S M E : Type 0} (program : Program S M E) (word_of : M → List ℕ) (
       lines-more root (lines_of input) (λ read. IsNetwork read × (net ≡ read)) (λ read. IsNetwork read × Q read)
       (λ read both. (both.0, subst Q both.1 is_so)) reads
 
-  recorded : text ≡ entries_text word_of number_of (count_of net) outcome.nodes → IsTranscriptIn program word_of number_of words edition.One root input text
+  recorded : text ≡ entries_text payloads (count_of net) outcome.nodes → IsTranscriptIn program payloads words edition.One root input text
   recorded told =
-      let of_net : IsTranscriptOf program word_of number_of net text =
+      let of_net : IsTranscriptOf program payloads net text =
       record { capacity = capacity; outcome = outcome; is_outcome = is; whole = whole; is_text = told } in
-      read-as (λ n. IsTranscriptOf program word_of number_of n text) of_net
+      read-as (λ n. IsTranscriptOf program payloads n text) of_net
 
-  merged : IsMergedText word_of number_of words (count_of net) outcome.nodes text → WholeOutcomesReplay program net
-      → IsTranscriptIn program word_of number_of words edition.Two root input text
+  merged : IsMergedText payloads words (count_of net) outcome.nodes text → WholeOutcomesReplay program net
+      → IsTranscriptIn program payloads words edition.Two root input text
   merged (rows, merge, told) law =
       let all = subst (λ n. IsMerge n (entries_in outcome) rows) (nodes-count program net capacity true outcome is) merge in
       let played = law capacity outcome is whole rows all in
-      let of_net : IsMergedTranscriptOf program word_of number_of words net text = record {
+      let of_net : IsMergedTranscriptOf program payloads words net text = record {
         capacity = capacity;
         outcome = outcome;
         is_outcome = is;
@@ -68,10 +69,10 @@ module _ {S M E : Type 0} (program : Program S M E) (word_of : M → List ℕ) (
         is_replay = played.1;
         is_text = told;
       } in
-      read-as (λ n. IsMergedTranscriptOf program word_of number_of words n text) of_net
+      read-as (λ n. IsMergedTranscriptOf program payloads words n text) of_net
 
   -- the text in an edition is the answer
-  pub answered : (edition : Edition) → WholeOutcomesReplay program net → IsTextIn word_of number_of words edition (count_of net) outcome.nodes text
-      → IsTranscriptIn program word_of number_of words edition root input text
+  pub answered : (edition : Edition) → WholeOutcomesReplay program net → IsTextIn payloads words edition (count_of net) outcome.nodes text
+      → IsTranscriptIn program payloads words edition root input text
   answered edition.One law told = recorded told
   answered edition.Two law told = merged told law

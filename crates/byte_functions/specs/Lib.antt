@@ -3,3 +3,4 @@ pub mod Ends
 pub mod Transcripts
 pub mod Merge
 pub mod Colours
+pub mod Payloads

@@ -7,6 +7,7 @@ use Rattle.node_api.specs.Program.{Program}
 use Rattle.entries.specs.declared.rows.Row.{Row}
 use Rattle.program_texts.specs.Texts.{ProgramTexts}
 use Rattle.transcripts.specs.TranscriptText.{named_edition, stamped_row_text, text_of, transcript_of}
+use Rattle.wire_texts.specs.PayloadTexts.{PayloadTexts}
 use Rattle.answers.specs.Answers.{ReadsAs}
 use Rattle.answers.specs.Roots.{OfRooted}
 use Rattle.answers.specs.declared.root.Root.{Root}
@@ -25,32 +26,32 @@ rows_in g = map (λ entry. vertex_row g.vertex entry) (bare_of g.entries)
 abbrev pub stamped_edition : {S : Type 0} → ProgramTexts S → List ℕ
 stamped_edition texts = if texts.is_named then named_edition texts.name else codes "2"
 
--- The texts of programs whose payloads are written by a word and a number.
-module _ {S M : Type 0} (word_of : M → List ℕ) (number_of : M → ℕ) where
+-- the texts of programs by those of their payloads
+module _ {S M : Type 0} (payloads : PayloadTexts M) where
   -- the transcript of so many nodes: the entries of each, vertex by vertex
   abbrev pub entries_text : ℕ → List (Gathered S M) → List ℕ
-  entries_text count nodes = transcript_of word_of number_of count (flat_map rows_in nodes)
+  entries_text count nodes = transcript_of payloads count (flat_map rows_in nodes)
 
   -- The text is the transcript of so many nodes in an edition with stamps: their entries in the order of the stamps and
   -- then of the vertices, each once.
   abbrev pub IsMergedText : List ℕ → ℕ → List (Gathered S M) → List ℕ → Type 0
   IsMergedText words count nodes text = (rows : List (StampedRow M))
       × IsMerge (length nodes) (list_of (map (λ node. node.entries) nodes)) rows
-      × (text ≡ text_of words (stamped_row_text word_of number_of) count rows)
+      × (text ≡ text_of words (stamped_row_text payloads) count rows)
 
   -- the text is the transcript of nodes without stamps, or with them
   abbrev pub IsTextIn : List ℕ → Edition → ℕ → List (Gathered S M) → List ℕ → Type 0
   IsTextIn words edition.One count nodes text = text ≡ entries_text count nodes
   IsTextIn words edition.Two count nodes text = IsMergedText words count nodes text
 
-module _ {S M E : Type 0} (program : Program S M E) (word_of : M → List ℕ) (number_of : M → ℕ) where
+module _ {S M E : Type 0} (program : Program S M E) (payloads : PayloadTexts M) where
   -- The text is the transcript of a whole run of workers on the network, over links of some capacity.
   pub record IsTranscriptOf (net : Net) (text : List ℕ) : Type 0 where
     pub capacity : ℕ
     pub outcome : Outcome S M
     pub is_outcome : IsOutcome program net capacity true outcome
     pub whole : is_whole outcome ≡ true
-    pub is_text : text ≡ entries_text word_of number_of (count_of net) outcome.nodes
+    pub is_text : text ≡ entries_text payloads (count_of net) outcome.nodes
 
   -- The text is the transcript of a whole run of workers on the network, over links of some capacity, in an edition with
   -- stamps. Its entries are a whole replay: the event machine plays them in their order, each has the stamp that the
@@ -64,7 +65,7 @@ module _ {S M E : Type 0} (program : Program S M E) (word_of : M → List ℕ) (
     pub merge : IsMerge (count_of net) (entries_in outcome) rows
     pub last : State S M
     pub is_replay : IsWholeReplay program net rows last
-    pub is_text : text ≡ text_of words (stamped_row_text word_of number_of) (count_of net) rows
+    pub is_text : text ≡ text_of words (stamped_row_text payloads) (count_of net) rows
 
   -- the answer is the transcript of a whole run on the network that the input describes, with the root that is given, if
   -- there is one: without stamps or with them

@@ -4,6 +4,7 @@ ghost use Rattle.std.specs.Prelude.{◌≡◌, ◌++◌, All, IfOk, length, map}
 ghost use Rattle.outcomes.specs.Gathers.{gathered_of};
 ghost use Rattle.stamps.specs.Stamps.{Rises};
 ghost use Rattle.transcripts.specs.TranscriptText.{first_line_of};
+ghost use Rattle.wire_texts.specs.PayloadTexts.{payload_texts};
 ghost use Rattle.byte_functions.specs.Transcripts.{IsMergedText, stamped_edition};
 
 use crate::merging::Merging;
@@ -36,8 +37,8 @@ pub fn merged_text<P: ProgramText>(
 ) -> Result<Vec<u8>, Memory>
     requires count { length actors.items ≡ count }
     requires rising { All Rises (map (λ node. node.entries) (map gathered_of actors.items)) }
-    ensures { IfOk result (λ text. IsMergedText P.Payload.word_of P.Payload.number_of (stamped_edition P.texts) count
-        (map gathered_of actors.items) text.items) }
+    ensures { IfOk result (λ text. IsMergedText (payload_texts P.Payload.PayloadText.own) (stamped_edition P.texts)
+        count (map gathered_of actors.items) text.items) }
 {
     let mut text = Vec::new(alloc);
     push_edition_line::<P>(&mut text, count)?;

@@ -2,10 +2,11 @@
 
 ghost use Rattle.std.specs.Prelude.{◌≡◌, All, IfOk, IfErr, None, length, map};
 ghost use Rattle.colour_rules.specs.Program.{colouring};
-ghost use Rattle.colour_rules.specs.Words.{number_in, word_in};
 ghost use Rattle.run_options.specs.Ranges.{AreInRange};
 ghost use Rattle.outcomes.specs.Gathers.{gathered_of};
 ghost use Rattle.stamps.specs.Stamps.{Rises};
+ghost use Rattle.wire_texts.specs.PayloadTexts.{payload_texts};
+ghost use Rattle.byte_functions.specs.Payloads.{colouring_payloads};
 ghost use Rattle.byte_functions.specs.Transcripts.{IsProgramTranscript, IsTextIn, IsTranscriptAnswer, entries_text};
 ghost use Rattle.byte_functions.specs.Transcripts.{stamped_edition};
 ghost use Rattle.byte_functions.specs.Workers.{IsFaultOfWorkers};
@@ -33,7 +34,7 @@ fn text_of_actors<P: NodeProgram>(
     actors: Vec<Actor<P>>,
 ) -> Result<Vec<u8>, Memory>
     ensures { IfOk result (λ text.
-        text.items ≡ entries_text P.Payload.word_of P.Payload.number_of count (map gathered_of actors.items)) }
+        text.items ≡ entries_text (payload_texts P.Payload.PayloadText.own) count (map gathered_of actors.items)) }
 {
     let mut text = Vec::new(alloc);
     push_first_line(&mut text, count)?;
@@ -55,8 +56,8 @@ fn text_in<P: ProgramText>(
 ) -> Result<Vec<u8>, Memory>
     requires count { length actors.items ≡ count }
     requires rising { All Rises (map (λ node. node.entries) (map gathered_of actors.items)) }
-    ensures { IfOk result (λ text. IsTextIn P.Payload.word_of P.Payload.number_of (stamped_edition P.texts) edition count
-        (map gathered_of actors.items) text.items) }
+    ensures { IfOk result (λ text. IsTextIn (payload_texts P.Payload.PayloadText.own) (stamped_edition P.texts) edition
+        count (map gathered_of actors.items) text.items) }
 {
     match edition {
         Edition::One => text_of_actors(alloc, count, actors),
@@ -84,8 +85,8 @@ pub fn run_transcript_bytes<P: ProgramText, G: Gate + Sync, R: Threads + Wait + 
     edition: Edition,
     gate: &G,
 ) -> Result<Vec<u8>, PlanFault>
-    ensures ok { IfOk result (λ text. IsProgramTranscript P.program P.Payload.word_of P.Payload.number_of P.texts edition
-        root input.now text.items) }
+    ensures ok { IfOk result (λ text. IsProgramTranscript P.program (payload_texts P.Payload.PayloadText.own) P.texts
+        edition root input.now text.items) }
     ensures in_range { IfOk result (λ _. AreInRange options) }
     ensures fault { IfErr result (IsFaultOfWorkers root options input.now) }
 {
@@ -110,7 +111,7 @@ pub fn transcript_bytes<G: Gate + Sync, R: Threads + Wait + Sync>(
     edition: Edition,
     gate: &G,
 ) -> Result<Vec<u8>, PlanFault>
-    ensures ok { IfOk result (λ text. IsTranscriptAnswer colouring word_in number_in edition input.now text.items) }
+    ensures ok { IfOk result (λ text. IsTranscriptAnswer colouring colouring_payloads edition input.now text.items) }
     ensures in_range { IfOk result (λ _. AreInRange options) }
     ensures fault { IfErr result (IsFaultOfWorkers None options input.now) }
 {

@@ -13,6 +13,7 @@ use Rattle.event_machine.specs.Step.{has_port, is_vertex}
 use Rattle.event_texts.specs.declared.missing.Lack.{Lack}
 use Rattle.event_texts.specs.declared.missing.Lack.TheVariants.{Ack, Safe}
 use Rattle.number_rows.specs.Row.{numbered}
+use Rattle.wire_texts.specs.PayloadTexts.{PayloadTexts}
 use Rattle.wire_texts.specs.WireText.{wire_text}
 
 -- a port at which a wire of the node's pulse is still to come: its payload's acknowledgement, or the neighbour's safe
@@ -69,20 +70,18 @@ missing_text program net state (Put v i) =
 missing_text program net state (Take v i) =
     if has_port net v i then numbered (codes ": link from ") (neighbour_of net v i) ++ numbered (codes " to ") v else []
 
-module _ {M : Type 0} (word_of : M → List ℕ) (number_of : M → ℕ) where
-  -- a wire that an event would have carried
-  abbrev pub expected_wire : Option (Wire M) → List ℕ
-  expected_wire None = []
-  expected_wire (Some wire) = codes ": expected" ++ wire_text word_of number_of wire
+-- a wire that an event would have carried
+abbrev pub expected_wire : {M : Type 0} → PayloadTexts M → Option (Wire M) → List ℕ
+expected_wire payloads None = []
+expected_wire payloads (Some wire) = codes ": expected" ++ wire_text payloads wire
 
 -- The words behind an entry of another pulse or wire: the pulse or wire that its event comes to.
-abbrev pub expected_text : {S M E : Type 0} → Program S M E → (M → List ℕ) → (M → ℕ) → Net → State S M → Event →
-    List ℕ
-expected_text program word_of number_of net state (Pulse v) =
+abbrev pub expected_text : {S M E : Type 0} → Program S M E → PayloadTexts M → Net → State S M → Event → List ℕ
+expected_text program payloads net state (Pulse v) =
     if is_vertex net v then numbered (codes ": expected pulse ") ((node_of program net state v).view.pulse + 1)
     else []
-expected_text program word_of number_of net state (Put v i) =
+expected_text program payloads net state (Put v i) =
     if has_port net v i
-    then expected_wire word_of number_of (slice_get (port_at (node_of program net state v).view i).out 0) else []
-expected_text program word_of number_of net state (Take v i) =
-    if has_port net v i then expected_wire word_of number_of (slice_get (link_to net state.links v i).held 0) else []
+    then expected_wire payloads (slice_get (port_at (node_of program net state v).view i).out 0) else []
+expected_text program payloads net state (Take v i) =
+    if has_port net v i then expected_wire payloads (slice_get (link_to net state.links v i).held 0) else []

@@ -7,6 +7,7 @@ use Rattle.alpha_core.specs.View.{Node, is_halted}
 use Rattle.event_machine.specs.State.{Link, State, link_at, node_of}
 use Rattle.program_texts.specs.Texts.{ProgramTexts}
 use Rattle.number_rows.specs.Row.{numbered}
+use Rattle.wire_texts.specs.PayloadTexts.{PayloadTexts}
 use Rattle.wire_texts.specs.WireText.{wire_text}
 
 -- at the last pulse, the result of the node
@@ -19,12 +20,12 @@ node_text texts net last v node =
     numbered (codes "node ") v ++ numbered (codes " pulse ") node.view.pulse ++ result_text texts net last v node
     ++ codes "\n"
 
-module _ {M : Type 0} (word_of : M → List ℕ) (number_of : M → ℕ) where
+module _ {M : Type 0} (payloads : PayloadTexts M) where
   -- `link V W taken N`, and the wires that the link from V to W holds, oldest first
   abbrev pub link_text : ℕ → ℕ → Link M → List ℕ
   link_text v w link =
       numbered (codes "link ") v ++ numbered (codes " ") w ++ numbered (codes " taken ") (length link.taken)
-      ++ flat_map (wire_text word_of number_of) link.held ++ codes "\n"
+      ++ flat_map (wire_text payloads) link.held ++ codes "\n"
 
   -- the links out of a vertex, by port
   abbrev pub links_text : {S : Type 0} → Net → State S M → ℕ → List ℕ
@@ -33,8 +34,7 @@ module _ {M : Type 0} (word_of : M → List ℕ) (number_of : M → ℕ) where
       (range_with_len 0 (degree_of net v))
 
 -- for each vertex, ascending, its node and the links out of it
-abbrev pub state_text : {S M E : Type 0} → Program S M E → ProgramTexts S → (M → List ℕ) → (M → ℕ) → Net →
-    State S M → List ℕ
-state_text program texts word_of number_of net state =
+abbrev pub state_text : {S M E : Type 0} → Program S M E → ProgramTexts S → PayloadTexts M → Net → State S M → List ℕ
+state_text program texts payloads net state =
     flat_map (λ v. node_text texts net (last_pulse_on program net) v (node_of program net state v)
-    ++ links_text word_of number_of net state v) (vertices net)
+    ++ links_text payloads net state v) (vertices net)

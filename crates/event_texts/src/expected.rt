@@ -2,6 +2,7 @@
 
 ghost use Rattle.std.specs.Prelude.{◌≡◌, ◌++◌, IfOk};
 ghost use Rattle.event_texts.specs.Missing.{expected_text, expected_wire};
+ghost use Rattle.wire_texts.specs.PayloadTexts.{payload_texts};
 
 use crate::missing::{has_port, is_vertex};
 use alpha_core::Wire;
@@ -13,7 +14,7 @@ use wire_texts::push_wire;
 
 // A wire, if there is one, as the one that was expected.
 fn wire_words<T: PayloadText>(alloc: Global, wire: Option<Wire<T>>) -> Result<Vec<u8>, AllocError>
-    ensures { IfOk result (λ text. text.items ≡ expected_wire T.word_of T.number_of wire) }
+    ensures { IfOk result (λ text. text.items ≡ expected_wire (payload_texts T.PayloadText.own) wire) }
 {
     let mut text = Vec::new(alloc);
     if let Some(wire) = wire {
@@ -34,8 +35,8 @@ pub fn expected_words<P: NodeProgram>(
     state: &NetState<P>,
     event: Event,
 ) -> Result<Vec<u8>, AllocError>
-    ensures { IfOk result (λ text. text.items
-        ≡ expected_text P.program P.Payload.word_of P.Payload.number_of state.now.net state.now.state event) }
+    ensures { IfOk result (λ text. text.items ≡ expected_text P.program (payload_texts P.Payload.PayloadText.own)
+        state.now.net state.now.state event) }
 {
     state.is_simulation();
     let net = state.network();

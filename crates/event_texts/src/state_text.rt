@@ -5,6 +5,7 @@ ghost use Rattle.interference.specs.Net.{IsVertex, degree_of, neighbour_of};
 ghost use Rattle.node_api.specs.Program.{last_pulse_on};
 ghost use Rattle.event_machine.specs.State.{link_at, node_of};
 ghost use Rattle.event_texts.specs.StateText.{link_text, links_text, node_text, state_text};
+ghost use Rattle.wire_texts.specs.PayloadTexts.{payload_texts};
 ghost use Rattle.wire_texts.specs.WireText.{wire_text};
 
 use alpha_core::Wire;
@@ -39,7 +40,7 @@ fn push_node<P: ProgramText>(
 // Appends wires, with a space before each word.
 fn push_wires<T: PayloadText>(text: &mut Vec<u8>, wires: &[Wire<T>]) -> Result<(), AllocError>
     ensures { IfOk result (λ _. text.new.items ≡ text.old.items
-        ++ flat_map (wire_text T.word_of T.number_of) wires.now) }
+        ++ flat_map (wire_text (payload_texts T.PayloadText.own)) wires.now) }
 {
     for wire in wires {
         push_wire(text, *wire)?;
@@ -57,7 +58,7 @@ fn push_link<P: NodeProgram>(
     requires vertex { IsVertex state.now.net v }
     requires port { port < degree_of state.now.net v }
     ensures { IfOk result (λ _. text.new.items ≡ text.old.items
-        ++ link_text P.Payload.word_of P.Payload.number_of v (neighbour_of state.now.net v port)
+        ++ link_text (payload_texts P.Payload.PayloadText.own) v (neighbour_of state.now.net v port)
         (link_at state.now.state.links v port)) }
 {
     let (taken, held) = state.link(v, port);
@@ -77,7 +78,7 @@ fn push_links<P: NodeProgram>(
 ) -> Result<(), AllocError>
     requires vertex { IsVertex state.now.net v }
     ensures { IfOk result (λ _. text.new.items ≡ text.old.items
-        ++ links_text P.Payload.word_of P.Payload.number_of state.now.net state.now.state v) }
+        ++ links_text (payload_texts P.Payload.PayloadText.own) state.now.net state.now.state v) }
 {
     for port in 0..state.network().degree(v) {
         push_link(text, state, v, port)?;
@@ -93,7 +94,7 @@ fn push_links<P: NodeProgram>(
 /// If memory is refused.
 pub fn text_of_state<P: ProgramText>(alloc: Global, state: &NetState<P>) -> Result<Vec<u8>, Memory>
     ensures text { IfOk result (λ text. text.items
-        ≡ state_text P.program P.texts P.Payload.word_of P.Payload.number_of state.now.net state.now.state) }
+        ≡ state_text P.program P.texts (payload_texts P.Payload.PayloadText.own) state.now.net state.now.state) }
 {
     let mut text = Vec::new(alloc);
     for i in 0..state.network().nodes() {

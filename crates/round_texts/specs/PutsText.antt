@@ -5,13 +5,14 @@ use Rattle.node_api.specs.Boxes.{at_port}
 use Rattle.alpha_core.specs.declared.wire.Wire.TheVariants.{Payload}
 use Rattle.entries.specs.declared.entry.Entry.TheVariants.{Put}
 use Rattle.entries.specs.Rows.{vertex_row}
+use Rattle.wire_texts.specs.PayloadTexts.{PayloadTexts}
 use Rattle.transcripts.specs.TranscriptText.{row_text}
 
-module _ {M : Type 0} (word_of : M → List ℕ) (number_of : M → ℕ) where
+module _ {M : Type 0} (payloads : PayloadTexts M) where
   -- what v sends w at a pulse: the line of the entry, or none if it sends nothing
   abbrev pub put_text : ℕ → ℕ → ℕ → Option M → List ℕ
   put_text p v w None = []
-  put_text p v w (Some payload) = row_text word_of number_of (vertex_row v (Put w (Payload p payload)))
+  put_text p v w (Some payload) = row_text payloads (vertex_row v (Put w (Payload p payload)))
 
   -- what v sends at a pulse by this outbox, by ascending neighbour
   abbrev pub puts_text : Net → ℕ → ℕ → List (Option M) → List ℕ

@@ -3,6 +3,7 @@
 ghost use Rattle.std.specs.Prelude.{◌≡◌, ◌++◌, IfOk};
 ghost use Rattle.interference.specs.Net.{IsVertex};
 ghost use Rattle.node_api.specs.Run.{outbox_at};
+ghost use Rattle.wire_texts.specs.PayloadTexts.{payload_texts};
 ghost use Rattle.round_texts.specs.PutsText.{puts_text};
 
 use alpha_core::Wire;
@@ -24,7 +25,7 @@ pub(crate) fn push_puts<P: ProgramText>(
 ) -> Result<(), AllocError>
     requires vertex { IsVertex rounds.now.net v }
     ensures { IfOk result (λ _. text.new.items ≡ text.old.items
-        ++ puts_text P.Payload.word_of P.Payload.number_of rounds.now.net rounds.now.pulse v
+        ++ puts_text (payload_texts P.Payload.PayloadText.own) rounds.now.net rounds.now.pulse v
         (outbox_at P.program rounds.now.net rounds.now.pulse v)) }
 {
     if rounds.is_quiet(v) {

@@ -3,6 +3,7 @@
 ghost use Rattle.std.specs.Prelude.{◌≡◌, ◌≤◌, ◌++◌, IfOk};
 ghost use Rattle.interference.specs.Net.{IsVertex};
 ghost use Rattle.node_api.specs.Program.{last_pulse_on};
+ghost use Rattle.wire_texts.specs.PayloadTexts.{payload_texts};
 ghost use Rattle.round_texts.specs.RoundsText.{pulse_line, pulse_text, rounds_text, vertex_text};
 
 use crate::puts::push_puts;
@@ -34,7 +35,7 @@ fn push_vertex<P: ProgramText>(
 ) -> Result<(), AllocError>
     requires vertex { IsVertex rounds.now.net v }
     ensures { IfOk result (λ _. text.new.items ≡ text.old.items
-        ++ vertex_text P.program P.texts P.Payload.word_of P.Payload.number_of rounds.now.net rounds.now.pulse v) }
+        ++ vertex_text P.program P.texts (payload_texts P.Payload.PayloadText.own) rounds.now.net rounds.now.pulse v) }
 {
     rounds
         .node(v)
@@ -45,7 +46,7 @@ fn push_vertex<P: ProgramText>(
 // Appends the lines of a pulse.
 fn push_pulse<P: ProgramText>(text: &mut Vec<u8>, rounds: &Rounds<'_, P>) -> Result<(), AllocError>
     ensures { IfOk result (λ _. text.new.items ≡ text.old.items
-        ++ pulse_text P.program P.texts P.Payload.word_of P.Payload.number_of rounds.now.net rounds.now.pulse) }
+        ++ pulse_text P.program P.texts (payload_texts P.Payload.PayloadText.own) rounds.now.net rounds.now.pulse) }
 {
     push_pulse_line::<P>(text, rounds.network(), rounds.pulse())?;
     for i in 0..rounds.network().nodes() {
@@ -63,7 +64,7 @@ fn push_pulse<P: ProgramText>(text: &mut Vec<u8>, rounds: &Rounds<'_, P>) -> Res
 /// If memory is refused.
 pub fn rounds_text<P: ProgramText>(alloc: Global, net: &Network) -> Result<Vec<u8>, Memory>
     ensures text { IfOk result (λ text. text.items
-        ≡ rounds_text P.program P.texts P.Payload.word_of P.Payload.number_of net.now) }
+        ≡ rounds_text P.program P.texts (payload_texts P.Payload.PayloadText.own) net.now) }
 {
     let mut text = Vec::new(alloc);
     P::push_head(&mut text, net)?;

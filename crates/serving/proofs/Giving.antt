@@ -18,6 +18,7 @@ use Rattle.leader.specs.Texts.{leader_texts}
 use Rattle.matching.specs.Texts.{matching_texts}
 use Rattle.recolouring.specs.Texts.{recolouring_texts}
 use Rattle.program_texts.specs.Texts.{ProgramTexts}
+use Rattle.wire_texts.specs.PayloadTexts.{PayloadTexts}
 use Rattle.node_api.specs.Program.{Program as NodeProgram}
 use Rattle.answers.specs.Faults.{fault_line, fault_status}
 use Rattle.command_line.specs.Asked.{request_of}
@@ -34,22 +35,21 @@ of-bytes program output errors request input bytes text status same may puts =
     (Ok bytes, may, subst (λ t. Puts program output errors t status) same puts)
 
 -- nodes of any program may answer that memory ran out
-play-memory : {S M E : Type 0} (program : NodeProgram S M E) (texts : ProgramTexts S) (word_of : M → List ℕ) (number_of : M → ℕ)
-    (payload_of : List ℕ → ℕ → Option M) (root : Option Root) (play : Played) (input : List ℕ)
-    → MayPlay program texts word_of number_of payload_of root play input (Err Memory)
-play-memory program texts word_of number_of payload_of root Events input = tt
-play-memory program texts word_of number_of payload_of root Replay input = tt
-play-memory program texts word_of number_of payload_of root Rounds input = tt
-play-memory program texts word_of number_of payload_of root (Run options show) input = (tt, λ e. cc)
+play-memory : {S M E : Type 0} (program : NodeProgram S M E) (texts : ProgramTexts S) (payloads : PayloadTexts M) (root : Option Root) (play : Played)
+    (input : List ℕ) → MayPlay program texts payloads root play input (Err Memory)
+play-memory program texts payloads root Events input = tt
+play-memory program texts payloads root Replay input = tt
+play-memory program texts payloads root Rounds input = tt
+play-memory program texts payloads root (Run options show) input = (tt, λ e. cc)
 
 named-memory : (name : NodeProgramName) (play : Played) (input : List ℕ) → MayPlayNamed name play input (Err Memory)
-named-memory Colouring play input = play-memory _ colouring_texts _ _ _ None play input
-named-memory Leader play input = play-memory _ leader_texts _ _ _ None play input
-named-memory (Layers None) play input = play-memory _ layers_texts _ _ _ None play input
-named-memory (Layers (Some v)) play input = play-memory _ (layers_texts_from v) _ _ _ (Some (layers_root v)) play input
-named-memory Matching play input = play-memory _ matching_texts _ _ _ None play input
-named-memory IndependentSet play input = play-memory _ independent_set_texts _ _ _ None play input
-named-memory (Recolouring passes) play input = play-memory _ (recolouring_texts (again_of passes)) _ _ _ None play input
+named-memory Colouring play input = play-memory _ colouring_texts _ None play input
+named-memory Leader play input = play-memory _ leader_texts _ None play input
+named-memory (Layers None) play input = play-memory _ layers_texts _ None play input
+named-memory (Layers (Some v)) play input = play-memory _ (layers_texts_from v) _ (Some (layers_root v)) play input
+named-memory Matching play input = play-memory _ matching_texts _ None play input
+named-memory IndependentSet play input = play-memory _ independent_set_texts _ None play input
+named-memory (Recolouring passes) play input = play-memory _ (recolouring_texts (again_of passes)) _ None play input
 
 memory-may : (request : Request) (input : List ℕ) → MayAnswer request input (Err Memory)
 memory-may Forests input = tt

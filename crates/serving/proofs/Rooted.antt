@@ -1,9 +1,10 @@
 -- What nodes with a given root answer, if their last states are for more than the program's texts say.
-use Rattle.std.proofs.Common.{ℕ, List, Option, Some, Result, Ok, Err}
+use Rattle.std.proofs.Common.{ℕ, List, Some, Result, Ok, Err}
 use Rattle.interference.specs.Net.{Net, IsNetwork, IsVertex}
 use Rattle.node_api.specs.Program.{Program}
 use Rattle.node_api.specs.Run.{last_state}
 use Rattle.program_texts.specs.Texts.{ProgramTexts}
+use Rattle.wire_texts.specs.PayloadTexts.{PayloadTexts}
 use Rattle.command_line.specs.declared.programs.Shown.TheVariants as shown
 use Rattle.command_line.specs.declared.request.Play.{Play}
 use Rattle.command_line.specs.declared.request.Play.TheVariants.{Events, Replay, Rounds, Run}
@@ -12,15 +13,15 @@ use Rattle.answers.specs.declared.fault.PlanFault.{PlanFault}
 use Rattle.answers.specs.declared.root.Root.{Root}
 use Rattle.serving.specs.Plays.{IsGoodPlay, MayPlay}
 
-module _ {S M E : Type 0} (program : Program S M E) (texts : ProgramTexts S) (word_of : M → List ℕ) (number_of : M → ℕ)
-    (payload_of : List ℕ → ℕ → Option M) (root : Root) (Solves : Net → (ℕ → S) → Type 0)
+module _ {S M E : Type 0} (program : Program S M E) (texts : ProgramTexts S) (payloads : PayloadTexts M) (root : Root)
+    (Solves : Net → (ℕ → S) → Type 0)
     (solved : (net : Net) → IsVertex net root.vertex → IsNetwork (rooted root net) → Solves (rooted root net) (last_state program (rooted root net))) where
   -- the same texts, which are to say this
   abbrev other : ProgramTexts S
   other = record texts { Solves = Solves }
 
-  good : (play : Play) (input answer : List ℕ) → IsGoodPlay program texts word_of number_of payload_of (Some root) play input answer
-      → IsGoodPlay program other word_of number_of payload_of (Some root) play input answer
+  good : (play : Play) (input answer : List ℕ) → IsGoodPlay program texts payloads (Some root) play input answer
+      → IsGoodPlay program other payloads (Some root) play input answer
   good Events input answer (graph, reads, (vertex, (ok, reached, solves))) = (graph, reads, (vertex, (ok, reached, solved _ vertex ok)))
   good Replay input answer (graph, reads, (vertex, (ok, reached, solves, named))) =
       (graph, reads, (vertex, (ok, reached, solved _ vertex ok, named)))
@@ -30,8 +31,8 @@ module _ {S M E : Type 0} (program : Program S M E) (texts : ProgramTexts S) (wo
   good (Run options shown.Transcript) input answer is = is
 
   pub plays : (play : Play) (input : List ℕ) (result : Result (List ℕ) PlanFault)
-      → MayPlay program texts word_of number_of payload_of (Some root) play input result
-      → MayPlay program other word_of number_of payload_of (Some root) play input result
+      → MayPlay program texts payloads (Some root) play input result
+      → MayPlay program other payloads (Some root) play input result
   plays play input (Ok answer) may = good play input answer may
   plays Events input (Err fault) may = may
   plays Replay input (Err fault) may = may

@@ -3,7 +3,7 @@ use Rattle.std.specs.Prelude.{◌≢◌, ℕ, List, None, Result, Ok, Err}
 use Rattle.run_faults.specs.declared.fault.PoolFault.TheVariants.{BadOptions}
 use Rattle.answers.specs.Answers.{IsFaultOfText, IsForestsAnswer, IsPlainAnswer}
 use Rattle.colour_rules.specs.Program.{colouring}
-use Rattle.colour_rules.specs.Words.{number_in, word_in}
+use Rattle.byte_functions.specs.Payloads.{colouring_payloads}
 use Rattle.byte_functions.specs.Transcripts.{IsTranscriptAnswer}
 use Rattle.answers.specs.Verdicts.{IsCheckAnswer, IsFaultOfCheck}
 use Rattle.byte_functions.specs.Workers.{IsFaultOfWorkers}
@@ -19,7 +19,7 @@ IsGoodAnswer Forests input answer = IsForestsAnswer input answer
 IsGoodAnswer Plain input answer = IsPlainAnswer input answer
 IsGoodAnswer (Plan options) input answer = IsPlainAnswer input answer
 IsGoodAnswer (Transcript options edition) input answer =
-    IsTranscriptAnswer colouring word_in number_in edition input answer
+    IsTranscriptAnswer colouring colouring_payloads edition input answer
 IsGoodAnswer Check input answer = IsCheckAnswer input answer
 IsGoodAnswer (Play program play) input answer = MayPlayNamed program play input (Ok answer)
 

@@ -1,3 +1,4 @@
+pub mod Payloads
 pub mod Answers
 pub mod Plays
 pub mod Streams

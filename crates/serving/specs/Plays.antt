@@ -1,9 +1,11 @@
 -- What may be answered to an input by nodes of a program.
-use Rattle.std.specs.Prelude.{◌≢◌, ℕ, List, Option, Some, None, Result, Ok, Err, codes}
+use Rattle.std.specs.Prelude.{◌≢◌, ℕ, List, Option, Some, None, Result, Ok, Err}
 use Rattle.program_texts.specs.Texts.{ProgramTexts}
 use Rattle.node_api.specs.Program.{Program}
 use Rattle.run_options.specs.declared.Edition.TheVariants as edition
 use Rattle.byte_functions.specs.Ends.{IsEndsAnswer}
+use Rattle.wire_texts.specs.PayloadTexts.{PayloadTexts}
+use Rattle.byte_functions.specs.Payloads.{colouring_payloads}
 use Rattle.byte_functions.specs.Transcripts.{IsProgramTranscript}
 use Rattle.byte_functions.specs.Workers.{IsFaultOfWorkers}
 use Rattle.answers.specs.Answers.{IsFaultOfText}
@@ -15,7 +17,6 @@ use Rattle.answers.specs.declared.fault.PlanFault.TheVariants.{Pool}
 use Rattle.answers.specs.declared.root.Root.{Root}
 use Rattle.colour_program.specs.ColoursText.{colouring_texts}
 use Rattle.colour_rules.specs.Program.{colouring}
-use Rattle.colour_rules.specs.Words.{number_in, payload_from, word_in}
 use Rattle.run_faults.specs.declared.fault.PoolFault.TheVariants.{BadOptions}
 use Rattle.command_line.specs.declared.programs.NodeProgramName.{NodeProgramName}
 use Rattle.command_line.specs.declared.programs.NodeProgramName.TheVariants.{Colouring, IndependentSet, Layers, Leader}
@@ -25,40 +26,36 @@ use Rattle.command_line.specs.declared.programs.Passes.TheVariants.{One, Three, 
 use Rattle.command_line.specs.declared.programs.Shown.TheVariants as shown
 use Rattle.command_line.specs.declared.request.Play.{Play}
 use Rattle.command_line.specs.declared.request.Play.TheVariants.{Events, Replay, Rounds, Run}
-use Rattle.followed.specs.Said.{of_either, read_first}
 use Rattle.independent_set.specs.Knowing.{independent_set}
 use Rattle.independent_set.specs.Texts.{independent_set_texts}
-use Rattle.independent_set.specs.Words.{joined_from}
 use Rattle.layers.specs.Layering.{layering}
 use Rattle.layers.specs.Texts.{layers_texts, layers_texts_from}
-use Rattle.layers.specs.Words.{hops_from}
 use Rattle.layers.specs.declared.layer.TheConstants.{ROOT_ID}
 use Rattle.leader.specs.Election.{election}
 use Rattle.leader.specs.Texts.{leader_texts}
-use Rattle.leader.specs.Words.{candidate_from}
 use Rattle.matching.specs.Knowing.{matching}
 use Rattle.matching.specs.Texts.{matching_texts}
-use Rattle.matching.specs.Words as proposal
 use Rattle.recolouring.specs.Knowing.{recolouring}
 use Rattle.recolouring.specs.Texts.{recolouring_texts}
-use Rattle.recolouring.specs.Words.{anew_from}
+use Rattle.serving.specs.Payloads.{independent_set_payloads, layers_payloads, leader_payloads, matching_payloads}
+use Rattle.serving.specs.Payloads.{recolouring_payloads}
 
--- A program, its texts, the words of its payloads, and the root that it is given, if it is given one.
-module _ {S M E : Type 0} (program : Program S M E) (texts : ProgramTexts S) (word_of : M → List ℕ)
-    (number_of : M → ℕ) (payload_of : List ℕ → ℕ → Option M) (root : Option Root) where
+-- A program, its texts and those of its payloads, and the root that it is given, if it is given one.
+module _ {S M E : Type 0} (program : Program S M E) (texts : ProgramTexts S) (payloads : PayloadTexts M)
+    (root : Option Root) where
   -- the answer to a good input, a line for each that nodes may be asked for
   abbrev pub IsGoodPlay : Play → List ℕ → List ℕ → Type 0
-  IsGoodPlay Events input answer = IsEventsAnswer program texts word_of number_of root input answer
-  IsGoodPlay Replay input answer = IsReplayAnswer program texts word_of number_of payload_of root input answer
-  IsGoodPlay Rounds input answer = IsRoundsAnswer program texts word_of number_of root input answer
+  IsGoodPlay Events input answer = IsEventsAnswer program texts payloads root input answer
+  IsGoodPlay Replay input answer = IsReplayAnswer program texts payloads root input answer
+  IsGoodPlay Rounds input answer = IsRoundsAnswer program texts payloads root input answer
   IsGoodPlay (Run options shown.States) input answer = IsEndsAnswer program texts root input answer
   IsGoodPlay (Run options shown.Transcript) input answer =
-      IsProgramTranscript program word_of number_of texts edition.Two root input answer
+      IsProgramTranscript program payloads texts edition.Two root input answer
 
   -- the fault of an input, a line for each; the options of a command line are never out of range
   abbrev pub IsFaultPlay : Play → List ℕ → PlanFault → Type 0
   IsFaultPlay Events input fault = IsFaultOfEvents program root input fault
-  IsFaultPlay Replay input fault = IsFaultOfReplay program word_of number_of payload_of texts root input fault
+  IsFaultPlay Replay input fault = IsFaultOfReplay program payloads texts root input fault
   IsFaultPlay Rounds input fault = IsFaultOfText root input fault
   IsFaultPlay (Run options show) input fault = IsFaultOfWorkers root options input fault × (fault ≢ Pool BadOptions)
 
@@ -79,18 +76,15 @@ again_of Three = 2
 
 -- the same of the recolouring, with so many passes
 abbrev pub MayRecolour : Passes → Play → List ℕ → Result (List ℕ) PlanFault → Type 0
-MayRecolour passes = MayPlay (recolouring (again_of passes)) (recolouring_texts (again_of passes))
-    (of_either word_in (λ x. codes "anew")) (of_either number_in (λ x. x.0)) (read_first payload_from anew_from) None
+MayRecolour passes =
+    MayPlay (recolouring (again_of passes)) (recolouring_texts (again_of passes)) recolouring_payloads None
 
 -- the same of the program of a name, each a line; layers with a root are the distances from this vertex
 abbrev pub MayPlayNamed : NodeProgramName → Play → List ℕ → Result (List ℕ) PlanFault → Type 0
-MayPlayNamed Colouring = MayPlay colouring colouring_texts word_in number_in payload_from None
-MayPlayNamed Leader = MayPlay election leader_texts (λ x. codes "leader") (λ x. x.0) candidate_from None
-MayPlayNamed (Layers None) = MayPlay layering layers_texts (λ x. codes "hops") (λ x. x.0) hops_from None
-MayPlayNamed (Layers (Some v)) =
-    MayPlay layering (layers_texts_from v) (λ x. codes "hops") (λ x. x.0) hops_from (Some (layers_root v))
-MayPlayNamed Matching = MayPlay matching matching_texts (of_either word_in proposal.word_in)
-    (of_either number_in proposal.number_in) (read_first payload_from proposal.proposal_from) None
-MayPlayNamed IndependentSet = MayPlay independent_set independent_set_texts (of_either word_in (λ x. codes "joined"))
-    (of_either number_in (λ x. x.0)) (read_first payload_from joined_from) None
+MayPlayNamed Colouring = MayPlay colouring colouring_texts colouring_payloads None
+MayPlayNamed Leader = MayPlay election leader_texts leader_payloads None
+MayPlayNamed (Layers None) = MayPlay layering layers_texts layers_payloads None
+MayPlayNamed (Layers (Some v)) = MayPlay layering (layers_texts_from v) layers_payloads (Some (layers_root v))
+MayPlayNamed Matching = MayPlay matching matching_texts matching_payloads None
+MayPlayNamed IndependentSet = MayPlay independent_set independent_set_texts independent_set_payloads None
 MayPlayNamed (Recolouring passes) = MayRecolour passes

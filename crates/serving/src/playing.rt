@@ -1,10 +1,11 @@
 //! What nodes of a program do with the bytes of an input.
 
-ghost use Rattle.std.specs.Prelude.{IfOk, IfErr, Ok, Err, Some, codes};
+ghost use Rattle.std.specs.Prelude.{IfOk, IfErr, Ok, Err, Some};
 ghost use Rattle.command_line.specs.Asked.{IsPlayInRange};
 ghost use Rattle.layers.specs.Layering.{layering};
 ghost use Rattle.layers.specs.Texts.{layers_texts_from};
-ghost use Rattle.layers.specs.Words.{hops_from};
+ghost use Rattle.wire_texts.specs.PayloadTexts.{payload_texts};
+ghost use Rattle.serving.specs.Payloads.{layers_payloads};
 ghost use Rattle.serving.specs.Plays.{MayPlay, MayPlayNamed, MayRecolour, layers_root};
 
 use actor::OpenGate;
@@ -34,10 +35,10 @@ fn play_bytes<P: ProgramText, T: Threads + Wait + Sync>(
     input: &[u8],
 ) -> Result<Vec<u8>, PlanFault>
     requires in_range { IsPlayInRange play }
-    ensures ok { IfOk result (λ bytes. MayPlay P.program P.texts P.Payload.word_of P.Payload.number_of
-        P.Payload.payload_of root play input.now (Ok bytes.items)) }
-    ensures fault { IfErr result (λ fault. MayPlay P.program P.texts P.Payload.word_of P.Payload.number_of
-        P.Payload.payload_of root play input.now (Err fault)) }
+    ensures ok { IfOk result (λ bytes. MayPlay P.program P.texts (payload_texts P.Payload.PayloadText.own) root play
+        input.now (Ok bytes.items)) }
+    ensures fault { IfErr result (λ fault. MayPlay P.program P.texts (payload_texts P.Payload.PayloadText.own) root play
+        input.now (Err fault)) }
 {
     match play {
         Play::Events => events_bytes::<P>(alloc, input, root),
@@ -67,10 +68,10 @@ fn layers_bytes<T: Threads + Wait + Sync>(
     input: &[u8],
 ) -> Result<Vec<u8>, PlanFault>
     requires in_range { IsPlayInRange play }
-    ensures ok { IfOk result (λ bytes. MayPlay layering (layers_texts_from vertex) (λ x. codes "hops") (λ x. x.0)
-        hops_from (Some (layers_root vertex)) play input.now (Ok bytes.items)) }
-    ensures fault { IfErr result (λ fault. MayPlay layering (layers_texts_from vertex) (λ x. codes "hops") (λ x. x.0)
-        hops_from (Some (layers_root vertex)) play input.now (Err fault)) }
+    ensures ok { IfOk result (λ bytes. MayPlay layering (layers_texts_from vertex) layers_payloads
+        (Some (layers_root vertex)) play input.now (Ok bytes.items)) }
+    ensures fault { IfErr result (λ fault. MayPlay layering (layers_texts_from vertex) layers_payloads
+        (Some (layers_root vertex)) play input.now (Err fault)) }
 {
     rounds_end_with_the_distances_from_a_root();
     let root = Root {

@@ -1,6 +1,6 @@
 -- The words of an entry's line. They are words (words-of), their text is the line (text-of), and they are read as the entry
 -- (reads-row).
-use Rattle.std.proofs.Common.{◌≡◌, ◌<◌, ◌^◌, ◌++◌, ◌∷◌, [], ◌∙◌, ℕ, true, Option, Some, None, List, All, inl, inr, arith, ap, append_assoc, codes, get_or}
+use Rattle.std.proofs.Common.{◌≡◌, ◌<◌, ◌^◌, ◌++◌, ◌∷◌, [], ◌∙◌, ℕ, true, Some, None, List, All, inl, inr, arith, ap, append_assoc, codes, get_or}
 use Rattle.std.proofs.Common.{length, nat_lt, refl, option_and_then, option_map, if◌then◌else◌, rules}
 use Rattle.std.proofs.lemmas.Bool.{lt-ltb, cases_lt}
 use Rattle.std.proofs.lemmas.Fmt.{decimal_is_IsNumeral_wide}
@@ -18,6 +18,7 @@ use Rattle.alpha_core.specs.declared.wire.Wire.{Wire}
 use Rattle.alpha_core.specs.declared.wire.Wire.TheVariants.{Payload, Ack, Safe, Close}
 use Rattle.entries.specs.declared.entry.Entry.{Entry}
 use Rattle.entries.specs.declared.entry.Entry.TheVariants.{Pulse, Put, Take}
+use Rattle.wire_texts.specs.PayloadTexts.{PayloadTexts}
 use Rattle.wire_texts.specs.WireText
 use Rattle.number_rows.specs.Row.{numbered}
 use Rattle.wire_texts.specs.WireText.{wire_text}
@@ -75,10 +76,9 @@ letters-ascii w h i = elim (cases_lt i (length w)) [
   | inr past ↦ let none : get_or w i 0 ≡ 0 = get_or_past w i 0 past in omega (arith, none)
 ]
 
-module _ {M : Type 0} (word_of : M → List ℕ) (number_of' : M → ℕ) (payload_of : List ℕ → ℕ → Option M)
-    (letters : (x : M) → (0 < length (word_of x)) × All IsAsciiAlphabetic (word_of x)) where
+module _ {M : Type 0} (payloads : PayloadTexts M) (letters : (x : M) → (0 < length (payloads.word_of x)) × All IsAsciiAlphabetic (payloads.word_of x)) where
   abbrev pub wire_words : Wire M → List (List ℕ)
-  wire_words (Payload p x) = codes "payload" ∷ decimal p ∷ word_of x ∷ decimal (number_of' x) ∷ []
+  wire_words (Payload p x) = codes "payload" ∷ decimal p ∷ payloads.word_of x ∷ decimal (payloads.number_of x) ∷ []
   wire_words (Ack p) = codes "ack" ∷ decimal p ∷ []
   wire_words (Safe p) = codes "safe" ∷ decimal p ∷ []
   wire_words Close = codes "close" ∷ []
@@ -89,13 +89,13 @@ module _ {M : Type 0} (word_of : M → List ℕ) (number_of' : M → ℕ) (paylo
   entry_words (Take w wire) = codes "take" ∷ decimal w ∷ wire_words wire
 
   -- the line of an entry is its words
-  text-payload : (p : ℕ) (x : M) → wire_text word_of number_of' (Payload p x)
-      ≡ numbered (codes " payload ") p ++ (32 ∷ (word_of x ++ numbered (codes " ") (number_of' x)))
+  text-payload : (p : ℕ) (x : M) → wire_text payloads (Payload p x)
+      ≡ numbered (codes " payload ") p ++ (32 ∷ (payloads.word_of x ++ numbered (codes " ") (payloads.number_of x)))
   text-payload p x =
-      append_assoc (numbered (codes " payload ") p ++ codes " ") (word_of x) (numbered (codes " ") (number_of' x))
-      ∙ append_assoc (numbered (codes " payload ") p) (codes " ") (word_of x ++ numbered (codes " ") (number_of' x))
+      append_assoc (numbered (codes " payload ") p ++ codes " ") (payloads.word_of x) (numbered (codes " ") (payloads.number_of x))
+      ∙ append_assoc (numbered (codes " payload ") p) (codes " ") (payloads.word_of x ++ numbered (codes " ") (payloads.number_of x))
 
-  pub text-of : (v : ℕ) (entry : Entry M) → decimal v ++ entry_text word_of number_of' entry ≡ spaced (decimal v) (entry_words entry)
+  pub text-of : (v : ℕ) (entry : Entry M) → decimal v ++ entry_text payloads entry ≡ spaced (decimal v) (entry_words entry)
   text-of v (Pulse p) = refl
   text-of v (Put w (Payload p x)) = ap (λ t. decimal v ++ (numbered (codes " put ") w ++ t)) (text-payload p x)
   text-of v (Put w (Ack p)) = refl
@@ -107,11 +107,11 @@ module _ {M : Type 0} (word_of : M → List ℕ) (number_of' : M → ℕ) (paylo
   text-of v (Take w Close) = refl
 
   abbrev IsReadableWire : Wire M → Type 0
-  IsReadableWire wire = WireText.IsReadable word_of number_of' payload_of wire
+  IsReadableWire wire = WireText.IsReadable payloads wire
 
   -- the words of a line are words
-  word-payload : (x : M) → IsWord (word_of x)
-  word-payload x = ((letters x).0, All-weaker IsAsciiAlphabetic IsSeen letter-seen (word_of x) (letters x).1)
+  word-payload : (x : M) → IsWord (payloads.word_of x)
+  word-payload x = ((letters x).0, All-weaker IsAsciiAlphabetic IsSeen letter-seen (payloads.word_of x) (letters x).1)
 
   literal-payload : IsWord (codes "payload")
   literal-payload = (omega arith, grind (arith, rules))
@@ -139,48 +139,50 @@ module _ {M : Type 0} (word_of : M → List ℕ) (number_of' : M → ℕ) (paylo
 
   words-wire : (wire : Wire M) → IsReadableWire wire → All IsWord (wire_words wire)
   words-wire (Payload p x) h =
-      two-words (codes "payload") (decimal p) (word_of x ∷ decimal (number_of' x) ∷ []) literal-payload (small-word p h.0)
-      (two-words (word_of x) (decimal (number_of' x)) [] (word-payload x) (number-word (number_of' x) h.1) (All-nil IsWord))
+      two-words (codes "payload") (decimal p) (payloads.word_of x ∷ decimal (payloads.number_of x) ∷ []) literal-payload (small-word p h.0)
+      (two-words (payloads.word_of x) (decimal (payloads.number_of x)) [] (word-payload x) (number-word (payloads.number_of x) h.1) (All-nil IsWord))
   words-wire (Ack p) h = two-words (codes "ack") (decimal p) [] literal-ack (small-word p h) (All-nil IsWord)
   words-wire (Safe p) h = two-words (codes "safe") (decimal p) [] literal-safe (small-word p h) (All-nil IsWord)
   words-wire Close h = All-cons IsWord (codes "close") [] literal-close (All-nil IsWord)
 
-  pub words-of : (entry : Entry M) → IsReadableEntry word_of number_of' payload_of entry → All IsWord (entry_words entry)
+  pub words-of : (entry : Entry M) → IsReadableEntry payloads entry → All IsWord (entry_words entry)
   words-of (Pulse p) h = two-words (codes "pulse") (decimal p) [] literal-pulse (small-word p h) (All-nil IsWord)
   words-of (Put w wire) h = two-words (codes "put") (decimal w) (wire_words wire) literal-put (small-word w h.0) (words-wire wire h.1)
   words-of (Take w wire) h = two-words (codes "take") (decimal w) (wire_words wire) literal-take (small-word w h.0) (words-wire wire h.1)
 
   -- they are read as the entry
-  reads-payload : (x : M) → number_of' x < 2 ^ 128 → payload_of (word_of x) (number_of' x) ≡ Some x →
-      payload_in payload_of (word_of x ∷ decimal (number_of' x) ∷ []) ≡ Some x
+  reads-payload : (x : M) → payloads.number_of x < 2 ^ 128 → payloads.payload_of (payloads.word_of x) (payloads.number_of x) ≡ Some x →
+      payload_in payloads.payload_of (payloads.word_of x ∷ decimal (payloads.number_of x) ∷ []) ≡ Some x
   reads-payload x fits back =
-      ap (option_and_then (λ number. option_and_then (only []) (payload_with payload_of (word_of x) number))) (wide-decimal (number_of' x) fits)
+      let word = payloads.word_of x in
+      ap (option_and_then (λ number. option_and_then (only []) (payload_with payloads.payload_of word number))) (wide-decimal (payloads.number_of x) fits)
       ∙ ap (option_and_then (only []))
-      (payload-text payload_of (word_of x) (number_of' x) (IsUtf8-from_ascii (word_of x) (letters-ascii (word_of x) (letters x).1)) ∙ back)
+      (payload-text payloads.payload_of word (payloads.number_of x) (IsUtf8-from_ascii word (letters-ascii word (letters x).1)) ∙ back)
 
-  reads-wire : (wire : Wire M) → IsReadableWire wire → wire_of payload_of (wire_words wire) ≡ Some wire
+  reads-wire : (wire : Wire M) → IsReadableWire wire → wire_of payloads.payload_of (wire_words wire) ≡ Some wire
   reads-wire (Payload p x) h =
-      ap (option_and_then (λ n. wire_with payload_of (codes "payload") n (word_of x ∷ decimal (number_of' x) ∷ []))) (small-decimal p h.0)
+      let words = payloads.word_of x ∷ decimal (payloads.number_of x) ∷ [] in
+      ap (option_and_then (λ n. wire_with payloads.payload_of (codes "payload") n words)) (small-decimal p h.0)
       ∙ ap (option_map (λ y. Payload p y)) (reads-payload x h.1 h.2)
-  reads-wire (Ack p) h = ap (option_and_then (λ n. wire_with payload_of (codes "ack") n [])) (small-decimal p h)
-  reads-wire (Safe p) h = ap (option_and_then (λ n. wire_with payload_of (codes "safe") n [])) (small-decimal p h)
+  reads-wire (Ack p) h = ap (option_and_then (λ n. wire_with payloads.payload_of (codes "ack") n [])) (small-decimal p h)
+  reads-wire (Safe p) h = ap (option_and_then (λ n. wire_with payloads.payload_of (codes "safe") n [])) (small-decimal p h)
   reads-wire Close h = refl
 
-  reads-entry : (entry : Entry M) → IsReadableEntry word_of number_of' payload_of entry → entry_of payload_of (entry_words entry) ≡ Some entry
-  reads-entry (Pulse p) h = ap (option_and_then (λ n. entry_with payload_of (codes "pulse") n [])) (small-decimal p h)
+  reads-entry : (entry : Entry M) → IsReadableEntry payloads entry → entry_of payloads.payload_of (entry_words entry) ≡ Some entry
+  reads-entry (Pulse p) h = ap (option_and_then (λ n. entry_with payloads.payload_of (codes "pulse") n [])) (small-decimal p h)
   reads-entry (Put w wire) h =
-      ap (option_and_then (λ n. entry_with payload_of (codes "put") n (wire_words wire))) (small-decimal w h.0)
+      ap (option_and_then (λ n. entry_with payloads.payload_of (codes "put") n (wire_words wire))) (small-decimal w h.0)
       ∙ ap (option_map (λ x. Put w x)) (reads-wire wire h.1)
   reads-entry (Take w wire) h =
-      ap (option_and_then (λ n. entry_with payload_of (codes "take") n (wire_words wire))) (small-decimal w h.0)
+      ap (option_and_then (λ n. entry_with payloads.payload_of (codes "take") n (wire_words wire))) (small-decimal w h.0)
       ∙ ap (option_map (λ x. Take w x)) (reads-wire wire h.1)
 
   abbrev pub IsReadableRow : Row M → Type 0
-  IsReadableRow row = IsReadable word_of number_of' payload_of row
+  IsReadableRow row = IsReadable payloads row
 
   -- with its vertex it is read as what is made of the two
   pub reads-row : {R : Type 0} (made : ℕ → Entry M → R) (row : Row M) → IsReadableRow row →
-      row_with payload_of made (decimal row.vertex ∷ entry_words row.entry) ≡ Some (made row.vertex row.entry)
+      row_with payloads.payload_of made (decimal row.vertex ∷ entry_words row.entry) ≡ Some (made row.vertex row.entry)
   reads-row made row h =
-      ap (option_and_then (λ n. option_map (λ entry. made n entry) (entry_of payload_of (entry_words row.entry)))) (small-decimal row.vertex h.0)
+      ap (option_and_then (λ n. option_map (λ entry. made n entry) (entry_of payloads.payload_of (entry_words row.entry)))) (small-decimal row.vertex h.0)
       ∙ ap (option_map (λ entry. made row.vertex entry)) (reads-entry row.entry h.1)

@@ -1,9 +1,10 @@
 -- The text of a transcript, for payloads that are written by a word and a number.
-use Rattle.std.specs.Prelude.{ℕ, ◌<◌, ◌^◌, Option, List, [], ◌∷◌, ◌++◌, codes, flat_map}
+use Rattle.std.specs.Prelude.{ℕ, ◌<◌, ◌^◌, List, [], ◌∷◌, ◌++◌, codes, flat_map}
 use Rattle.std.specs.Fmt.{decimal}
 use Rattle.entries.specs.declared.entry.Entry.{Entry}
 use Rattle.entries.specs.declared.entry.Entry.TheVariants.{Pulse, Put, Take}
 use Rattle.entries.specs.Rows.{without_stamp}
+use Rattle.wire_texts.specs.PayloadTexts.{PayloadTexts}
 use Rattle.wire_texts.specs.WireText
 use Rattle.number_rows.specs.Row.{numbered}
 use Rattle.wire_texts.specs.WireText.{wire_text}
@@ -27,12 +28,12 @@ named_edition name = codes "3 " ++ name
 abbrev pub first_line : ℕ → List ℕ
 first_line nodes = first_line_of (codes "1") nodes
 
-module _ {M : Type 0} (word_of : M → List ℕ) (number_of : M → ℕ) where
+module _ {M : Type 0} (payloads : PayloadTexts M) where
   -- an entry, with a space before each of its words
   abbrev pub entry_text : Entry M → List ℕ
   entry_text (Pulse p) = numbered (codes " pulse ") p
-  entry_text (Put w wire) = numbered (codes " put ") w ++ wire_text word_of number_of wire
-  entry_text (Take w wire) = numbered (codes " take ") w ++ wire_text word_of number_of wire
+  entry_text (Put w wire) = numbered (codes " put ") w ++ wire_text payloads wire
+  entry_text (Take w wire) = numbered (codes " take ") w ++ wire_text payloads wire
 
   -- the line of an entry: its vertex, the entry, and a line feed
   abbrev pub row_text : Row M → List ℕ
@@ -51,13 +52,13 @@ module _ {M : Type 0} (word_of : M → List ℕ) (number_of : M → ℕ) where
   stamped_transcript_of nodes rows = text_of (codes "2") stamped_row_text nodes rows
 
   -- an entry that can be read from its line
-  abbrev pub IsReadableEntry : (List ℕ → ℕ → Option M) → Entry M → Type 0
-  IsReadableEntry payload_of (Pulse p) = p < 2 ^ 32
-  IsReadableEntry payload_of (Put w wire) = (w < 2 ^ 32) × WireText.IsReadable word_of number_of payload_of wire
-  IsReadableEntry payload_of (Take w wire) = (w < 2 ^ 32) × WireText.IsReadable word_of number_of payload_of wire
+  abbrev pub IsReadableEntry : Entry M → Type 0
+  IsReadableEntry (Pulse p) = p < 2 ^ 32
+  IsReadableEntry (Put w wire) = (w < 2 ^ 32) × WireText.IsReadable payloads wire
+  IsReadableEntry (Take w wire) = (w < 2 ^ 32) × WireText.IsReadable payloads wire
 
-  abbrev pub IsReadable : (List ℕ → ℕ → Option M) → Row M → Type 0
-  IsReadable payload_of row = (row.vertex < 2 ^ 32) × IsReadableEntry payload_of row.entry
+  abbrev pub IsReadable : Row M → Type 0
+  IsReadable row = (row.vertex < 2 ^ 32) × IsReadableEntry row.entry
 
-  abbrev pub IsReadableStamped : (List ℕ → ℕ → Option M) → StampedRow M → Type 0
-  IsReadableStamped payload_of row = (row.stamp < 2 ^ 64) × IsReadable payload_of (without_stamp row)
+  abbrev pub IsReadableStamped : StampedRow M → Type 0
+  IsReadableStamped row = (row.stamp < 2 ^ 64) × IsReadable (without_stamp row)

@@ -4,6 +4,7 @@ ghost use Rattle.std.specs.Prelude.{◌≡◌, ◌≤◌, ◌+◌, ◌++◌, ◌
 ghost use Rattle.entries.specs.Rows.{vertex_row};
 ghost use Rattle.transcripts.specs.TranscriptText.{IsReadable, IsReadableStamped, row_text, stamped_row_text};
 ghost use Rattle.transcripts.specs.declared.line_end.TheConstants.{ROOM};
+ghost use Rattle.wire_texts.specs.PayloadTexts.{payload_texts};
 ghost use Rattle.wire_texts.specs.WireText.{wire_text};
 ghost use Rattle.wire_texts.specs.WireText;
 
@@ -21,8 +22,9 @@ use wire_texts::push_wire;
 ///
 /// If a growth is refused; `text` may then end in a beginning of the line.
 pub fn push_row<T: PayloadText>(text: &mut Vec<u8>, row: &Row<T>) -> Result<(), AllocError>
-    ensures text { IfOk result (λ _. text.new.items ≡ text.old.items ++ row_text T.word_of T.number_of row.now) }
-    ensures readable { IfOk result (λ _. IsReadable T.word_of T.number_of T.payload_of row.now) }
+    ensures text { IfOk result (λ _.
+        text.new.items ≡ text.old.items ++ row_text (payload_texts T.PayloadText.own) row.now) }
+    ensures readable { IfOk result (λ _. IsReadable (payload_texts T.PayloadText.own) row.now) }
 {
     let Row { vertex, entry } = *row;
     push_numbered(text, b"", u128::from(vertex))?;
@@ -44,8 +46,8 @@ pub fn push_row<T: PayloadText>(text: &mut Vec<u8>, row: &Row<T>) -> Result<(), 
 // Puts a wire before the end of a line, and returns whether it could: it can't if there is a payload.
 fn put_wire<T: PayloadText>(line: &mut LineEnd, wire: Wire<T>) -> bool
     requires room { 16 + length line.old ≤ ROOM }
-    ensures put { IsTrue result → line.new ≡ wire_text T.word_of T.number_of wire ++ line.old }
-    ensures readable { IsTrue result → WireText.IsReadable T.word_of T.number_of T.payload_of wire }
+    ensures put { IsTrue result → line.new ≡ wire_text (payload_texts T.PayloadText.own) wire ++ line.old }
+    ensures readable { IsTrue result → WireText.IsReadable (payload_texts T.PayloadText.own) wire }
     ensures length { length line.new ≤ 16 + length line.old }
 {
     match wire {
@@ -65,8 +67,8 @@ fn put_wire<T: PayloadText>(line: &mut LineEnd, wire: Wire<T>) -> bool
 
 // Writes the line of an entry, and returns whether it could: it can't if there is a payload.
 fn put_row<T: PayloadText>(line: &mut LineEnd, vertex: u32, entry: Entry<T>) -> bool
-    ensures text { IsTrue result → line.new ≡ row_text T.word_of T.number_of (vertex_row vertex entry) }
-    ensures readable { IsTrue result → IsReadable T.word_of T.number_of T.payload_of (vertex_row vertex entry) }
+    ensures text { IsTrue result → line.new ≡ row_text (payload_texts T.PayloadText.own) (vertex_row vertex entry) }
+    ensures readable { IsTrue result → IsReadable (payload_texts T.PayloadText.own) (vertex_row vertex entry) }
     ensures room { length line.new ≤ 43 }
 {
     line.clear();
@@ -104,7 +106,7 @@ pub(crate) fn push_line<T: PayloadText>(
     entry: Entry<T>,
 ) -> Result<(), AllocError>
     ensures { IfOk result (λ _. text.new.items
-        ≡ text.old.items ++ row_text T.word_of T.number_of (vertex_row vertex entry)) }
+        ≡ text.old.items ++ row_text (payload_texts T.PayloadText.own) (vertex_row vertex entry)) }
 {
     if put_row(line, vertex, entry) {
         text.extend_from_slice(line.as_slice())
@@ -123,8 +125,8 @@ pub fn push_stamped_row<T: PayloadText>(
     row: &StampedRow<T>,
 ) -> Result<(), AllocError>
     ensures text { IfOk result (λ _.
-        text.new.items ≡ text.old.items ++ stamped_row_text T.word_of T.number_of row.now) }
-    ensures readable { IfOk result (λ _. IsReadableStamped T.word_of T.number_of T.payload_of row.now) }
+        text.new.items ≡ text.old.items ++ stamped_row_text (payload_texts T.PayloadText.own) row.now) }
+    ensures readable { IfOk result (λ _. IsReadableStamped (payload_texts T.PayloadText.own) row.now) }
 {
     let StampedRow {
         stamp,

@@ -3,6 +3,7 @@
 ghost use Rattle.std.specs.Prelude.{◌≡◌, ◌++◌, IfOk, flat_map, map};
 ghost use Rattle.entries.specs.Rows.{bare_of, vertex_row};
 ghost use Rattle.transcripts.specs.TranscriptText.{row_text};
+ghost use Rattle.wire_texts.specs.PayloadTexts.{payload_texts};
 
 use crate::line_end::LineEnd;
 use crate::lines::push_line;
@@ -20,7 +21,8 @@ pub fn push_entries<T: PayloadText>(
     vertex: u32,
     entries: &Entries<T>,
 ) -> Result<(), AllocError>
-    ensures text { IfOk result (λ _. text.new.items ≡ text.old.items ++ flat_map (row_text T.word_of T.number_of)
+    ensures text { IfOk result (λ _. text.new.items
+        ≡ text.old.items ++ flat_map (row_text (payload_texts T.PayloadText.own))
         (map (λ entry. vertex_row vertex entry) (bare_of entries.now.items))) }
 {
     let mut line = LineEnd::new();

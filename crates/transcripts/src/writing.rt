@@ -6,6 +6,7 @@ ghost use Rattle.transcripts.specs.Reading.{reading_of, stamped_reading_of};
 ghost use Rattle.transcripts.specs.TranscriptText.{first_line, first_line_of, named_edition, stamped_transcript_of};
 ghost use Rattle.transcripts.specs.TranscriptText.{transcript_of};
 ghost use Rattle.number_rows.specs.Row.{numbered};
+ghost use Rattle.wire_texts.specs.PayloadTexts.{payload_texts};
 
 use crate::lines::{push_row, push_stamped_row};
 use entries::{Row, StampedRow};
@@ -69,7 +70,7 @@ pub fn transcript_text<T: PayloadText>(
     nodes: u32,
     rows: &[Row<T>],
 ) -> Result<Vec<u8>, Memory>
-    ensures text { IfOk result (λ text. text.items ≡ transcript_of T.word_of T.number_of nodes rows.now) }
+    ensures text { IfOk result (λ text. text.items ≡ transcript_of (payload_texts T.PayloadText.own) nodes rows.now) }
     ensures reads_back { IfOk result (λ text. reading_of T.payload_of (lines_of text.items) ≡ Ok (nodes, rows.now)) }
 {
     let mut text = Vec::new(alloc);
@@ -91,7 +92,8 @@ pub fn stamped_text<T: PayloadText>(
     nodes: u32,
     rows: &[StampedRow<T>],
 ) -> Result<Vec<u8>, Memory>
-    ensures text { IfOk result (λ text. text.items ≡ stamped_transcript_of T.word_of T.number_of nodes rows.now) }
+    ensures text { IfOk result (λ text.
+        text.items ≡ stamped_transcript_of (payload_texts T.PayloadText.own) nodes rows.now) }
     ensures reads_back { IfOk result (λ text.
         stamped_reading_of T.payload_of (lines_of text.items) ≡ Ok (nodes, rows.now)) }
 {

@@ -1,1 +1,2 @@
+pub mod PayloadTexts
 pub mod WireText

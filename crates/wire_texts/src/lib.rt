@@ -1,4 +1,4 @@
-//! The text of wires, appended to bytes.
+//! The text of wires, appended to bytes, and what texts need of payloads (`PayloadTexts`).
 //!
 //! `event_texts` writes the wires that a link holds with it, and `transcripts` the wires of entries.
 //!

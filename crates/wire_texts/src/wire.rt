@@ -1,6 +1,7 @@
 //! One wire.
 
 ghost use Rattle.std.specs.Prelude.{◌≡◌, ◌++◌, IfOk};
+ghost use Rattle.wire_texts.specs.PayloadTexts.{payload_texts};
 ghost use Rattle.wire_texts.specs.WireText.{IsReadable, wire_text};
 
 use alpha_core::Wire;
@@ -14,8 +15,9 @@ use std::alloc::AllocError;
 ///
 /// If a growth is refused; `text` may then end in a beginning of the wire.
 pub fn push_wire<T: PayloadText>(text: &mut Vec<u8>, wire: Wire<T>) -> Result<(), AllocError>
-    ensures text { IfOk result (λ _. text.new.items ≡ text.old.items ++ wire_text T.word_of T.number_of wire) }
-    ensures readable { IfOk result (λ _. IsReadable T.word_of T.number_of T.payload_of wire) }
+    ensures text { IfOk result (λ _.
+        text.new.items ≡ text.old.items ++ wire_text (payload_texts T.PayloadText.own) wire) }
+    ensures readable { IfOk result (λ _. IsReadable (payload_texts T.PayloadText.own) wire) }
 {
     match wire {
         Wire::Payload(pulse, payload) => {

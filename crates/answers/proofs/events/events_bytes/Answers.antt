@@ -2,6 +2,7 @@ use Rattle.std.proofs.Common.{◌∙◌, Ok, ap, sym}
 use Rattle.std.proofs.lemmas.Result.{err_from_is_err_and}
 use Rattle.event_texts.specs.Played.{events_in}
 use Rattle.event_texts.specs.StateText.{state_text}
+use Rattle.wire_texts.specs.PayloadTexts.{payload_texts}
 use Rattle.answers.proofs.Playing.{fault-network, fault-reading, fault-run, reached}
 use Rattle.answers.proofs.events.events_bytes.Goals as goal
 
@@ -28,13 +29,13 @@ returns-in_err-state-clause-fault g c =
 pub returns-clause-ok : goal.returns-clause-ok
 returns-clause-ok g c =
     let program = g.P.NodeProgram.program in
-    let m = g.P.Payload.PayloadText in
+    let payloads = payload_texts g.P.Payload.PayloadText in
     let texts = g.P.ProgramText.texts in
     let view = c.in_ok-state.state in
-    reached program c.args.root texts m.word_of m.number_of c.args.input.now c.network_text.result.now c.in_ok-text_of_state.field-0.items c.in_ok-network.network
+    reached program c.args.root texts payloads c.args.input.now c.network_text.result.now c.in_ok-text_of_state.field-0.items c.in_ok-network.network
     c.as_slice.result.now view.state
     c.network_text.ensures.network c.in_ok-network.ensures.ok (c.in_ok-script.ensures.ok ∙ ap Ok (sym c.as_slice.ensures.value)) c.in_ok-state.ensures.ok
-    (c.in_ok-text_of_state.ensures.text ∙ ap (λ net. state_text program texts m.word_of m.number_of net view.state) c.in_ok-state.ensures.net)
+    (c.in_ok-text_of_state.ensures.text ∙ ap (λ net. state_text program texts payloads net view.state) c.in_ok-state.ensures.net)
     (λ ok v vertex. ((c.every_run_simulates.ensures.law program g.P.NodeProgram.laws c.in_ok-network.network ok
     (events_in c.as_slice.result.now) view.state c.in_ok-state.ensures.ok).fits v vertex).state)
     c.rounds_solve.ensures.law

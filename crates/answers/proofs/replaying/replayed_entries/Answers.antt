@@ -1,5 +1,6 @@
 use Rattle.std.proofs.Common.{◌∙◌, subst}
 use Rattle.dimacs_col.specs.Lines.{lines_of}
+use Rattle.wire_texts.specs.PayloadTexts.{payload_texts}
 use Rattle.answers.specs.ReplayAnswers.{IsTold}
 use Rattle.answers.proofs.RefusedLines.{fault-refused}
 use Rattle.answers.proofs.replaying.replayed_entries.Goals as goal
@@ -7,12 +8,12 @@ use Rattle.answers.proofs.replaying.replayed_entries.Goals as goal
 pub returns-in_ok-lines-in-Err-clause-fault : goal.returns-in_ok-lines-in-Err-clause-fault
 returns-in_ok-lines-in-Err-clause-fault g c =
     let program = g.P.NodeProgram.program in
-    let m = g.P.Payload.PayloadText in
+    let payloads = payload_texts g.P.Payload.PayloadText in
     let refused = c.in-Err.refused in
     let net = c.args.network.now in
     let rows = c.args.rows.now in
     λ nodes e.
-    fault-refused program m.word_of m.number_of m.payload_of net c.is_network.ensures (lines_of c.args.input.now) (nodes, rows) refused c.told.result e
+    fault-refused program payloads net c.is_network.ensures (lines_of c.args.input.now) (nodes, rows) refused c.told.result e
     (λ no. c.in-Err.ensures.refuses no)
-    (subst (λ numbers. IsTold program m.word_of m.number_of net rows numbers refused c.told.result) (c.as_slice.ensures.value ∙ c.in_ok-lines-in-Err.ensures)
+    (subst (λ numbers. IsTold program payloads net rows numbers refused c.told.result) (c.as_slice.ensures.value ∙ c.in_ok-lines-in-Err.ensures)
     c.told.ensures)

@@ -2,6 +2,7 @@ use Rattle.std.proofs.Common.{◌∙◌, subst, sym}
 use Rattle.dimacs_col.specs.Lines.{lines_of}
 use Rattle.transcripts.specs.Behind.{entry_lines}
 use Rattle.transcripts.proofs.Either.{no-any-behind}
+use Rattle.wire_texts.specs.PayloadTexts.{payload_texts}
 use Rattle.answers.specs.ReplayAnswers.{IsStampedTold}
 use Rattle.answers.proofs.WholeRefusals.{whole-refused}
 use Rattle.answers.proofs.replaying.replayed_whole.Goals as goal
@@ -15,16 +16,16 @@ first_line_in-first-requires g c = record {
 pub returns-in_ok-lines-in-Err-clause-fault : goal.returns-in_ok-lines-in-Err-clause-fault
 returns-in_ok-lines-in-Err-clause-fault g c =
     let program = g.P.NodeProgram.program in
-    let m = g.P.Payload.PayloadText in
+    let payloads = payload_texts g.P.Payload.PayloadText in
     let refused = c.in-Err.refused in
     let net = c.args.network.now in
     let rows = c.args.rows.now in
     let first = c.first_line_in-first.result in
-    whole-refused program m.word_of m.number_of m.payload_of net c.is_network.ensures (lines_of c.args.input.now) c.requires.read.0 rows refused
+    whole-refused program payloads net c.is_network.ensures (lines_of c.args.input.now) c.requires.read.0 rows refused
     c.stamped_told.result
     c.requires.read.1 (λ no. c.in-Err.ensures.refuses no)
-    (subst (λ first. IsStampedTold program m.word_of m.number_of net rows first (entry_lines (lines_of c.args.input.now)) refused c.stamped_told.result)
+    (subst (λ first. IsStampedTold program payloads net rows first (entry_lines (lines_of c.args.input.now)) refused c.stamped_told.result)
     c.first_line_in-first.ensures
-    (subst (λ numbers. IsStampedTold program m.word_of m.number_of net rows first numbers refused c.stamped_told.result)
+    (subst (λ numbers. IsStampedTold program payloads net rows first numbers refused c.stamped_told.result)
     (c.as_slice.ensures.value ∙ c.in_ok-lines-in-Err.ensures)
     c.stamped_told.ensures))

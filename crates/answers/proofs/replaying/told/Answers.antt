@@ -1,5 +1,6 @@
 use Rattle.std.proofs.Common.{◌∙◌, ap, sym}
 use Rattle.node_api.proofs.SlotCursor.{get-read}
+use Rattle.wire_texts.specs.PayloadTexts.{payload_texts}
 use Rattle.answers.specs.ReplayAnswers.{words_text}
 use Rattle.answers.proofs.RefusedLines.{index-within, is-told}
 use Rattle.answers.proofs.replaying.told.Goals as goal
@@ -13,12 +14,12 @@ bounds-rows-index g c =
 pub returns-in-Ok-words_of : goal.returns-in-Ok-words_of
 returns-in-Ok-words_of g c =
     let program = g.P.NodeProgram.program in
-    let m = g.P.Payload.PayloadText in
+    let payloads = payload_texts g.P.Payload.PayloadText in
     let row = c.index-rows-index.result in
     let is = sym c.index_of.ensures ∙ c.in-Some.is in
     let within = index-within program c.args.network.now c.args.rows.now c.args.refused c.in-Some.index c.requires.stops is in
     let reached = c.in-Ok.state.state in
-    is-told program m.word_of m.number_of c.args.network.now c.args.rows.now c.args.lines.now c.args.refused c.fault_at.result
+    is-told program payloads c.args.network.now c.args.rows.now c.args.lines.now c.args.refused c.fault_at.result
     (record {
       index = c.in-Some.index;
       is_index = is;
@@ -27,6 +28,6 @@ returns-in-Ok-words_of g c =
       reached = reached;
       is_replay = c.in-Ok.ensures.accepts;
       words = c.in-Ok-words_of.words;
-      says = c.in-Ok-words_of.ensures ∙ ap (λ net. words_text program m.word_of m.number_of net reached row c.args.refused) c.in-Ok.ensures.net;
+      says = c.in-Ok-words_of.ensures ∙ ap (λ net. words_text program payloads net reached row c.args.refused) c.in-Ok.ensures.net;
       is_told = c.fault_at.ensures;
     })

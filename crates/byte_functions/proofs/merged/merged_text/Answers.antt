@@ -1,5 +1,6 @@
 use Rattle.std.proofs.Common.{◌∙◌, ◌++◌, ◌∷◌, [], ap, append-nil, map, subst, sym}
 use Rattle.std.proofs.lemmas.List.{flat_map_more, length-map}
+use Rattle.wire_texts.specs.PayloadTexts.{payload_texts}
 use Rattle.transcripts.specs.TranscriptText.{first_line_of, stamped_row_text}
 use Rattle.outcomes.specs.Gathers.{gathered_of}
 use Rattle.stamps.specs.Merged.{IsMerge, list_of}
@@ -26,7 +27,7 @@ loop-row-init g c =
 pub loop-row-preserved : goal.loop-row-preserved
 loop-row-preserved g c =
     let wrote = map (λ node. node.entries) (map gathered_of c.args.actors.items) in
-    let words = g.P.Payload.PayloadText in
+    let payloads = payload_texts g.P.Payload.PayloadText in
     let row = c.in-Some.row in
     let so_far = c.loop-row.invariant.rows in
     let rows = so_far.0 in
@@ -36,8 +37,8 @@ loop-row-preserved g c =
       rows = (
         rows ++ (row ∷ []),
         merging-step wrote c.loop-row.merging.lefts.items c.take.new.self.lefts.items rows row so_far.1 taken,
-        c.in_ok-push_stamped_row.ensures.text ∙ ap (λ t. t ++ stamped_row_text words.word_of words.number_of row) so_far.2
-            ∙ flat_map_more (stamped_row_text words.word_of words.number_of)
+        c.in_ok-push_stamped_row.ensures.text ∙ ap (λ t. t ++ stamped_row_text payloads row) so_far.2
+            ∙ flat_map_more (stamped_row_text payloads)
             (first_line_of (stamped_edition g.P.ProgramText.texts) c.args.count) rows row,
       );
     }

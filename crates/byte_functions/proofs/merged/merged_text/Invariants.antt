@@ -1,6 +1,7 @@
 use Rattle.std.proofs.Common.{length, map}
 use Rattle.std.specs.BinaryHeap.{heap_items}
 use Rattle.std.specs.List.{sum_by}
+use Rattle.wire_texts.specs.PayloadTexts.{payload_texts}
 use Rattle.outcomes.specs.Gathers.{gathered_of}
 use Rattle.byte_functions.specs.Merge.{AreKeys}
 use Rattle.byte_functions.specs.Transcripts.{stamped_edition}
@@ -10,10 +11,10 @@ use Rattle.byte_functions.proofs.merged.merged_text.Given as goal
 -- the rows so far, which the text has
 abbrev pub invariant-loop-row : goal.invariant-loop-row
 invariant-loop-row g l =
-    let words = g.P.Payload.PayloadText in
+    let payloads = payload_texts g.P.Payload.PayloadText in
     record {
       keys : AreKeys l.merging.lefts.items (heap_items l.merging.keys);
-      rows : HasMerged words.word_of words.number_of (stamped_edition g.P.ProgramText.texts)
+      rows : HasMerged payloads (stamped_edition g.P.ProgramText.texts)
           (map (λ node. node.entries) (map gathered_of l.fn.actors.items)) l.merging.lefts.items l.count l.text.items;
     }
 

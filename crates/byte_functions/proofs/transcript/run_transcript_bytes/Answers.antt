@@ -3,6 +3,7 @@ use Rattle.std.proofs.lemmas.Result.{err_from_is_err_and}
 use Rattle.std.proofs.lemmas.List.{length-map}
 use Rattle.outcomes.specs.Gathers.{gathered_of}
 use Rattle.stamps.specs.Stamps.{Rises}
+use Rattle.wire_texts.specs.PayloadTexts.{payload_texts}
 use Rattle.gather_laws.specs.Merged.{WholeOutcomesReplay}
 use Rattle.byte_functions.specs.Transcripts.{IsTextIn, stamped_edition}
 use Rattle.byte_functions.proofs.Recording.{all-rise, answered, nodes-count}
@@ -32,13 +33,12 @@ returns-clause-ok g c =
     let text = c.in_ok-text_in.field-0.items in
     let here = c.nodes-count.ensures.network in
     let law : WholeOutcomesReplay g.P.NodeProgram.program net = c.whole_outcomes_replay.ensures.law g.P.NodeProgram.program net here in
-    let word_of = g.P.Payload.PayloadText.word_of in
-    let number_of = g.P.Payload.PayloadText.number_of in
+    let payloads = payload_texts g.P.Payload.PayloadText in
     let words = stamped_edition g.P.ProgramText.texts in
-    answered g.P.NodeProgram.program word_of number_of words c.args.root c.args.input.now text net c.args.options.capacity outcome c.in_ok-network.ensures.ok
+    answered g.P.NodeProgram.program payloads words c.args.root c.args.input.now text net c.args.options.capacity outcome c.in_ok-network.ensures.ok
     c.in_ok-outcome.ensures.outcome c.in_ok-outcome.ensures.whole c.args.edition law
-    (subst (λ n. IsTextIn word_of number_of words c.args.edition n outcome.nodes text) c.nodes-count.ensures.count
-    (subst (λ nodes. IsTextIn word_of number_of words c.args.edition c.nodes-count.result nodes text) c.into_actors.ensures.nodes c.in_ok-text_in.ensures))
+    (subst (λ n. IsTextIn payloads words c.args.edition n outcome.nodes text) c.nodes-count.ensures.count
+    (subst (λ nodes. IsTextIn payloads words c.args.edition c.nodes-count.result nodes text) c.into_actors.ensures.nodes c.in_ok-text_in.ensures))
 
 pub returns-in_err-outcome-clause-fault : goal.returns-in_err-outcome-clause-fault
 returns-in_err-outcome-clause-fault g c =

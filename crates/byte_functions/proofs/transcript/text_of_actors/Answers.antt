@@ -6,6 +6,7 @@ use Rattle.std.proofs.lemmas.List.{flat_map_more}
 use Rattle.std.proofs.lemmas.List.Folds.{flat_map-map}
 use Rattle.entries.specs.Rows.{bare_of, vertex_row}
 use Rattle.outcomes.specs.Gathers.{gathered_of}
+use Rattle.wire_texts.specs.PayloadTexts.{payload_texts}
 use Rattle.transcripts.specs.TranscriptText.{first_line, row_text}
 use Rattle.byte_functions.specs.Transcripts.{rows_in}
 use Rattle.byte_functions.proofs.transcript.text_of_actors.Goals as goal
@@ -15,7 +16,7 @@ pub loop-actor-preserved : goal.loop-actor-preserved
 loop-actor-preserved g c =
     let actor = c.in-Some.actor in
     let first = first_line c.args.count in
-    let lines = flat_map (row_text g.P.Payload.PayloadText.word_of g.P.Payload.PayloadText.number_of) in
+    let lines = flat_map (row_text (payload_texts g.P.Payload.PayloadText)) in
     let before = flat_map (λ a. rows_in (gathered_of a)) c.loop-actor.yielded in
     c.in_ok-pushed.ensures.text
     ∙ ap₂ (λ v entries. c.loop-actor.text.items ++ lines (map (λ entry. vertex_row v entry) (bare_of entries.items))) c.node.ensures.vertex
@@ -23,7 +24,7 @@ loop-actor-preserved g c =
     ∙ ap (λ l. l ++ lines (rows_in (gathered_of actor))) c.loop-actor.invariant
     ∙ append_assoc first (lines before) (lines (rows_in (gathered_of actor)))
     ∙ ap (λ l. first ++ l)
-    (sym (flat_map-append (row_text g.P.Payload.PayloadText.word_of g.P.Payload.PayloadText.number_of) before (rows_in (gathered_of actor)))
+    (sym (flat_map-append (row_text (payload_texts g.P.Payload.PayloadText)) before (rows_in (gathered_of actor)))
     ∙ ap lines (flat_map_more (λ a. rows_in (gathered_of a)) [] c.loop-actor.yielded actor))
 
 -- at the end the lines of all nodes are there
@@ -33,5 +34,5 @@ returns g c =
     c.loop-actor.yielded c.loop-actor.actor-iterator c.loop-actor.yielded_by c.next.result c.next.new.self c.in-None.is c.next.ensures.steps in
     let all = sym (map-id c.loop-actor.yielded) ∙ end.0 in
     c.loop-actor.invariant
-    ∙ ap (λ rows. first_line c.args.count ++ flat_map (row_text g.P.Payload.PayloadText.word_of g.P.Payload.PayloadText.number_of) rows)
+    ∙ ap (λ rows. first_line c.args.count ++ flat_map (row_text (payload_texts g.P.Payload.PayloadText)) rows)
     (ap (flat_map (λ a. rows_in (gathered_of a))) all ∙ sym (flat_map-map rows_in gathered_of c.args.actors.items))

@@ -4,6 +4,7 @@ use Rattle.dimacs_col.proofs.Refused.{err_says}
 use Rattle.interference.specs.Net.{neighbour_of}
 use Rattle.event_machine.specs.State.{link_at}
 use Rattle.number_rows.specs.Row.{numbered}
+use Rattle.wire_texts.specs.PayloadTexts.{payload_texts}
 use Rattle.wire_texts.specs.WireText.{wire_text}
 use Rattle.number_rows.proofs.Ranges.{behind}
 use Rattle.event_texts.proofs.state_text.push_link.Goals as goal
@@ -11,8 +12,8 @@ use Rattle.event_texts.proofs.state_text.push_link.Goals as goal
 pub returns : goal.returns
 returns g c =
     let net = c.args.state.now.net in
-    let words = g.P.Payload.PayloadText in
-    let wire_words = wire_text words.word_of words.number_of in
+    let payloads = payload_texts g.P.Payload.PayloadText in
+    let wire_words = wire_text payloads in
     let v = c.args.v in
     let link = link_at c.args.state.now.state.links v c.args.port in
     let text = c.args.text.now.items in

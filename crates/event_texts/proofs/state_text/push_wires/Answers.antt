@@ -1,6 +1,7 @@
 use Rattle.std.proofs.Common.{◌++◌, ◌∙◌, ap, append-nil, sym}
 use Rattle.dimacs_col.proofs.Refused.{err_says}
 use Rattle.alpha_core.specs.declared.wire.Wire.{Wire}
+use Rattle.wire_texts.specs.PayloadTexts.{payload_texts}
 use Rattle.wire_texts.specs.WireText.{wire_text}
 use Rattle.event_texts.proofs.Told.{rows_more}
 use Rattle.event_texts.proofs.state_text.push_wires.Goals as goal
@@ -13,7 +14,7 @@ returns-in_err-push_wire g c = err_says _ _ c.from_residual.result c.from_residu
 
 pub loop-wire-preserved : goal.loop-wire-preserved
 loop-wire-preserved g c =
-    let m = g.T.PayloadText in
-    rows_more (wire_text m.word_of m.number_of) c.args.wires.now c.loop-wire.wire-index c.wire-item.result c.loop-wire-test.true
+    let payloads = payload_texts g.T.PayloadText in
+    rows_more (wire_text payloads) c.args.wires.now c.loop-wire.wire-index c.wire-item.result c.loop-wire-test.true
     c.args.text.now.items c.loop-wire.text.items c.push_wire.new.text.items c.loop-wire.invariant
-    (c.in_ok-push_wire.ensures.text ∙ ap (λ (wire : Wire _). c.loop-wire.text.items ++ wire_text m.word_of m.number_of wire) c.wire-item.is)
+    (c.in_ok-push_wire.ensures.text ∙ ap (λ (wire : Wire _). c.loop-wire.text.items ++ wire_text payloads wire) c.wire-item.is)

@@ -1,6 +1,7 @@
 use Rattle.std.proofs.Common.{◌≡◌, ◌+◌, ◌++◌, [], ℕ, List, arith, ◌∙◌, ap}
 use Rattle.event_machine.specs.State.{node_of}
 use Rattle.node_api.specs.Program.{last_pulse_on}
+use Rattle.wire_texts.specs.PayloadTexts.{payload_texts}
 use Rattle.event_texts.specs.StateText.{links_text, node_text}
 use Rattle.number_rows.proofs.Ranges.{behind, texts-more}
 use Rattle.std.specs.List.{flat_map, range_with_len}
@@ -13,10 +14,10 @@ pub loop-i-preserved : goal.loop-i-preserved
 loop-i-preserved g c =
     let state = c.args.state.now in
     let program = g.P.NodeProgram.program in
-    let words = g.P.Payload.PayloadText in
+    let payloads = payload_texts g.P.Payload.PayloadText in
     let v = c.loop-i.i + 1 in
     let node_line : ℕ → List ℕ = λ k. node_text g.P.ProgramText.texts state.net (last_pulse_on program state.net) k (node_of program state.net state.state k) in
-    let link_lines : ℕ → List ℕ = links_text words.word_of words.number_of state.net state.state in
+    let link_lines : ℕ → List ℕ = links_text payloads state.net state.state in
     let same : 1 + c.loop-i.i ≡ v = omega arith in
     texts-more (λ k. node_line k ++ link_lines k)
     1 c.loop-i.i v [] c.loop-i.text.items c.push_links.new.text.items same c.loop-i.invariant
@@ -27,11 +28,11 @@ pub returns : goal.returns
 returns g c =
     let state = c.args.state.now in
     let program = g.P.NodeProgram.program in
-    let words = g.P.Payload.PayloadText in
+    let payloads = payload_texts g.P.Payload.PayloadText in
     record {
       text = c.loop-i.invariant
           ∙ ap (λ n. flat_map (λ v. node_text g.P.ProgramText.texts state.net (last_pulse_on program state.net) v (node_of program state.net state.state v)
-          ++ links_text words.word_of words.number_of state.net state.state v) (range_with_len 1 n))
+          ++ links_text payloads state.net state.state v) (range_with_len 1 n))
           (at_end c.loop-i.i c.nodes-i-end.result (count_of state.net) c.loop-i.auto.i-end c.loop-i-test.false
           (c.nodes-i-end.ensures.count ∙ ap count_of c.network.ensures.network));
     }

@@ -1,11 +1,12 @@
 use Rattle.std.proofs.Common.{◌≡◌, ◌++◌, flat_map}
 use Rattle.std.specs.List.{range_with_len}
+use Rattle.wire_texts.specs.PayloadTexts.{payload_texts}
 use Rattle.round_texts.specs.RoundsText.{pulse_line, vertex_text}
 use Rattle.round_texts.proofs.rounds.push_pulse.Given as goal
 
 abbrev pub invariant-loop-i : goal.invariant-loop-i
 invariant-loop-i g l =
-    let words = g.P.Payload.PayloadText in
+    let payloads = payload_texts g.P.Payload.PayloadText in
     l.text.items
     ≡ (l.fn.text.items ++ pulse_line g.P.ProgramText.texts l.rounds.net l.rounds.pulse)
-    ++ flat_map (vertex_text g.P.NodeProgram.program g.P.ProgramText.texts words.word_of words.number_of l.rounds.net l.rounds.pulse) (range_with_len 1 l.i)
+    ++ flat_map (vertex_text g.P.NodeProgram.program g.P.ProgramText.texts payloads l.rounds.net l.rounds.pulse) (range_with_len 1 l.i)

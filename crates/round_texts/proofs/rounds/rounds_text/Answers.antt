@@ -1,5 +1,6 @@
 use Rattle.std.proofs.Common.{◌≡◌, ◌∙◌, ◌+◌, ◌++◌, ap, arith}
 use Rattle.sync_rounds.specs.Rounds.{AtPulse}
+use Rattle.wire_texts.specs.PayloadTexts.{payload_texts}
 use Rattle.round_texts.specs.RoundsText.{pulse_text}
 use Rattle.number_rows.proofs.Ranges.{texts-more}
 use Rattle.round_texts.proofs.rounds.rounds_text.Goals as goal
@@ -8,8 +9,8 @@ pub loop-done-preserved : goal.loop-done-preserved
 loop-done-preserved g c =
     let net = c.args.net.now in
     let texts = g.P.ProgramText.texts in
-    let words = g.P.Payload.PayloadText in
-    let pulse_lines = pulse_text g.P.NodeProgram.program texts words.word_of words.number_of in
+    let payloads = payload_texts g.P.Payload.PayloadText in
+    let pulse_lines = pulse_text g.P.NodeProgram.program texts payloads in
     let p = c.loop-done._done + 1 in
     let next : AtPulse = record { net = net; pulse = p } in
     let step : AtPulse → AtPulse = λ at. record { net = at.net; pulse = at.pulse + 1 } in

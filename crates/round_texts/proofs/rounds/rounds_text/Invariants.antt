@@ -1,6 +1,7 @@
 use Rattle.std.proofs.Common.{◌≡◌, ◌+◌, ◌++◌, flat_map}
 use Rattle.std.specs.List.{range_with_len}
 use Rattle.sync_rounds.specs.Rounds.{AtPulse}
+use Rattle.wire_texts.specs.PayloadTexts.{payload_texts}
 use Rattle.round_texts.specs.RoundsText.{pulse_text}
 use Rattle.round_texts.proofs.rounds.rounds_text.Given as goal
 
@@ -8,9 +9,9 @@ abbrev pub invariant-loop-done : goal.invariant-loop-done
 invariant-loop-done g l =
     let here : AtPulse = record { net = l.net; pulse = l._done } in
     let texts = g.P.ProgramText.texts in
-    let words = g.P.Payload.PayloadText in
+    let payloads = payload_texts g.P.Payload.PayloadText in
     record {
       rounds : l.rounds ≡ here;
-      text : l.text.items ≡ texts.head l.net ++ flat_map (pulse_text g.P.NodeProgram.program texts words.word_of words.number_of l.net)
+      text : l.text.items ≡ texts.head l.net ++ flat_map (pulse_text g.P.NodeProgram.program texts payloads l.net)
           (range_with_len 0 (l._done + 1));
     }

@@ -1,4 +1,4 @@
-use Rattle.std.proofs.Common.{ℕ, Err, List, Ok, codes}
+use Rattle.std.proofs.Common.{Err, Ok}
 use Rattle.std.proofs.lemmas.Result.{IfErr-weaker, IfOk-weaker}
 use Rattle.interference.specs.Net.{Net, IsNetwork, IsVertex}
 use Rattle.node_api.specs.Run.{last_state}
@@ -6,8 +6,7 @@ use Rattle.answers.specs.Roots.{rooted}
 use Rattle.answers.proofs.Rooted.{root-has-id, rooted-vertex}
 use Rattle.layers.specs.Layering.{layering}
 use Rattle.layers.specs.Texts.{KnowTheirLayersFrom, layers_texts}
-use Rattle.layers.specs.Words.{hops_from}
-use Rattle.layers.specs.declared.hops.Hops.{Hops}
+use Rattle.serving.specs.Payloads.{layers_payloads}
 use Rattle.serving.specs.Plays.{layers_root}
 use Rattle.serving.proofs.Rooted.{plays}
 use Rattle.serving.proofs.playing.layers_bytes.Given.{Over}
@@ -22,20 +21,14 @@ solved g c net vertex ok =
     λ u is_u. c.rounds_end_with_the_distances_from_a_root.ensures.layers (rooted root net) ok c.args.vertex
     (rooted-vertex root net c.args.vertex vertex, root-has-id root net vertex) u is_u
 
-abbrev word_in : Hops → List ℕ
-word_in x = codes "hops"
-
-abbrev number_in : Hops → ℕ
-number_in x = x.0
-
 pub returns-clause-ok : goal.returns-clause-ok
 returns-clause-ok g c =
     IfOk-weaker c.play_bytes.result _ _
-    (λ bytes may. plays layering layers_texts word_in number_in hops_from (layers_root c.args.vertex) (KnowTheirLayersFrom c.args.vertex) (solved g c)
+    (λ bytes may. plays layering layers_texts layers_payloads (layers_root c.args.vertex) (KnowTheirLayersFrom c.args.vertex) (solved g c)
     c.args.play c.args.input.now (Ok bytes.items) may) c.play_bytes.ensures.ok
 
 pub returns-clause-fault : goal.returns-clause-fault
 returns-clause-fault g c =
     IfErr-weaker c.play_bytes.result _ _
-    (λ fault may. plays layering layers_texts word_in number_in hops_from (layers_root c.args.vertex) (KnowTheirLayersFrom c.args.vertex) (solved g c)
+    (λ fault may. plays layering layers_texts layers_payloads (layers_root c.args.vertex) (KnowTheirLayersFrom c.args.vertex) (solved g c)
     c.args.play c.args.input.now (Err fault) may) c.play_bytes.ensures.fault

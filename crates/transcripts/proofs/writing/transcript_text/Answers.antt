@@ -1,5 +1,6 @@
 use Rattle.std.proofs.Common.{◌++◌, ◌∙◌, ap, codes}
 use Rattle.dimacs_col.specs.Lines.{lines_of}
+use Rattle.wire_texts.specs.PayloadTexts.{payload_texts}
 use Rattle.transcripts.specs.Reading.{reading_of}
 use Rattle.transcripts.specs.TranscriptText.{first_line_of}
 use Rattle.transcripts.proofs.RowsSoFar.{all-written, none-written, one-written}
@@ -28,4 +29,4 @@ returns-clause-reads_back g c =
     let m = g.T.PayloadText in
     let all = all-written c.args.rows.now c.loop-row.row-index c.loop-row.text.items c.loop-row.invariant.so_far c.loop-row-test.false in
     ap (λ t. reading_of m.payload_of (lines_of t)) all.text_is
-    ∙ written-one m.word_of m.number_of m.payload_of m.letters c.args.nodes c.args.rows.now c.ranges.nodes.fits all.readable
+    ∙ written-one (payload_texts m) m.letters c.args.nodes c.args.rows.now c.ranges.nodes.fits all.readable
