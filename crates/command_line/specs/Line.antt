@@ -1,10 +1,16 @@
 -- The command lines in clap's own words: a program, and its commands.
-use Rattle.std.specs.Prelude.{true, codes}
+use Rattle.std.specs.Prelude.{◌≡◌, false, true, codes}
 use Rattle.clap.specs.Words.{App, Text, new_app, with_subcommand}
+use Rattle.clap.specs.declared.builder.command.Command.{Command}
+use Rattle.clap.specs.declared.builder.command.Command.TheViews.{out-Command}
 use Rattle.command_line.specs.NodePrograms.{with_passes, with_program, with_root, with_transcript}
 use Rattle.command_line.specs.RunOptions.{with_edition, with_run_options}
 use Rattle.command_line.specs.declared.program.Program.{Program}
 use Rattle.command_line.specs.declared.program.Program.TheVariants.{Forestplan, Forestplay}
+
+-- no option of the command is one of its subcommands, too
+abbrev pub IsLocal : Command → Type 0
+IsLocal command = (out-Command command).has_globals ≡ false
 
 abbrev pub name_of : Program → Text
 name_of Forestplan = codes "forestplan"

@@ -1,9 +1,8 @@
 //! The commands in `clap`'s builders.
 
-ghost use Rattle.std.specs.Prelude.{◌≡◌, IfOk, false};
+ghost use Rattle.std.specs.Prelude.{◌≡◌, IfOk};
 ghost use Rattle.clap.specs.Words.{app_of, new_app, with_subcommand};
-ghost use Rattle.clap.specs.declared.builder.command.Command.TheViews.{out-Command};
-ghost use Rattle.command_line.specs.Line.{line, plan_command, play_command, run_command, transcript_command};
+ghost use Rattle.command_line.specs.Line.{IsLocal, line, plan_command, play_command, run_command, transcript_command};
 ghost use Rattle.command_line.specs.Line.{without_commands, with_network_commands, with_plan_commands};
 ghost use Rattle.command_line.specs.Line.{with_play_commands, with_worker_commands};
 ghost use Rattle.command_line.specs.RunOptions.{with_edition, with_run_options};
@@ -19,7 +18,7 @@ use std::alloc::{AllocError, Global};
 // A program with no command yet. Its texts say its name whatever file it is started from.
 fn without_commands<'a>(alloc: Global, name: &'a str, help: Help) -> Result<Command<'a>, AllocError>
     ensures shape { IfOk result (λ c. app_of c ≡ without_commands name.entry.now) }
-    ensures local { IfOk result (λ c. (out-Command c).has_globals ≡ false) }
+    ensures local { IfOk result IsLocal }
 {
     command(alloc, name, help)
         .subcommand_required(true)
@@ -30,7 +29,7 @@ fn without_commands<'a>(alloc: Global, name: &'a str, help: Help) -> Result<Comm
 // A command with no options.
 fn command<'a>(alloc: Global, name: &'a str, help: Help) -> Command<'a>
     ensures shape { app_of result ≡ new_app name.entry.now }
-    ensures local { (out-Command result).has_globals ≡ false }
+    ensures local { IsLocal result }
 {
     Command::new(alloc, name)
         .about(help.about)
@@ -39,19 +38,19 @@ fn command<'a>(alloc: Global, name: &'a str, help: Help) -> Command<'a>
 }
 
 fn with_command<'a>(command: Command<'a>, sub: Command<'a>) -> Result<Command<'a>, AllocError>
-    requires locals { (out-Command command).has_globals ≡ false }
-    requires local { (out-Command sub).has_globals ≡ false }
+    requires locals { IsLocal command }
+    requires local { IsLocal sub }
     ensures shape { IfOk result (λ c. app_of c ≡ with_subcommand (app_of command.entry) (app_of sub.entry).top) }
-    ensures local { IfOk result (λ c. (out-Command c).has_globals ≡ false) }
+    ensures local { IfOk result IsLocal }
 {
     command.subcommand(sub)
 }
 
 // The commands that make something of a network.
 fn with_network_commands<'a>(alloc: Global, program: Command<'a>) -> Result<Command<'a>, AllocError>
-    requires { (out-Command program).has_globals ≡ false }
+    requires { IsLocal program }
     ensures shape { IfOk result (λ c. app_of c ≡ with_network_commands (app_of program.entry)) }
-    ensures local { IfOk result (λ c. (out-Command c).has_globals ≡ false) }
+    ensures local { IfOk result IsLocal }
 {
     let program = with_command(program, command(alloc, "forests", help::FORESTS))?;
     with_command(program, command(alloc, "plain", help::PLAIN))
@@ -60,7 +59,7 @@ fn with_network_commands<'a>(alloc: Global, program: Command<'a>) -> Result<Comm
 // A command that runs workers, which takes options.
 fn worker_command<'a>(alloc: Global, name: &'a str, help: Help) -> Result<Command<'a>, AllocError>
     ensures shape { IfOk result (λ c. app_of c ≡ with_run_options (new_app name.entry.now)) }
-    ensures local { IfOk result (λ c. (out-Command c).has_globals ≡ false) }
+    ensures local { IfOk result IsLocal }
 {
     with_run_options(alloc, command(alloc, name, help))
 }
@@ -68,7 +67,7 @@ fn worker_command<'a>(alloc: Global, name: &'a str, help: Help) -> Result<Comman
 // The command that runs workers and can write down in two editions what they did.
 fn transcript_command<'a>(alloc: Global) -> Result<Command<'a>, AllocError>
     ensures shape { IfOk result (λ c. app_of c ≡ transcript_command) }
-    ensures local { IfOk result (λ c. (out-Command c).has_globals ≡ false) }
+    ensures local { IfOk result IsLocal }
 {
     let transcript = worker_command(alloc, "transcript", help::TRANSCRIPT)?;
     with_edition(alloc, transcript)
@@ -76,9 +75,9 @@ fn transcript_command<'a>(alloc: Global) -> Result<Command<'a>, AllocError>
 
 // A program with the command that finds a plan.
 fn with_plan_command<'a>(alloc: Global, program: Command<'a>) -> Result<Command<'a>, AllocError>
-    requires { (out-Command program).has_globals ≡ false }
+    requires { IsLocal program }
     ensures shape { IfOk result (λ c. app_of c ≡ with_subcommand (app_of program.entry) plan_command.top) }
-    ensures local { IfOk result (λ c. (out-Command c).has_globals ≡ false) }
+    ensures local { IfOk result IsLocal }
 {
     let plan = worker_command(alloc, "plan", help::PLAN)?;
     with_command(program, plan)
@@ -89,9 +88,9 @@ fn with_transcript_command<'a>(
     alloc: Global,
     program: Command<'a>,
 ) -> Result<Command<'a>, AllocError>
-    requires { (out-Command program).has_globals ≡ false }
+    requires { IsLocal program }
     ensures shape { IfOk result (λ c. app_of c ≡ with_subcommand (app_of program.entry) transcript_command.top) }
-    ensures local { IfOk result (λ c. (out-Command c).has_globals ≡ false) }
+    ensures local { IfOk result IsLocal }
 {
     let transcript = transcript_command(alloc)?;
     with_command(program, transcript)
@@ -99,9 +98,9 @@ fn with_transcript_command<'a>(
 
 // The commands that run workers.
 fn with_worker_commands<'a>(alloc: Global, program: Command<'a>) -> Result<Command<'a>, AllocError>
-    requires { (out-Command program).has_globals ≡ false }
+    requires { IsLocal program }
     ensures shape { IfOk result (λ c. app_of c ≡ with_worker_commands (app_of program.entry)) }
-    ensures local { IfOk result (λ c. (out-Command c).has_globals ≡ false) }
+    ensures local { IfOk result IsLocal }
 {
     let program = with_plan_command(alloc, program)?;
     with_transcript_command(alloc, program)
@@ -109,9 +108,9 @@ fn with_worker_commands<'a>(alloc: Global, program: Command<'a>) -> Result<Comma
 
 // All of these, and the command that checks a plan.
 fn with_plan_commands<'a>(alloc: Global, program: Command<'a>) -> Result<Command<'a>, AllocError>
-    requires { (out-Command program).has_globals ≡ false }
+    requires { IsLocal program }
     ensures shape { IfOk result (λ c. app_of c ≡ with_plan_commands (app_of program.entry)) }
-    ensures local { IfOk result (λ c. (out-Command c).has_globals ≡ false) }
+    ensures local { IfOk result IsLocal }
 {
     let program = with_network_commands(alloc, program)?;
     let program = with_worker_commands(alloc, program)?;
@@ -121,7 +120,7 @@ fn with_plan_commands<'a>(alloc: Global, program: Command<'a>) -> Result<Command
 // A command for lessons, which plays a program.
 fn play_command<'a>(alloc: Global, name: &'a str, help: Help) -> Result<Command<'a>, AllocError>
     ensures shape { IfOk result (λ c. app_of c ≡ play_command name.entry.now) }
-    ensures local { IfOk result (λ c. (out-Command c).has_globals ≡ false) }
+    ensures local { IfOk result IsLocal }
 {
     let play = with_program(alloc, command(alloc, name, help))?;
     let play = with_root(alloc, play)?;
@@ -135,10 +134,10 @@ fn with_play_command<'a>(
     name: &'a str,
     help: Help,
 ) -> Result<Command<'a>, AllocError>
-    requires { (out-Command program).has_globals ≡ false }
+    requires { IsLocal program }
     ensures shape { IfOk result
         (λ c. app_of c ≡ with_subcommand (app_of program.entry) (play_command name.entry.now).top) }
-    ensures local { IfOk result (λ c. (out-Command c).has_globals ≡ false) }
+    ensures local { IfOk result IsLocal }
 {
     let play = play_command(alloc, name, help)?;
     with_command(program, play)
@@ -147,7 +146,7 @@ fn with_play_command<'a>(
 // The command for lessons that runs workers.
 fn run_command<'a>(alloc: Global) -> Result<Command<'a>, AllocError>
     ensures shape { IfOk result (λ c. app_of c ≡ run_command) }
-    ensures local { IfOk result (λ c. (out-Command c).has_globals ≡ false) }
+    ensures local { IfOk result IsLocal }
 {
     let run = play_command(alloc, "run", help::RUN)?;
     let run = with_run_options(alloc, run)?;
@@ -156,9 +155,9 @@ fn run_command<'a>(alloc: Global) -> Result<Command<'a>, AllocError>
 
 // The commands for lessons.
 fn with_play_commands<'a>(alloc: Global, program: Command<'a>) -> Result<Command<'a>, AllocError>
-    requires { (out-Command program).has_globals ≡ false }
+    requires { IsLocal program }
     ensures shape { IfOk result (λ c. app_of c ≡ with_play_commands (app_of program.entry)) }
-    ensures local { IfOk result (λ c. (out-Command c).has_globals ≡ false) }
+    ensures local { IfOk result IsLocal }
 {
     let program = with_play_command(alloc, program, "events", help::EVENTS)?;
     let program = with_play_command(alloc, program, "replay", help::REPLAY)?;
@@ -173,7 +172,7 @@ fn with_play_commands<'a>(alloc: Global, program: Command<'a>) -> Result<Command
 /// If memory ran out.
 pub fn whole_line<'a>(alloc: Global, program: Program) -> Result<Command<'a>, AllocError>
     ensures shape { IfOk result (λ c. app_of c ≡ line program) }
-    ensures local { IfOk result (λ c. (out-Command c).has_globals ≡ false) }
+    ensures local { IfOk result IsLocal }
 {
     match program {
         Program::Forestplan => {

@@ -3,7 +3,7 @@
 
 ghost use Rattle.std.specs.Prelude.{◌≡◌, ◌^◌, IfOk, false};
 ghost use Rattle.clap.specs.Words.{app_of, found_of, rows_of, rule_of, with_rule};
-ghost use Rattle.clap.specs.declared.builder.command.Command.TheViews.{out-Command};
+ghost use Rattle.command_line.specs.Line.{IsLocal};
 ghost use Rattle.command_line.specs.RunOptions.{edition_of, number_of, number_rule, options_of, with_edition};
 ghost use Rattle.command_line.specs.RunOptions.{with_run_options};
 
@@ -34,10 +34,10 @@ fn number<'a>(
 }
 
 fn with_number<'a>(command: Command<'a>, number: Arg<'a>) -> Result<Command<'a>, AllocError>
-    requires locals { (out-Command command).has_globals ≡ false }
+    requires locals { IsLocal command }
     requires local { number.global ≡ false }
     ensures shape { IfOk result (λ c. app_of c ≡ with_rule (app_of command.entry) (rule_of number.entry)) }
-    ensures local { IfOk result (λ c. (out-Command c).has_globals ≡ false) }
+    ensures local { IfOk result IsLocal }
 {
     command.arg(number)
 }
@@ -47,9 +47,9 @@ fn with_number<'a>(command: Command<'a>, number: Arg<'a>) -> Result<Command<'a>,
 /// # Errors
 /// If memory ran out.
 pub fn with_run_options<'a>(alloc: Global, command: Command<'a>) -> Result<Command<'a>, AllocError>
-    requires { (out-Command command).has_globals ≡ false }
+    requires { IsLocal command }
     ensures shape { IfOk result (λ c. app_of c ≡ with_run_options (app_of command.entry)) }
-    ensures local { IfOk result (λ c. (out-Command c).has_globals ≡ false) }
+    ensures local { IfOk result IsLocal }
 {
     let command = with_number(
         command,
@@ -70,9 +70,9 @@ pub fn with_run_options<'a>(alloc: Global, command: Command<'a>) -> Result<Comma
 /// # Errors
 /// If memory ran out.
 pub fn with_edition<'a>(alloc: Global, command: Command<'a>) -> Result<Command<'a>, AllocError>
-    requires { (out-Command command).has_globals ≡ false }
+    requires { IsLocal command }
     ensures shape { IfOk result (λ c. app_of c ≡ with_edition (app_of command.entry)) }
-    ensures local { IfOk result (λ c. (out-Command c).has_globals ≡ false) }
+    ensures local { IfOk result IsLocal }
 {
     let edition = number(alloc, "edition", 1, u64::from(MAX_EDITION), "2", EDITION);
     with_number(command, edition)

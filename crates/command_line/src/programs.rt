@@ -2,7 +2,7 @@
 
 ghost use Rattle.std.specs.Prelude.{◌≡◌, [], IfOk, codes, false, is_some, option_map, unwrap_or};
 ghost use Rattle.clap.specs.Words.{app_of, first_of, found_of, rows_of, rule_of};
-ghost use Rattle.clap.specs.declared.builder.command.Command.TheViews.{out-Command};
+ghost use Rattle.command_line.specs.Line.{IsLocal};
 ghost use Rattle.command_line.specs.NodePrograms.{passed_program, passes_of, passes_rule, passes_with, program_of};
 ghost use Rattle.command_line.specs.NodePrograms.{program_rule, program_with, root_of, root_rule, rooted_of};
 ghost use Rattle.command_line.specs.NodePrograms.{rooted_program, shown_of, transcript_rule, with_passes, with_program};
@@ -107,9 +107,9 @@ fn transcript<'a>(alloc: Global) -> Arg<'a>
 /// # Errors
 /// If memory ran out.
 pub fn with_program<'a>(alloc: Global, command: Command<'a>) -> Result<Command<'a>, AllocError>
-    requires { (out-Command command).has_globals ≡ false }
+    requires { IsLocal command }
     ensures shape { IfOk result (λ c. app_of c ≡ with_program (app_of command.entry)) }
-    ensures local { IfOk result (λ c. (out-Command c).has_globals ≡ false) }
+    ensures local { IfOk result IsLocal }
 {
     command.arg(program(alloc))
 }
@@ -119,9 +119,9 @@ pub fn with_program<'a>(alloc: Global, command: Command<'a>) -> Result<Command<'
 /// # Errors
 /// If memory ran out.
 pub fn with_root<'a>(alloc: Global, command: Command<'a>) -> Result<Command<'a>, AllocError>
-    requires { (out-Command command).has_globals ≡ false }
+    requires { IsLocal command }
     ensures shape { IfOk result (λ c. app_of c ≡ with_root (app_of command.entry)) }
-    ensures local { IfOk result (λ c. (out-Command c).has_globals ≡ false) }
+    ensures local { IfOk result IsLocal }
 {
     command.arg(root(alloc))
 }
@@ -131,9 +131,9 @@ pub fn with_root<'a>(alloc: Global, command: Command<'a>) -> Result<Command<'a>,
 /// # Errors
 /// If memory ran out.
 pub fn with_passes<'a>(alloc: Global, command: Command<'a>) -> Result<Command<'a>, AllocError>
-    requires { (out-Command command).has_globals ≡ false }
+    requires { IsLocal command }
     ensures shape { IfOk result (λ c. app_of c ≡ with_passes (app_of command.entry)) }
-    ensures local { IfOk result (λ c. (out-Command c).has_globals ≡ false) }
+    ensures local { IfOk result IsLocal }
 {
     command.arg(number_of_passes(alloc))
 }
@@ -143,9 +143,9 @@ pub fn with_passes<'a>(alloc: Global, command: Command<'a>) -> Result<Command<'a
 /// # Errors
 /// If memory ran out.
 pub fn with_transcript<'a>(alloc: Global, command: Command<'a>) -> Result<Command<'a>, AllocError>
-    requires { (out-Command command).has_globals ≡ false }
+    requires { IsLocal command }
     ensures shape { IfOk result (λ c. app_of c ≡ with_transcript (app_of command.entry)) }
-    ensures local { IfOk result (λ c. (out-Command c).has_globals ≡ false) }
+    ensures local { IfOk result IsLocal }
 {
     command.arg(transcript(alloc))
 }
