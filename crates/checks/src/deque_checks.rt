@@ -3,7 +3,7 @@
 
 ghost use Rattle.std.specs.Prelude.{◌≡◌, ◌<◌, ◌≤◌, All, IfOk, length, map, vec_len};
 ghost use Rattle.crossbeam_deque.specs.Handles.{stealer_deque};
-ghost use Rattle.deque_rule.specs.Deques.{deque_of};
+ghost use Rattle.worker_deques.specs.Guests.{deques_of};
 
 use crossbeam_deque::protocol::Split;
 use deque_rule::{Ledger, Task, Thief};
@@ -41,7 +41,7 @@ struct Begun {
     desks: Vec<Desk<Numbered>>,
     thieves: Vec<Thief<Numbered>>,
     ghost three: { vec_len thieves ≡ 3 },
-    ghost deques: { All (λ d. map (λ g. deque_of g.pass) d.guests.items ≡ map stealer_deque thieves.items)
+    ghost deques: { All (λ d. deques_of d.guests.items ≡ map stealer_deque thieves.items)
         desks.items },
 }
 
@@ -81,7 +81,7 @@ fn finish(desk: &mut Desk<Numbered>)
 // A worker looks this often, and finishes what it finds.
 fn find_all(thieves: &[Thief<Numbered>], worker: u32, desk: &mut Desk<Numbered>, looks: u32)
     requires worker { worker < length thieves.now }
-    requires deques { map (λ g. deque_of g.pass) desk.old.guests.items ≡ map stealer_deque thieves.now }
+    requires deques { deques_of desk.old.guests.items ≡ map stealer_deque thieves.now }
 {
     for _ in 0..looks {
         let _ = desk.find(thieves, worker);
@@ -110,8 +110,7 @@ fn second_finds(
     numbers: &[usize],
 ) -> bool
     requires three { vec_len thieves ≡ 3 }
-    requires deques { All (λ d. map (λ g. deque_of g.pass) d.guests.items
-        ≡ map stealer_deque thieves.items) desks.items }
+    requires deques { All (λ d. deques_of d.guests.items ≡ map stealer_deque thieves.items) desks.items }
 {
     if desks.len() < 2 {
         return false;

@@ -2,7 +2,7 @@
 
 ghost use Rattle.std.specs.Prelude.{◌≡◌, ◌<◌, length, map};
 ghost use Rattle.crossbeam_deque.specs.Handles.{stealer_deque, worker_deque};
-ghost use Rattle.deque_rule.specs.Deques.{deque_of};
+ghost use Rattle.worker_deques.specs.Guests.{deques_of};
 ghost use Rattle.actor.specs.Stepped.{refusal_of, remembered};
 
 use crate::signals::Signals;
@@ -86,9 +86,9 @@ fn look<J: Wiring, P: NodeProgram, R: Wait, G: Gate>(
     desk: &mut Desk<Node<J, P>>,
 ) -> Result<bool, TurnRefused>
     requires worker { worker < length thieves.now }
-    requires deques { map (λ g. deque_of g.pass) desk.old.guests.items ≡ map stealer_deque thieves.now }
+    requires deques { deques_of desk.old.guests.items ≡ map stealer_deque thieves.now }
     ensures own { worker_deque desk.new.own ≡ worker_deque desk.old.own }
-    ensures deques { map (λ g. deque_of g.pass) desk.new.guests.items ≡ map stealer_deque thieves.now }
+    ensures deques { deques_of desk.new.guests.items ≡ map stealer_deque thieves.now }
 {
     if !desk.find(thieves, worker) {
         return Ok(false);
@@ -107,9 +107,9 @@ pub fn work<J: Wiring, P: NodeProgram, R: Wait, G: Gate>(
     mut desk: Desk<Node<J, P>>,
 ) -> Desk<Node<J, P>>
     requires worker { worker < length thieves.now }
-    requires deques { map (λ g. deque_of g.pass) desk.guests.items ≡ map stealer_deque thieves.now }
+    requires deques { deques_of desk.guests.items ≡ map stealer_deque thieves.now }
     ensures own { worker_deque result.own ≡ worker_deque desk.own }
-    ensures deques { map (λ g. deque_of g.pass) result.guests.items ≡ map stealer_deque thieves.now }
+    ensures deques { deques_of result.guests.items ≡ map stealer_deque thieves.now }
 {
     for _ in 0..crew.looks {
         if crew.signals.is_over(crew.nodes) {

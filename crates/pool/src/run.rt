@@ -3,7 +3,7 @@
 ghost use Rattle.std.specs.Prelude.{◌≡◌, ◌≤◌, All, IfOk, None, length, map, reverse, vec_len};
 ghost use Rattle.interference.specs.Net.{vertices};
 ghost use Rattle.crossbeam_deque.specs.Handles.{stealer_deque, worker_deque};
-ghost use Rattle.deque_rule.specs.Deques.{deque_of};
+ghost use Rattle.worker_deques.specs.Guests.{deques_of};
 ghost use Rattle.actor.specs.Stepped.{refusal_of};
 
 use crate::faults::{NodesFault, ThreadsFault};
@@ -68,12 +68,11 @@ fn run_all<J: Wiring + Send + Sync, P: NodeProgram, G: Gate + Sync, R: Threads +
         rt,
         move |scope| -> Result<Vec<Desk<Node<J, P>>>, ThreadsFault>
             requires { (vec_len desks ≤ MAX_WORKERS) × (vec_len desks ≡ length thieves.now)
-                × All (λ d. map (λ g. deque_of g.pass) d.guests.items
-                ≡ map stealer_deque thieves.now) desks.items }
+                × All (λ d. deques_of d.guests.items ≡ map stealer_deque thieves.now) desks.items }
             ensures owns { IfOk result (λ done. map (λ d. worker_deque d.own) done.items
                 ≡ map (λ d. worker_deque d.own) desks.items) }
-            ensures guests { IfOk result (λ done. map (λ d. map (λ g. deque_of g.pass) d.guests.items) done.items
-                ≡ map (λ d. map (λ g. deque_of g.pass) d.guests.items) desks.items) }
+            ensures guests { IfOk result (λ done. map (λ d. deques_of d.guests.items) done.items
+                ≡ map (λ d. deques_of d.guests.items) desks.items) }
         {
             let children = start_all(scope, rt, alloc, crew, thieves, desks)?;
             Ok(join_all(rt, crew.signals, children)?)

@@ -2,7 +2,7 @@
 
 ghost use Rattle.std.specs.Prelude.{◌≡◌, ◌<◌, ◌≤◌, All, IfErr, IfOk, length, map, vec_len};
 ghost use Rattle.crossbeam_deque.specs.Handles.{stealer_deque, worker_deque};
-ghost use Rattle.deque_rule.specs.Deques.{deque_of};
+ghost use Rattle.worker_deques.specs.Guests.{deques_of};
 ghost use Rattle.pool.specs.declared.faults.ThreadsFault.TheVariants.{Spawn};
 
 use crate::faults::ThreadsFault;
@@ -33,7 +33,7 @@ fn start<'s, E, J: Wiring + Send + Sync, P: NodeProgram, G: Gate + Sync, R: Thre
     desk: Desk<Node<J, P>>,
 ) -> Result<Child<Node<J, P>>, ThreadsFault>
     requires worker { worker < length thieves.now }
-    requires deques { map (λ g. deque_of g.pass) desk.guests.items ≡ map stealer_deque thieves.now }
+    requires deques { deques_of desk.guests.items ≡ map stealer_deque thieves.now }
     ensures desk { IfOk result (λ h. h.promise.0.value ≡ desk) }
     ensures spawn { IfErr result (λ fault. fault ≡ Spawn) }
 {
@@ -41,10 +41,9 @@ fn start<'s, E, J: Wiring + Send + Sync, P: NodeProgram, G: Gate + Sync, R: Thre
         SameDeques(Snapshot::of(&desk)),
         move || -> Desk<Node<J, P>>
             requires { (worker < length thieves.now)
-                × (map (λ g. deque_of g.pass) desk.guests.items ≡ map stealer_deque thieves.now) }
+                × (deques_of desk.guests.items ≡ map stealer_deque thieves.now) }
             ensures { (worker_deque result.own ≡ worker_deque desk.own)
-                × (map (λ g. deque_of g.pass) result.guests.items
-                ≡ map (λ g. deque_of g.pass) desk.guests.items) }
+                × (deques_of result.guests.items ≡ deques_of desk.guests.items) }
         { work(rt, crew, thieves, worker, desk) },
     );
     match started {
@@ -79,8 +78,7 @@ pub fn start_all<
 ) -> Result<Vec<Child<Node<J, P>>>, ThreadsFault>
     requires few { vec_len desks ≤ MAX_WORKERS }
     requires workers { vec_len desks ≡ length thieves.now }
-    requires deques { All (λ d. map (λ g. deque_of g.pass) d.guests.items
-        ≡ map stealer_deque thieves.now) desks.items }
+    requires deques { All (λ d. deques_of d.guests.items ≡ map stealer_deque thieves.now) desks.items }
     ensures desks { IfOk result (λ hs. map (λ h. h.promise.0.value) hs.items ≡ desks.items) }
 {
     let mut children = Vec::with_capacity(alloc, desks.len())?;
@@ -104,8 +102,8 @@ pub fn join_all<T: Task, R: Threads + Wait>(
 ) -> Result<Vec<Desk<T>>, Memory>
     ensures owns { IfOk result (λ done. map (λ d. worker_deque d.own) done.items
         ≡ map (λ d. worker_deque d.own) (map (λ h. h.promise.0.value) children.items)) }
-    ensures guests { IfOk result (λ done. map (λ d. map (λ g. deque_of g.pass) d.guests.items) done.items
-        ≡ map (λ d. map (λ g. deque_of g.pass) d.guests.items) (map (λ h. h.promise.0.value) children.items)) }
+    ensures guests { IfOk result (λ done. map (λ d. deques_of d.guests.items) done.items
+        ≡ map (λ d. deques_of d.guests.items) (map (λ h. h.promise.0.value) children.items)) }
 {
     match thread::join_promised(rt, children) {
         Ok(done) => Ok(done),

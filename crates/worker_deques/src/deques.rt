@@ -4,8 +4,8 @@ ghost use Rattle.std.specs.Prelude.{◌≡◌, ◌<◌, ◌≤◌, ◌+◌, ◌-
 ghost use Rattle.crossbeam_deque.specs.Handles.{stealer_deque, view, worker_capacity, worker_deque, worker_index};
 ghost use Rattle.crossbeam_deque.specs.Handles.{worker_view};
 ghost use Rattle.deque_rule.specs.Ledgers.{AreDealt, CanSplit, all_shares, ledger, shares_of};
-ghost use Rattle.deque_rule.specs.Deques.{deque_of};
 ghost use Rattle.worker_deques.specs.Dealt.{begun_by};
+ghost use Rattle.worker_deques.specs.Guests.{deques_of};
 
 use crossbeam_deque::protocol::Split;
 use deque_rule::{Gives, Guest, Ledger, Own, Task, Thief};
@@ -73,7 +73,7 @@ pub fn cut<T: Task, M: Split<Ledger>>(
     requires shares { All (λ o. 1 < shares_of (worker_view o)) owns.items }
     ensures owns { IfOk result (λ r. map worker_deque r.0.items ≡ map worker_deque owns.items) }
     ensures left { IfOk result (λ r. map worker_view r.0.items ≡ map (λ o. M.left (worker_view o)) owns.items) }
-    ensures guests { IfOk result (λ r. map (λ g. deque_of g.pass) r.1.items ≡ map worker_deque owns.items) }
+    ensures guests { IfOk result (λ r. deques_of r.1.items ≡ map worker_deque owns.items) }
     ensures right { IfOk result
         (λ r. map (λ g. view g.pass) r.1.items ≡ map (λ o. M.right (worker_view o)) owns.items) }
 {

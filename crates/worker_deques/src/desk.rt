@@ -3,7 +3,7 @@
 ghost use Rattle.std.specs.Prelude.{◌≡◌, ◌≢◌, ◌<◌, ◌≤◌, ◌+◌, ◌⊎◌, ◌++◌, ◌∷◌, None, is_some, length, map, vec_len};
 ghost use Rattle.crossbeam_deque.specs.Handles.{stealer_deque, view, worker_deque, worker_view};
 ghost use Rattle.deque_rule.specs.Ledgers.{AreOut, all_shares, in_hand};
-ghost use Rattle.deque_rule.specs.Deques.{deque_of};
+ghost use Rattle.worker_deques.specs.Guests.{deques_of};
 
 use deque_rule::{Gets, Guest, Own, Task, Thief};
 
@@ -53,10 +53,9 @@ impl<T: Task> Desk<T> {
     fn steal(&mut self, thieves: &[Thief<T>], from: usize)
         requires empty { self.old.task ≡ None }
         requires from { from < length thieves.now }
-        requires deques { map (λ g. deque_of g.pass) self.old.guests.items ≡ map stealer_deque thieves.now }
+        requires deques { deques_of self.old.guests.items ≡ map stealer_deque thieves.now }
         ensures own { self.new.own ≡ self.old.own }
-        ensures deques { map (λ g. deque_of g.pass) self.new.guests.items
-            ≡ map (λ g. deque_of g.pass) self.old.guests.items }
+        ensures deques { deques_of self.new.guests.items ≡ deques_of self.old.guests.items }
     {
         self.task = self.guests[from].steal(&thieves[from]);
     }
@@ -65,9 +64,9 @@ impl<T: Task> Desk<T> {
     /// worker's deque, going up from its own number plus one and round. Returns whether a task is in hand.
     pub fn find(&mut self, thieves: &[Thief<T>], worker: u32) -> bool
         requires worker { worker < length thieves.now }
-        requires deques { map (λ g. deque_of g.pass) self.old.guests.items ≡ map stealer_deque thieves.now }
+        requires deques { deques_of self.old.guests.items ≡ map stealer_deque thieves.now }
         ensures own { worker_deque self.new.own ≡ worker_deque self.old.own }
-        ensures deques { map (λ g. deque_of g.pass) self.new.guests.items ≡ map stealer_deque thieves.now }
+        ensures deques { deques_of self.new.guests.items ≡ map stealer_deque thieves.now }
         ensures found { result ≡ is_some self.new.task }
     {
         if self.task.is_none() {

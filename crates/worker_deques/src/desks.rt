@@ -4,7 +4,7 @@ ghost use Rattle.std.specs.Prelude.{◌≡◌, ◌<◌, ◌≤◌, ◌-◌, [], 
 ghost use Rattle.crossbeam_deque.specs.Handles.{view, worker_deque, worker_view};
 ghost use Rattle.run_options.specs.declared.TheConstants.{MAX_WORKERS};
 ghost use Rattle.deque_rule.specs.Ledgers.{AreOut, all_shares, ledger};
-ghost use Rattle.deque_rule.specs.Deques.{deque_of};
+ghost use Rattle.worker_deques.specs.Guests.{deques_of};
 
 use crate::deques::cut;
 use crate::desk::Desk;
@@ -23,7 +23,7 @@ fn hire<T: Task>(
         (λ r. All (λ o. worker_view o ≡ ledger (all_shares - 1 - vec_len owns) [] []) r.0.items) }
     ensures rows { IfOk result (λ r. vec_len r.1 ≡ vec_len owns) }
     ensures guests { IfOk result
-        (λ r. All (λ row. map (λ g. deque_of g.pass) row.items ≡ map worker_deque owns.items) r.1.items) }
+        (λ r. All (λ row. deques_of row.items ≡ map worker_deque owns.items) r.1.items) }
     ensures fresh { IfOk result (λ r. All (λ row. AreOut (map (λ g. view g.pass) row.items) []) r.1.items) }
 {
     let count = owns.len();
@@ -69,8 +69,7 @@ pub fn make_desks<T: Task>(
     requires few { vec_len owns ≤ MAX_WORKERS }
     requires new { All (λ o. worker_view o ≡ ledger (all_shares - 1) [] []) owns.items }
     ensures owns { IfOk result (λ ds. map (λ d. worker_deque d.own) ds.items ≡ map worker_deque owns.items) }
-    ensures guests { IfOk result (λ ds. All (λ d. map (λ g. deque_of g.pass) d.guests.items
-        ≡ map worker_deque owns.items) ds.items) }
+    ensures guests { IfOk result (λ ds. All (λ d. deques_of d.guests.items ≡ map worker_deque owns.items) ds.items) }
     ensures places { IfOk result (λ ds. All (λ d. tasks ≤ vec_capacity d.finished) ds.items) }
 {
     let (owns, mut rows) = hire(alloc, owns)?;

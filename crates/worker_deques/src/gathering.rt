@@ -5,8 +5,8 @@ ghost use Rattle.std.specs.List.{range_with_len};
 ghost use Rattle.crossbeam_deque.specs.Handles.{view, worker_deque, worker_view};
 ghost use Rattle.deque_rule.specs.Ledgers.{AreDealt, AreSame, all_shares, in_hand, in_rows};
 ghost use Rattle.deque_rule.specs.Ledgers.{pushed_by, shares_of, taken_by, weigh};
-ghost use Rattle.deque_rule.specs.Deques.{deque_of};
 ghost use Rattle.run_options.specs.declared.TheConstants.{MAX_WORKERS};
+ghost use Rattle.worker_deques.specs.Guests.{deques_of};
 
 use crate::desk::Desk;
 use crate::order::by_number;
@@ -25,7 +25,7 @@ pub struct Back<T: Task> {
 
 // All shares of a pass come back to its deque's owner.
 fn absorb_row<T: Task>(owns: &mut Vec<Own<T>>, mut row: Vec<Guest<T>>)
-    requires deques { map (λ g. deque_of g.pass) row.items ≡ map worker_deque owns.old.items }
+    requires deques { deques_of row.items ≡ map worker_deque owns.old.items }
     requires some { All (λ o. 0 < shares_of (worker_view o)) owns.old.items }
     ensures deques { map worker_deque owns.new.items ≡ map worker_deque owns.old.items }
     ensures some { All (λ o. 0 < shares_of (worker_view o)) owns.new.items }
@@ -83,7 +83,7 @@ fn drain_all<T: Task, R: Wait>(
 
 // All rows of passes come back to the deques' owners.
 fn absorb_rows<T: Task>(owns: &mut Vec<Own<T>>, rows: Vec<Vec<Guest<T>>>)
-    requires deques { All (λ row. map (λ g. deque_of g.pass) row.items ≡ map worker_deque owns.old.items) rows.items }
+    requires deques { All (λ row. deques_of row.items ≡ map worker_deque owns.old.items) rows.items }
     requires some { All (λ o. 0 < shares_of (worker_view o)) owns.old.items }
     ensures shares { (p : ℕ) → All (λ o. shares_of (worker_view o) ≡ p) owns.old.items
         → All (λ o. shares_of (worker_view o) ≡ p + vec_len rows) owns.new.items }
@@ -121,8 +121,8 @@ fn with_those_of<T: Task>(
 fn apart<T: Task>(alloc: Global, done: Vec<Desk<T>>) -> Result<Back<T>, AllocError>
     ensures owns { IfOk result
         (λ b. map worker_deque b.owns.items ≡ map (λ d. worker_deque d.own) done.items) }
-    ensures rows { IfOk result (λ b. map (λ row. map (λ g. deque_of g.pass) row.items) b.rows.items
-        ≡ map (λ d. map (λ g. deque_of g.pass) d.guests.items) done.items) }
+    ensures rows { IfOk result (λ b. map (λ row. deques_of row.items) b.rows.items
+        ≡ map (λ d. deques_of d.guests.items) done.items) }
     ensures shares { IfOk result (λ b. map (λ o. shares_of (worker_view o)) b.owns.items
         ≡ map (λ d. shares_of (worker_view d.own)) done.items) }
     ensures out { IfOk result (λ b. (h : ℕ → ℕ) →
@@ -157,9 +157,8 @@ fn gather_boxes<T: Task, R: Wait>(
     dealt: Vec<Guest<T>>,
     done: Vec<Desk<T>>,
 ) -> Result<Vec<Box<T>>, AllocError>
-    requires deques { map (λ g. deque_of g.pass) dealt.items ≡ map (λ d. worker_deque d.own) done.items }
-    requires guests { All (λ d. map (λ g. deque_of g.pass) d.guests.items
-        ≡ map (λ g. deque_of g.pass) dealt.items) done.items }
+    requires deques { deques_of dealt.items ≡ map (λ d. worker_deque d.own) done.items }
+    requires guests { All (λ d. deques_of d.guests.items ≡ deques_of dealt.items) done.items }
     requires few { vec_len dealt ≤ MAX_WORKERS }
     ensures once { (numbers : List ℕ) → AreDealt (map (λ g. view g.pass) dealt.items) numbers
         → IfOk result (λ all. AreSame (map (λ b. T.number_of b.value) all.items) numbers) }
@@ -187,9 +186,8 @@ pub fn gather<T: Task, R: Wait>(
     dealt: Vec<Guest<T>>,
     done: Vec<Desk<T>>,
 ) -> Result<Vec<Box<T>>, AllocError>
-    requires deques { map (λ g. deque_of g.pass) dealt.items ≡ map (λ d. worker_deque d.own) done.items }
-    requires guests { All (λ d. map (λ g. deque_of g.pass) d.guests.items
-        ≡ map (λ g. deque_of g.pass) dealt.items) done.items }
+    requires deques { deques_of dealt.items ≡ map (λ d. worker_deque d.own) done.items }
+    requires guests { All (λ d. deques_of d.guests.items ≡ deques_of dealt.items) done.items }
     requires few { vec_len dealt ≤ MAX_WORKERS }
     requires dealt { AreDealt (map (λ g. view g.pass) dealt.items) (range_with_len 0 (vec_len places.slots)) }
     ensures order { IfOk result

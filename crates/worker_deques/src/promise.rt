@@ -10,10 +10,10 @@ use std::thread::Promise;
 pub struct SameDeques<T: Task>(pub Snapshot<Desk<T>>);
 
 impl<T: Task> Promise<Desk<T>> for SameDeques<T> {
-    ghost use Rattle.std.specs.Prelude.{◌≡◌, map};
+    ghost use Rattle.std.specs.Prelude.{◌≡◌};
     ghost use Rattle.crossbeam_deque.specs.Handles.{worker_deque};
-    ghost use Rattle.deque_rule.specs.Deques.{deque_of};
+    ghost use Rattle.worker_deques.specs.Guests.{deques_of};
 
     ghost kept_by = { λ p r. (worker_deque r.own ≡ worker_deque p.0.value.own)
-        × (map (λ g. deque_of g.pass) r.guests.items ≡ map (λ g. deque_of g.pass) p.0.value.guests.items) };
+        × (deques_of r.guests.items ≡ deques_of p.0.value.guests.items) };
 }

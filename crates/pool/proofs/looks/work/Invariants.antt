@@ -1,10 +1,10 @@
 use Rattle.std.proofs.Common.{◌≡◌, map}
 use Rattle.crossbeam_deque.specs.Handles.{stealer_deque, worker_deque}
-use Rattle.deque_rule.specs.Deques.{deque_of}
+use Rattle.worker_deques.specs.Guests.{deques_of}
 use Rattle.pool.proofs.looks.work.Given as goal
 
 abbrev pub invariant-loop : goal.invariant-loop
 invariant-loop g l = record {
   own : worker_deque l.desk.own ≡ worker_deque l.fn.desk.own;
-  deques : map (λ g'. deque_of g'.pass) l.desk.guests.items ≡ map stealer_deque l.thieves;
+  deques : deques_of l.desk.guests.items ≡ map stealer_deque l.thieves;
 }

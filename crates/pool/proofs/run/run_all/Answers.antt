@@ -6,6 +6,7 @@ use Rattle.deque_rule.specs.Deques.{deque_of}
 use Rattle.deque_rule.specs.Ledgers.{all_shares, ledger, shares_of}
 use Rattle.worker_deques.proofs.Holds.{dealt_on}
 use Rattle.deque_rule.proofs.Rule.{deals}
+use Rattle.worker_deques.specs.Guests.{deques_of}
 use Rattle.worker_deques.proofs.Views.{as_many, carried}
 use Rattle.pool.proofs.Numbers.{as_many as many_nodes, from_one, from_the_last}
 use Rattle.pool.proofs.run.run_all.Goals as goal
@@ -66,8 +67,8 @@ gather-requires-clause-deques g c =
 
 pub gather-requires-clause-guests : goal.gather-requires-clause-guests
 gather-requires-clause-guests g c =
-    carried (λ d. map (λ g'. deque_of g'.pass) d.guests.items) (λ d. map (λ g'. deque_of g'.pass) d.guests.items)
-    (λ ids. ids ≡ map (λ g'. deque_of g'.pass) c.in_ok-owns-2.dealt.items) c.in_ok-desks.desks.items _ c.in_ok-done.ensures.1.1
+    carried (λ d. deques_of d.guests.items) (λ d. deques_of d.guests.items)
+    (λ ids. ids ≡ deques_of c.in_ok-owns-2.dealt.items) c.in_ok-desks.desks.items _ c.in_ok-done.ensures.1.1
     (λ k d lt. c.in_ok-desks.ensures.guests k d lt ∙ c.in_ok-owns-2.ensures.owns ∙ sym c.in_ok-owns-2.ensures.guests)
 
 pub gather-requires-clause-few : goal.gather-requires-clause-few

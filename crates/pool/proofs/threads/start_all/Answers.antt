@@ -4,7 +4,7 @@ use Rattle.std.proofs.lemmas.List.{length-map, length_push}
 use Rattle.std.proofs.lemmas.Iterator.Consumers.{YieldsList-end, YieldsList-turn}
 use Rattle.std.proofs.lemmas.Iterator.Adapters.{YieldsList-from_vec}
 use Rattle.crossbeam_deque.specs.Handles.{stealer_deque}
-use Rattle.deque_rule.specs.Deques.{deque_of}
+use Rattle.worker_deques.specs.Guests.{deques_of}
 use Rattle.worker_deques.proofs.Pushed.{image_pushed}
 use Rattle.pool.proofs.threads.start_all.Given.{Over}
 use Rattle.pool.proofs.threads.start_all.Goals.{In-Some}
@@ -25,7 +25,7 @@ start-requires-clause-worker g c =
 pub start-requires-clause-deques : goal.start-requires-clause-deques
 start-requires-clause-deques g c κ b =
     let at = turn g (goal.at.start-requires-clause-deques g c).In-Some in
-    subst (λ d. map (λ g'. deque_of g'.pass) d.guests.items ≡ map stealer_deque c.args.thieves.now) (sym at.1) (c.requires.deques _ _ at.0)
+    subst (λ d. deques_of d.guests.items ≡ map stealer_deque c.args.thieves.now) (sym at.1) (c.requires.deques _ _ at.0)
 
 pub push_reserved-requires : goal.push_reserved-requires
 push_reserved-requires g c =

@@ -5,6 +5,7 @@ use Rattle.std.proofs.lemmas.Iterator.Adapters.{YieldsList-from_vec}
 use Rattle.crossbeam_deque.specs.Handles.{view, worker_deque, worker_view}
 use Rattle.deque_rule.specs.Deques.{deque_of}
 use Rattle.deque_rule.specs.Ledgers.{shares_of}
+use Rattle.worker_deques.specs.Guests.{deques_of}
 use Rattle.worker_deques.proofs.Pushed.{both_pushed}
 use Rattle.worker_deques.proofs.Views.{as_many}
 use Rattle.worker_deques.proofs.deques.cut.Given.{Over}
@@ -44,7 +45,7 @@ loop-own-init g c =
       room = (omega (arith, lefts.capacity, c.len-count.ensures), omega (arith, guests.capacity, c.len-count.ensures));
       owns = ap (map worker_deque) lefts.items;
       left = ap (map worker_view) lefts.items;
-      guests = ap (map (λ g'. deque_of g'.pass)) guests.items;
+      guests = ap deques_of guests.items;
       right = ap (map (λ g'. view g'.pass)) guests.items;
     }
 

@@ -1,6 +1,6 @@
 use Rattle.std.proofs.Common.{◌≡◌, ◌≤◌, map, vec_len, vec_capacity}
 use Rattle.crossbeam_deque.specs.Handles.{view, worker_deque, worker_view}
-use Rattle.deque_rule.specs.Deques.{deque_of}
+use Rattle.worker_deques.specs.Guests.{deques_of}
 use Rattle.worker_deques.proofs.deques.cut.Given as goal
 
 abbrev pub invariant-loop-own : goal.invariant-loop-own
@@ -8,6 +8,6 @@ invariant-loop-own g l = record {
   room : (vec_len l.fn.owns ≤ vec_capacity l.lefts) × (vec_len l.fn.owns ≤ vec_capacity l.guests);
   owns : map worker_deque l.lefts.items ≡ map worker_deque l.yielded;
   left : map worker_view l.lefts.items ≡ map (λ o. g.M.Split.left (worker_view o)) l.yielded;
-  guests : map (λ g'. deque_of g'.pass) l.guests.items ≡ map worker_deque l.yielded;
+  guests : deques_of l.guests.items ≡ map worker_deque l.yielded;
   right : map (λ g'. view g'.pass) l.guests.items ≡ map (λ o. g.M.Split.right (worker_view o)) l.yielded;
 }

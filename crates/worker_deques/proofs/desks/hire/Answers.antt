@@ -2,10 +2,10 @@ use Rattle.std.proofs.Common.{◌≡◌, ◌+◌, ◌-◌, [], map, refl, ap, �
 use Rattle.std.proofs.lemmas.List.Elements.{All-push, All-same}
 use Rattle.crossbeam_deque.specs.Handles.{view, worker_deque, worker_view}
 use Rattle.deque_rule.specs.declared.ledger.Ledger.{Ledger}
-use Rattle.deque_rule.specs.Deques.{deque_of}
 use Rattle.deque_rule.specs.Ledgers.{AreOut, all_shares, ledger}
 use Rattle.worker_deques.proofs.Holds.{all_to, fresh_out}
 use Rattle.deque_rule.proofs.Rule.{forks}
+use Rattle.worker_deques.specs.Guests.{deques_of}
 use Rattle.worker_deques.proofs.desks.hire.Goals as goal
 
 pub cut-requires-clause-rule : goal.cut-requires-clause-rule
@@ -37,8 +37,8 @@ loop-preserved g c =
           (ap (λ k. ledger k [] []) fewer) inv.left;
       room = omega (arith, more.capacity, inv.room);
       rows = let n = more.len in let i = inv.rows in omega arith;
-      guests = All-same (λ row. map (λ g'. deque_of g'.pass) row.items ≡ map worker_deque c.args.owns.items) _ _ more.items
-          (All-push (λ row. map (λ g'. deque_of g'.pass) row.items ≡ map worker_deque c.args.owns.items) c.loop.rows.items _ inv.guests
+      guests = All-same (λ row. deques_of row.items ≡ map worker_deque c.args.owns.items) _ _ more.items
+          (All-push (λ row. deques_of row.items ≡ map worker_deque c.args.owns.items) c.loop.rows.items _ inv.guests
           (said.guests ∙ inv.owns));
       fresh = All-same (λ row. AreOut (map (λ g'. view g'.pass) row.items) []) _ _ more.items
           (All-push (λ row. AreOut (map (λ g'. view g'.pass) row.items) []) c.loop.rows.items _ inv.fresh

@@ -6,6 +6,7 @@ use Rattle.std.proofs.lemmas.Iterator.Adapters.{YieldsList-from_vec}
 use Rattle.crossbeam_deque.specs.Handles.{view, worker_deque, worker_view}
 use Rattle.deque_rule.specs.Deques.{deque_of}
 use Rattle.deque_rule.specs.Ledgers.{AreOut, all_shares, ledger}
+use Rattle.worker_deques.specs.Guests.{deques_of}
 use Rattle.worker_deques.proofs.Pushed.{both_pushed}
 use Rattle.worker_deques.proofs.Views.{as_many}
 use Rattle.worker_deques.proofs.desks.make_desks.Goals as goal
@@ -14,7 +15,7 @@ use Rattle.worker_deques.proofs.desks.make_desks.Goals as goal
 pub desk-requires-clause-few : goal.desk-requires-clause-few
 desk-requires-clause-few g c =
     let row = c.in-Some-pop.row in
-    let theirs = All-pop (λ row. map (λ g'. deque_of g'.pass) row.items ≡ map worker_deque c.args.owns.items) _ c.pop.new.self.items (Some row)
+    let theirs = All-pop (λ row. deques_of row.items ≡ map worker_deque c.args.owns.items) _ c.pop.new.self.items (Some row)
     c.in-Some-pop.ensures.items c.loop-own.invariant.theirs in
     let many = as_many worker_deque (λ g'. deque_of g'.pass) c.args.owns.items row.items theirs.1 in
     let f = c.requires.few in
@@ -23,7 +24,7 @@ desk-requires-clause-few g c =
 pub desk-requires-clause-new : goal.desk-requires-clause-new
 desk-requires-clause-new g c =
     let row = c.in-Some-pop.row in
-    let theirs = All-pop (λ row. map (λ g'. deque_of g'.pass) row.items ≡ map worker_deque c.args.owns.items) _ c.pop.new.self.items (Some row)
+    let theirs = All-pop (λ row. deques_of row.items ≡ map worker_deque c.args.owns.items) _ c.pop.new.self.items (Some row)
     c.in-Some-pop.ensures.items c.loop-own.invariant.theirs in
     let many = as_many worker_deque (λ g'. deque_of g'.pass) c.args.owns.items row.items theirs.1 in
     let turn = YieldsList-turn (YieldsList-from_vec {s = c.into_iter-own-iterator.result} c.in_ok-owns.owns.items (search rules) (search rules))
@@ -50,14 +51,14 @@ loop-own-preserved g c =
     let row = c.in-Some-pop.row in
     let said = c.in_ok-desk.ensures in
     let more = c.push_reserved.ensures in
-    let theirs = All-pop (λ row. map (λ g'. deque_of g'.pass) row.items ≡ map worker_deque c.args.owns.items) _ c.pop.new.self.items (Some row)
+    let theirs = All-pop (λ row. deques_of row.items ≡ map worker_deque c.args.owns.items) _ c.pop.new.self.items (Some row)
     c.in-Some-pop.ensures.items inv.theirs in
     record {
       owns = both_pushed (λ d. worker_deque d.own) worker_deque c.loop-own.all.items _ c.loop-own.yielded _ _ c.in-Some.own more.items refl
           (ap worker_deque said.own) inv.owns;
-      guests = All-same (λ d. map (λ g'. deque_of g'.pass) d.guests.items ≡ map worker_deque c.args.owns.items) _ _ more.items
-          (All-push (λ d. map (λ g'. deque_of g'.pass) d.guests.items ≡ map worker_deque c.args.owns.items) c.loop-own.all.items _ inv.guests
-          (ap (λ gs. map (λ g'. deque_of g'.pass) gs.items) said.guests ∙ theirs.1));
+      guests = All-same (λ d. deques_of d.guests.items ≡ map worker_deque c.args.owns.items) _ _ more.items
+          (All-push (λ d. deques_of d.guests.items ≡ map worker_deque c.args.owns.items) c.loop-own.all.items _ inv.guests
+          (ap (λ gs. deques_of gs.items) said.guests ∙ theirs.1));
       places = All-same (λ d. c.args.tasks ≤ vec_capacity d.finished) _ _ more.items
           (All-push (λ d. c.args.tasks ≤ vec_capacity d.finished) c.loop-own.all.items _ inv.places said.places);
       room = omega (arith, more.capacity, inv.room);

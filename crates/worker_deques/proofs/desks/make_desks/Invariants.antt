@@ -2,16 +2,16 @@ use Rattle.std.proofs.Common.{◌≡◌, ◌≤◌, ◌+◌, [], length, map, ve
 use Rattle.std.specs.Prelude.{All}
 use Rattle.crossbeam_deque.specs.Handles.{view, worker_deque}
 use Rattle.deque_rule.specs.Ledgers.{AreOut}
-use Rattle.deque_rule.specs.Deques.{deque_of}
+use Rattle.worker_deques.specs.Guests.{deques_of}
 use Rattle.worker_deques.proofs.desks.make_desks.Given as goal
 
 abbrev pub invariant-loop-own : goal.invariant-loop-own
 invariant-loop-own g l = record {
   owns : map (λ d. worker_deque d.own) l.all.items ≡ map worker_deque l.yielded;
-  guests : All (λ d. map (λ g'. deque_of g'.pass) d.guests.items ≡ map worker_deque l.fn.owns.items) l.all.items;
+  guests : All (λ d. deques_of d.guests.items ≡ map worker_deque l.fn.owns.items) l.all.items;
   places : All (λ d. l.tasks ≤ vec_capacity d.finished) l.all.items;
   room : vec_len l.fn.owns ≤ vec_capacity l.all;
   rows : vec_len l.rows + length l.yielded ≡ vec_len l.fn.owns;
-  theirs : All (λ row. map (λ g'. deque_of g'.pass) row.items ≡ map worker_deque l.fn.owns.items) l.rows.items;
+  theirs : All (λ row. deques_of row.items ≡ map worker_deque l.fn.owns.items) l.rows.items;
   fresh : All (λ row. AreOut (map (λ g'. view g'.pass) row.items) []) l.rows.items;
 }

@@ -2,14 +2,14 @@ use Rattle.std.proofs.Common.{◌≡◌, ◌+◌, ◌<◌, ◌≤◌, ℕ, map, 
 use Rattle.std.specs.Prelude.{All}
 use Rattle.crossbeam_deque.specs.Handles.{view, worker_deque, worker_view}
 use Rattle.deque_rule.specs.Ledgers.{pushed_by, shares_of, taken_by}
-use Rattle.deque_rule.specs.Deques.{deque_of}
+use Rattle.worker_deques.specs.Guests.{deques_of}
 use Rattle.worker_deques.proofs.Absorbing.{IsUpTo}
 use Rattle.worker_deques.proofs.gathering.absorb_row.Given as goal
 
 abbrev pub invariant-each : goal.invariant-each
 invariant-each g l = record {
   deques : map worker_deque l.owns.items ≡ map worker_deque l.fn.owns.items;
-  front : map (λ g'. deque_of g'.pass) l.row.items ≡ take (length l.row.items) (map worker_deque l.fn.owns.items);
+  front : deques_of l.row.items ≡ take (length l.row.items) (map worker_deque l.fn.owns.items);
   few : length l.row.items ≤ length l.fn.owns.items;
   some : All (λ o. 0 < shares_of (worker_view o)) l.owns.items;
   shares : (p : ℕ) → All (λ o. shares_of (worker_view o) ≡ p) l.fn.owns.items → IsUpTo p (length l.row.items) (map worker_view l.owns.items);

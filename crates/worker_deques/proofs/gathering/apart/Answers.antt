@@ -3,8 +3,8 @@ use Rattle.std.proofs.Common.{◌≡◌, ◌<◌, length, map, map-id, refl, sym
 use Rattle.std.proofs.lemmas.Iterator.Adapters.{YieldsList-from_vec}
 use Rattle.std.proofs.lemmas.Iterator.Consumers.{YieldsList-end, YieldsList-turn}
 use Rattle.crossbeam_deque.specs.Handles.{view, worker_deque, worker_view}
-use Rattle.deque_rule.specs.Deques.{deque_of}
 use Rattle.deque_rule.specs.Ledgers.{in_rows, pushed_by, shares_of, taken_by, weigh}
+use Rattle.worker_deques.specs.Guests.{deques_of}
 use Rattle.worker_deques.proofs.Pushed.{both_pushed, in_rows_more, total_more}
 use Rattle.worker_deques.proofs.Views.{as_many}
 use Rattle.worker_deques.proofs.gathering.apart.Given.{Over}
@@ -26,7 +26,7 @@ push_reserved-requires g c =
 pub push_reserved-requires-in-loop-desk : goal.push_reserved-requires-in-loop-desk
 push_reserved-requires-in-loop-desk g c =
     let inv = c.loop-desk.invariant in
-    let many = as_many (λ d. map (λ g'. deque_of g'.pass) d.guests.items) (λ row. map (λ g'. deque_of g'.pass) row.items)
+    let many = as_many (λ d. deques_of d.guests.items) (λ row. deques_of row.items)
     c.loop-desk.yielded c.loop-desk.rows.items inv.rows in
     omega (arith, left g (goal.at.push_reserved-requires-in-loop-desk g c).In-Some, inv.room.1, many, c.args.done.ok.0, c.loop-desk.rows.ok.0)
 
@@ -37,7 +37,7 @@ loop-desk-init g c =
     record {
       room = (omega (arith, c.in_ok-owns.ensures.capacity, c.len-count.ensures), omega (arith, c.in_ok-rows.ensures.capacity, c.len-count.ensures));
       owns = ap (map worker_deque) owns;
-      rows = ap (map (λ row. map (λ g'. deque_of g'.pass) row.items)) rows;
+      rows = ap (map (λ row. deques_of row.items)) rows;
       shares = ap (map (λ o. shares_of (worker_view o))) owns;
       out = λ h.
           let t = ap (λ os. taken_by h (map worker_view os)) owns in
@@ -58,7 +58,7 @@ loop-desk-preserved g c =
       room = (omega (arith, c.push_reserved.ensures.capacity, inv.room.0), omega (arith, c.push_reserved-in-loop-desk.ensures.capacity, inv.room.1));
       owns = both_pushed worker_deque (λ d. worker_deque d.own) _ _ c.loop-desk.yielded _ _ desk owns refl
           refl inv.owns;
-      rows = both_pushed (λ row. map (λ g'. deque_of g'.pass) row.items) (λ d. map (λ g'. deque_of g'.pass) d.guests.items) _ _
+      rows = both_pushed (λ row. deques_of row.items) (λ d. deques_of d.guests.items) _ _
           c.loop-desk.yielded _ _ desk rows refl refl inv.rows;
       shares = both_pushed (λ o. shares_of (worker_view o)) (λ d. shares_of (worker_view d.own)) _ _ c.loop-desk.yielded _ _ desk owns refl
           refl inv.shares;
@@ -83,7 +83,7 @@ returns g c =
     let inv = c.loop-desk.invariant in
     record {
       owns = inv.owns ∙ ap (map (λ d. worker_deque d.own)) all;
-      rows = inv.rows ∙ ap (map (λ d. map (λ g'. deque_of g'.pass) d.guests.items)) all;
+      rows = inv.rows ∙ ap (map (λ d. deques_of d.guests.items)) all;
       shares = inv.shares ∙ ap (map (λ d. shares_of (worker_view d.own))) all;
       out = inv.out;
     }
