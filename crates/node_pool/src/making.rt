@@ -1,9 +1,9 @@
 //! The links of a network.
 
-ghost use Rattle.std.specs.Prelude.{◌≡◌, ◌<◌, ◌≤◌, ◌+◌, ℕ, [], IfOk, length, map, vec_len};
+ghost use Rattle.std.specs.Prelude.{◌≡◌, ◌<◌, ◌≤◌, ◌+◌, ℕ, [], IfOk, length, vec_len};
 ghost use Rattle.interference.specs.Net.{IsVertex, count_of, degree_of, neighbour_of};
 ghost use Rattle.outcomes.specs.Rows.{row_at};
-ghost use Rattle.node_pool.specs.Makes.{AreMade, AreMadeBefore, row_more};
+ghost use Rattle.node_pool.specs.Makes.{AreMade, AreMadeBefore, row_more, rows_of};
 
 use interference::{Memory, Network};
 use link_queue::{Link, PutEnd, TakeEnd};
@@ -33,7 +33,7 @@ pub struct Made<P: NodeProgram> {
 fn none_made<P: NodeProgram>(alloc: Global, net: &Network) -> Result<Made<P>, AllocError>
     ensures links { IfOk result (λ made. made.links.items ≡ []) }
     ensures count { IfOk result (λ made. length made.ends.items ≡ count_of net.now) }
-    ensures rows { IfOk result (λ made. (u : ℕ) → row_at (map (λ row. row.items) made.ends.items) u ≡ []) }
+    ensures rows { IfOk result (λ made. (u : ℕ) → row_at (rows_of made.ends.items) u ≡ []) }
 {
     let mut ends = Vec::with_capacity(alloc, net.nodes() as usize)?;
     for v in 0..net.nodes() {
@@ -48,8 +48,7 @@ fn none_made<P: NodeProgram>(alloc: Global, net: &Network) -> Result<Made<P>, Al
 // Appends a thing to the row of a vertex.
 fn push_to<T: Drop>(rows: &mut Vec<Vec<T>>, v: u32, thing: T) -> Result<(), AllocError>
     requires row { (1 ≤ v) × (v ≤ vec_len rows.old) }
-    ensures rows { IfOk result (λ _. map (λ row. row.items) rows.new.items
-        ≡ row_more (map (λ row. row.items) rows.old.items) v thing) }
+    ensures rows { IfOk result (λ _. rows_of rows.new.items ≡ row_more (rows_of rows.old.items) v thing) }
 {
     rows[(v - 1) as usize].push(thing)?;
     Ok(())
@@ -68,10 +67,9 @@ fn make_edge<P: NodeProgram>(
     requires vertex { IsVertex net.now v }
     requires port { i < degree_of net.now v }
     requires greater { v < neighbour_of net.now v i }
-    requires before { AreMadeBefore net.now capacity v i made.old.links.items
-        (map (λ row. row.items) made.old.ends.items) }
-    ensures made { IfOk result (λ _. AreMadeBefore net.now capacity v (i + 1) made.new.links.items
-        (map (λ row. row.items) made.new.ends.items)) }
+    requires before { AreMadeBefore net.now capacity v i made.old.links.items (rows_of made.old.ends.items) }
+    ensures made { IfOk result (λ _.
+        AreMadeBefore net.now capacity v (i + 1) made.new.links.items (rows_of made.new.ends.items)) }
 {
     net.is_network();
     let (w, j) = (net.neighbour(v, i), net.back_port(v, i));
@@ -108,10 +106,9 @@ fn make_edges<P: NodeProgram>(
 ) -> Result<(), Memory>
     requires capacity { (0 < capacity) × (capacity ≤ MAX_CAPACITY) }
     requires vertex { IsVertex net.now v }
-    requires before { AreMadeBefore net.now capacity v 0 made.old.links.items
-        (map (λ row. row.items) made.old.ends.items) }
-    ensures made { IfOk result (λ _. AreMadeBefore net.now capacity (v + 1) 0 made.new.links.items
-        (map (λ row. row.items) made.new.ends.items)) }
+    requires before { AreMadeBefore net.now capacity v 0 made.old.links.items (rows_of made.old.ends.items) }
+    ensures made { IfOk result (λ _.
+        AreMadeBefore net.now capacity (v + 1) 0 made.new.links.items (rows_of made.new.ends.items)) }
 {
     net.is_network();
     for i in 0..net.degree(v) {
@@ -133,8 +130,7 @@ pub fn make_links<P: NodeProgram>(
     capacity: usize,
 ) -> Result<Made<P>, Memory>
     requires capacity { (0 < capacity) × (capacity ≤ MAX_CAPACITY) }
-    ensures made { IfOk result
-        (λ made. AreMade net.now capacity made.links.items (map (λ row. row.items) made.ends.items)) }
+    ensures made { IfOk result (λ made. AreMade net.now capacity made.links.items (rows_of made.ends.items)) }
 {
     let mut made = none_made::<P>(alloc, net)?;
     for v in 0..net.nodes() {

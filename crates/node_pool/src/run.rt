@@ -6,7 +6,7 @@ ghost use Rattle.gather_laws.specs.Outcome.{IsOutcome};
 ghost use Rattle.run_faults.specs.declared.fault.PoolFault.TheVariants.{BadOptions};
 ghost use Rattle.run_options.specs.Ranges.{AreInRange};
 ghost use Rattle.node_pool.specs.Ends.{full_after};
-ghost use Rattle.node_pool.specs.Makes.{AreMade, tables_of};
+ghost use Rattle.node_pool.specs.Makes.{AreMade, rows_of, tables_of};
 
 use crate::making::{Made, make_links};
 use crate::starting::start_nodes;
@@ -52,9 +52,9 @@ fn run_made<J: Wiring + Send + Sync, P: NodeProgram, G: Gate + Sync, R: Threads 
     made: Made<P>,
 ) -> Result<Outcome<P>, NodesFault>
     requires network { J.net ≡ net.now }
-    requires tables { J.tables ≡ tables_of (map (λ row. row.items) made.ends.items) }
+    requires tables { J.tables ≡ tables_of (rows_of made.ends.items) }
     requires links { J.links ≡ map table_of made.links.items }
-    requires made { AreMade net.now options.capacity made.links.items (map (λ row. row.items) made.ends.items) }
+    requires made { AreMade net.now options.capacity made.links.items (rows_of made.ends.items) }
     requires options { AreInRange options }
     requires transcript { J.transcript ≡ options.transcript }
     ensures outcome { IfOk result

@@ -3,6 +3,7 @@
 ghost use Rattle.std.specs.Prelude.{◌≡◌, ◌∷◌, ◌++◌, ◌<◌, [], All, IfOk, map, reverse, vec_len};
 ghost use Rattle.interference.specs.Net.{IsVertex, vertices};
 ghost use Rattle.alpha_core.specs.Program.{start_node};
+ghost use Rattle.node_pool.specs.Makes.{rows_of};
 ghost use Rattle.node_pool.specs.News.{AreNewEnds, AreNewOf};
 
 use crate::making::PortEnds;
@@ -59,7 +60,7 @@ pub fn start_nodes<J: Wiring, P: NodeProgram>(
 ) -> Result<Vec<Box<Node<J, P>>>, Memory>
     requires net { J.net ≡ net.now }
     requires transcript { J.transcript ≡ transcript }
-    requires ends { AreNewEnds J.net J.tables J.links (map (λ row. row.items) ends.items) }
+    requires ends { AreNewEnds J.net J.tables J.links (rows_of ends.items) }
     ensures nodes { IfOk result (λ nodes. map (λ b. b.value.vertex) nodes.items ≡ reverse (vertices J.net)) }
     ensures first { IfOk result
         (λ nodes. All (λ b. b.value.alpha.node ≡ start_node P.program net.now b.value.vertex) nodes.items) }

@@ -1,6 +1,6 @@
-use Rattle.std.proofs.Common.{◌≡◌, ◌<◌, ◌+◌, map, sym, subst, arith}
+use Rattle.std.proofs.Common.{◌≡◌, ◌<◌, ◌+◌, sym, subst, arith}
 use Rattle.interference.specs.Net.{degree_of}
-use Rattle.node_pool.specs.Makes.{AreMadeBefore}
+use Rattle.node_pool.specs.Makes.{AreMadeBefore, rows_of}
 use Rattle.node_pool.proofs.Edges.{edge-was_made, vertex-made}
 use Rattle.node_pool.proofs.making.make_edges.Goals.{then-v-neighbour+in_ok-make_edge, else-v-neighbour}
 use Rattle.node_pool.proofs.making.make_edges.Goals as goal
@@ -12,11 +12,11 @@ loop-i-preserved g c =
     record {
       made = elim c.if-v-neighbour.branch [
         | then-v-neighbour+in_ok-make_edge w ↦
-            subst (λ made. AreMadeBefore net c.args.capacity c.args.v (c.loop-i.i + 1) made.links.items (map (λ row. row.items) made.ends.items))
+            subst (λ made. AreMadeBefore net c.args.capacity c.args.v (c.loop-i.i + 1) made.links.items (rows_of made.ends.items))
             (sym w.made-is)
             w.in_ok-make_edge.ensures.made
         | else-v-neighbour w ↦
-            subst (λ made. AreMadeBefore net c.args.capacity c.args.v (c.loop-i.i + 1) made.links.items (map (λ row. row.items) made.ends.items))
+            subst (λ made. AreMadeBefore net c.args.capacity c.args.v (c.loop-i.i + 1) made.links.items (rows_of made.ends.items))
             (sym w.made-is)
             (edge-was_made net c.args.capacity c.is_network.ensures c.args.v c.requires.vertex _ _ c.loop-i.i lt
             (λ less. omega (arith, less, w.if-v-neighbour.false, c.neighbour.ensures.value)) c.loop-i.invariant.made)
@@ -29,6 +29,6 @@ returns g c =
     let last : c.loop-i.i ≡ degree_of net c.args.v = omega (arith, c.loop-i-test.false, c.loop-i.auto.i-end, c.degree-i-end.ensures.value) in
     record {
       made = vertex-made net c.args.capacity c.is_network.ensures c.args.v c.requires.vertex _ _
-          (subst (λ i. AreMadeBefore net c.args.capacity c.args.v i c.loop-i.made.links.items (map (λ row. row.items) c.loop-i.made.ends.items)) last
+          (subst (λ i. AreMadeBefore net c.args.capacity c.args.v i c.loop-i.made.links.items (rows_of c.loop-i.made.ends.items)) last
           c.loop-i.invariant.made);
     }

@@ -1,7 +1,7 @@
-use Rattle.std.proofs.Common.{◌≡◌, ◌+◌, map, subst, ◌∙◌, arith}
+use Rattle.std.proofs.Common.{◌≡◌, ◌+◌, subst, ◌∙◌, arith}
 use Rattle.std.proofs.lemmas.List.{length-map}
 use Rattle.interference.specs.Net.{count_of}
-use Rattle.node_pool.specs.Makes.{AreMadeBefore}
+use Rattle.node_pool.specs.Makes.{AreMadeBefore, rows_of}
 use Rattle.node_pool.proofs.Edges.{all-made, none-made}
 use Rattle.node_pool.proofs.making.make_links.Goals as goal
 
@@ -17,6 +17,6 @@ returns g c =
     let last : c.loop-v.v + 1 ≡ count_of net + 1 = omega (arith, c.loop-v-test.false, c.loop-v.auto.v-end, c.nodes-v-end.ensures.count) in
     record {
       made = all-made net c.args.capacity c.nodes-v-end.ensures.network _ _
-          (subst (λ v. AreMadeBefore net c.args.capacity v 0 c.loop-v.made.links.items (map (λ row. row.items) c.loop-v.made.ends.items)) last
+          (subst (λ v. AreMadeBefore net c.args.capacity v 0 c.loop-v.made.links.items (rows_of c.loop-v.made.ends.items)) last
           c.loop-v.invariant.made);
     }

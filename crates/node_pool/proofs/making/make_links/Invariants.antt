@@ -1,8 +1,8 @@
-use Rattle.std.proofs.Common.{◌+◌, map}
-use Rattle.node_pool.specs.Makes.{AreMadeBefore}
+use Rattle.std.proofs.Common.{◌+◌}
+use Rattle.node_pool.specs.Makes.{AreMadeBefore, rows_of}
 use Rattle.node_pool.proofs.making.make_links.Given as goal
 
 abbrev pub invariant-loop-v : goal.invariant-loop-v
 invariant-loop-v g l = record {
-  made : AreMadeBefore l.net l.capacity (l.v + 1) 0 l.made.links.items (map (λ row. row.items) l.made.ends.items);
+  made : AreMadeBefore l.net l.capacity (l.v + 1) 0 l.made.links.items (rows_of l.made.ends.items);
 }

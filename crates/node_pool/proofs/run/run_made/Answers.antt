@@ -7,7 +7,7 @@ use Rattle.gather_laws.specs.Outcome.{IsOutcome}
 use Rattle.pool.specs.declared.faults.NodesFault.{NodesFault}
 use Rattle.pool.specs.declared.faults.NodesFault.TheVariants.{StampFull}
 use Rattle.node_pool.specs.Ends.{full_after}
-use Rattle.node_pool.specs.Makes.{AreMade}
+use Rattle.node_pool.specs.Makes.{AreMade, rows_of}
 use Rattle.node_pool.proofs.MadeRows.{made_are_new, made_within}
 use Rattle.node_pool.proofs.run.run_made.Goals as goal
 
@@ -16,7 +16,7 @@ pub start_nodes-requires-clause-ends : goal.start_nodes-requires-clause-ends
 start_nodes-requires-clause-ends g c κs within =
     let capacity = c.args.options.capacity in
     let made = c.args.made in
-    let are_made = subst (λ net. AreMade net capacity made.links.items (map (λ row. row.items) made.ends.items)) (sym c.requires.network) c.requires.made in
+    let are_made = subst (λ net. AreMade net capacity made.links.items (rows_of made.ends.items)) (sym c.requires.network) c.requires.made in
     made_are_new g.J.Wiring.net capacity _ _ are_made (subst IsNetwork (sym c.requires.network) c.is_network.ensures) g.J.Wiring.tables g.J.Wiring.links
     (sym c.requires.tables) (sym c.requires.links)
 

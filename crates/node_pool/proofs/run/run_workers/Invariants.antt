@@ -1,12 +1,12 @@
 use Rattle.std.proofs.Common.{map}
 use Rattle.actor.specs.Tables.{table_of}
-use Rattle.node_pool.specs.Makes.{tables_of}
+use Rattle.node_pool.specs.Makes.{rows_of, tables_of}
 use Rattle.node_pool.proofs.run.run_workers.Given as goal
 
 abbrev pub ghosts-run_made : goal.ghosts-run_made
 ghosts-run_made g a = record {
   net = a.net.now;
-  tables = tables_of (map (λ row. row.items) a.made.ends.items);
+  tables = tables_of (rows_of a.made.ends.items);
   links = map table_of a.made.links.items;
   transcript = a.options.transcript;
 }

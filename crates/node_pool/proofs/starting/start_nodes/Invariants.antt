@@ -4,6 +4,7 @@ use Rattle.std.specs.List.{range_with_len}
 use Rattle.interference.specs.Net.{vertices}
 use Rattle.alpha_core.specs.Program.{start_node}
 use Rattle.outcomes.specs.Rows.{row_at}
+use Rattle.node_pool.specs.Makes.{rows_of}
 use Rattle.node_pool.specs.News.{AreNewOf}
 use Rattle.node_pool.proofs.starting.start_nodes.Given as goal
 
@@ -11,7 +12,7 @@ abbrev pub invariant-loop-k : goal.invariant-loop-k
 invariant-loop-k g l = record {
   left : vec_len l.ends ≡ l.count - l.k;
   ends : (u : ℕ) → 1 ≤ u → u ≤ l.count - l.k
-      → AreNewOf g.J.Wiring.net g.J.Wiring.tables g.J.Wiring.links u (row_at (map (λ row. row.items) l.ends.items) u);
+      → AreNewOf g.J.Wiring.net g.J.Wiring.tables g.J.Wiring.links u (row_at (rows_of l.ends.items) u);
   started : map (λ b. b.value.vertex) l.nodes.items ++ reverse (range_with_len 1 (l.count - l.k)) ≡ reverse (vertices g.J.Wiring.net);
   first : All (λ b. b.value.alpha.node ≡ start_node g.P.NodeProgram.program l.net b.value.vertex) l.nodes.items;
 }
