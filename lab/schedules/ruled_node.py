@@ -9,7 +9,6 @@ import copy
 from lab.definitions.nodes import AlphaNode, Colouring, Refused, ports_of, synchronous_pulses
 from lab.definitions.own_program import OwnNode
 from lab.definitions.sequel import Sequel
-from lab.definitions.values import frozen
 
 
 class RuledNode(AlphaNode):
@@ -88,12 +87,28 @@ class RuledNode(AlphaNode):
 
 def copied_program(program):
     """A copy that changes apart from the node of a program."""
-    return program.copied() if isinstance(program, OwnNode) else copy.deepcopy(program)
+    if isinstance(program, OwnNode):
+        return program.copied()
+    node = copy.copy(program)
+    for name, value in vars(program).items():
+        if isinstance(value, (list, set, dict)):
+            setattr(node, name, copy.copy(value))
+        elif isinstance(value, (Colouring, Sequel)):
+            setattr(node, name, copied_program(value))
+    return node
 
 
 def key_of_program(program):
-    """Equal for equal nodes of one vertex."""
-    return program.key() if isinstance(program, OwnNode) else frozen(vars(program))
+    """Equal for equal nodes of one vertex; by its fields, of which lists, sets and dictionaries hold plain values."""
+    return program.key() if isinstance(program, OwnNode) else tuple(map(key_of_field, vars(program).values()))
+
+
+def key_of_field(value):
+    if isinstance(value, list):
+        return tuple(value)
+    if isinstance(value, (set, dict)):
+        return frozenset(value.items() if isinstance(value, dict) else value)
+    return key_of_program(value) if isinstance(value, (Colouring, Sequel)) else value
 
 
 class Rounds:
