@@ -29,7 +29,7 @@ def build(name):
         print(f"{name}: not built, and the toolchain's command rt is not on the PATH: {kit.wanted()} is wanted",
               file=sys.stderr)
         return NOT_BUILT
-    print(f"{name}: not built from these sources yet; it is proved and built now, once: 16 to 33 minutes on four free "
+    print(f"{name}: not built from these sources yet; it is proved and built now, once: 15 to 33 minutes on four free "
           "processors, twice as long on two", file=sys.stderr, flush=True)
     signal.signal(signal.SIGTERM, signal.default_int_handler)
     status = prove.proved([name], prove.jobs_with_room(), name) if kit.is_there(name) else 2

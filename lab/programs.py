@@ -44,7 +44,7 @@ def program_file(name):
     path = built(name)
     if path is None:
         raise Wrong(f"{name} isn't built: a first call of it, as `{name} {FIRST[name]} < examples/two.col`, proves "
-                    "and builds it in 16 to 33 minutes")
+                    "and builds it in 15 to 33 minutes")
     return path
 
 
