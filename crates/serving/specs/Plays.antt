@@ -74,10 +74,13 @@ again_of One = 0
 again_of Two = 1
 again_of Three = 2
 
--- the same of the recolouring, with so many passes
+-- the same of the recolouring, with one pass and so many more
+abbrev pub MayPass : ℕ → Play → List ℕ → Result (List ℕ) PlanFault → Type 0
+MayPass again = MayPlay (recolouring again) (recolouring_texts again) recolouring_payloads None
+
+-- the same, with so many passes
 abbrev pub MayRecolour : Passes → Play → List ℕ → Result (List ℕ) PlanFault → Type 0
-MayRecolour passes =
-    MayPlay (recolouring (again_of passes)) (recolouring_texts (again_of passes)) recolouring_payloads None
+MayRecolour passes = MayPass (again_of passes)
 
 -- the same of the program of a name, each a line; layers with a root are the distances from this vertex
 abbrev pub MayPlayNamed : NodeProgramName → Play → List ℕ → Result (List ℕ) PlanFault → Type 0

@@ -6,7 +6,7 @@ ghost use Rattle.layers.specs.Layering.{layering};
 ghost use Rattle.layers.specs.Texts.{layers_texts_from};
 ghost use Rattle.wire_texts.specs.PayloadTexts.{payload_texts};
 ghost use Rattle.serving.specs.Payloads.{layers_payloads};
-ghost use Rattle.serving.specs.Plays.{MayPlay, MayPlayNamed, MayRecolour, layers_root};
+ghost use Rattle.serving.specs.Plays.{MayPass, MayPlay, MayPlayNamed, MayRecolour, layers_root};
 
 use actor::OpenGate;
 use answers::{PlanFault, Root, events_bytes, replay_bytes, rounds_bytes};
@@ -81,6 +81,20 @@ fn layers_bytes<T: Threads + Wait + Sync>(
     play_bytes::<Layers, T>(rt, alloc, Some(root), play, input)
 }
 
+// What the recolouring answers to an input, with one pass and so many more.
+fn passes_bytes<const AGAIN: u8, T: Threads + Wait + Sync>(
+    rt: &T,
+    alloc: Global,
+    play: Play,
+    input: &[u8],
+) -> Result<Vec<u8>, PlanFault>
+    requires in_range { IsPlayInRange play }
+    ensures ok { IfOk result (λ bytes. MayPass AGAIN play input.now (Ok bytes.items)) }
+    ensures fault { IfErr result (λ fault. MayPass AGAIN play input.now (Err fault)) }
+{
+    play_bytes::<Recolouring<AGAIN>, T>(rt, alloc, None, play, input)
+}
+
 // What the recolouring answers to an input, with so many passes.
 fn recolouring_bytes<T: Threads + Wait + Sync>(
     rt: &T,
@@ -94,9 +108,9 @@ fn recolouring_bytes<T: Threads + Wait + Sync>(
     ensures fault { IfErr result (λ fault. MayRecolour passes play input.now (Err fault)) }
 {
     match passes {
-        Passes::One => play_bytes::<Recolouring<0>, T>(rt, alloc, None, play, input),
-        Passes::Two => play_bytes::<Recolouring<1>, T>(rt, alloc, None, play, input),
-        Passes::Three => play_bytes::<Recolouring<2>, T>(rt, alloc, None, play, input),
+        Passes::One => passes_bytes::<0, T>(rt, alloc, play, input),
+        Passes::Two => passes_bytes::<1, T>(rt, alloc, play, input),
+        Passes::Three => passes_bytes::<2, T>(rt, alloc, play, input),
     }
 }
 
