@@ -1,15 +1,22 @@
 """What goes wrong without a rule of the rounds, and beside it the same rounds with all rules: in a forest, the colours
-of a node and of those above it, pulse by pulse; in a merge, the network with what each node has. The pair that goes
-wrong is red."""
+of a node and of those above it, pulse by pulse; in a merge, the network with what each node has; of a program that goes
+on where the colouring ends, what its nodes have found at their last pulse. What goes wrong is red."""
+from functools import partial
+
+from lab.definitions.nodes import Colouring
 from lab.networks.network_text import Network
+from lab.pictures.map_picture import box_of, draw_map
 from lab.pictures.marks import SMALL, Map, channel_circle, colour_square, number_square
 from lab.pictures.palette import FOREST_COLOURS, INK, PAPER, SOFT, WRONG
 from lab.pictures.places import OF_SQUARES, box_height, places_of
+from lab.pictures.program_rounds import ProgramRounds
+from lab.pictures.results_picture import draw_chosen, found_in, legend
 from lab.pictures.rounds_picture import GROUPS
 from lab.pictures.schedules_picture import wrapped
 from lab.pictures.schedules_space import broken_rounds, left_out_words
 from lab.pictures.svg import Svg, counted, text_width
 from lab.schedules.ruled_rounds import RuledRounds
+from lab.schedules.ruled_sequels import RuledSequel
 from lab.schedules.rules import OF_FORESTS
 from lab.words import in_words
 from lab.wrong import at_most
@@ -20,11 +27,14 @@ OTHER, BEFORE = "#E6E6E6", "#9A9A9A"
 LEAST_WIDTH, START = 620, 2
 
 
-def draw(network, without):
-    """Of a network, or of a smallest one on which the rounds go wrong."""
-    rounds, smaller = broken_rounds(network, without)
+def draw(network, without, program=Colouring):
+    """Of a network, or of a smallest one on which the rounds of a program go wrong."""
+    rounds, smaller = broken_rounds(network, without, program)
     drawn = network or network_of_rounds(rounds)
-    picture = OfForest(rounds, without) if rounds.clash.pulse else OfMerge(rounds, without, drawn)
+    if isinstance(rounds, RuledSequel):
+        picture = OfEnd(rounds, without, drawn, program)
+    else:
+        picture = OfForest(rounds, without) if rounds.clash.pulse else OfMerge(rounds, without, drawn)
     width = max(picture.width(), LEAST_WIDTH)
     lines = [line for words in told(rounds, without, network, smaller) for line in in_lines(words, width)]
     legend = in_lines(picture.legend(), width)
@@ -45,7 +55,9 @@ def in_lines(words, width):
 
 def network_of_rounds(rounds):
     """The network that was found, as one that was read."""
-    return Network("found", len(rounds.net.neighbours), {tuple(sorted(edge)) for edge in rounds.net.number}, {})
+    net = rounds.net
+    bars = {v: [colour + 1 for colour in colours] for v, colours in net.barred.items()}
+    return Network("found", len(net.neighbours), {tuple(sorted(edge)) for edge in net.number}, {}, bars=bars)
 
 
 def left_out(without):
@@ -55,7 +67,13 @@ def left_out(without):
 def title(rounds, without, network):
     clash = rounds.clash
     name = "W" if network is None else f"{network.name} w"
-    return f"{name}ithout {left_out(without)}: nodes {clash.v} and {clash.w} get the same colour"
+    if not isinstance(rounds, RuledSequel):
+        said = f"nodes {clash.v} and {clash.w} get the same colour"
+    elif len(clash.nodes) == 1:
+        said = f"node {clash.nodes[0]} goes wrong"
+    else:
+        said = f"nodes {in_words(clash.nodes)} go wrong"
+    return f"{name}ithout {left_out(without)}: {said}"
 
 
 def told(rounds, without, network, smaller):
@@ -70,6 +88,7 @@ def told(rounds, without, network, smaller):
         what = "rows" if set(without) <= set(OF_FORESTS) else "networks"
         said.append(f"A smallest network that goes wrong: {counted(nodes, 'node')} with the edges "
                     f"{', '.join(f'{v}-{w}' for v, w in edges)}{apart * bool(others)}"
+                    + ", channel 1 barred at node 1" * bool(rounds.net.greatest_bars)
                     + (f"; {smaller} smaller {what} go right." if smaller else "."))
     said += [f"{words[0].upper()}{words[1:]}." for words in rounds.words().split("\n")]
     return [words.replace("'", "’") for words in said]
@@ -271,3 +290,45 @@ class OfMerge:
             lines.append(f"node {v}, turn {', '.join(map(str, turn[v]))}: takes channel {new[v] + 1}")
             lines.append(f"(it has heard {in_words(said) or 'nothing'})")
         return lines
+
+
+class OfEnd:
+    """Two maps, side by side: what the nodes of a program have found at the end without the rules, and with all."""
+
+    def __init__(self, rounds, without, network, program):
+        at_most("broken", network.nodes, "nodes of this program", MOST_MERGED,
+                "`forestlab explore NETWORK --without RULES`, which says it in words")
+        self.network, self.faults = network, rounds.faults
+        self.blocks = [(words, found_in(ProgramRounds(network, network.identifiers, played))) for words, played in (
+            (f"without {left_out(without)}", rounds.program), ("with all rules", program))]
+        self.box = box_of(network, [one for _, found in self.blocks for one in found.values()], LEAST_WIDTH / 2, 0)
+
+    def width(self):
+        return 2 * self.box[0]
+
+    def height(self):
+        return self.box[1] + OVER
+
+    def legend(self):
+        return f"What each node has found at the end{legend(self.blocks[1][1])}. Red: what isn’t right."
+
+    def draw(self, svg, top):
+        _, height, beside, _ = self.box
+        width = svg.width / 2
+        for number, (words, found) in enumerate(self.blocks):
+            left, is_wrong = number * width, number == 0
+            with svg.group("without" if is_wrong else "with", words):
+                svg.text(left + 20, top + 16, words, 12.5, WRONG if is_wrong else INK, bold=True)
+                draw_map(svg, self.network, found, (width, height, beside, top + OVER / 2), ("#9A9A9A", 1.2),
+                         partial(draw_end, svg, found, self.faults if is_wrong else ()), left)
+
+
+def draw_end(svg, found, faults, drawn):
+    """The edges that nodes have chosen, and below them a red one for each pair that isn't right; a node that isn't has
+    a red ring."""
+    for fault in faults:
+        if len(fault.nodes) == 2:
+            drawn.edge(svg, *fault.nodes, WRONG, 8, mark="wrong")
+    draw_chosen(svg, drawn, found)
+    for v in sorted({v for fault in faults for v in fault.nodes}):
+        svg.circle(*drawn.places[v], drawn.radius + 4, PAPER, WRONG, 2.2, mark="wrong-node")

@@ -51,19 +51,25 @@ def draw(network):
 
 
 def begun(network, vertices, title, least, top):
-    """A picture as wide as the map needs, and at least so wide; and its box: width, height, how much of the width is
-    for what is beside the circles on each side, and its upper edge."""
-    beside, width = max(one.room() for one in vertices.values()), width_of_map(network)
+    """A picture as wide as the map needs, and at least so wide; and its box."""
+    width, height, *_ = box = box_of(network, vertices.values(), least, top)
+    return Svg(width, top + height + 10, title), box
+
+
+def box_of(network, vertices, least, top):
+    """The box of a map, at least so wide: width, height, how much of the width is for what is beside the circles on
+    each side, and its upper edge."""
+    beside, width = max(one.room() for one in vertices), width_of_map(network)
     height = min(640, box_height(places_of(network), width, MARGIN, 130))
-    width = max(width + 2 * beside, least)
-    return Svg(width, top + height + 10, title), (width, height, beside, top)
+    return max(width + 2 * beside, least), height, beside, top
 
 
-def draw_map(svg, network, vertices, box, edge, draw_more=None):
+def draw_map(svg, network, vertices, box, edge, draw_more=None, left=0):
     """The map in a box: its edges in a colour and a width, on them what else is drawn, and the vertices."""
     width, height, beside, top = box
     radius, least = (8.5, 6.5) if network.nodes > LARGE else (14, 9) if network.nodes > SMALL else (17, 11)
-    drawn = Map(network, places_of(network), width - 2 * beside, height, MARGIN, radius, least, left=beside, top=top)
+    drawn = Map(network, places_of(network), width - 2 * beside, height, MARGIN, radius, least, left=left + beside,
+                top=top)
     for v, w in network.edges:
         drawn.edge(svg, v, w, *edge)
     if draw_more:

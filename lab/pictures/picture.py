@@ -7,7 +7,6 @@ import re
 import sys
 from collections.abc import Callable
 from dataclasses import dataclass, fields
-from functools import partial
 from typing import NamedTuple
 
 from lab import programs
@@ -27,7 +26,8 @@ from lab.pictures.sizes import MANY_WIRES, check_run, check_size, last_pulse, le
 from lab.pictures.transcripts import read_transcript
 from lab.pictures.watch_page import steps_of_text
 from lab.schedules.reading import network_of
-from lab.schedules.rules import OF_ROUNDS as RULES_OF_ROUNDS, OF_SCHEDULES
+from lab.schedules.rules import (OF_ANY_ROUNDS, OF_PROGRAMS as RULES_OF_PROGRAMS, OF_SCHEDULES, program_of,
+                                 unknown_to)
 from lab.schedules.simulate import played, text_of_rows
 from lab.words import add_output, called, parser_of, text_at, write
 from lab.wrong import Wrong
@@ -158,16 +158,18 @@ KINDS = {
     ),
     "broken": (
         "What goes wrong without a rule of the rounds, and the same rounds with all rules.",
-        "At most 2,000 nodes, and 40 if they go wrong in a merge. Without NETWORK, a smallest network that goes\n"
-        "wrong, which is looked for. Rounds that go right are refused.",
+        "At most 2,000 nodes, and 40 if they go wrong in a merge or at the end of another program. Without NETWORK, a\n"
+        "smallest network that goes wrong, which is looked for. Rounds that go right are refused.",
         "forestlab picture broken --without shift > without-shift.svg\n"
-        "  forestlab picture broken examples/petersen.col --without pair > petersen-without-pair.svg",
+        "  forestlab picture broken examples/petersen.col --without pair > petersen-without-pair.svg\n"
+        "  forestlab picture broken --program independent-set --without class > set-without-class.svg",
     ),
 }
 # Those that draw the nodes where the network places them.
 PLACED = ("map", "plan", "results", "forests", "player", "watch", "broken")
 # Those that draw any program.
-OF_PROGRAMS = ("results", "rounds", "player", "watch", "run", "overview", "node", "tally", "schedules", "adversary")
+OF_PROGRAMS = ("results", "rounds", "player", "watch", "run", "overview", "node", "tally", "schedules", "adversary",
+               "broken")
 OF_PLAN, OF_ROUNDS, OF_RUN = (
     ("plan", "matrix"),
     ("forests", "rounds", "bits", "why", "player"),
@@ -204,6 +206,13 @@ def rules(text, among=OF_SCHEDULES):
     return found
 
 
+def rules_of_rounds(text):
+    found = rules(text, OF_ANY_ROUNDS)
+    if not program_of(found):
+        raise argparse.ArgumentTypeError("rules of two programs can't be left out together")
+    return found
+
+
 PULSES = {"type": pulses, "metavar": "A..B", "help": "these pulses alone"}
 VERTEX = {"type": int, "metavar": "V", "help": "a vertex, counted from 1"}
 # The options of the kinds, besides those of programs, in the order of the help.
@@ -211,8 +220,8 @@ OPTIONS = (
     (("watch",), "transcripts", {"metavar": "TRANSCRIPT", "nargs": "*", "help": "a stored run, or two of them"}),
     (("schedules", "adversary"), "--without", {
         "type": rules, "default": (), "metavar": "RULES", "help": f"some of {','.join(OF_SCHEDULES)}"}),
-    (("broken",), "--without", {"type": partial(rules, among=RULES_OF_ROUNDS), "required": True, "metavar": "RULES",
-                                "help": f"some of {','.join(RULES_OF_ROUNDS)}"}),
+    (("broken",), "--without", {"type": rules_of_rounds, "required": True, "metavar": "RULES", "help": "some of "
+                                + "; or ".join(f"{','.join(of)} of {name}" for name, of in RULES_OF_PROGRAMS.items())}),
     (("schedules",), "--columns", {
         "type": pulses, "metavar": "A..B", "help": "the states after A to B events alone"}),
     (("schedules",), "--events", {"dest": "text", "metavar": "LIST",
@@ -310,7 +319,7 @@ def drawing(kind, network, options=Options(), texts=()):
             return watch_page.draw([watch_page.Run(text.name, network, steps_of_text(
                 text.name, network, text.text, options.pulses, options.program), options.pulses) for text in texts])
         case "broken":
-            return broken_picture.draw(network, options.without)
+            return broken_picture.draw(network, options.without, options.program)
         case "schedules" | "adversary":
             return draw_space(kind, network, options, given.get("events"))
     return (draw_run if kind in OF_RUN else draw_rounds)(kind, network, options, given)
@@ -487,6 +496,8 @@ def main(words):
     given, others = parser.parse_known_args(words)
     if others:
         kinds[given.kind].error(f"unrecognized arguments: {' '.join(others)}")
+    if given.kind == "broken" and (why := unknown_to(given.program, given.without)):
+        kinds[given.kind].error(why)
     if getattr(given, "stopped", None) is not None and not given.wrong:
         kinds[given.kind].error("--stopped is for --wrong")
     try:

@@ -49,9 +49,12 @@ class Found(Vertex):
         svg.text(x, y + 0.36 * radius, self.v, round(0.95 * radius, 1), text_on(fill), "middle", bold=True)
 
 
+def found_in(rounds):
+    return {v: Found(rounds, v) for v in rounds.network.vertices}
+
+
 def draw(rounds):
-    network = rounds.network
-    found = {v: Found(rounds, v) for v in network.vertices}
+    network, found = rounds.network, found_in(rounds)
     lines = [f"What each node has found after pulse {rounds.last}{legend(found)}.", counts(found, network) + "."]
     if rounds.wrong:
         lines.append(f"It isn't right: {rounds.wrong}.")

@@ -1,13 +1,12 @@
 """All states of a tiny network and the steps between them, as lab/schedules/space.py finds them, for the kinds that
-draw every schedule; and the rounds without a rule, as ruled_rounds.py there has them. What is too large for a picture
+draw every schedule; and the rounds without a rule, as ruled_sequels.py there has them. What is too large for a picture
 is refused here, in a sentence."""
 import re
 
 from lab.definitions.nodes import Colouring
-from lab.schedules.explore import MOST_MERGED, MOST_ROW
 from lab.schedules.reading import network_of
-from lab.schedules.ruled_rounds import RuledRounds, smallest
-from lab.schedules.rules import ALL, OF_FORESTS
+from lab.schedules.ruled_sequels import ruled, smallest_wrong
+from lab.schedules.rules import ALL
 from lab.schedules.space import Space, TooMany
 from lab.wrong import Wrong
 
@@ -50,20 +49,19 @@ def space_of(network, kind, without=(), beyond=False, program=Colouring, progres
         ) from None
 
 
-def broken_rounds(network, without):
+def broken_rounds(network, without, program=Colouring):
     """(rounds, how many networks go right that are smaller) of a network that was read, or of a smallest one, on which
-    the rounds go wrong without these rules. Networks that go right are refused."""
+    the rounds of a program go wrong without these rules. Networks that go right are refused."""
     said = " and ".join(f"`{rule}`" for rule in without)
     if network is not None:
-        rounds = RuledRounds(network_of(network), without)
+        rounds = ruled(program)(network_of(network), without)
         if rounds.clash is None:
             raise Wrong(
                 f"not broken: the rounds of {network.name} go right without {said}; without NETWORK, broken draws a "
                 "smallest one that goes wrong"
             )
         return rounds, 0
-    most, what = (MOST_ROW, "rows") if set(without) <= set(OF_FORESTS) else (MOST_MERGED, "networks")
-    rounds, tried = smallest(without, most)
+    rounds, tried, what, most = smallest_wrong(without, program)
     if rounds is None:
         raise Wrong(f"not broken: {tried:,} {what} of up to {most} nodes go right without {said}")
     return rounds, tried - 1

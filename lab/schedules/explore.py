@@ -1,25 +1,21 @@
 """The door: `forestlab explore NETWORK [options]`. Plays every schedule of a tiny network, with rules left out if some
 are named, and writes what it found, or one line on standard error."""
 import argparse
-import functools
 import json
 import sys
 from collections import Counter
 from typing import NamedTuple
 
-from lab.definitions.nodes import Colouring
 from lab.definitions.own_program import AGAIN, check_repeats
 from lab.definitions.programs import add_program, check_root, note_ignored_bars, program_at
-from lab.schedules import ruled_rounds
 from lab.schedules.reading import network_at
-from lab.schedules.ruled_sequels import RuledSequel
-from lab.schedules.rules import ALL, OF_FORESTS, OF_PROGRAMS, OF_SCHEDULES, program_of, table
+from lab.schedules.ruled_sequels import ruled, smallest_wrong
+from lab.schedules.rules import ALL, OF_SCHEDULES, program_of, table, unknown_to
 from lab.schedules.space import Space, TooMany
 from lab.words import add_output, parser_of, write
 from lab.wrong import Wrong
 
 MOST_NODES, LIMIT, BYTES_A_STATE = 4, 1_000_000, 420
-MOST_ROW, MOST_MERGED = 12, 5
 
 # What is printed in place of what a reduced search doesn't know.
 REDUCED = "reduced: a safe or close is taken at once, so schedules, pulses apart and wires under way aren't counted"
@@ -107,8 +103,8 @@ def main(words):
     of_rounds = given.without and program_of(given.without)
     if given.network is None and not of_rounds:
         line.error("NETWORK is missing")
-    if of_rounds and given.program != of_rounds:
-        line.error(f"only --program {of_rounds} has the rules {','.join(OF_PROGRAMS[of_rounds])}")
+    if of_rounds and (why := unknown_to(given.program, given.without)):
+        line.error(why)
     if of_rounds and (given.list or given.puts or given.reduce):
         rules = ",".join(OF_SCHEDULES)
         line.error(f"the rounds have no events: --list, --puts and --reduce are for the rules {rules}")
@@ -135,15 +131,12 @@ class Found(NamedTuple):
 def rounds_found(given):
     """What the rounds of the network do without the rules, or a smallest network on which they go wrong."""
     program = program_at(given.program, given.lots, given.root, given.passes)
-    ruled = ruled_rounds.RuledRounds if program is Colouring else functools.partial(RuledSequel, program=program)
     if given.network is not None:
         name, net = network_at(given.network)
         note_ignored_bars("explore", net.barred, program)
-        rounds = ruled(net, given.without)
+        rounds = ruled(program)(net, given.without)
         return said_of_rounds(given, rounds if rounds.clash else None, f"on {name}", f"the rounds of {name}")
-    is_of_forests = set(given.without) <= set(OF_FORESTS)
-    most, what = (MOST_ROW, "rows") if is_of_forests else (MOST_MERGED, "networks")
-    rounds, tried = ruled_rounds.smallest(given.without, most, ruled)
+    rounds, tried, what, most = smallest_wrong(given.without, program)
     if rounds is None:
         return Found(False, f"not broken: {tried:,} {what} of up to {most} nodes go right\n")
     edges = ", ".join(f"{v}-{w}" for v, w in sorted(map(sorted, rounds.net.number)))

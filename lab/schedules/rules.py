@@ -61,14 +61,21 @@ OF_SEQUELS = {
                      "recolouring", "choose_tells_the_first_colour"),
     },
 }
-# By the program whose rounds have them; and all.
+# By the program whose rounds have them; of the rounds of any program; and all.
 OF_PROGRAMS = {"colouring": OF_ROUNDS} | OF_SEQUELS
-ALL = OF_SCHEDULES | {word: rule for of in OF_PROGRAMS.values() for word, rule in of.items()}
+OF_ANY_ROUNDS = {word: rule for of in OF_PROGRAMS.values() for word, rule in of.items()}
+ALL = OF_SCHEDULES | OF_ANY_ROUNDS
 
 
 def program_of(words):
     """The program whose rounds have all these rules, or None."""
     return next((name for name, of in OF_PROGRAMS.items() if set(words) <= set(of)), None)
+
+
+def unknown_to(program, words):
+    """Why the rounds of a program can't be played without these rules, or None if they can."""
+    of = program_of(words)
+    return None if of == program else f"only --program {of} has the rules {','.join(OF_PROGRAMS[of])}"
 
 
 def table():

@@ -1,6 +1,6 @@
 """Pictures of rounds without a rule: what is left out beside the rounds of ruled_rounds.py (tests/programs/schedules.py
-compares these with nodes that hear and send), what has all rules beside lab/definitions/colours.py, and the words
-beside what `forestlab explore` prints."""
+compares these with nodes that hear and send), what has all rules beside lab/definitions/colours.py, the ends of other
+programs by hand, and the words beside what `forestlab explore` prints."""
 import re
 
 from lab.definitions.colours import network_of, three
@@ -10,8 +10,25 @@ from lab.schedules.ruled_rounds import RuledRounds, smallest
 from tests import TOP
 from tests.cases import said_by
 from tests.pictures.base import PictureCase
-from tests.pictures.marks import SVG, centre, ends, marks, nearest, number, numbered, parsed, texts
+from tests.pictures.marks import SVG, centre, ends, marks, nearest, number, numbered, parsed, texts, titles
 
+LONG_ROW = b"p edge 9 5\ne 1 2\ne 2 3\ne 3 4\ne 4 5\ne 5 9\n"
+BOTH_IN = ["in", "in"], ["in", "out"], [(1, 2)], [1, 2]
+# By rule: the program, a network (none: its smallest), what its nodes have found without the rule and with all, and the
+# edges and the nodes that are red. tests/programs/sequels.py says why.
+ENDS = {
+    "partner": ("matching", None, ["partner 0", "partner 1", "partner 0"], ["partner none", "partner 1", "partner 0"],
+                [(1, 2)], [1, 2]),
+    "last": ("matching", LONG_ROW,
+             ["partner none", "partner 0", "partner 1", "partner 0", "partner 1", *["partner none"] * 3, "partner 0"],
+             ["partner 0", "partner 0", "partner 1", "partner 0", "partner 1", *["partner none"] * 3, "partner 0"],
+             [(1, 2)], [1, 2]),
+    "class": ("independent-set", None, *BOTH_IN), "beside": ("independent-set", None, *BOTH_IN),
+    "bars": ("recolouring", None, ["channel 1, was channel 2", "channel 2, was channel 1"], ["channel 2", "channel 1"],
+             [], [1]),
+    "anew": ("recolouring", None, ["channel 1", "channel 1, was channel 2"],
+             ["channel 2, was channel 1", "channel 1, was channel 2"], [(1, 2)], [1, 2]),
+}
 MOST = {rule: 12 if rule in rules.OF_FORESTS else 5 for rule in rules.OF_ROUNDS}
 
 
@@ -29,7 +46,7 @@ class Broken(PictureCase):
 
     def words_row(self, name, root, said):
         """The sentences of forestlab explore are in the picture's, with its own quotes."""
-        shown = " ".join(texts(root))
+        shown = " ".join(filter(None, texts(root)))
         missing = [line for line in said if line and not line.startswith("wrong body")
                    and line[1:].replace("'", "’") not in shown]
         self.note(f"{name}: the words", not missing, missing)
@@ -107,7 +124,7 @@ class Broken(PictureCase):
     def edge_row(self, name, root):
         """Nothing is cut at the right edge: a letter takes some 0.54 of its size."""
         width = float(root.get("viewBox").split()[2])
-        cut = [element.text for element in root.iter(f"{SVG}text") if not element.get("text-anchor")
+        cut = [element.text for element in root.iter(f"{SVG}text") if element.text and not element.get("text-anchor")
                and number(element, "x") + 0.54 * number(element, "font-size") * len(element.text) > width]
         self.note(f"{name}: within its edges", not cut, cut)
 
@@ -131,3 +148,39 @@ class Broken(PictureCase):
             self.note(f"refused: {name} without {rule}", (status, picture) == (1, b"") and said in fault, fault)
         both = self.painter(["broken", "--without", "pair,earlier"])
         self.note("broken without two rules", both[0] == 0 and "pair’ and ‘earlier" in both[1].decode(), both[2])
+
+    def test_ends(self):
+        """Each rule of a program that goes on where the colouring ends."""
+        self.note("all of them", set(ENDS) == {rule for of in rules.OF_SEQUELS.values() for rule in of}, list(ENDS))
+        for rule, (program, network, without, with_all, edges, nodes) in ENDS.items():
+            words = ["--program", program, "--without", rule, *([self.file("net.col", network)] if network else [])]
+            status, picture, fault = self.painter(["broken", *words])
+            self.note(f"{program} without {rule} is drawn", (status, fault) == (0, b""), fault)
+            root = parsed(picture.decode())
+            groups = marks(root, "without")[0], marks(root, "with")[0]
+            for group, found in zip(groups, (without, with_all)):
+                said = titles(group, "vertex")
+                self.note(f"{rule}: what nodes find", said == [f"node {v}: {end}" for v, end in enumerate(found, 1)],
+                          said)
+            places = {v: centre(mark.find(f"{SVG}circle")) for v, mark in enumerate(marks(groups[0], "vertex"), 1)}
+            red = sorted(tuple(sorted(nearest(places, end) for end in ends(mark))) for mark in marks(root, "wrong"))
+            rings = sorted(nearest(places, centre(mark)) for mark in marks(root, "wrong-node"))
+            self.note(f"{rule}: what is red", (red, rings) == (edges, nodes), (red, rings))
+            self.note(f"{rule}: bars", bool(marks(root, "bar")) == (rule == "bars"))
+            self.words_row(rule, root, said_by("explore", *words, cwd=TOP)[1].split("\n")[1:])
+            self.edge_row(rule, root)
+        twice = self.painter(["broken", "--program", "recolouring", "--passes", "2", "--without", "anew"])
+        self.note("in two passes", b"After pulse 22 the neighbours 1 and 2 both have channel 1" in twice[1], twice)
+
+    def test_ends_refused(self):
+        for words, status, said in (
+                ("--without partner", 2, "only --program matching has the rules partner,last"),
+                ("--program leader --without partner", 2, "only --program matching has the rules partner,last"),
+                ("--program matching --without shift", 2, "only --program colouring has the rules digit,shift,"),
+                ("--program matching --without partner,class", 2, "rules of two programs can't be left out together"),
+                ("--program matching --without last", 1,
+                 "not broken: 1,094 networks of up to 5 nodes go right without `last`\n"),
+                ("two --program matching --without last", 1, "not broken: the rounds of two go right without `last`"),
+                ("path41 --program independent-set --without class", 1, "at most 40 nodes of this program")):
+            done = self.painter(["broken", *words.split()])
+            self.note(words, done[:2] == (status, b"") and said in done[2].decode(), done)
