@@ -18,7 +18,7 @@ from tests.cases import in_process, text_in
 from tests.workshop.base import EXAMPLES, Played, answering, network, python
 from tests.workshop.mistakes import MISTAKES
 
-ROUNDS, ALPHA = (python("python", f"layers_{name}_node.py") for name in ("rounds", "alpha"))
+ROUNDS, ALPHA = ([*python("python", "program_node.py"), "layers", name] for name in ("rounds", "alpha"))
 OF_ASSIGNMENT = {"rounds": ROUNDS, "alpha": ALPHA}
 # A ring of four whose root is node 3: node 1 is two edges away on both sides, and its port 0 leads to node 2. Node 5
 # has no neighbour.
@@ -83,7 +83,7 @@ class OtherPrograms(Played):
     def wrong_node(self, name: str, kind: str) -> list[str]:
         """The command of a node with a mistake."""
         MISTAKES.write(self.folder, [name])
-        return [sys.executable, "-S", os.path.join(self.folder, name, f"layers_{kind}_node.py")]
+        return [sys.executable, "-S", os.path.join(self.folder, name, "program_node.py"), "layers", kind]
 
     def test_what_is_right(self):
         rounds = RightRounds(network("path3"), "layers")

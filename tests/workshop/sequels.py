@@ -67,14 +67,14 @@ WHY = {
 
 
 def node(program, assignment):
-    return [*python("python", "sequel_node.py"), program, assignment]
+    return [*python("python", "program_node.py"), program, assignment]
 
 
 class Sequels(Played):
     def wrong_node(self, name, program, assignment):
         """The command of a node with a mistake."""
         MISTAKES.write(self.folder, [name])
-        return [sys.executable, "-S", os.path.join(self.folder, name, "sequel_node.py"), program, assignment]
+        return [sys.executable, "-S", os.path.join(self.folder, name, "program_node.py"), program, assignment]
 
     def test_what_is_right(self):
         for program, results in RESULTS.items():
