@@ -56,13 +56,6 @@ def of_folder(folder):
     return lambda name, *words: help_of(os.path.join(folder, name), *words)
 
 
-def write_to(share, folder):
-    """Writes the file for both shells, of the commands in a folder."""
-    os.makedirs(share, exist_ok=True)
-    with open(os.path.join(share, "forestlab.bash"), "w", encoding="utf-8") as file:
-        file.write(completion(of_folder(folder)))
-
-
 def main():
     if sys.argv[1:] in (["-h"], ["--help"]):
         print("Prints what completes the words of forestplan, forestplay and forestlab in bash and zsh.\n\n"

@@ -13,7 +13,7 @@ from build.order import PROGRAMS
 from lab import checksums, version
 from lab.door import SIGNALS
 from lab.words import parser_of
-from lab.workshop.class_files import IS_CLASS, class_files, finish_class, write_scripts
+from lab.workshop.class_files import IS_CLASS, class_files, finish_class, write, write_scripts
 
 TOP = os.path.dirname(os.path.dirname(os.path.realpath(__file__)))
 
@@ -87,12 +87,6 @@ def version_text(is_class):
     return text
 
 
-def write(path, text):
-    os.makedirs(os.path.dirname(path), exist_ok=True)
-    with open(path, "w", encoding="utf-8") as file:
-        file.write(text)
-
-
 def make(room, is_class=False):
     """Makes all that is installed in an empty folder."""
     for source, path in files_to_copy(is_class):
@@ -106,7 +100,8 @@ def make(room, is_class=False):
     for name in COMMANDS:
         page = os.path.join(room, "share", "man", "man1", f"{name}.1")
         write(page, manuals.page_of(name, os.path.join(room, "bin", name)))
-    completion.write_to(os.path.join(room, "share"), os.path.join(room, "bin"))
+    words = completion.completion(completion.of_folder(os.path.join(room, "bin")))
+    write(os.path.join(room, "share", "forestlab.bash"), words)
     if is_class:
         finish_class(room)
     write(os.path.join(room, "VERSION"), version_text(is_class))
