@@ -8,8 +8,8 @@ import sys
 import warnings
 from xml.etree import ElementTree
 
+from lab.networks.edge_list import Listed, leave_keys, refuse_flags
 from lab.networks.fields import is_number, refuse_zero, shown, whole
-from lab.networks.listed import Listed, leave_keys, refuse_flags
 from lab.networks.network_text import MAX_NODES
 from lab.wrong import Wrong
 

@@ -4,8 +4,8 @@ import re
 import sys
 
 from lab.networks import site_tables
+from lab.networks.edge_list import FLAGS, NOT, clean
 from lab.networks.fields import value_of
-from lab.networks.listed import FLAGS, NOT, clean
 from lab.networks.network_text import MAX_CHANNEL, shown, whole
 from lab.words import add_output, bytes_at, parser_of, text_at, write
 from lab.wrong import Wrong, wrong_line

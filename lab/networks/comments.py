@@ -2,9 +2,9 @@
 begins."""
 import re
 
+from lab.networks.edge_list import Listed
 from lab.networks.fields import shown
 from lab.networks.lines import Rows
-from lab.networks.listed import Listed
 from lab.wrong import wrong_line
 
 EDGES, NODES = "edges|links|pairs|arcs|kanten", "nodes|vertices|sites|knoten|standorte"

@@ -2,10 +2,10 @@
 the programs wouldn't read."""
 import re
 
-from lab.networks.listed import Listed, clean
+from lab.networks.edge_list import Listed, clean
+from lab.networks.fields import Unread, is_number, refuse_zero
 from lab.networks.network_text import (
     IDENTIFIERS, MAX_BARS, MAX_CHANNEL, SKIPPED, fields_of, read_comment, shown, whole)
-from lab.networks.fields import Unread, is_number, refuse_zero
 from lab.wrong import wrong_line
 
 BEGINS = re.compile(

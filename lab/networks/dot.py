@@ -2,8 +2,8 @@
 subgraph in braces at an end of an edge means all its nodes."""
 import re
 
+from lab.networks.edge_list import Listed, leave_keys, refuse_flags
 from lab.networks.fields import refuse_zero
-from lab.networks.listed import Listed, leave_keys, refuse_flags
 from lab.networks.network_text import MAX_EDGES, shown
 from lab.wrong import Wrong, wrong_line
 

@@ -4,10 +4,10 @@ import re
 from collections import Counter
 from functools import lru_cache
 
+from lab.networks.edge_list import FLAGS, NOT
 from lab.networks.fields import is_number, shown, value_of, whole
 from lab.networks.headings import MISSING
 from lab.networks.lines import Rows, Table
-from lab.networks.listed import FLAGS, NOT
 from lab.networks.name_doubts import DATE, SUMS, Pairs, look_of
 from lab.wrong import Wrong, wrong_line
 

@@ -1,8 +1,8 @@
 """The forms of a network that `forestlab network read` reads. Each reader returns `Listed`: the edges by names, as they
 are in the text, and what was guessed."""
 from lab.networks import by_networkx, dimacs, dot, gml, graphml, matrix_market, node_link, rows
-from lab.networks.listed import Listed
-from lab.networks.unread import refuse_heads
+from lab.networks.edge_list import Listed
+from lab.networks.refused_forms import refuse_heads
 
 # The forms that are known by how a text begins, in the order in which they are tried.
 BY_HEAD = {"graphml": graphml, "json": node_link, "matrixmarket": matrix_market, "gml": gml, "dot": dot,

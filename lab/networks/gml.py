@@ -2,8 +2,8 @@
 import html
 import re
 
+from lab.networks.edge_list import HIDDEN, Listed, leave_groups, leave_keys, refuse_flags
 from lab.networks.fields import refuse_zero, shown
-from lab.networks.listed import HIDDEN, Listed, leave_groups, leave_keys, refuse_flags
 from lab.wrong import Wrong, wrong_line
 
 BEGINS = re.compile(

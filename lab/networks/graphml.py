@@ -1,8 +1,8 @@
 """A network in GraphML, as networkx, yEd, Gephi and igraph write it."""
 from xml.etree import ElementTree
 
+from lab.networks.edge_list import Listed, leave_groups, leave_keys, refuse_flags
 from lab.networks.fields import Unread, refuse_zero, shown
-from lab.networks.listed import Listed, leave_groups, leave_keys, refuse_flags
 from lab.wrong import Wrong
 
 LABELS, WEIGHTS = ("label", "name"), ("weight", "value")

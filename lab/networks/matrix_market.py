@@ -1,8 +1,8 @@
 """A network as a sparse matrix in the form Matrix Market: an entry in row V and column W joins V and W."""
+from lab.networks.edge_list import Listed
 from lab.networks.fields import Unread
-from lab.networks.listed import Listed
 from lab.networks.network_text import MAX_NODES, shown, whole
-from lab.networks.unread import unread
+from lab.networks.refused_forms import unread
 from lab.wrong import Wrong, wrong_line
 
 HEAD = "%%matrixmarket"

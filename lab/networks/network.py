@@ -5,20 +5,20 @@ import csv
 import io
 import sys
 
-from lab.networks import kinds, listed, sites
-from lab.networks.alike import alike
+from lab.networks import edge_list, kinds, sites
 from lab.networks.channels import table_of
 from lab.networks.codes import code_of, is_like_a_code, tell_code
 from lab.networks.command_line import SIZES, command_line
 from lab.networks.costs import NotMeasured
+from lab.networks.describe import tell
+from lab.networks.edge_list import Listed
 from lab.networks.fields import Unread, shown
-from lab.networks.listed import Listed
 from lab.networks.named import network_bytes, network_text, path_of
 from lab.networks.network_text import read_network
 from lab.networks.numbering import renumbered
 from lab.networks.plan_text import clashes, read_plan
+from lab.networks.random_networks import alike
 from lab.networks.reading import listed_of, made_of, other_form
-from lab.networks.telling import tell
 from lab.networks.texts import text_of
 from lab.words import one_line, source_of, text_at, write
 from lab.wrong import Wrong
@@ -32,9 +32,9 @@ MAKERS = {"path": kinds.path, "ring": kinds.ring, "star": kinds.star, "complete"
 def bytes_of_file(path):
     try:
         if path == "-":
-            return listed.bytes_of(sys.stdin.buffer, "-")
+            return edge_list.bytes_of(sys.stdin.buffer, "-")
         with open(path, "rb") as file:
-            return listed.bytes_of(file, one_line(path))
+            return edge_list.bytes_of(file, one_line(path))
     except OSError as why:
         raise Wrong(f"{one_line(path)}: {why.strerror}") from None
 

@@ -1,9 +1,9 @@
 """A network in JSON as nodes and links: networkx writes it (`node_link_data`), and D3 reads it."""
 import json
 
+from lab.networks.edge_list import HIDDEN, Listed, leave_keys, refuse_flags
 from lab.networks.fields import refuse_zero, shown
-from lab.networks.listed import HIDDEN, Listed, leave_keys, refuse_flags
-from lab.networks.unread import unread
+from lab.networks.refused_forms import unread
 from lab.wrong import Wrong
 
 # Keys of other forms, what each has in them, and how networkx reads them.

@@ -2,8 +2,8 @@
 left out."""
 from collections import Counter
 
+from lab.networks.edge_list import NO_END, decoded, twin_of, with_clean_names
 from lab.networks.forms import listed
-from lab.networks.listed import NO_END, decoded, twin_of, with_clean_names
 from lab.networks.network_text import MAX_DEGREE, MAX_EDGES, MAX_NODES, read_network, shown, stem, two_alike, whole
 from lab.networks.texts import Made, text_of
 from lab.wrong import Wrong

@@ -6,13 +6,13 @@ from lab.networks.comments import said_by
 from lab.networks.doubts import (
     NEIGHBOURS, PAIRS, are_in_order, refuse_alone, refuse_columns, refuse_kinds, refuse_message, refuse_odd,
     refuse_others, refuse_shape, refuse_signs, unsure)
+from lab.networks.edge_list import Listed, clean
 from lab.networks.fields import columns_left, is_number
 from lab.networks.headings import ends_named, heading_of
 from lab.networks.lines import Rows, Table, table_of, uneven
-from lab.networks.listed import Listed, clean
 from lab.networks.name_doubts import refuse_names
 from lab.networks.network_text import shown, whole
-from lab.networks.unread import refuse_rows
+from lab.networks.refused_forms import refuse_rows
 from lab.wrong import Wrong, wrong_line
 
 FORMS = ("pairs", "adjacency", "multiline")

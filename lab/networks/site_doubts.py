@@ -2,8 +2,8 @@
 another unit than its headings say, and numbers that may have a fraction."""
 import re
 
+from lab.networks.edge_list import SPOILT
 from lab.networks.fields import shown
-from lab.networks.listed import SPOILT
 from lab.networks.name_doubts import NO_VALUE, NOTHING, SUMS
 from lab.networks.places import WIDEST, Point, across_of, near
 from lab.wrong import Wrong, wrong_line

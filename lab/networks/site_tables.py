@@ -4,8 +4,8 @@ import difflib
 import math
 import re
 
+from lab.networks.edge_list import decoded
 from lab.networks.lines import table_of
-from lab.networks.listed import decoded
 from lab.networks.network_text import shown
 from lab.networks.site_doubts import refuse_again
 from lab.wrong import Wrong, wrong_line

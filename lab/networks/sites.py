@@ -1,8 +1,8 @@
 """Tables of sites beside the pairs of a network: names, places, identifiers, and channels that are barred by name."""
 import re
 
+from lab.networks.edge_list import Listed, clean, note_alike
 from lab.networks.fields import columns_left
-from lab.networks.listed import Listed, clean, note_alike
 from lab.networks.network_text import IDENTIFIERS, MAX_BARS, MAX_CHANNEL, MAX_EDGES, MAX_NODES, shown
 from lab.networks.places import Sites, across_of, add_place, near, on_map, say_of_places
 from lab.networks.reading import counted, numbered_by_text

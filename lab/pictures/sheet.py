@@ -8,8 +8,8 @@ import random
 from lab.definitions.colours import Network, at_parent, colours, drop, first_colours, merge, shift, three
 from lab.definitions.nodes import NetState, last_pulse
 from lab.definitions.rounds import Facts
-from lab.networks.alike import alike_edges
 from lab.networks.network_text import Network as Drawn
+from lab.networks.random_networks import alike_edges
 from lab.pictures.map_picture import EDGE, Vertex, draw_map
 from lab.pictures.svg import Svg, escaped
 from lab.words import add_output, add_seed, parser_of, write

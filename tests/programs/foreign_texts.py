@@ -8,7 +8,7 @@ import re
 from xml.sax.saxutils import quoteattr
 
 from lab.networks import sites
-from lab.networks.listed import NO_END, Listed
+from lab.networks.edge_list import NO_END, Listed
 from lab.networks.reading import listed_of, made_of
 from lab.wrong import Wrong
 from tests.cases import Case

@@ -4,7 +4,7 @@ import json
 import random
 
 from lab.networks import sites
-from lab.networks.listed import Listed
+from lab.networks.edge_list import Listed
 from lab.networks.reading import listed_of, made_of
 from lab.wrong import Wrong
 from tests.cases import Case

@@ -4,9 +4,9 @@ import re
 
 from lab.networks.by_networkx import count_six
 from lab.networks.counts import are_degrees, counts_neighbours, has_counts, have_counts, is_by_line, is_metis
+from lab.networks.edge_list import FLAGS
 from lab.networks.fields import is_number, shown, value_of, whole
 from lab.networks.lines import DATA, without_inner_commas
-from lab.networks.listed import FLAGS
 from lab.wrong import Wrong, wrong_line
 
 WRITE = "nx.write_graphml(G, FILE) writes what is read"
