@@ -9,7 +9,7 @@ from lab.wrong import Wrong, wrong_line
 
 # One pass over the text: whichever of these begins first at a place is there. A line that begins with # is a comment.
 TOKEN = re.compile(
-    r"""(?P<space>[ \t\r\n\f\v\ufeff]+ | //[^\n]* | /\*.*?\*/)
+    r"""(?P<space>[ \t\r\n\f\v\ufeff]+ | //[^\n]* | /\*.*?\*/ | (?m:^)\#[^\n]*)
       | (?P<mark>--|->|[{}\[\];,:=])
       | "(?P<quoted>[^"\\]*(?:\\.[^"\\]*)*)"
       | (?P<html><)
@@ -28,9 +28,6 @@ def tokens_of(text, name):
     """(line, kind, value) of each token: a mark, which may be a keyword, or a text; in quotes it is never a keyword."""
     at, line = 0, 1
     while at < len(text):
-        if text[at] == "#" and (at == 0 or text[at - 1] == "\n"):
-            at = text.find("\n", at) + 1 or len(text)
-            continue
         found = TOKEN.match(text, at)
         kind, value, start, at = found.lastgroup, found.group(), line, found.end()
         if kind == "number" and value[0] == "-" and re.match(r"\w", text[found.start() - 1:found.start()]):

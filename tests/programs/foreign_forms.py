@@ -152,7 +152,7 @@ REFUSED = [
     ("a byte of value zero", "1 2\n\0\n", "no text"),
     ("a pair without an end", "source,target\nA,B\n,C\n", "line 3: no pair"),
     ("DOT that is cut", "graph { a -- b", "is the text cut"),
-    ("DOT with an edge of one end", "graph {\n a -- }\n", "line 2: DOT isn't read on from `}`"),
+    ("DOT with an edge of one end", "# x\ngraph {\n# y\n a -- }\n", "line 4: DOT isn't read on from `}`"),
     ("DOT with another mark", "graph { a ! b }", "`!`"),
     ("DIMACS with a word", "p edge 2 1\ne 1 x\n", "line 2: no edge"),
     ("DIMACS with a strange vertex", "p edge 2 1\ne 1 7\n", "line 2: vertex 7, and the `p` line has 2"),
