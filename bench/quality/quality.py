@@ -20,9 +20,10 @@ import random
 import sys
 
 from bench import graphs
-from lab.definitions.colours import Network, plan_text
+from lab.definitions.colours import plan_text
 from lab.networks import kinds
-from lab.networks.texts import Made, text_of
+from lab.networks.network_text import Network
+from lab.networks.texts import text_of
 from lab.programs import built, called
 
 Neighbours = dict[int, set[int]]
@@ -30,7 +31,7 @@ Neighbours = dict[int, set[int]]
 PASSES = 3
 
 
-def preferential(nodes: int, edges: int, seed: int) -> Made:
+def preferential(nodes: int, edges: int, seed: int) -> Network:
     """Each node is joined to some before it, the likelier the more neighbours they have (Barabasi and Albert, 1999)."""
     source, made, ends = random.Random(seed), set(), list(range(1, edges + 1))
     for v in range(edges + 1, nodes + 1):
@@ -39,20 +40,20 @@ def preferential(nodes: int, edges: int, seed: int) -> Made:
             chosen.add(ends[int(source.random() * len(ends))])
         made |= {(w, v) for w in chosen}
         ends += [*chosen, *[v] * edges]
-    return Made(nodes, made)
+    return Network("", nodes, made)
 
 
-def classes(nodes: int, groups: int, share: float, seed: int) -> Made:
+def classes(nodes: int, groups: int, share: float, seed: int) -> Network:
     """Nodes in hidden groups, and edges by chance between different ones, so that as many colours as groups do."""
     source = random.Random(seed)
     pairs = ((v, w) for v in range(1, nodes + 1) for w in range(v + 1, nodes + 1) if v % groups != w % groups)
-    return Made(nodes, {pair for pair in pairs if source.random() < share})
+    return Network("", nodes, {pair for pair in pairs if source.random() < share})
 
 
-def of_graphs(graph: tuple[int, list[tuple[int, int]]]) -> Made:
+def of_graphs(graph: tuple[int, list[tuple[int, int]]]) -> Network:
     """A graph of `bench.graphs`, whose nodes count from 0."""
     nodes, edges = graph
-    return Made(nodes, {(min(a, b) + 1, max(a, b) + 1) for a, b in edges if a != b})
+    return Network("", nodes, {(a + 1, b + 1) for a, b in edges if a != b})
 
 
 NETWORKS = {
@@ -128,7 +129,7 @@ def in_order(neighbours: Neighbours, order: list[int]) -> int:
     return max(colours.values(), default=0)
 
 
-def plan_of(network: Made) -> dict[int, int]:
+def plan_of(network: Network) -> dict[int, int]:
     """The channels of `plain`."""
     text = text_of(network).encode()
     if built("forestplan"):
@@ -142,14 +143,14 @@ def plan_of(network: Made) -> dict[int, int]:
     return proper(network, dict(map(int, line.split()) for line in plan.decode().split("\n")[1:] if line))
 
 
-def proper(network: Made, plan: dict[int, int]) -> dict[int, int]:
+def proper(network: Network, plan: dict[int, int]) -> dict[int, int]:
     """The same plan, which is checked here."""
     if len(plan) != network.nodes or any(plan[v] == plan[w] for v, w in network.edges):
         raise SystemExit("quality: the plan isn't proper")
     return plan
 
 
-def anew(network: Made, neighbours: Neighbours, plan: dict[int, int]) -> dict[int, int]:
+def anew(network: Network, neighbours: Neighbours, plan: dict[int, int]) -> dict[int, int]:
     """The plan after its classes have chosen anew, the greatest channel first."""
     chosen = {}
     for v in sorted(plan, key=lambda v: -plan[v]):
@@ -157,7 +158,7 @@ def anew(network: Made, neighbours: Neighbours, plan: dict[int, int]) -> dict[in
     return proper(network, chosen)
 
 
-def is_played(network: Made, passes: int, plan: dict[int, int]) -> bool:
+def is_played(network: Network, passes: int, plan: dict[int, int]) -> bool:
     """Whether `forestplay` finds this plan in as many passes; so it is, too, if it isn't built or doesn't know how."""
     if not built("forestplay"):
         return True
@@ -170,7 +171,7 @@ def is_played(network: Made, passes: int, plan: dict[int, int]) -> bool:
     return done.returncode == 0 and lines == [f"{v} channel {channel}" for v, channel in sorted(plan.items())]
 
 
-def by_networkx(network: Made) -> list[int]:
+def by_networkx(network: Network) -> list[int]:
     """What networkx takes by the same two ways, or nothing if it isn't there."""
     try:
         import networkx
@@ -198,7 +199,7 @@ def main() -> int:
     print("|---|---|---|---|---|---|---|---|---|---|---|---|---|")
     for name in asked.names or NETWORKS:
         network = NETWORKS[name]()
-        neighbours = Network({v: v for v in range(1, network.nodes + 1)}, network.edges).neighbours
+        neighbours = {v: set(ws) for v, ws in network.neighbours.items()}
         most = max(map(len, neighbours.values()))
         plans = [plan_of(network)]
         for passes in range(1, PASSES + 1):

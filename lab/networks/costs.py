@@ -6,9 +6,8 @@ import subprocess
 import time
 
 from lab.networks import kinds
-from lab.networks.network_text import read_network
 from lab.networks.reading import counted
-from lab.networks.texts import plain_text, text_of
+from lab.networks.texts import plain_text
 from lab.programs import built, environment
 from lab.wrong import Wrong
 
@@ -156,7 +155,7 @@ def processor_seconds_for(run, command):
 
 def network_for_time():
     """A run of some tenths of a second."""
-    return Run(read_network(text_of(kinds.grid(40, 40)), "grid"))
+    return Run(kinds.grid(40, 40))
 
 
 def seconds_of(program, command, run, times=2):

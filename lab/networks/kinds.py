@@ -4,8 +4,7 @@ import random
 from itertools import combinations
 from math import cos, pi, sin
 
-from lab.networks.network_text import MAX_DEGREE, MAX_EDGES, MAX_NODES
-from lab.networks.texts import Made
+from lab.networks.network_text import MAX_DEGREE, MAX_EDGES, MAX_NODES, Network
 from lab.wrong import Wrong
 
 SIDE = 1000
@@ -21,8 +20,8 @@ def check_room(nodes, edges=0):
         raise Wrong(f"that would be {edges} edges, and a network has at most {MAX_EDGES}")
 
 
-def checked(nodes, edges):
-    """The edges as a set, if neither they nor a node's neighbours are more than a network may have."""
+def checked(nodes, edges, places=None):
+    """The network of these edges, if neither they nor a node's neighbours are more than it may have."""
     found, degrees = set(), [0] * (nodes + 1)
     for v, w in edges:
         found.add((v, w))
@@ -34,7 +33,7 @@ def checked(nodes, edges):
             raise Wrong(
                 f"that would be more than {MAX_DEGREE} neighbours of node {v if degrees[v] > MAX_DEGREE else w}"
             )
-    return found
+    return Network("", nodes, found, places)
 
 
 def at_least(least, **sizes):
@@ -57,32 +56,25 @@ def squares(rows, columns):
 def path(nodes):
     at_least(1, nodes=nodes)
     check_room(nodes, nodes - 1)
-    return Made(
-        nodes,
-        checked(nodes, ((v, v + 1) for v in range(1, nodes))),
-        places={v: (v - 1, 0) for v in range(1, nodes + 1)},
-    )
+    return checked(nodes, ((v, v + 1) for v in range(1, nodes)), {v: (v - 1, 0) for v in range(1, nodes + 1)})
 
 
 def ring(nodes):
     at_least(3, nodes=nodes)
     check_room(nodes, nodes)
-    edges = ((v, v % nodes + 1) for v in range(1, nodes + 1))
-    return Made(nodes, checked(nodes, edges), places=circle(range(1, nodes + 1)))
+    return checked(nodes, ((v, v % nodes + 1) for v in range(1, nodes + 1)), circle(range(1, nodes + 1)))
 
 
 def star(nodes):
     at_least(1, nodes=nodes)
     check_room(nodes, nodes - 1)
-    return Made(
-        nodes, checked(nodes, ((v, nodes) for v in range(1, nodes))), places=circle(range(1, nodes)) | {nodes: (0, 0)}
-    )
+    return checked(nodes, ((v, nodes) for v in range(1, nodes)), circle(range(1, nodes)) | {nodes: (0, 0)})
 
 
 def complete(nodes):
     at_least(1, nodes=nodes)
     check_room(nodes, nodes * (nodes - 1) // 2)
-    return Made(nodes, checked(nodes, combinations(range(1, nodes + 1), 2)), places=circle(range(1, nodes + 1)))
+    return checked(nodes, combinations(range(1, nodes + 1), 2), circle(range(1, nodes + 1)))
 
 
 def grid(rows, columns):
@@ -90,7 +82,7 @@ def grid(rows, columns):
     check_room(rows * columns, 2 * rows * columns - rows - columns)
     edges = [(v, v + 1) for v in range(1, rows * columns + 1) if v % columns]
     edges += [(v, v + columns) for v in range(1, (rows - 1) * columns + 1)]
-    return Made(rows * columns, checked(rows * columns, edges), places=squares(rows, columns))
+    return checked(rows * columns, edges, squares(rows, columns))
 
 
 def queen(rows, columns):
@@ -99,7 +91,7 @@ def queen(rows, columns):
     places = squares(rows, columns)
     number = {place: v for v, place in places.items()}
     edges = ((v, w) for v, place in places.items() for way in WAYS_OF_A_QUEEN for w in squares_on(place, way, number))
-    return Made(rows * columns, checked(rows * columns, edges), places=places)
+    return checked(rows * columns, edges, places)
 
 
 def squares_on(place, way, number):
@@ -115,7 +107,7 @@ def tree(nodes, seed):
     at_least(1, nodes=nodes)
     check_room(nodes)
     source = random.Random(seed)
-    return Made(nodes, checked(nodes, ((1 + below(source, v - 1), v) for v in range(2, nodes + 1))))
+    return checked(nodes, ((1 + below(source, v - 1), v) for v in range(2, nodes + 1)))
 
 
 def below(source, bound):
@@ -144,7 +136,7 @@ def disk(nodes, reach, seed):
         if place not in free:
             free.add(place)
             places[len(places) + 1] = place
-    return Made(nodes, checked(nodes, near_pairs(places, reach * SIDE)), places=places)
+    return checked(nodes, near_pairs(places, reach * SIDE), places)
 
 
 def near_pairs(places, reach):
@@ -175,5 +167,5 @@ def any_edges(nodes, edges, seed):
             chosen.add((min(v, w), max(v, w)))
     if edges > pairs - edges:
         chosen = set(combinations(range(1, nodes + 1), 2)) - chosen
-    return Made(nodes, checked(nodes, chosen))
+    return checked(nodes, chosen)
 

@@ -61,8 +61,7 @@ def made(given):
     if has_wishes:
         options += " --connected" * given.connected + "".join(
             f" --{name} {number}" for name, number in zip(("neighbours", "forests"), wishes[1:]) if number is not None)
-    network.head = [f"Made by forestlab network {given.command} {' '.join(map(str, sizes))}{options}"]
-    return text_of(network)
+    return text_of(network, [f"Made by forestlab network {given.command} {' '.join(map(str, sizes))}{options}"])
 
 
 def channels_asked(given):
@@ -103,9 +102,7 @@ def was_read(given):
         say(f"{name}: {what}")
     if left_out:
         say(f"{name}: --strict refuses what has something left out")
-    if licence:
-        network.head = [f"Channel {channel} is {number}" for channel, number in enumerate(licence, 1)]
-    return text_of(network)
+    return text_of(network, [f"Channel {channel} is {number}" for channel, number in enumerate(licence or (), 1)])
 
 
 def without_ignored(left_out, notes, given, name):

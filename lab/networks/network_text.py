@@ -19,14 +19,16 @@ MAX_BARS = 1024
 
 
 class Network:
-    """`nodes` vertices from 1; `neighbours[v]` ascending; `edges` as pairs, the lower vertex first, ascending;
-    `given[v]` is the place (x, y) of a comment line `c at V X Y`, y growing downwards, and `names[v]` the name of `c
-    name V NAME`; `said[v]` is the identifier of the line `i V NUMBER`, and `identifiers[v]` that or v; `bars[v]` has
-    the channels of lines `b V CHANNEL`, ascending, and is there for the vertices that have some. `span` is the greatest
-    number of neighbours and the greatest number of bars of a vertex together: one channel more than that is enough."""
+    """A network that was read or made. `nodes` vertices from 1; `neighbours[v]` ascending; `edges` as pairs, the lower
+    vertex first, ascending; `given[v]` is the place (x, y) of a comment line `c at V X Y`, y growing downwards, and
+    `names[v]` the name of `c name V NAME`; `said[v]` is the identifier of the line `i V NUMBER`, and `identifiers[v]`
+    that or v; `bars[v]` has the channels of lines `b V CHANNEL`, ascending, and is there for the vertices that have
+    some. `span` is the greatest number of neighbours and the greatest number of bars of a vertex together: one channel
+    more than that is enough."""
 
-    def __init__(self, name, nodes, edges, given, names=None, identifiers=None, bars=None):
-        self.name, self.nodes, self.edges, self.given, self.names = name, nodes, sorted(edges), given, names or {}
+    def __init__(self, name, nodes, edges, given=None, names=None, identifiers=None, bars=None):
+        self.name, self.nodes, self.given, self.names = name, nodes, given or {}, names or {}
+        self.edges = sorted({(min(edge), max(edge)) for edge in edges})
         self.vertices = range(1, nodes + 1)
         self.said = identifiers or {}
         self.identifiers = {v: v for v in self.vertices} | self.said

@@ -3,8 +3,7 @@ number; it keeps the identifier that a line gives it, and its barred channels.""
 import random
 
 from lab.networks.kinds import shuffled
-from lab.networks.network_text import two_alike
-from lab.networks.texts import Made
+from lab.networks.network_text import Network, two_alike
 from lab.wrong import Wrong
 
 WAYS = ("random", "degree", "place")
@@ -38,11 +37,5 @@ def renumbered(network, way, seed, is_reversed):
             f"{network.name}: nodes {same[0]} and {same[1]} would have one identifier; "
             "give each node a line `i V NUMBER`"
         )
-    return Made(
-        network.nodes,
-        {(number[v], number[w]) for v, w in network.edges},
-        names,
-        places,
-        identifiers=identifiers,
-        bars={number[v]: channels for v, channels in network.bars.items()},
-    )
+    return Network(network.name, network.nodes, {(number[v], number[w]) for v, w in network.edges}, places, names,
+                   identifiers, {number[v]: channels for v, channels in network.bars.items()})

@@ -4,7 +4,7 @@ sheet` make them."""
 import random
 
 from lab.networks.kinds import at_least, below, check_room, shuffled
-from lab.networks.texts import Made
+from lab.networks.network_text import Network
 from lab.wrong import Wrong
 
 # How many edges are tried in all, how many networks at most and at least, and how many pairs for each edge.
@@ -74,4 +74,4 @@ def alike(nodes, edges, seed, connected, neighbours, forests):
     found = alike_edges(random.Random(seed), nodes, edges, connected, neighbours, forests)
     if found is None:
         raise Wrong(f"no network with these wishes was found in {tries_of(edges):,} tries: change their numbers")
-    return Made(nodes, found)
+    return Network("", nodes, found)

@@ -1,11 +1,10 @@
 """`forestlab network read`: a network in one of the forms, as a text that the programs read, and what was guessed and
 left out."""
-from collections import Counter
-
 from lab.networks.edge_list import NO_END, decoded, twin_of, with_clean_names
 from lab.networks.forms import listed
-from lab.networks.network_text import MAX_DEGREE, MAX_EDGES, MAX_NODES, read_network, shown, stem, two_alike, whole
-from lab.networks.texts import Made, text_of
+from lab.networks.network_text import (
+    MAX_DEGREE, MAX_EDGES, MAX_NODES, Network, read_network, shown, stem, two_alike, whole)
+from lab.networks.texts import text_of
 from lab.wrong import Wrong
 
 # Forms whose texts end with a bracket, so that it is seen if they are cut.
@@ -82,13 +81,16 @@ def made_of(found, name):
     names = {v: node for v, node in order.items() if node != str(v)} | found.names
     if len(set(names.values())) < len(names):
         found.notes.append(f"two nodes are named {shown(twin_of(names))}")
-    made = Made(
-        max(order, default=0),
+    if len(order) > MAX_NODES:
+        raise Wrong(f"{name}: {len(order)} nodes, and a network has at most {MAX_NODES}")
+    made = Network(
+        stem(name),
+        len(order),
         edges,
-        names,
         {v: place for v, place in places.items() if all(abs(part) < FARTHEST for part in place)},
-        identifiers=given(found.identifiers, number, name, "an identifier"),
-        bars=given(found.bars, number, name, "a barred channel"),
+        names,
+        given(found.identifiers, number, name, "an identifier"),
+        given(found.bars, number, name, "a barred channel"),
     )
     check(made, name)
     return made, [summary(made, found, by)] + found.notes, found.left_out + left_out
@@ -168,24 +170,18 @@ def counted(count, what):
 
 def check(made, name):
     """Refuses what the programs would refuse."""
-    degrees = Counter(v for edge in made.edges for v in edge)
-    if made.nodes > MAX_NODES:
-        raise Wrong(f"{name}: {made.nodes} nodes, and a network has at most {MAX_NODES}")
     if len(made.edges) > MAX_EDGES:
         raise Wrong(f"{name}: {len(made.edges)} edges, and a network has at most {MAX_EDGES}")
-    most = max(degrees, key=degrees.get, default=None)
-    if most and degrees[most] > MAX_DEGREE:
-        raise Wrong(
-            f"{name}: node {made.names.get(most, most)} has {degrees[most]} neighbours, and may have {MAX_DEGREE}"
-        )
-    same = two_alike({v: v for v in range(1, made.nodes + 1)} | made.identifiers)
+    if made.degree > MAX_DEGREE:
+        v = next(v for v in made.vertices if len(made.neighbours[v]) == made.degree)
+        raise Wrong(f"{name}: node {made.names.get(v, v)} has {made.degree} neighbours, and may have {MAX_DEGREE}")
+    same = two_alike(made.identifiers)
     if same:
         raise Wrong(f"{name}: nodes {same[0]} and {same[1]} have one identifier")
-    made.degree = degrees.get(most, 0)
 
 
 def summary(made, found, by):
-    alone = made.nodes - len({v for edge in made.edges for v in edge})
+    alone = sum(not ws for ws in made.neighbours.values())
     lone = f", {alone} of them without a neighbour" if alone else ""
     return (f"{found.form}; {counted(made.nodes, 'node')}{lone}, {counted(len(made.edges), 'edge')}, "
             f"at most {counted(made.degree, 'neighbour')}; {by}")

@@ -1,16 +1,15 @@
 """The runs of an assignment: which network, identifiers, bars and policy each has, by seed."""
-import os
 import random
 import re
 from dataclasses import dataclass, field
+from functools import lru_cache
 from typing import Any, Iterator, Sequence
 
-from lab.networks.named import EXAMPLES, OF_NODES
-from lab.networks.network_text import Network, read_network
+from lab.networks.named import network_at, path_of
+from lab.networks.network_text import Network
 from lab.workshop.findings import Finding
 from lab.workshop.open_run import League
 from lab.workshop.protocol import COLOURING
-from lab.wrong import Wrong
 
 # Each mistake of the colouring that can be caught shows on most4 or rest3, and each of the synchroniser on alone4.
 NETWORKS = "path1,two,path3,triangle,rest3,alone4,most4,star4,ring5,complete4,random6,drops"
@@ -65,27 +64,14 @@ class Case:
         return self.network.nodes, len(self.network.edges), bars, place
 
 
+# Each is read once, standard input too.
+known = lru_cache(network_at)
+
+
 def network_of(name: str, chance: Chance) -> Network:
-    """The network of a name: a file, an example, or a kind with its number of nodes."""
-    for path in (name, *(os.path.join(folder, f"{name}.col") for folder in EXAMPLES)):
-        if os.path.isfile(path):
-            return network_in(path)
-    found = re.fullmatch(r"([a-z]+)([0-9]{1,3})", name)
-    if found and found[1] == "random" and int(found[2]):
-        return random_network(name, int(found[2]), chance)
-    if found and found[1] in OF_NODES:
-        made = OF_NODES[found[1]](int(found[2]))
-        return Network(name, made.nodes, made.edges, {})
-    made = ", ".join(f"{kind}N" for kind in [*OF_NODES, "random"])
-    raise Wrong(f"{name}: there is no such file or example, and no network of this name is made, as {made} are")
-
-
-def network_in(path: str) -> Network:
-    try:
-        with open(path, encoding="utf-8") as text:
-            return read_network(text.read(), path)
-    except (OSError, UnicodeDecodeError) as why:
-        raise Wrong(f"{path}: {why}") from None
+    """The network of a name: one by chance, or what all commands mean by it."""
+    found = re.fullmatch(r"random([1-9][0-9]{0,2})", name)
+    return random_network(name, int(found[1]), chance) if found and path_of(name) is None else known(name)
 
 
 def random_network(name: str, nodes: int, chance: Chance) -> Network:

@@ -21,10 +21,10 @@ COMMAND is started once for each node. It reads the messages to its node on stan
 input and writes its answers on standard output; docs/learn/PROTOCOL.md is the page
 for students. If there are several commands, the nodes get them in turn.
 
-NETWORK is a file, the name of an example, or a kind with its number of nodes: pathN,
-ringN, starN, completeN or randomN. Without one there are 100 runs on twelve
-small networks, with varied identifiers and bars, under the ten policies. Ten runs
-for each network play it once under each policy.
+NETWORK is a file, - for standard input, a name, as petersen or path5, or randomN, a
+network of N nodes by chance. Without one there are 100 runs on twelve small networks,
+with varied identifiers and bars, under the ten policies. Ten runs for each network play
+it once under each policy.
 """
 
 MORE_HELP = """\

@@ -212,7 +212,7 @@ def ours_of_tables(places, bars):
     names = {v: made.names.get(v, str(v)) for v in range(1, made.nodes + 1)}
     if any(not what.startswith("no site is within the reach") for what in excuses(left_out)):
         return None
-    return (named(made), {names[v]: channels for v, channels in made.bars.items()})
+    return named(made), {names[v]: set(channels) for v, channels in made.bars.items()}
 
 
 def second_of_tables(places, bars):

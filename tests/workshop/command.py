@@ -55,6 +55,12 @@ class Command(Case):
             self.note(f"{words[:4]}", done.returncode == status and said in done.stderr
                       and bool(said) == (not done.stdout) and "Traceback" not in done.stderr, done)
 
+    def test_networks(self):
+        """A network is named as in all commands, and standard input is read once for all runs."""
+        for name, data in (("-", "p edge 2 1\ne 1 2\n"), ("grid2x1", "")):
+            done = call("rounds", name, "--runs", "2", "--", *ROUNDS, input=data)
+            self.note(name, done.returncode == 0 and "2 of 2 runs right" in done.stdout, done)
+
     def test_a_file_that_can_t_be_started(self):
         for mode, words in ((0o644, "Permission denied; `chmod +x FILE` lets"), (0o755, "`#!/usr/bin/env python3`")):
             os.chmod(self.file("node", "print('end')\n"), mode)
