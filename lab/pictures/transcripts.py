@@ -103,7 +103,7 @@ def run_of(text, name, network, stop, program):
     head, net, order, made = ordered(text, name, network, program, stop)
     run = Run(network, name, rounds_of(network, net.identifiers, program), program, head.is_stamped)
     add_entries(run, made)
-    run.whole = not order.left and all(node.is_drained() for node in order.nodes.values())
+    run.whole = order.is_whole()
     return run
 
 

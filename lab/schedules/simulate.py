@@ -242,7 +242,7 @@ def rows_asked(net, given, program):
     if given.to_the_end:
         return played(net, given.policy, given.seed, given.slow, given.lazy, player)
     if left := next(unfinished(player.state), None):
-        print(f"simulate: after the last event {left}; --to-the-end plays the rest", file=sys.stderr)
+        print(f"simulate: after the last event {left[1]}; --to-the-end plays the rest", file=sys.stderr)
     return player.rows
 
 

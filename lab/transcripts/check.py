@@ -6,19 +6,19 @@ of edition 2 or 3 has an order and stamps: stamps.py checks it. `--help` says ho
 import gc
 import json
 import sys
-from collections import namedtuple
+from typing import NamedTuple
 
-from lab.definitions.colours import fields_of, network_of
-from lab.definitions.nodes import Colouring, wire_words
+from lab.definitions.colours import Network, fields_of, network_of
+from lab.definitions.nodes import Colouring, NetState, Refused, make
 from lab.definitions.programs import add_program, check_root, note_ignored_bars, program_at
 from lab.networks.named import network_bytes
 from lab.networks.network_text import read_network
 from lab.transcripts.fields import first_line
-from lab.transcripts.reading import Wrong, read_to_fault, words
-from lab.transcripts.rules import Standing, rule_of, stuck_words
-from lab.transcripts.search import Search
-from lab.transcripts.stamps import check_stamped, stamped_as_it_stands
-from lab.words import add_output, bytes_at, called, in_words, parser_of, write
+from lab.transcripts.reading import Entry, Wrong, read_to_fault
+from lab.transcripts.rules import stuck_words
+from lab.transcripts.search import Node, Search
+from lab.transcripts.stamps import all_standing, check_stamped, stamped_as_it_stands, unfinished, why_refused
+from lab.words import add_output, bytes_at, called, parser_of, write
 from lab.wrong import Wrong as WrongNetwork
 
 HELP = """\
@@ -62,9 +62,27 @@ Example:
   forestlab transcript check examples/triangle.col triangle.transcript
 """
 
-# What a search finds: the entries made, in this order; the nodes after them; and of each node that isn't through, the
-# entries that are left, the next one last, and the code of that one's refusal.
-Found = namedtuple("Found", "made nodes left refusals")
+
+class Found(NamedTuple):
+    """What a search finds: the entries made, in this order; the nodes after them; and of each node that isn't through,
+    the entries that are left, the next one last, and the code of that one's refusal."""
+    net: Network
+    program: type
+    made: list[Entry]
+    nodes: dict[int, Node]
+    left: dict[int, list[Entry]]
+    refusals: dict[int, str]
+
+    def is_whole(self) -> bool:
+        """Whether all entries are made, and all nodes are through."""
+        return not self.left and all(node.is_drained() for node in self.nodes.values())
+
+    def state(self) -> NetState:
+        """The definitions' nodes and links after the entries made."""
+        state = NetState(self.net, self.program)
+        for entry in self.made:
+            make(state, entry)
+        return state
 
 
 def find_order(net, entries, program=Colouring):
@@ -87,7 +105,8 @@ def find_order(net, entries, program=Colouring):
         v: lost[::-1] for v, lost in strays.items()
     }
     refusals = {v: node.refusal for v, node in search.nodes.items()} | dict.fromkeys(strays, "NoSuch")
-    return Found(search.made(own), search.nodes, {v: lost for v, lost in left.items() if lost}, refusals)
+    left = {v: lost for v, lost in left.items() if lost}
+    return Found(net, program, search.made(own), search.nodes, left, refusals)
 
 
 def first_refused(found):
@@ -101,49 +120,12 @@ def first_refused(found):
 
 def refusal_of(found, entry):
     code = found.refusals[entry.vertex]
-    return Wrong(entry.line, code, words(entry) + ", " + WHY[code](found, entry) + rule_broken(found, entry, code))
-
-
-def rule_broken(found, entry, code):
-    """The rule of a pulse or a put that isn't possible."""
-    if code == "NoSuch" or entry.kind == "Take":
-        return ""
-    what = f"pulse {entry.what}" if entry.kind == "Pulse" else f"put {entry.neighbour} {wire_words(entry.what)}"
-    return f"; {rule_of(standing(found.nodes[entry.vertex]), what, says_lacks=False)}"
-
-
-def standing(node):
-    """Where a node is, for the words on its next entry."""
-    lacks = [("ack", [port.neighbour for port in node.all_ports if port.waits]),
-             ("safe", [port.neighbour for port in node.all_ports if port.known == node.pulse])]
-    lacked = "; ".join(f"{word} {node.pulse} of {in_words(names)}" for word, names in lacks if names)
-    can_pulse = node.pulse < node.last and node.can_pulse()
-    puts = {port.neighbour: port.out[0].decode() for port in node.all_ports if port.out}
-    return Standing(node.pulse, node.last, can_pulse, lacked if node.pulse < node.last else "", puts, "for {}")
-
-
-def why_no_such(found, entry):
-    if entry.vertex not in found.nodes:
-        return f"but the nodes are 1 to {len(found.nodes)}"
-    return f"which is no neighbour of {entry.vertex}"
-
-
-def why_not_ready(found, entry):
-    node = found.nodes[entry.vertex]
-    p = node.pulse
-    if p == node.last:
-        return f"but {p} is the last"
-    if not node.said:
-        return f"but it hasn't taken ack {p} from {next(port.neighbour for port in node.all_ports if port.waits)}"
-    for port in node.all_ports:
-        if port.known == p:
-            return f"but it hasn't taken safe {p} from {port.neighbour}"
-        if len(port.out) > 3:
-            return f"but has too many wires left for {port.neighbour}"
-    raise AssertionError
+    said = why_refused(found.state(), entry, Refused(code))
+    return Wrong(entry.line, code, said + (f", {why_link_empty(found, entry)}" if code == "LinkEmpty" else ""))
 
 
 def why_link_empty(found, entry):
+    """Of a wire that isn't there: whether the neighbour waits, or never puts it."""
     if entry.neighbour in found.left:
         return f"which hasn't put it and waits itself, at line {found.left[entry.neighbour][-1].line}"
     node = found.nodes[entry.neighbour]
@@ -170,35 +152,6 @@ def without_entries(nodes):
         return f"nodes {found[0]} to {found[-1]} have no entry"
     more = f"and {len(found) - 6} more" if len(found) > 7 else f"and {found[-1]}"
     return f"nodes {', '.join(map(str, found[:6] if len(found) > 7 else found[:-1]))} {more} have no entry"
-
-
-def why_wrong_wire(found, entry):
-    node = found.nodes[entry.vertex]
-    if entry.kind == "Pulse":
-        return f"but the next one there is {node.pulse + 1}"
-    port = node.ports[b"%d" % entry.neighbour]
-    return f"but the next one there is {(port.out if entry.kind == 'Put' else port.link)[0].decode()}"
-
-
-WHY = {"NoSuch": why_no_such, "NotReady": why_not_ready, "LinkEmpty": why_link_empty, "WrongWire": why_wrong_wire,
-       "NothingToPut": lambda found, entry: "for which it has nothing"}
-
-
-def unfinished(nodes):
-    """What the nodes lack for a whole run: a node, and what it hasn't done."""
-    ends = [(v, port) for v, node in nodes.items() for port in node.all_ports]
-    for v, node in nodes.items():
-        if node.pulse != node.last:
-            yield v, f"node {v} is at pulse {node.pulse} of {node.last}"
-    for v, port in ends:
-        if port.out:
-            yield v, f"node {v} hasn't put {port.out[0].decode()} for {port.neighbour}"
-    for v, port in ends:
-        if port.link:
-            yield v, f"node {v} hasn't taken {port.link[0].decode()} from {port.neighbour}"
-    for v, node in nodes.items():
-        if not node.is_drained():
-            yield v, f"node {v} isn't drained"
 
 
 def whole_run(net, text, program=Colouring):
@@ -248,8 +201,8 @@ def run_read_with_care(net, text, program=Colouring):
         raise first_fault(found, fault)
     if found.left:
         raise refusal_of(found, first_refused(found))
-    for v, what in unfinished(found.nodes):
-        raise not_whole(head, entries, found.nodes, v, what)
+    if not found.is_whole():
+        raise not_whole(head, entries, found)
     made = entries if head.is_stamped else found.made
     return [entry.line for entry in made], verdict(found.nodes)
 
@@ -261,14 +214,14 @@ def first_fault(found, fault):
     return fault if refused is None or found.refusals[refused.vertex] == "LinkEmpty" else refusal_of(found, refused)
 
 
-def not_whole(head, entries, nodes, v, what):
-    """What node v hasn't done; or, if nothing is on its way and each node has entries, who owes what."""
+def not_whole(head, entries, found):
+    """What the first node hasn't done; or, if nothing is on its way and each node has entries, who owes what."""
+    nodes, state = found.nodes, found.state()
+    v, what = next(unfinished(state))
     last_line = max((entry.line for entry in entries if entry.vertex == v), default=head.line)
-    is_on_its_way = any(port.link for node in nodes.values() for port in node.all_ports)
-    if is_on_its_way or not all(node.own for node in nodes.values()):
+    if any(state.link.values()) or not all(node.own for node in nodes.values()):
         return Wrong(last_line, "NotWhole", f"after its last entry {what}{why_not_whole(nodes, nodes[v])}")
-    owing = [(u, standing(node)) for u, node in nodes.items()]
-    return Wrong(last_line, "NotWhole", f"after the last entry {stuck_words(owing)}")
+    return Wrong(last_line, "NotWhole", f"after the last entry {stuck_words(all_standing(state))}")
 
 
 def verdict(nodes):

@@ -36,7 +36,8 @@ def check_stamped(net, head, entries, fault=None, program=Colouring):
         try:
             make(state, entry)
         except Refused as refused:
-            raise Wrong(entry.line, str(refused), why_refused(state, entry, refused, entries)) from None
+            why = why_link_empty(entry, entries) if str(refused) == "LinkEmpty" else ""
+            raise Wrong(entry.line, str(refused), why_refused(state, entry, refused) + why) from None
         due = clock.next(entry.kind, entry.vertex, entry.neighbour)
         if entry.stamp != due:
             raise Wrong(entry.line, "WrongStamp",
@@ -47,7 +48,7 @@ def check_stamped(net, head, entries, fault=None, program=Colouring):
         last = entry
     if fault:
         raise fault
-    for what in unfinished(state):
+    for _, what in unfinished(state):
         raise Wrong((last or head).line, "NotWhole", f"after the last entry {what_is_left(state, what)}")
 
 
@@ -59,15 +60,33 @@ def standing(state, v):
     return Standing(node.pulse_number, node.last, node.can_pulse(), lacks, puts, "for {}")
 
 
-def why_refused(state, entry, refused, entries):
-    """An entry that isn't possible, what the machine says of it, and the rule that it breaks."""
-    said = words(entry) + entry_words(state, entry, refused)
-    if str(refused) == "NoSuch":
+def all_standing(state):
+    return [(v, standing(state, v)) for v in state.nodes]
+
+
+def why_refused(state, entry, refused):
+    """An entry that isn't possible, what it lacks, and the rule that a pulse or a put breaks."""
+    said = words(entry) + lacked(state, entry, refused)
+    if str(refused) == "NoSuch" or entry.kind == "Take":
         return said
-    if entry.kind != "Take":
-        what = f"pulse {entry.what}" if entry.kind == "Pulse" else f"put {entry.neighbour} {wire_words(entry.what)}"
-        return f"{said}; {rule_of(standing(state, entry.vertex), what, says_lacks=False)}"
-    return said + (why_link_empty(entry, entries) if str(refused) == "LinkEmpty" else "")
+    what = f"pulse {entry.what}" if entry.kind == "Pulse" else f"put {entry.neighbour} {wire_words(entry.what)}"
+    return f"{said}; {rule_of(standing(state, entry.vertex), what, says_lacks=False)}"
+
+
+def lacked(state, entry, refused):
+    """What an entry lacks, as far as the words of its rule don't say it."""
+    match str(refused):
+        case "NoSuch" if entry.vertex in state.nodes:
+            return f", which is no neighbour of {entry.vertex}"
+        case "NoSuch":
+            return f", but the nodes are 1 to {len(state.nodes)}"
+        case "NothingToPut":
+            return ", for which it has nothing"
+        case "LinkEmpty":
+            return ""
+        case "NotReady" if (node := state.nodes[entry.vertex]).pulse_number == node.last:
+            return ""
+    return entry_words(state, entry, refused)
 
 
 def why_link_empty(entry, entries):
@@ -90,19 +109,19 @@ def what_is_left(state, what):
     """Of a run that isn't whole: what isn't done yet, or who owes what if nothing is on its way."""
     if any(state.link.values()):
         return f"{what} (is the text cut?)"
-    return stuck_words([(v, standing(state, v)) for v in state.nodes])
+    return stuck_words(all_standing(state))
 
 
 def unfinished(state):
-    """What a state lacks for a whole run."""
+    """What a state lacks for a whole run: a node, and what it hasn't done."""
     for v, node in state.nodes.items():
         if node.pulse_number != node.last:
-            yield f"node {v} is at pulse {node.pulse_number} of {node.last}"
+            yield v, f"node {v} is at pulse {node.pulse_number} of {node.last}"
     for (v, w), port in state.port_to.items():
         for wire in state.nodes[v].ports[port].out:
-            yield f"node {v} hasn't put {wire_words(wire)} for {w}"
+            yield v, f"node {v} hasn't put {wire_words(wire)} for {w}"
         for wire in state.link[v, port]:
-            yield f"node {w} hasn't taken {wire_words(wire)} from {v}"
+            yield w, f"node {w} hasn't taken {wire_words(wire)} from {v}"
 
 
 KINDS = {b"pulse": "Pulse", b"put": "Put", b"take": "Take"}

@@ -15,7 +15,7 @@ import time
 
 from lab.definitions.colours import network_of
 from lab.definitions.nodes import NetState, Refused, last_pulse, make, wire_words
-from lab.transcripts.check import Wrong, find_order, first_refused, in_order, unfinished, whole_run
+from lab.transcripts.check import Wrong, find_order, first_refused, in_order, whole_run
 from lab.transcripts.reading import read
 from tests import FORESTLAB
 from tests.cases import Case, called, forestlab, text, text_in
@@ -197,7 +197,7 @@ def found_in(net, data):
         order = found.made + [first] + [entry for entry in entries if entry.line not in made]
         return found.refusals[first.vertex], in_order([entry.line for entry in order], data)
     made = in_order([entry.line for entry in found.made], data)
-    return ("NotWhole" if any(True for _ in unfinished(found.nodes)) else None), made
+    return (None if found.is_whole() else "NotWhole"), made
 
 
 def replayed(net, data):

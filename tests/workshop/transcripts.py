@@ -13,7 +13,7 @@ PULSE = "a node makes its next pulse once it has said safe and has the safes of 
 # (the entries of edition 2, the line that is said)
 ROWS = (
     (f"1 1 put 2 {HELLO_1}|2 1 put 2 safe 0|",
-     f"line 3: NothingToPut: node 1 puts safe 0 for 2: list of 1 for 2; {SAFE}; {NO_ACK}"),
+     f"line 3: NothingToPut: node 1 puts safe 0 for 2, for which it has nothing; {SAFE}; {NO_ACK}"),
     (GREETED + "3 2 put 1 ack 1|",
      "line 6: WrongWire: node 2 puts ack 1 for 1: expected ack 0; a payload is acknowledged with its own pulse as soon "
      "as it is taken, before anything else is put on that link"),
@@ -27,28 +27,30 @@ ROWS = (
      "line 2: WrongWire: node 1 puts payload 1 label 0 for 2: expected payload 0 hello 1; the node is at pulse 0, and "
      "a payload of pulse P is put after pulse P is made"),
     (f"1 1 put 2 {HELLO_1}|2 1 put 2 close|",
-     "line 3: NothingToPut: node 1 puts close for 2: list of 1 for 2; close is the last wire of a link, put as the "
-     "node makes its last pulse, 18; it is at pulse 0"),
+     "line 3: NothingToPut: node 1 puts close for 2, for which it has nothing; close is the last wire of a link, put "
+     "as the node makes its last pulse, 18; it is at pulse 0"),
     (f"1 1 put 2 {HELLO_1}|2 1 put 2 ack 0|",
-     "line 3: NothingToPut: node 1 puts ack 0 for 2: list of 1 for 2; each payload is acknowledged once, with the "
-     "payload's own pulse"),
+     "line 3: NothingToPut: node 1 puts ack 0 for 2, for which it has nothing; each payload is acknowledged once, with "
+     "the payload's own pulse"),
     (ACKED + "5 1 put 2 safe 0|6 1 put 2 safe 1|",
-     "line 11: NothingToPut: node 1 puts safe 1 for 2: list of 1 for 2; the node is at pulse 0, and safe P is said "
-     "in pulse P"),
+     "line 11: NothingToPut: node 1 puts safe 1 for 2, for which it has nothing; the node is at pulse 0, and safe P is "
+     "said in pulse P"),
     ("1 1 pulse 1|", f"line 2: NotReady: node 1 makes pulse 1: ack 0 of 2; safe 0 of 2; {PULSE}; {NO_ACK}"),
+    ("1 3 pulse 1|", "line 2: NoSuch: node 3 makes pulse 1, but the nodes are 1 to 2"),
+    ("1 1 put 1 safe 0|", "line 2: NoSuch: node 1 puts safe 0 for 1, which is no neighbour of 1"),
     (f"1 1 take 2 {HELLO_2}|1 2 put 1 {HELLO_2}|",
-     "line 2: LinkEmpty: node 1 takes payload 0 hello 2 from 2: link from 2 to 1; it is put in line 3, with stamp 1: a "
+     "line 2: LinkEmpty: node 1 takes payload 0 hello 2 from 2; it is put in line 3, with stamp 1: a "
      "take has a greater stamp than its put"),
     (f"1 1 take 2 {HELLO_2}|",
-     "line 2: LinkEmpty: node 1 takes payload 0 hello 2 from 2: link from 2 to 1, and 2 never puts it"),
+     "line 2: LinkEmpty: node 1 takes payload 0 hello 2 from 2, and 2 never puts it"),
     # What is put there later is another wire.
     (f"1 1 take 2 {HELLO_2}|2 2 put 1 ack 0|",
-     "line 2: LinkEmpty: node 1 takes payload 0 hello 2 from 2: link from 2 to 1, and 2 never puts it"),
+     "line 2: LinkEmpty: node 1 takes payload 0 hello 2 from 2, and 2 never puts it"),
     (f"1 1 take 2 {HELLO_2}|2 2 put 1 ack 0|3 2 put 1 {HELLO_2}|",
-     "line 2: LinkEmpty: node 1 takes payload 0 hello 2 from 2: link from 2 to 1; it is put in line 4, and ack 0 in "
+     "line 2: LinkEmpty: node 1 takes payload 0 hello 2 from 2; it is put in line 4, and ack 0 in "
      "line 3 comes before it on that link"),
     (f"1 1 put 2 {HELLO_1}|1 2 put 1 {HELLO_2}|2 1 take 2 {HELLO_2}|3 1 take 2 {HELLO_2}|",
-     "line 5: LinkEmpty: node 1 takes payload 0 hello 2 from 2: link from 2 to 1, and 2 never puts it again"),
+     "line 5: LinkEmpty: node 1 takes payload 0 hello 2 from 2, and 2 never puts it again"),
     # Nothing is on its way: it isn't asked whether the text is cut.
     (GREETED, "line 5: NotWhole: after the last entry nothing is on its way, and not all is done: node 1 at pulse 0 "
               "doesn't put 2 ack 0; node 2 at pulse 0 doesn't put 1 ack 0"),
@@ -58,7 +60,8 @@ ROWS = (
     ("1 1 pulse 1|1 1 put 2 payload 0 colour -2|", f"line 2: NotReady: node 1 makes pulse 1: ack 0 of 2; safe 0 of "
                                                    f"2; {PULSE}; {NO_ACK}"),
     (ACKED + "5 1 put 2 safe 0|6 1 put 2 safe 0|",
-     f"line 11: NothingToPut: node 1 puts safe 0 for 2: list of 1 for 2; {SAFE}; it has put safe 0 for 2 already"),
+     f"line 11: NothingToPut: node 1 puts safe 0 for 2, for which it has nothing; {SAFE}; it has put safe 0 for 2 "
+     "already"),
     # All is acknowledged, so nothing is said of acknowledgements.
     (ACKED + "5 1 pulse 1|", f"line 10: NotReady: node 1 makes pulse 1: safe 0 of 2; {PULSE}"),
     (f"1 1 put 2 {HELLO_1}|1 1 put 2 payload 0 colour -2|", "line 3: X1: not an entry: `-2` is no number of a "
@@ -86,13 +89,15 @@ ROWS = (
 class Transcripts(Case):
     needs_programs = False
 
-    def says(self, text: str, line: str, *words: str) -> None:
-        status, _, said = said_by("transcript", "check", "two", *words, data=text.replace("|", "\n").encode())
+    def says(self, text: str, line: str, *words: str, network: str = "two") -> None:
+        status, _, said = said_by("transcript", "check", network, *words, data=text.replace("|", "\n").encode())
         self.same(f"{text} {words}", (status, said), (1, f"{line}\n"))
 
     def test_of_edition_2(self):
         for entries, line in ROWS:
             self.says("transcript 2 2|" + entries, line)
+        alone = "transcript 2 1|" + "".join(f"{p} 1 pulse {p}|" for p in range(1, 14))
+        self.says(alone, "line 14: NotReady: node 1 makes pulse 13; pulse 12 is the last", network="path1")
 
     def test_of_edition_1(self):
         for entries, line in (
@@ -102,7 +107,7 @@ class Transcripts(Case):
              "line 3: NotWhole: after the last entry nothing is on its way, and not all is done: node 1 at pulse 0 "
              "doesn't put 2 ack 0; node 2 at pulse 0 doesn't put 1 ack 0"),
             (f"1 put 2 {HELLO_1}|1 pulse 2|1 put 2 odd|",
-             f"line 3: NotReady: node 1 makes pulse 2, but it hasn't taken ack 0 from 2; {PULSE}; {NO_ACK}"),
+             f"line 3: NotReady: node 1 makes pulse 2: ack 0 of 2; safe 0 of 2; {PULSE}; {NO_ACK}"),
             (f"1 put 2 {HELLO_1}|1 take 2 {HELLO_2}|2 put 1 odd|", "line 4: X1: not an entry: `odd` is no wire, which "
                                                                    "are payload, ack, safe, close"),
         ):
