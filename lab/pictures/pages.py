@@ -15,18 +15,6 @@ MODULES = ("marks", "stage", "time", "rounds", "run")
 # smaller), and how many radii two are apart.
 WIDE, HIGH, MARGIN, RADIUS, LEAST, APART = 1000, 700, 70, 22, 9, 3
 
-FRAME = """\
-<!doctype html>
-<html lang="en"><head><meta charset="utf-8"><meta name="viewport" content="width=device-width,initial-scale=1">
-<meta name="color-scheme" content="light dark"><title>@TITLE@</title><style>@STYLE@</style></head><body>
-<header><h1>@TITLE@</h1><p class="soft">@ABOUT@</p></header>
-@BODY@<script>
-"use strict";
-var D = @DATA@;
-@SCRIPT@
-</script></body></html>
-"""
-
 
 def hues():
     """The colours of all pictures, as the module hues.js."""
@@ -61,8 +49,13 @@ def page(template, main, data, **words):
     """A page whose body is a template of page/ and whose script is the module `main` and those before it; `words` are
     escaped."""
     given = {name.upper(): escaped(text) for name, text in words.items()}
-    given |= {"STYLE": text_of("page.css").replace("\n", ""), "DATA": compact(data), "SCRIPT": joined(main)}
-    return re.sub(r"@([A-Z]+)@", lambda found: given[found.group(1)], FRAME.replace("@BODY@", text_of(template)))
+    return filled(text_of("frame.html").replace("@BODY@", text_of(template)), DATA=compact(data), SCRIPT=joined(main),
+                  STYLE=text_of("page.css").replace("\n", ""), **given)
+
+
+def filled(template, **given):
+    """A template with these texts, as they are, in the places of their names."""
+    return re.sub(r"@([A-Z]+)@", lambda found: given[found.group(1)], template)
 
 
 def compact(value):

@@ -11,6 +11,7 @@ from lab.definitions.rounds import Facts
 from lab.networks.network_text import Network as Drawn
 from lab.networks.random_networks import alike_edges
 from lab.pictures.map_picture import EDGE, Vertex, draw_map
+from lab.pictures.pages import filled, text_of
 from lab.pictures.svg import Svg, escaped
 from lab.words import add_output, add_seed, parser_of, write
 
@@ -36,25 +37,6 @@ Status: 0 done, 2 the command line is refused.
 Example:
   forestlab sheet --seed 7 --sheets 30 > sheets.html
   forestlab sheet --seed 7 --sheets 30 --answers > answers.html
-"""
-PAGE = """<!doctype html>
-<html lang="en"><head><meta charset="utf-8"><meta name="viewport" content="width=device-width,initial-scale=1">
-<meta name="color-scheme" content="only light"><title>{title}</title>
-<style>
-:root{{color-scheme:only light;background:#FFFFFF}}
-body{{font:14px/1.45 DejaVu Sans,Verdana,Arial,sans-serif;color:#1B1B1B;max-width:760px;margin:0 auto;
-  padding:10px 14px}}
-h1{{font-size:17px;margin:0;display:flex;justify-content:space-between}}h2{{font-size:14px;margin:14px 0 2px}}
-h1 small{{font-weight:normal;font-size:13px}}p{{margin:4px 0}}svg{{display:block;margin:4px auto}}
-table{{border-collapse:collapse;margin:4px 0}}
-td,th{{border:1px solid #6B6B6B;padding:2px 0;text-align:center;min-width:46px;height:24px}}
-th{{font-weight:normal;background:#F3EFE4;padding:2px 7px;text-align:left}}
-b.answer{{color:#0072B2}}.blank{{display:inline-block;min-width:90px;border-bottom:1px solid
-#6B6B6B}}.list{{min-width:190px}}
-.question{{break-inside:avoid}}section{{break-after:page}}section:last-child{{break-after:auto}}
-pre{{font-size:11px;color:#6B6B6B;columns:3}} </style></head><body>
-{sheets}
-</body></html>
 """
 
 
@@ -210,7 +192,8 @@ def network_by(source):
 def draw(seed, count, answers, lessons):
     names = [seed] if count == 1 else [f"{seed}-{number}" for number in range(1, count + 1)]
     sheets = "\n".join(Sheet(name, answers).text(lessons) for name in names)
-    return PAGE.format(title=f"{'Answers to sheets' if answers else 'Sheets'} {escaped(seed)}", sheets=sheets)
+    title = f"{'Answers to sheets' if answers else 'Sheets'} {escaped(seed)}"
+    return filled(text_of("sheet.html"), TITLE=title, SHEETS=sheets)
 
 
 def lesson(text):
