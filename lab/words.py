@@ -64,6 +64,13 @@ def add_seed(words, what="whatever is by chance comes from it") -> None:
     words.add_argument("--seed", default="1", metavar="WORD", help=f"any word or number; {what}; default: 1")
 
 
+def count(text: str, most: int = 10 ** 9 - 1) -> int:
+    """The number of an option: from 1 up to the greatest."""
+    if not (text.isascii() and text.isdecimal() and len(text) < 10 and 1 <= int(text) <= most):
+        raise argparse.ArgumentTypeError(f"{text} is no number from 1 to {most:,}")
+    return int(text)
+
+
 def source_of(seed: str) -> int | str:
     """What the generator of a seed begins with: a number is one, so that 7 and 07 are one seed."""
     return int(seed) if seed.isascii() and seed.isdecimal() and len(seed) < 100 else seed

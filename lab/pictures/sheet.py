@@ -2,8 +2,8 @@
 or the same sheets with their answers, as one HTML page.
 
 Every answer is worked out by the slow definitions (lab/definitions) and from nothing else."""
-import argparse
 import random
+from functools import partial
 
 from lab.definitions.colours import Network, at_parent, colours, drop, first_colours, merge, shift, three
 from lab.definitions.nodes import NetState, last_pulse
@@ -13,7 +13,7 @@ from lab.networks.random_networks import alike_edges
 from lab.pictures.map_picture import EDGE, Vertex, draw_map
 from lab.pictures.pages import filled, text_of
 from lab.pictures.svg import Svg, escaped
-from lab.words import add_output, add_seed, parser_of, write
+from lab.words import add_output, add_seed, count, parser_of, write
 
 LESSONS = (1, 2, 3, 4, 5)
 MOST_SHEETS = 200
@@ -196,24 +196,12 @@ def draw(seed, count, answers, lessons):
     return filled(text_of("sheet.html"), TITLE=title, SHEETS=sheets)
 
 
-def lesson(text):
-    if text not in map(str, LESSONS):
-        raise argparse.ArgumentTypeError("a lesson from 1 to 5")
-    return int(text)
-
-
-def how_many(text):
-    if not text.isascii() or not text.isdigit() or not 1 <= int(text) <= MOST_SHEETS:
-        raise argparse.ArgumentTypeError(f"a number from 1 to {MOST_SHEETS}")
-    return int(text)
-
-
 def command_line():
     words = parser_of("sheet", "[options]", HELP, MORE_HELP)
     add_seed(words)
-    words.add_argument("--sheets", type=how_many, default=1, metavar="COUNT",
+    words.add_argument("--sheets", type=partial(count, most=MOST_SHEETS), default=1, metavar="COUNT",
                        help="how many sheets: WORD-1, WORD-2, ..")
-    words.add_argument("--lesson", type=lesson, action="append", metavar="N",
+    words.add_argument("--lesson", type=int, choices=LESSONS, action="append", metavar="N",
                        help="the questions of this lesson alone; may be given again")
     words.add_argument("--answers", action="store_true", help="with the answers")
     add_output(words)

@@ -12,7 +12,7 @@ from lab.schedules.reading import network_at
 from lab.schedules.ruled_sequels import ruled, smallest_wrong
 from lab.schedules.rules import ALL, OF_SCHEDULES, program_of, table, unknown_to
 from lab.schedules.space import Space, TooMany
-from lab.words import add_output, parser_of, write
+from lab.words import add_output, count, parser_of, write
 from lab.wrong import Wrong
 
 MOST_NODES, LIMIT, BYTES_A_STATE = 4, 1_000_000, 420
@@ -72,19 +72,13 @@ def rules_of(text):
     return list(dict.fromkeys(words))
 
 
-def positive(text):
-    if not text.isascii() or not text.isdigit() or not 1 <= int(text) < 2 ** 31:
-        raise argparse.ArgumentTypeError("a number from 1 up")
-    return int(text)
-
-
 def command_line():
     words = parser_of("explore", "[NETWORK] [options]", HELP, MORE_HELP)
     words.add_argument("network", metavar="NETWORK", nargs="?",
                        help="a file, - for standard input, or a name, as triangle or path3")
     words.add_argument("--without", type=rules_of, default=[], metavar="RULES",
                        help="the rules to leave out, with commas between")
-    words.add_argument("--limit", type=positive, default=LIMIT, metavar="STATES",
+    words.add_argument("--limit", type=count, default=LIMIT, metavar="STATES",
                        help=f"give up after this many states; default: {LIMIT}")
     words.add_argument("--list", action="store_true",
                        help="write one list of events alone, as `forestplay events` reads it")

@@ -21,11 +21,11 @@ from lab.schedules.policies import POLICIES
 from lab.workshop.findings import NoVerdict
 from lab.workshop.guard import USERS, Guard, end_all, give, keep_apart, kept_in, shut
 from lab.workshop.judge import ask
-from lab.workshop.options import count, parsed, seconds
+from lab.workshop.options import parsed, seconds
 from lab.workshop.playing import played
 from lab.workshop.protocol import shown
 from lab.workshop.report import aligned, as_json, report
-from lab.words import parser_of
+from lab.words import count, parser_of
 from lab.wrong import Wrong
 
 # Of each assignment how many runs are played, and the most points. For another scale change these lines.

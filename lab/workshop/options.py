@@ -5,7 +5,7 @@ from lab.schedules.policies import POLICIES
 from lab.transcripts.fields import PAYLOADS
 from lab.workshop.cases import NETWORKS
 from lab.workshop.protocol import COLOURING, program_of
-from lab.words import add_seed, parser_of
+from lab.words import add_seed, count, parser_of
 from lab.wrong import Wrong
 
 HELP = """\
@@ -71,12 +71,6 @@ def command_line() -> argparse.ArgumentParser:
     words.add_argument("--keep", metavar="DIR", help="write network, run and verdict of the case that is shown")
     words.add_argument("--picture", metavar="FILE", help="of alpha: draw the run that is shown, up to what is wrong")
     return words
-
-
-def count(text: str) -> int:
-    if not (text.isascii() and text.isdecimal() and 1 <= len(text) <= 9 and int(text)):
-        raise argparse.ArgumentTypeError(f"{text} is no number from 1 on")
-    return int(text)
 
 
 def seconds(text: str) -> float:

@@ -223,7 +223,7 @@ REFUSED = [
     ([], "NETWORK is missing"),
     (["examples/two.col", "--without", "safes,digit"], "can't be left out together"),
     (["examples/two.col", "--without", "x"], "`x` is no rule"),
-    (["examples/two.col", "--limit", "0"], "a number from 1 up"),
+    (["examples/two.col", "--limit", "0"], "0 is no number from 1 to"),
     (["--without", "digit", "--puts"], "the rounds have no events"),
     (["--without", "safes"], "NETWORK is missing"),
     (["--without", "partner"], "only --program matching has the rules partner,last"),

@@ -48,7 +48,7 @@ class Command(Case):
             (["rounds", "ring2", "--", *ROUNDS], 1, "NODES is 2, and has to be at least 3"),
             (["rounds", "two", "--policies", "oldest", "--", *ROUNDS], 2, "of alpha alone"),
             (["alpha", "two", "--policies", "odd", "--", *ALPHA], 2, "there is no policy odd"),
-            (["rounds", "two", "--runs", "0", "--", *ROUNDS], 2, "0 is no number from 1 on"),
+            (["rounds", "two", "--runs", "0", "--", *ROUNDS], 2, "0 is no number from 1 to 999,999,999"),
             (["rounds", "two", "--", "/nonexistent/node"], 2, "can't be started: No such file"),
         ):
             done = call(*words)
