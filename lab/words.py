@@ -35,6 +35,20 @@ def parser_of(name: str, words: str, what: str, more: str | None, door: str = "f
                   formatter_class=argparse.RawDescriptionHelpFormatter)
 
 
+def add_command(commands, name: str, words: str, what: str, more: str, example: str) -> argparse.ArgumentParser:
+    """The parser of `forestlab NAME WORDS`, one of several commands: its help is a line, more of it, and an example."""
+    return commands.add_parser(name.split()[-1], prog=f"forestlab {name}", usage=f"forestlab {name} {words}",
+                               description=f"{what}\n\n{more}".rstrip(), epilog=f"Example:\n  {example}",
+                               formatter_class=argparse.RawDescriptionHelpFormatter)
+
+
+def add_options(command, name: str, rows) -> None:
+    """Of rows (commands, option, what argparse is told of it) those of one command."""
+    for names, option, told in rows:
+        if name in names:
+            command.add_argument(option, **told)
+
+
 def bytes_at(path: str) -> bytes:
     """All that a file has, or standard input for `-`."""
     try:

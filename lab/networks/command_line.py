@@ -1,9 +1,7 @@
 """The command line of `forestlab network`: its commands with what each does, more of it, and an example."""
-import argparse
-
 from lab.networks.forms import FORMS
 from lab.networks.numbering import WAYS
-from lab.words import add_output, add_seed, parser_of
+from lab.words import add_command, add_options, add_output, add_seed, parser_of
 
 HELP = """\
 Makes networks, reads them in other forms, and says what they are.
@@ -38,42 +36,27 @@ Status: 0 done, 1 the file can't be read as a network, 2 the command line is ref
 `forestlab network KIND --help` has the options and an example.
 """
 
+# How many of what a kind is made of.
 SIZES = {"path": ["nodes"], "ring": ["nodes"], "star": ["nodes"], "complete": ["nodes"], "grid": ["rows", "columns"],
          "queen": ["rows", "columns"], "tree": ["nodes"], "disk": ["nodes"], "random": ["nodes", "edges"]}
 CHANCE = ("tree", "disk", "random")
-USAGES = {"read": "network read [FILE] [options]",
-          "tell": "network tell FILE [options]\n       forestlab network tell CODE"}
 # What each command does: a line of help, more of it, and its example.
 COMMANDS = {
     "path": ("A row: node 1 is joined to 2, 2 to 3, and so on.", "", "forestlab network path 20 | forestplan plain"),
     "ring": ("A row whose last node is joined to its first.", "", "forestlab network ring 12 | forestplan plain"),
-    "star": (
-        "One centre, joined to all others, its leaves.",
-        "The centre has the greatest number, so there is one forest;\n"
-        "`number --by degree --reverse` gives it the number 1.",
-        "forestlab network star 9 | forestplan forests",
-    ),
+    "star": ("One centre, joined to all others, its leaves.",
+             "The centre has the greatest number, so there is one forest;\n"
+             "`number --by degree --reverse` gives it the number 1.", "forestlab network star 9 | forestplan forests"),
     "complete": ("Each node is joined to each other.", "", "forestlab network complete 8 | forestplan plan"),
-    "grid": (
-        "The squares of a board; two are joined if they share a side.",
-        "They are numbered row by row.",
-        "forestlab network grid 10 10 > grid.col",
-    ),
-    "queen": (
-        "The squares of a board; two are joined if a queen moves from one to the other.",
-        "They are numbered row by row.",
-        "forestlab network queen 5 5 | forestplan plain",
-    ),
-    "tree": (
-        "Each node but the first is joined to one before it, by chance.",
-        "",
-        "forestlab network tree 30 --seed 7 > tree.col",
-    ),
-    "disk": (
-        "Places by chance in a square; two are joined if they are near.",
-        "So transmitters interfere that are near each other (a unit-disk graph).",
-        "forestlab network disk 30 --radius 0.26 --seed 5 > masts.col",
-    ),
+    "grid": ("The squares of a board; two are joined if they share a side.", "They are numbered row by row.",
+             "forestlab network grid 10 10 > grid.col"),
+    "queen": ("The squares of a board; two are joined if a queen moves from one to the other.",
+              "They are numbered row by row.", "forestlab network queen 5 5 | forestplan plain"),
+    "tree": ("Each node but the first is joined to one before it, by chance.", "",
+             "forestlab network tree 30 --seed 7 > tree.col"),
+    "disk": ("Places by chance in a square; two are joined if they are near.",
+             "So transmitters interfere that are near each other (a unit-disk graph).",
+             "forestlab network disk 30 --radius 0.26 --seed 5 > masts.col"),
     "random": (
         "So many different edges by chance, each choice as likely as any other.",
         "With wishes the networks of all seeds are equally hard: with --neighbours D and --forests U\n"
@@ -145,70 +128,57 @@ COMMANDS = {
 }
 
 
-def command_line():
-    words = parser_of("network", "COMMAND WORDS.. [options]", HELP, MORE_HELP)
-    commands = words.add_subparsers(
-        prog="forestlab network", dest="command", metavar="COMMAND", required=True, help="one of those above"
-    )
-    for name, (what, more, example) in COMMANDS.items():
-        sizes = " ".join(size.upper() for size in SIZES.get(name, ["file"]))
-        command = commands.add_parser(
-            name,
-            usage="forestlab " + USAGES.get(name, f"network {name} {sizes} [options]"),
-            description=f"{what}\n\n{more}".rstrip(),
-            epilog=f"Example:\n  {example}",
-            formatter_class=argparse.RawDescriptionHelpFormatter,
-        )
-        add_words(command, name)
-        add_output(command)
-        command.set_defaults(refuse=command.error)
-    return words
-
-
 def kilometres(word):
     """A length with a decimal point, or with a comma as tables may have it."""
     return float(word.replace(",", ".") if word.count(",") == 1 and "." not in word else word)
 
 
-def add_words(command, name):
-    for size in SIZES.get(name, ()):
-        command.add_argument(size, type=int, metavar=size.upper(), help=f"how many {size}")
-    if name not in SIZES:
-        count = {"read": "?", "tell": "+"}.get(name)
-        what = "a file, or - for standard input"
-        what += {"tell": ", or a name, as path5; or a code, as C8", "read": ""}.get(name, ", or a name, as petersen")
-        command.add_argument("file", metavar="FILE", nargs=count, help=what)
-    if name in CHANCE + ("number",):
-        add_seed(command, "the same one chooses the same again")
-    if name == "disk":
-        command.add_argument(
-            "--radius",
-            type=float,
-            default=0.26,
-            metavar="R",
-            help="joined if nearer than R sides of the square; default: 0.26",
-        )
-    if name == "random":
-        command.add_argument("--connected", action="store_true", help="each node can be reached from each other")
-        command.add_argument("--neighbours", type=int, metavar="D", help="the node with the most neighbours has D")
-        command.add_argument("--forests", type=int, metavar="U", help="there are U forests")
-    if name == "read":
-        command.add_argument("--as", dest="form", choices=FORMS, help="the form, if the guess is wrong")
-        command.add_argument("--heading", choices=("yes", "no"), help="whether the first line of pairs is a heading")
-        command.add_argument("--sites", metavar="CSV", help="a table of sites")
-        command.add_argument("--reach", type=kilometres, metavar="KM", help="joins sites that are less than KM apart")
-        command.add_argument("--bars", metavar="CSV", help="a table of channels that are barred at sites")
-        command.add_argument("--channels", metavar="TABLE", help="the channels that all may use, as '1 6 11', or a CSV "
-                             "file with a column `channel`: the first is channel 1 of the plan; bars are of these "
-                             "numbers, and `forestlab channels` puts them back")
-        command.add_argument("--ignore", metavar="NAMES", help="columns and keys that say nothing of nodes or edges, "
-                             "as weight,km: they aren't counted as left out")
-        command.add_argument("--strict", action="store_true", help="refuses it if something would be left out")
-    if name == "tell":
-        command.add_argument("--payloads", action="store_true", help="counts the payloads, however many they are")
-    if name == "number":
-        command.add_argument("--by", choices=WAYS, required=True, help="the order of the new numbers")
-        command.add_argument("--reverse", action="store_true", help="the other way round")
-    if name == "names":
-        command.add_argument("--csv", action="store_true", help="as CSV with a heading")
-        command.add_argument("--channels", metavar="TABLE", help="real channel numbers, as '36 40 44 48'")
+# The options of the commands, in the order of the help.
+OPTIONS = (
+    (("disk",), "--radius", {"type": float, "default": 0.26, "metavar": "R",
+                             "help": "joined if nearer than R sides of the square; default: 0.26"}),
+    (("random",), "--connected", {"action": "store_true", "help": "each node can be reached from each other"}),
+    (("random",), "--neighbours", {"type": int, "metavar": "D", "help": "the node with the most neighbours has D"}),
+    (("random",), "--forests", {"type": int, "metavar": "U", "help": "there are U forests"}),
+    (("read",), "--as", {"dest": "form", "choices": FORMS, "help": "the form, if the guess is wrong"}),
+    (("read",), "--heading", {"choices": ("yes", "no"), "help": "whether the first line of pairs is a heading"}),
+    (("read",), "--sites", {"metavar": "CSV", "help": "a table of sites"}),
+    (("read",), "--reach", {"type": kilometres, "metavar": "KM", "help": "joins sites that are less than KM apart"}),
+    (("read",), "--bars", {"metavar": "CSV", "help": "a table of channels that are barred at sites"}),
+    (("read",), "--channels", {
+        "metavar": "TABLE", "help": "the channels that all may use, as '1 6 11', or a CSV file with a column "
+        "`channel`: the first is channel 1 of the plan; bars are of these numbers, and `forestlab channels` puts them "
+        "back"}),
+    (("read",), "--ignore", {"metavar": "NAMES", "help": "columns and keys that say nothing of nodes or edges, as "
+                             "weight,km: they aren't counted as left out"}),
+    (("read",), "--strict", {"action": "store_true", "help": "refuses it if something would be left out"}),
+    (("tell",), "--payloads", {"action": "store_true", "help": "counts the payloads, however many they are"}),
+    (("number",), "--by", {"choices": WAYS, "required": True, "help": "the order of the new numbers"}),
+    (("number",), "--reverse", {"action": "store_true", "help": "the other way round"}),
+    (("names",), "--csv", {"action": "store_true", "help": "as CSV with a heading"}),
+    (("names",), "--channels", {"metavar": "TABLE", "help": "real channel numbers, as '36 40 44 48'"}),
+)
+# Of those that read one: how many words it may be, its usage, and what it may be besides.
+FILE = (None, "FILE [options]", ", or a name, as petersen")
+FILES = {"read": ("?", "[FILE] [options]", ""), "number": FILE, "names": FILE,
+         "tell": ("+", "FILE [options]\n       forestlab network tell CODE",
+                  ", or a name, as path5; or a code, as C8")}
+
+
+def command_line():
+    words = parser_of("network", "COMMAND WORDS.. [options]", HELP, MORE_HELP)
+    commands = words.add_subparsers(dest="command", metavar="COMMAND", required=True, help="one of those above")
+    for name, does in COMMANDS.items():
+        sizes = SIZES.get(name, ())
+        count, usage, more = FILES.get(name, (None, f"{' '.join(sizes).upper()} [options]", ""))
+        command = add_command(commands, f"network {name}", usage, *does)
+        for size in sizes:
+            command.add_argument(size, type=int, metavar=size.upper(), help=f"how many {size}")
+        if name in FILES:
+            command.add_argument("file", metavar="FILE", nargs=count, help=f"a file, or - for standard input{more}")
+        if name in (*CHANCE, "number"):
+            add_seed(command, "the same one chooses the same again")
+        add_options(command, name, OPTIONS)
+        add_output(command)
+        command.set_defaults(refuse=command.error)
+    return words

@@ -29,7 +29,7 @@ from lab.schedules.reading import network_of
 from lab.schedules.rules import (OF_ANY_ROUNDS, OF_PROGRAMS as RULES_OF_PROGRAMS, OF_SCHEDULES, program_of,
                                  unknown_to)
 from lab.schedules.simulate import played, text_of_rows
-from lab.words import add_output, called, parser_of, text_at, write
+from lab.words import add_command, add_options, add_output, called, parser_of, text_at, write
 from lab.wrong import Wrong
 
 HELP = """\
@@ -253,19 +253,15 @@ def command_line():
     """The parser, and the one of each kind."""
     words = parser_of("picture", "KIND NETWORK [options]", HELP, MORE_HELP)
     kinds = words.add_subparsers(dest="kind", metavar="KIND", required=True, help="one of those above")
-    for name, (what, more, example) in KINDS.items():
+    for name, does in KINDS.items():
         usage = "[NETWORK] --without RULES" if name == "broken" else "NETWORK [options]"
-        kind = kinds.add_parser(name, prog=f"forestlab picture {name}", usage=f"forestlab picture {name} {usage}",
-                                description=f"{what}\n\n{more}", epilog=f"Example:\n  {example}",
-                                formatter_class=argparse.RawDescriptionHelpFormatter)
+        kind = add_command(kinds, f"picture {name}", usage, *does)
         kind.add_argument("network", metavar="NETWORK", nargs="?" if name == "broken" else None,
                           help="a file, - for standard input, or a name, as petersen or path5")
         kind.add_argument("--title", metavar="NAME", help="what the picture calls the network, in place of its file")
         if name in OF_PROGRAMS:
             add_program(kind)
-        for names, option, more in OPTIONS:
-            if name in names:
-                kind.add_argument(option, **more)
+        add_options(kind, name, OPTIONS)
         add_output(kind)
     return words, kinds.choices
 
