@@ -13,11 +13,10 @@ from lab.definitions.nodes import Colouring, NetState, Refused, make
 from lab.definitions.programs import add_program, check_root, note_ignored_bars, program_at
 from lab.networks.named import network_bytes
 from lab.networks.network_text import read_network
-from lab.transcripts.fields import first_line
 from lab.transcripts.reading import Entry, Wrong, read_to_fault
 from lab.transcripts.rules import stuck_words
 from lab.transcripts.search import Node, Search
-from lab.transcripts.stamps import all_standing, check_stamped, stamped_as_it_stands, unfinished, why_refused
+from lab.transcripts.stamps import all_standing, check_stamped, unfinished, why_refused
 from lab.words import add_output, bytes_at, called, parser_of, write
 from lab.wrong import Wrong as WrongNetwork
 
@@ -74,7 +73,8 @@ class Found(NamedTuple):
     refusals: dict[int, str]
 
     def is_whole(self) -> bool:
-        """Whether all entries are made, and all nodes are through."""
+        """Whether all entries are made, and all nodes are through. Each port then has taken the other's closing mark,
+        its last wire, so that no link holds one."""
         return not self.left and all(node.is_drained() for node in self.nodes.values())
 
     def state(self) -> NetState:
@@ -155,47 +155,21 @@ def without_entries(nodes):
 
 
 def whole_run(net, text, program=Colouring):
-    """The lines of the entries in the order found, and the verdict on a transcript of a program on a network; or
+    """The lines of the entries in an order that is a run, and the verdict on a transcript of a program on a network; or
     `Wrong`."""
-    return run_as_it_stands(net, text, program) or run_read_with_care(net, text, program)
-
-
-def run_as_it_stands(net, text, program):
-    """The same for most transcripts of runs: lines are compared with what the nodes do, byte for byte.
-    None if they aren't a whole run so; then they have to be read with care."""
-    head, *lines = text.split(b"\n")
-    if lines[-1:] != [b""]:
-        return None
-    if head == first_line(len(net.neighbours), program.name).encode():
-        nodes = stamped_as_it_stands(net, lines[:-1], program)
-        return None if nodes is None else (range(2, len(lines) + 1), verdict(nodes))
-    if head != b"transcript 1 %d" % len(net.neighbours):
-        return None
-    own = {b"%d" % v: ([], []) for v in net.neighbours}
-    vertex = None
-    for line, entry in enumerate(lines[:-1], 2):
-        if vertex is None or not entry.startswith(vertex):
-            vertex = entry[:entry.find(b" ") + 1]
-            if vertex[:-1] not in own:
-                return None
-            its_entries, its_lines = own[vertex[:-1]]
-        its_entries.append(entry)
-        its_lines.append(line)
-    try:
-        search = Search(net, {int(v): entries for v, (entries, _) in own.items()}, program)
-    except (IndexError, ValueError):
-        return None
-    if not search.is_whole():
-        return None
-    return search.made({int(v): numbers for v, (_, numbers) in own.items()}), verdict(search.nodes)
-
-
-def run_read_with_care(net, text, program=Colouring):
     head, entries, fault = read_to_fault(text, program.name)
     if head.nodes != len(net.neighbours):
         raise Wrong(head.line, "Nodes", f"the transcript has {head.nodes} nodes, the network {len(net.neighbours)}")
     if head.is_stamped:
         check_stamped(net, head, entries, fault, program)
+        made = entries
+    else:
+        made = ordered(net, head, entries, fault, program)
+    return [entry.line for entry in made], verdict(net, entries)
+
+
+def ordered(net, head, entries, fault, program):
+    """The entries of edition 1 in the order found; or the first fault."""
     found = find_order(net, entries, program)
     if fault:
         raise first_fault(found, fault)
@@ -203,8 +177,7 @@ def run_read_with_care(net, text, program=Colouring):
         raise refusal_of(found, first_refused(found))
     if not found.is_whole():
         raise not_whole(head, entries, found)
-    made = entries if head.is_stamped else found.made
-    return [entry.line for entry in made], verdict(found.nodes)
+    return found.made
 
 
 def first_fault(found, fault):
@@ -224,12 +197,11 @@ def not_whole(head, entries, found):
     return Wrong(last_line, "NotWhole", f"after the last entry {stuck_words(all_standing(state))}")
 
 
-def verdict(nodes):
-    """Of a whole run: of the entries the pulses aren't wires, and each wire has two."""
-    entries = sum(len(node.own) for node in nodes.values())
-    wires = (entries - sum(node.last for node in nodes.values())) // 2
-    payloads = sum(node.payloads for node in nodes.values())
-    return f"whole run of {len(nodes)} nodes, {entries} entries, {payloads} payloads, {wires} wires"
+def verdict(net, entries):
+    """Of a whole run: each wire is put once."""
+    puts = [entry.what for entry in entries if entry.kind == "Put"]
+    payloads = sum(wire[0] == "Payload" for wire in puts)
+    return f"whole run of {len(net.neighbours)} nodes, {len(entries)} entries, {payloads} payloads, {len(puts)} wires"
 
 
 def in_order(made, text):

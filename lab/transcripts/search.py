@@ -23,14 +23,14 @@ class Port:
 class Node:
     """`own` has its entries, of which the first `at` are made; `refusal` is the code of the next one's, and `stuck_at`
     the port if it waits there for a wire. `due` counts the acknowledgements that are due, `unsafe` the ports whose safe
-    of this pulse wasn't taken, `payloads` those sent."""
+    of this pulse wasn't taken."""
 
     def __init__(self, net, v, own, program):
         self.vertex, self.program, self.last = v, program(net, v), program.last_pulse(net)
         self.ports = {b"%d" % w: Port(self, w) for w in ports_of(net, v)}
         self.all_ports = list(self.ports.values())
         self.own, self.at, self.refusal, self.stuck_at = own, 0, None, None
-        self.pulse, self.said, self.payloads = 0, False, 0
+        self.pulse, self.said = 0, False
         self.enter(self.program.greet())
 
     def enter(self, sent):
@@ -45,7 +45,6 @@ class Node:
                 port.out.append(b"payload %d %s %d" % (p, payload[0].lower().encode(), payload[1]))
                 port.waits = True
                 self.due += 1
-        self.payloads += self.due
         self.settle()
 
     def settle(self):
@@ -145,8 +144,3 @@ class Search:
     def made(self, own):
         """Of lists by vertex, with a member for each entry, the members of the entries made, in the order found."""
         return [member for v, first, end in self.steps for member in own[v][first:end]]
-
-    def is_whole(self):
-        """Whether all entries are made and all nodes are through. Each port then has taken the other's closing mark,
-        its last wire, so that no link holds one."""
-        return all(node.at == len(node.own) and node.is_drained() for node in self.nodes.values())

@@ -5,7 +5,6 @@ from collections import deque
 from lab.definitions.nodes import Colouring, NetState, Refused, entry_words, make, missing_words, wire_words
 from lab.transcripts.reading import Wrong, words
 from lab.transcripts.rules import Standing, rule_of, stuck_words
-from lab.transcripts.search import Search
 
 
 class Clock:
@@ -122,33 +121,3 @@ def unfinished(state):
             yield v, f"node {v} hasn't put {wire_words(wire)} for {w}"
         for wire in state.link[v, port]:
             yield w, f"node {w} hasn't taken {wire_words(wire)} from {v}"
-
-
-KINDS = {b"pulse": "Pulse", b"put": "Put", b"take": "Take"}
-
-
-def stamped_as_it_stands(net, lines, program=Colouring):
-    """The nodes after the lines of a whole run with right stamps; None if they aren't one byte for byte; then they
-    have to be read with care.
-
-    The entries of each node are led to the end by a search, in some order. What a node does follows from how many of
-    its entries were made, and a take needs nothing but that its wire was put. In the order of these lines it was: the
-    clock has a stamp for it. So the lines are a run in their order."""
-    clock, own, last = Clock(net.neighbours), {v: [] for v in net.neighbours}, (0, 0)
-    for line in lines:
-        stamp, _, entry = line.partition(b" ")
-        try:
-            vertex, kind, other, *_ = entry.split(b" ", 3)
-            v, w = int(vertex), int(other)
-            due = clock.next(KINDS[kind], v, w)
-        except (IndexError, KeyError, ValueError):
-            return None
-        if stamp != b"%d" % due or vertex != b"%d" % v or last >= (due, v):
-            return None
-        own[v].append(entry)
-        last = due, v
-    try:
-        search = Search(net, own, program)
-    except (IndexError, ValueError):
-        return None
-    return search.nodes if search.is_whole() else None

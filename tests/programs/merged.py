@@ -5,7 +5,6 @@ taken from a program."""
 import random
 
 from lab.definitions.colours import network_of
-from lab.transcripts.check import run_read_with_care
 from tests.cases import Case, called, text
 from tests.programs.made_transcripts import made_transcript, merged_text, odd, transcript_text
 from tests.programs.plain_networks import cycle, path, random_of, star, text_of, tree, two_sided
@@ -134,7 +133,7 @@ class Merged(Case):
         self.note("no beginning of that run is whole", not accepted, accepted)
 
     def test_made(self):
-        """Runs by the definitions, in the layout of the program and in an odd one: quickly, and with care."""
+        """Runs by the definitions, in the layout of the program and in an odd one."""
         source, wrong = random.Random(SEED), []
         for i, (data, net) in enumerate(networks()[::4]):
             lines = made_transcript(source, net, CAPACITIES[i % 3])
@@ -142,7 +141,7 @@ class Merged(Case):
             first, *rows = merged.decode().splitlines()
             strange = "\n".join([first] + [odd(source, row) for row in rows]).encode()
             said = said_of(net, transcript_text(len(lines), lines))[0]
-            if [said_of(net, merged)[0], said_of(net, strange)[0], run_read_with_care(net, merged)[1]] != [said] * 3:
+            if [said_of(net, merged)[0], said_of(net, strange)[0]] != [said] * 2:
                 wrong.append((data, merged, said_of(net, merged)[0]))
         self.note(f"merged runs of {i + 1} networks by the definitions", not wrong, wrong[:1])
 
