@@ -6,7 +6,8 @@ from lab.pictures.palette import BAND, BORDER, INK, PAPER, PULSE, SOFT, WIRES, W
 from lab.pictures.schedules_space import fault_words, left_out_words, title_of
 from lab.pictures.svg import Svg, text_width
 from lab.schedules.explore import events_words, rounded
-from lab.wrong import Wrong
+from lab.schedules.simulate import events_of
+from lab.wrong import Wrong, wrong_line
 
 COLUMNS, MOST_COLUMNS, STEPS, MOST_STEPS = 36, 108, 6_000, 12_000
 LEFT, HIGH, WIDE, LEAST_WIDTH = 44, 560, 1150, 780
@@ -95,18 +96,17 @@ def in_step(space):
 
 
 def run_of(network, space, text):
-    """The run of a list of events; puts are made by themselves, so lines of those that the network has are passed
-    over."""
-    puts = {("put", str(v), str(port)) for v in network.vertices for port in range(len(network.neighbours[v]))}
+    """The run of a list of events; puts make themselves, so those that the network has are passed over."""
     s, found = 0, []
-    for line, raw in enumerate(text.split("\n"), 1):
-        fields = raw.split()
-        if not fields or fields[0].startswith("c") or tuple(raw.partition(":")[0].split()) in puts:
+    for line, kind, v, port, place in events_of(text, "the list", "fifo" in space.without):
+        if kind == "put" and port < len(network.neighbours.get(v, ())):
             continue
         steps = space.steps(s) if s is not None else []
-        e = next((k for k, (event, _) in enumerate(steps) if str(event).split() == fields), None)
+        e = next((k for k, (event, _) in enumerate(steps)
+                  if (event.kind, event.v, event.port, event.place) == (kind, v, port, place)), None)
         if e is None:
-            raise Wrong(f"the run's line {line}: `{raw.strip()}` is not possible there")
+            words = f"{kind} {v}" + ("" if port is None else f" {port}")
+            raise wrong_line("the list", line, f"`{words}` isn't possible there")
         found.append((s, e))
         s = steps[e][1]
     return found

@@ -267,9 +267,9 @@ class Schedules(PictureCase):
         root = parsed(drawn("schedules", TWO, "--columns", "0..40", "--events", path))
         bold = sorted((ends(list(group)[1])[0][0], title(group).split(":")[0]) for group in marks(root, "bold"))
         self.note("the run that is given is bold", [words for _, words in bold] == takes[:40], bold[:5])
-        for events, words in (("put 1 0\ntake 2 0\ntake 2 0\n", b"line 4: `take 2 0` is not possible there"),
-                              ("put 9 0\n", b"line 2: `put 9 0` is not possible there"),
-                              ("put 2 0\nput 1 1\n", b"line 3: `put 1 1` is not possible there")):
+        for events, words in (("put 1 0\ntake 2 0\ntake 2 0\n", b"line 4: `take 2 0` isn't possible there"),
+                              ("put 9 0\n", b"line 2: `put 9 0` isn't possible there"),
+                              ("put 2 0\nput 1 1\n", b"line 3: `put 1 1` isn't possible there")):
             path = self.file("run.events", f"c a run\n{events}")
             self.refused("a text that is no run", "schedules", TWO, "--events", path, words=words)
 
