@@ -32,19 +32,13 @@ class Run:
     it is the most that there can be. If they are many, they are counted only if that `is_counted`."""
 
     def __init__(self, network, is_counted=False):
-        higher = {v: len(higher_of(network, v)) for v in network.vertices}
-        self.network, self.forests = network, max(higher.values(), default=0)
+        self.network, self.forests = network, network.forests
         self.last = LAST_COLOUR + 3 * self.forests * network.channels
         self.is_bound = False
         self.payloads, self.bytes, self.how = counted_payloads(self, is_counted)
         self.wires = 2 * self.payloads + 2 * len(network.edges) * (self.last + 1)
         self.entries = 2 * self.wires + network.nodes * self.last
         self.bytes += plain_bytes(self)
-
-
-def higher_of(network, v):
-    """The neighbours with a higher identifier."""
-    return [w for w in network.neighbours[v] if network.identifiers[w] > network.identifiers[v]]
 
 
 def digits(count):
@@ -119,7 +113,7 @@ def payloads_by(program, network):
 
 def most_payloads(run):
     """A greeting both ways, a label and ten colours of each edge; and in each merge both ends of each edge choose."""
-    merged = sum(run.forests - f for v in run.network.vertices for f in range(len(higher_of(run.network, v))))
+    merged = sum(run.forests - f for v in run.network.vertices for f in range(len(run.network.higher(v))))
     return 13 * len(run.network.edges) + 2 * merged
 
 

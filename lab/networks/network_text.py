@@ -44,6 +44,15 @@ class Network:
         self.span = self.degree + self.most_bars
         self.channels = self.span + 1
 
+    def higher(self, v):
+        """The neighbours of a vertex with a higher identifier."""
+        return [w for w in self.neighbours[v] if self.identifiers[w] > self.identifiers[v]]
+
+    @property
+    def forests(self):
+        """How many forests there are: the most neighbours of one vertex with a higher identifier."""
+        return max((len(self.higher(v)) for v in self.vertices), default=0)
+
     def barred(self, v):
         """The channels that are barred at a vertex, ascending."""
         return self.bars.get(v, [])

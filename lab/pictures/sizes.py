@@ -35,11 +35,7 @@ MANY_WIRES, MOST_WIRES = 50_000, 4_000_000
 
 def last_pulse(network, program=Colouring):
     """The last pulse of a program on a network."""
-    if program is not Colouring:
-        return program.last_pulse(network_of(network))
-    names = network.identifiers
-    forests = max((sum(names[w] > names[v] for w in ws) for v, ws in network.neighbours.items()), default=0)
-    return 12 + 3 * forests * network.channels
+    return program.last_pulse(network_of(network))
 
 
 def least_wires(network, program=Colouring):

@@ -7,12 +7,6 @@ from lab.workshop.judge import ask
 from lab.workshop.protocol import COLOURING, SEQUELS
 
 
-def forests_of(network: Network) -> int:
-    """U, the greatest number of neighbours of one node that have a higher identifier."""
-    names = network.identifiers
-    return max((sum(names[w] > names[v] for w in network.neighbours[v]) for v in network.vertices), default=0)
-
-
 class RightRounds:
     """Of each pulse p: `phase[p]`, its words, which the colouring alone has; `puts[p][v][w]`, the word and number that
     v sends to w; `heard[p][v]`, v's inbox by port; `colours[p][v]`, v's colour in each forest after it, and
@@ -24,7 +18,7 @@ class RightRounds:
         self.ports = {v: {w: port for port, w in enumerate(network.neighbours[v])} for v in network.vertices}
         self.phase, self.puts, self.colours, self.chose, self.results = [], [], [], [], {}
         head, *lines = self.asked("forestplay", "rounds", program).splitlines()
-        self.forests = forests_of(network) if program in (COLOURING, *SEQUELS) else None
+        self.forests = network.forests if program in (COLOURING, *SEQUELS) else None
         self.last = int(head.split()[-1])
         for line in lines:
             self.read(line.split(" "))

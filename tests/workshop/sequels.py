@@ -11,7 +11,7 @@ from lab.schedules.policies import POLICIES
 from lab.workshop import cases
 from lab.workshop.options import parsed
 from lab.workshop.protocol import SEQUELS, own_data
-from lab.workshop.right_rounds import RightRounds, forests_of
+from lab.workshop.right_rounds import RightRounds
 from tests.workshop.base import Played, answering, network, played, python
 from tests.workshop.mistakes import MISTAKES
 from tests.workshop.other_programs import RING as WITHOUT_BARS
@@ -92,7 +92,7 @@ class Sequels(Played):
         """The middle of a star is below all others, or above them."""
         edges = [(1, 2), (1, 3), (1, 4)]
         for names, forests in (({1: 1, 2: 2, 3: 3, 4: 4}, 3), ({1: 9, 2: 2, 3: 3, 4: 4}, 1)):
-            self.same(f"{names}", forests_of(Network("star", 4, edges, {}, {}, names)), forests)
+            self.same(f"{names}", Network("star", 4, edges, {}, {}, names).forests, forests)
 
     def test_right_nodes(self):
         for program in SEQUELS:
