@@ -13,7 +13,7 @@ from lab.pictures.layout import laid_out
 from lab.pictures.pages import net_of
 from lab.pictures.places import LARGEST_CIRCLE, circle
 from lab.programs import TOP
-from lab.schedules.rules import OF_ROUNDS, OF_SCHEDULES
+from lab.schedules.rules import OF_PROGRAMS, OF_SCHEDULES
 from lab.schedules.simulate import HABITS
 from lab.studio.asked import MOST_DRAWN, OPENED, network_asked
 from lab.studio.lessons import lessons
@@ -31,7 +31,6 @@ def shown(network, said=()):
 
 def hello(_asked, _tell):
     """What there is to choose from."""
-    rules = {"orders": OF_SCHEDULES, "rounds": OF_ROUNDS}
     return {
         "proved": OPENED["is_proved"],
         "opened": OPENED["network"],
@@ -39,10 +38,14 @@ def hello(_asked, _tell):
         "kinds": {kind: {"sizes": SIZES[kind], "chance": kind in CHANCE} for kind in MAKERS},
         "programs": [*PROGRAMS, *OPENED["own"]],
         "policies": HABITS,
-        "rules": {of: {word: {"says": rule.says, "without": rule.without} for word, rule in rules[of].items()}
-                  for of in rules},
+        "rules": {"orders": said_of(OF_SCHEDULES),
+                  "rounds": {name: said_of(of) for name, of in OF_PROGRAMS.items()}},
         "lessons": lessons(),
     }
+
+
+def said_of(rules):
+    return {word: {"says": rule.says, "without": rule.without} for word, rule in rules.items()}
 
 
 def example(asked, _tell):

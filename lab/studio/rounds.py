@@ -13,8 +13,8 @@ from lab.pictures.player_page import film_of
 from lab.pictures.program_rounds import ProgramRounds
 from lab.pictures.sizes import last_pulse
 from lab.schedules.reading import network_of
-from lab.schedules.ruled_rounds import RuledRounds
-from lab.schedules.rules import OF_ROUNDS
+from lab.schedules.ruled_sequels import ruled, smallest_wrong
+from lab.schedules.rules import OF_PROGRAMS
 from lab.studio.asked import MOST_ROUNDS, network_asked, program_asked, rules_asked
 from lab.studio.judges import plan_of, rounds_of, verdict_on
 from lab.wrong import Wrong
@@ -71,16 +71,22 @@ def why(asked, _tell):
 
 def broken(asked, _tell):
     """What the rounds of this network do without a rule, in words; and a picture of it, or of a smallest network on
-    which they go wrong."""
-    network, without = network_asked(asked, MOST_ROUNDS), rules_asked(asked, OF_ROUNDS)
+    which they go wrong, if there is one."""
+    network, program = network_asked(asked, MOST_ROUNDS), program_asked(asked)
+    without = rules_asked(asked, OF_PROGRAMS.get(program.name, {}))
     if not without:
         raise Wrong("which rule is left out?")
-    found = RuledRounds(network_of(network), without)
-    here = found.clash is not None
-    words = found.words().split("\n") if here else ["the rounds of this network go right without it"]
-    least = None if here else net_of(broken_picture.network_of_rounds(broken_picture.broken_rounds(None, without)[0]))
-    return {"here": here, "words": words, "found": least,
-            "picture": broken_picture.draw(network if here else None, without)}
+    found = ruled(program)(network_of(network), without)
+    if found.clash is not None:
+        return {"here": True, "words": found.words().split("\n"), "found": None,
+                "picture": broken_picture.draw(network, without, program)}
+    said = "the rounds of this network go right without it"
+    least, tried, what, most = smallest_wrong(without, program)
+    if least is None:
+        return {"here": False, "words": [f"{said}, and so do those of all {tried:,} {what} of up to {most} nodes"],
+                "found": None, "picture": None}
+    return {"here": False, "words": [said], "found": net_of(broken_picture.network_of_rounds(least)),
+            "picture": broken_picture.draw(None, without, program)}
 
 
 def picture(asked, _tell):

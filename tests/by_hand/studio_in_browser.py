@@ -27,6 +27,8 @@ from tests.settings import PLAY
 SHOWN = {
     "draw": "example=barred&tab=draw&node=3", "rounds": "example=petersen&tab=rounds&at=4.5&forest=0&node=6",
     "merge": "example=petersen&tab=rounds&at=15", "broken": "example=petersen&tab=rounds&at=4&broken=digit",
+    "pairs": "example=path&tab=rounds&program=matching&broken=partner",
+    "passes": "example=two&tab=pictures&kind=run&program=recolouring&passes=2",
     "layers": "example=petersen&tab=rounds&program=layers&at=2", "run": "example=chain6&tab=run&slow=2-3&seed=7&at=150",
     "beside": "example=petersen&tab=run&seed=7&at=150&beside=1&node=3",
     "two": "example=petersen&tab=run&seed=7&at=8.5&other=newest.2",

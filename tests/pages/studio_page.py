@@ -160,6 +160,27 @@ class Drawn(Page):
         self.page.choose("without2", "digit")
         self.sees("without a rule", "document.getElementById('broken').textContent.includes('both have colour')")
 
+    def test_rules_of_other_programs(self):
+        """The rules that can be left out are those of the chosen program, and what goes wrong is drawn."""
+        rules = "Array.from(document.getElementById('without2').options, one => one.value).join()"
+        self.go_to("example=path&tab=rounds&program=matching")
+        self.sees("its rules", f"{rules} === ',partner,last'")
+        self.page.choose("without2", "partner")
+        self.sees("what goes wrong", "document.getElementById('broken').textContent.includes('partner of node 1 is 2')")
+        self.sees("a picture of it", "document.querySelector('#picture img[alt=\"without partner\"]')")
+        self.sees("the address has the rule", "/program=matching.*broken=partner/.test(location.hash)")
+        self.page.choose("without2", "last")
+        self.sees("what goes right", "document.getElementById('broken').textContent.includes('1,094 networks')")
+        self.sees("has no picture", "document.getElementById('picture').hidden && document.querySelector('#net .node')")
+        self.page.choose("program2", "recolouring")
+        self.sees("rules of another program", f"{rules} === ',bars,anew' && !studio.rounds.without")
+        self.page.choose("program2", "leader")
+        self.sees("which may have none", "document.getElementById('without2').parentNode.hidden")
+        self.go_to("example=two&tab=rounds&program=recolouring&broken=bars")
+        self.sees("as the address says", "document.getElementById('broken').textContent.includes('smallest network')")
+        self.page.click_on("#broken button")
+        self.sees("the smallest network, with its bar", "studio.net.nodes[0].bars.join() === '1'")
+
     def test_run(self):
         self.go_to("example=chain6&tab=run&slow=2-3&seed=7")
         self.sees("a run is accepted", "document.getElementById('judge').textContent.includes('accepts these 866')")
@@ -221,7 +242,10 @@ class Drawn(Page):
         shown = self.picture("results", self.go_to, f"{triangle}&program=recolouring&passes=3")
         self.note("a third pass ends as the first", "node 2: channel 1, was channel 3" in shown, shown[:400])
         self.note("as the address says", self.page.value("document.getElementById('passes').value") == "3")
-        self.picture("tally", self.page.click_on, "#kinds [data-kind=tally]")
+        for passes, does, words in ((3, self.page.click_on, ("#kinds [data-kind=tally]",)),
+                                    (1, self.page.choose, ("passes", "1"))):
+            shown = self.picture("tally", does, *words)
+            self.note(f"the run has {passes} passes", f"· ({30 + 3 * passes} + 1)" in shown, shown[:400])
         for program, last in (("matching", 25), ("independent-set", 33)):
             shown = self.picture("tally", self.page.choose, "program4", program)
             self.note(f"the run is one of {program}", f"· ({last} + 1)" in shown, shown[:400])

@@ -230,8 +230,38 @@ class Answers(Server):
             self.note(f"results of {asked}", found == wanted, got)
 
     def test_broken(self):
-        got = self.answer("broken", network="p edge 2 1\ne 1 2\n", without="shift")["answer"]
+        edge, row = "p edge 2 1\ne 1 2\n", "p edge 3 2\ne 1 2\ne 2 3\n"
+        got = self.answer("broken", network=edge, without="shift")["answer"]
         self.note("without a shift", "<svg" in got["picture"] and got["words"], got["words"])
+        there = self.answer("hello")["answer"]["rules"]["rounds"]
+        self.note("who has rules", list(there) == ["colouring", "matching", "independent-set", "recolouring"], there)
+        self.note("rules of the matching", list(there["matching"]) == ["partner", "last"], there["matching"])
+        right = "the rounds of this network go right without it"
+        for network, program, rule, here, words, bars in (
+            (row, "matching", "partner", True, "after pulse 19 the partner of node 1 is 2, and that of node 2 is 3",
+             None),
+            (edge, "recolouring", "bars", False, right, [[1], []]),
+            (edge, "matching", "last", False, f"{right}, and so do those of all 1,094 networks of up to 5 nodes", None),
+        ):
+            got = self.answer("broken", network=network, program=program, without=rule)["answer"]
+            found = got["found"] and [node["bars"] for node in got["found"]["nodes"]]
+            self.note(f"without {rule}", (got["here"], got["words"], found) == (here, [words], bars), got["words"])
+            drawn = "<svg" in (got["picture"] or "")
+            self.note(f"{rule}: a picture of what goes wrong", drawn == (rule != "last"), got["picture"])
+        for program in ("colouring", "leader", "independent-set"):
+            got = self.answer("broken", network=edge, program=program, without="partner")
+            self.note(f"no rule of {program}", "no such rule" in got.get("wrong", ""), got)
+
+    def test_passes_of_a_run(self):
+        """A run of two passes ends at pulse 18 + 2 · 2 on an edge, and its text is no run of one pass."""
+        asked = {"network": "p edge 2 1\ne 1 2\n", "program": "recolouring", "policy": "random", "seed": "1"}
+        text = self.answer("run", passes=2, **asked)["answer"]["text"]
+        for kind in ("run", "overview", "node", "tally"):
+            got = self.answer("picture", kind=kind, transcript=text, passes=2, **asked)
+            self.note(f"{kind} of two passes", "</svg>" in got.get("answer", ""), got)
+            self.note("its last pulse", kind != "tally" or "· (22 + 1)" in got.get("answer", ""), got)
+            got = self.answer("picture", kind=kind, transcript=text, **asked)
+            self.note(f"{kind}: it is no run of one", "wrong" in got, got)
 
 
 class Ends(Server):

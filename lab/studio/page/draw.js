@@ -203,8 +203,8 @@ const KINDS = {
   overview: "The pulses of that run.", node: "The synchroniser as an automaton.",
   tally: "The wires of that run by pulse."};
 const OF_RUN = ["run", "overview", "node", "tally"], OF_NODE = ["why", "bits", "node"];
-// Those that draw any program; and those that draw more than one pass of recolouring.
-const OF_PROGRAM = ["results", "rounds", ...OF_RUN], OF_PASSES = ["results", "rounds"];
+// Those that draw any program.
+const OF_PROGRAM = ["results", "rounds", ...OF_RUN];
 let kind = "forests";
 function askPicture() {
   all("#kinds button").forEach(one => one.setAttribute("aria-pressed", one.dataset.kind === kind));
@@ -212,23 +212,23 @@ function askPicture() {
   by("ofnode").hidden = !OF_NODE.includes(kind);
   by("ofrun").hidden = !OF_RUN.includes(kind);
   const program = OF_PROGRAM.includes(kind) ? seen.program : "colouring";
-  const isInPasses = OF_PASSES.includes(kind) && program === "recolouring";
+  const passes = program === "recolouring" ? whole(by("passes").value) : null;
   by("ofprogram").hidden = !OF_PROGRAM.includes(kind);
-  by("ofpasses").hidden = !isInPasses;
+  by("ofpasses").hidden = !passes;
   by("program4").value = seen.program;
   const pulses = (/^(\d{1,6})\.\.(\d{1,6})$/.exec(by("pulses").value.trim()) || []).slice(1).map(Number);
   by("vertex").max = net.nodes.length;
   by("vertex").value = seen.node || "";
   const asked = kind;
   tried("picture", "drawing", async () => {
-    const isOfRun = OF_RUN.includes(kind), transcript = isOfRun ? await tabs.run.transcript() : null, v = seen.node;
+    const isOfRun = OF_RUN.includes(kind), v = seen.node;
+    const transcript = isOfRun ? await tabs.run.transcript(passes) : null;
     const vertex = kind === "why" ? v || 1 : OF_NODE.includes(kind) ? v : null;
     // Another picture has been asked for since.
     if (kind !== asked || isOfRun && !transcript) return;
     if (kind === "why" && !v) by("kindsaid").textContent += " None is chosen, so it is node 1.";
     const got = await call("picture", {kind, network: text(), name: net.name, program, vertex, transcript,
-      forest: tabs.rounds.forest(), passes: isInPasses ? whole(by("passes").value) : null,
-      pulses: isOfRun ? pulses : null});
+      forest: tabs.rounds.forest(), passes, pulses: isOfRun ? pulses : null});
     if (!got) return;
     hang(got, kind);
     by("keep").href = URL.createObjectURL(new Blob([got], {type: "image/svg+xml"}));

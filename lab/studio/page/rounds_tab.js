@@ -65,28 +65,35 @@ function bitsOf(v) {
   };
   return bits;
 }
-// What goes wrong without a rule of the rounds.
+// What goes wrong without a rule of the rounds. A file of one's own has none.
+function rulesHere() {
+  const of = seen.hello.rules.rounds;
+  return Object.hasOwn(of, seen.program) ? of[seen.program] : {};
+}
 function askBroken() {
-  const place = by("broken"), isLeft = Boolean(rounds.without) && seen.program === "colouring";
+  const place = by("broken"), isLeft = Boolean(rounds.without);
   // What goes wrong is on the stage, in place of the rounds with all rules.
-  by("picture").hidden = !isLeft;
-  by("net").style.display = isLeft ? "none" : "";
-  by("time").hidden = isLeft;
+  stageHas(isLeft);
   by("picture").replaceChildren();
   place.replaceChildren();
   if (!isLeft) return stage.fit();
-  const asked = {network: text(), name: net.name, without: rounds.without};
+  const asked = {network: text(), name: net.name, without: rounds.without, program: seen.program};
   asks("broken", asked, "looking for what goes wrong", ({here, words, found, picture: svg}) => {
     if (seen.tab !== "rounds") return;
-    const rule = seen.hello.rules.rounds[rounds.without];
+    const rule = rulesHere()[rounds.without];
     const draw = html("button", "draw this smallest network"), back = html("button", "back to all rules");
     draw.onclick = () => load_(found);
     back.onclick = () => { by("without2").value = ""; by("without2").onchange(); };
     place.append(html("p", `Left out: ${rule.says}; ${rule.without}.`, {class: "soft"}), html("p",
-      words.map(capital).join(". ") + (here ? "." : "; the picture is of a smallest network on"
-      + " which they go wrong."), {class: here ? "bad" : ""}), here ? "" : draw, " ", back);
-    hang(svg, "without " + rounds.without);
+      words.map(capital).join(". ") + (found ? "; the picture is of a smallest network on which they go wrong." : "."),
+      {class: here ? "bad" : ""}), found ? draw : "", " ", back);
+    if (svg) hang(svg, "without " + rounds.without); else { stageHas(false); stage.fit(); show(); }
   });
+}
+function stageHas(isPicture) {
+  by("picture").hidden = !isPicture;
+  by("net").style.display = isPicture ? "none" : "";
+  by("time").hidden = isPicture;
 }
 tabs.rounds = {
   load, forest: () => rounds.forest, show: showAt,
@@ -98,9 +105,12 @@ tabs.rounds = {
     tried("why", "looking for the reasons", askWhy);
   },
   enter() {
-    const isColouring = seen.program === "colouring";
+    const rules = rulesHere();
     by("program2").value = seen.program;
-    by("without2").parentNode.hidden = !isColouring;
+    rounds.without = among(rules, rounds.without);
+    fill("without2", seen.program, () => [html("option", "no rule", {value: ""}), ...Object.keys(rules).map(name =>
+      html("option", `${name}: ${rules[name].says}`, {value: name}))]);
+    by("without2").parentNode.hidden = !Object.keys(rules).length;
     by("without2").value = rounds.without;
     tried("rounds", "asking for the rounds", async () => {
       if (!await load() || seen.tab !== "rounds") return;
@@ -126,7 +136,7 @@ tabs.rounds = {
   },
   follow(given) {
     rounds.forest = whole(given.get("forest"));
-    rounds.without = among(seen.hello.rules.rounds, given.get("broken"));
+    rounds.without = among(rulesHere(), given.get("broken"));
   },
 };
 by("program2").onchange = () => { seen.program = by("program2").value; time.at = 0; tabs.rounds.enter(); };

@@ -8,8 +8,9 @@ import {RunFilm, runLegend, waitsTable} from "./run.js";
 import {Stage} from "./stage.js";
 
 // `steps` come first, as the tab Adversary has made them; `other` is the policy and the seed of a second run.
+// `text3` is a run for a picture.
 export const run = {film: null, found: null, of: null, key: null, steps: [], transcript: null, other: null, film2: null,
-  key2: null, judgedAt: null};
+  key2: null, key3: null, text3: null, judgedAt: null};
 const second = new Stage(by("second"), net), small = new Stage(by("small"), net);
 const SAID = ["judge", "judgehere", "same", "now", "table"];
 let judgeTimer = null;
@@ -183,9 +184,17 @@ async function judgeHere() {
     + `${is.entries.toLocaleString("en")} entries; its nodes are ${agrees ? "at the pulses shown" : "elsewhere"}, and `
     + (is.wires === 1 ? "1 wire is on its way." : `${is.wires} wires are on their way.`);
 }
-// A stored or a new transcript of the network, for pictures; null if a later call has ended this one.
-async function transcript() {
-  return isReady() && !run.isPart || await load() ? run.found.text : null;
+// A stored or a new transcript of the network, for pictures; null if a later call has ended this one. A run of more
+// passes than the tab shows is made as this one is.
+async function transcript(passes) {
+  if (!(passes > 1)) return isReady() && !run.isPart || await load() ? run.found.text : null;
+  const wanted = {...asked(), passes}, key = JSON.stringify(wanted);
+  if (key !== run.key3) {
+    const got = await call("run", wanted, {progress, key: "run3"});
+    if (!got) return null;
+    Object.assign(run, {key3: key, text3: got.text});
+  }
+  return run.text3;
 }
 function lazyBox() {
   by("lazybox").hidden = !seen.node;
@@ -253,6 +262,7 @@ by("program").onchange = () => { seen.program = by("program").value; time.at = 0
 by("how").onsubmit = event => { event.preventDefault(); ask(); };
 by("again").onclick = () => {
   if (by("made").value === "seed") by("seed").value = /^\d+$/.test(by("seed").value) ? +by("seed").value + 1 : 1;
+  run.key3 = null;
   ask();
 };
 by("forget").onclick = () => { Object.assign(run, {steps: [], transcript: null}); ask(); };

@@ -17,7 +17,7 @@ const TIMED = ["rounds", "run"];
 const left = {};
 // Whether the text is older than the places of the nodes; and whether the network has just taken a drawing's place.
 let isMoved = false, isReplaced = false;
-const CALLS = ["rounds", "why", "broken", "run", "run2", "replay", "check", "picture", "steps"];
+const CALLS = ["rounds", "why", "broken", "run", "run2", "run3", "replay", "check", "picture", "steps"];
 
 hooks.show = () => {
   const tab = tabs[seen.tab], isThere = !net.nodes.length && seen.tab !== "draw" || tab.show() !== false;
@@ -282,9 +282,7 @@ async function begin() {
   ["policy", "policy2"].forEach(id => Object.keys(hello.policies).forEach(name => {
     option(by(id), name, name, hello.policies[name]);
   }));
-  Object.entries({without: "orders", without2: "rounds"}).forEach(([id, of]) => {
-    Object.keys(hello.rules[of]).forEach(name => option(by(id), name, `${name}: ${hello.rules[of][name].says}`));
-  });
+  Object.entries(hello.rules.orders).forEach(([name, {says}]) => option(by("without"), name, `${name}: ${says}`));
   makeForm();
   watchBuild(async () => { await greet(); run.key = rounds.of = null; enter(); askPlan(); });
   await follow();
