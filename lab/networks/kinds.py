@@ -5,6 +5,7 @@ from itertools import combinations
 from math import cos, pi, sin
 
 from lab.networks.network_text import MAX_DEGREE, MAX_EDGES, MAX_NODES, Network
+from lab.networks.places import near
 from lab.wrong import Wrong
 
 SIDE = 1000
@@ -136,20 +137,8 @@ def disk(nodes, reach, seed):
         if place not in free:
             free.add(place)
             places[len(places) + 1] = place
-    return checked(nodes, near_pairs(places, reach * SIDE), places)
-
-
-def near_pairs(places, reach):
-    """The pairs of vertices that are less than the reach apart; only those in neighbouring cells are looked at."""
-    cells, size = {}, max(reach, 1)
-    for v, (x, y) in places.items():
-        cells.setdefault((int(x / size), int(y / size)), []).append(v)
-    for v, (x, y) in places.items():
-        column, row = int(x / size), int(y / size)
-        for cell in [(column + i, row + j) for i in (-1, 0, 1) for j in (-1, 0, 1)]:
-            for w in cells.get(cell, ()):
-                if v < w and (x - places[w][0]) ** 2 + (y - places[w][1]) ** 2 < reach * reach:
-                    yield v, w
+    pairs = near([(x, y, 0) for x, y in places.values()], reach * SIDE, is_globe=False)
+    return checked(nodes, ((v + 1, w + 1) for v, w in pairs), places)
 
 
 def any_edges(nodes, edges, seed):
