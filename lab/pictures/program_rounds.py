@@ -2,12 +2,12 @@
 of a text (docs/claim/FORMATS.md) that is, line by line, the rounds of its network."""
 import re
 
-from lab.definitions.colours import Network
 from lab.definitions.nodes import Colouring, ports_of, synchronous_pulses
 from lab.definitions.own_program import check_repeats, what_is_wrong
 from lab.definitions.programs import PLAYED, base_of
 from lab.definitions.pulses import Rounds
 from lab.networks.network_text import whole
+from lab.schedules.reading import network_of
 from lab.wrong import Wrong, wrong_line
 
 # A greeting, or the first colour of a vertex.
@@ -33,8 +33,7 @@ class ProgramRounds:
 
     def __init__(self, network, identifiers, program):
         self.network, self.identifiers, self.program = network, identifiers, program
-        bars = {v: [channel - 1 for channel in channels] for v, channels in network.bars.items()}
-        self.net = Network({v: identifiers[v] for v in network.vertices}, network.edges, bars)
+        self.net = network_of(network, identifiers)
         self.last = program.last_pulse(self.net)
         if self.last * network.nodes > MOST_STEPS:
             raise Wrong(f"{network.name}: {self.last} pulses of {network.nodes} nodes are too many to be drawn")

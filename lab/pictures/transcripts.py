@@ -3,9 +3,9 @@ place in time for each, which is its stamp. lab/transcripts reads it, finds an o
 pictures."""
 from collections import deque
 
-from lab.definitions.colours import Network
 from lab.definitions.nodes import Colouring
 from lab.pictures.program_rounds import rounds_of
+from lab.schedules.reading import network_of
 from lab.transcripts.check import find_order, first_fault, first_refused, refusal_of
 from lab.transcripts.reading import Wrong as WrongEntry, read_to_fault
 from lab.transcripts.stamps import Clock
@@ -119,8 +119,7 @@ def ordered(text, name, network, program, stop=None, is_greeted=True):
     identifiers = identifiers_of(network, read) if is_greeted else dict(network.identifiers)
     if len(set(identifiers.values())) < network.nodes:
         raise Wrong(f"{name}: two nodes have one identifier")
-    bars = {v: [channel - 1 for channel in network.barred(v)] for v in network.vertices}
-    net = Network(identifiers, network.edges, bars)
+    net = network_of(network, identifiers)
     order, is_part = find_order(net, read, program), stop is not None and stop <= program.last_pulse(net)
     if fault:
         raise Wrong(f"{name} {first_fault(order, fault)}")

@@ -3,9 +3,9 @@ from lab.definitions.colours import Network
 from lab.networks import named
 
 
-def network_of(read):
-    """The definitions' network of one that was read."""
-    return Network(dict(read.identifiers), set(read.edges),
+def network_of(read, identifiers=None):
+    """The definitions' network of one that was read, perhaps with other identifiers."""
+    return Network(dict(identifiers or read.identifiers), read.edges,
                    {v: [channel - 1 for channel in bars] for v, bars in read.bars.items()})
 
 
