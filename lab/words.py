@@ -49,13 +49,13 @@ def add_options(command, name: str, rows) -> None:
             command.add_argument(option, **told)
 
 
-def bytes_at(path: str) -> bytes:
-    """All that a file has, or standard input for `-`."""
+def bytes_at(path: str, read=lambda stream: stream.read()) -> bytes:
+    """All that a file has, or standard input for `-`; or what is read of it."""
     try:
         if path == "-":
-            return sys.stdin.buffer.read()
+            return read(sys.stdin.buffer)
         with open(path, "rb") as file:
-            return file.read()
+            return read(file)
     except OSError as why:
         raise Wrong(f"{called(path)}: {why.strerror}") from None
 

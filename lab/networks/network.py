@@ -20,7 +20,7 @@ from lab.networks.plan_text import clashes, read_plan
 from lab.networks.random_networks import alike
 from lab.networks.reading import listed_of, made_of, other_form
 from lab.networks.texts import text_of
-from lab.words import one_line, source_of, text_at, write
+from lab.words import bytes_at, one_line, source_of, text_at, write
 from lab.wrong import Wrong
 
 # Kilometres: less than that no two sites are apart, and numbers of places have no such digits.
@@ -30,13 +30,7 @@ MAKERS = {"path": kinds.path, "ring": kinds.ring, "star": kinds.star, "complete"
 
 
 def bytes_of_file(path):
-    try:
-        if path == "-":
-            return edge_list.bytes_of(sys.stdin.buffer, "-")
-        with open(path, "rb") as file:
-            return edge_list.bytes_of(file, one_line(path))
-    except OSError as why:
-        raise Wrong(f"{one_line(path)}: {why.strerror}") from None
+    return bytes_at(path, lambda stream: edge_list.bytes_of(stream, one_line(path)))
 
 
 def say(what):
