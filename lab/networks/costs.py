@@ -77,11 +77,8 @@ def counted_payloads(run, is_counted):
     network, steps, program = run.network, run.network.nodes * run.last, built("forestplay")
     is_small = steps <= MOST_AT_ONCE or steps <= MOST_HERE and not program
     if is_small and (rounds := rounds_here(network)):
-        puts = [
-            payload_bytes(v, w, pulse.number, f"{word} {number}")
-            for pulse in rounds.pulses
-            for v, w, word, number in pulse.puts
-        ]
+        puts = [payload_bytes(v, w, pulse.number, f"{word} {number}")
+                for pulse in rounds.pulses for v, w, word, number in pulse.puts]
         return len(puts), sum(puts), "counted by the definition of the rounds"
     most = most_payloads(run)
     if program and (is_counted or 2 * most + 2 * len(network.edges) * (run.last + 1) <= MOST_WIRES):

@@ -19,27 +19,17 @@ def facts(reading, path, is_counted):
     degrees = [len(network.neighbours[v]) for v in network.vertices]
     edges = len(network.edges)
     again = reading.edge_lines - edges
+    alone = f", {degrees.count(0):,} of them without a neighbour" if 0 in degrees else ""
+    more = f", {counted(again, 'line')} more with an edge that was there before" if again else ""
     most = "at most " if run.is_bound else ""
     return [
-        (
-            "nodes",
-            f"{network.nodes:,}" + (f", {degrees.count(0):,} of them without a neighbour" if 0 in degrees else ""),
-        ),
-        (
-            "edges",
-            f"{edges:,}"
-            + (f", {counted(again, 'line')} more with an edge that was there before" if again else "")
-            + f"; the `p` line says {reading.promised:,}",
-        ),
-        (
-            "neighbours",
-            f"{min(degrees, default=0):,} to {network.degree:,} of a node" + ("" if network.bars else enough(network)),
-        ),
+        ("nodes", f"{network.nodes:,}{alone}"),
+        ("edges", f"{edges:,}{more}; the `p` line says {reading.promised:,}"),
+        ("neighbours", f"{min(degrees, default=0):,} to {network.degree:,} of a node"
+         + ("" if network.bars else enough(network))),
         *barred(network),
-        (
-            "forests",
-            f"{run.forests:,}, so the last pulse is 12 + 3 * {run.forests:,} * {network.channels:,} = {run.last:,}",
-        ),
+        ("forests",
+         f"{run.forests:,}, so the last pulse is 12 + 3 * {run.forests:,} * {network.channels:,} = {run.last:,}"),
         ("in turn", f"{counted(steps_in_turn(network), 'round')}, if the nodes chose in the order of their numbers"),
         ("payloads", f"{most}{run.payloads:,}; {run.how}"),
         ("wires", f"{most}2 * {run.payloads:,} + 2 * {edges:,} * {run.last + 1:,} = {run.wires:,}"),

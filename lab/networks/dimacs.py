@@ -8,9 +8,7 @@ from lab.networks.network_text import (
     IDENTIFIERS, MAX_BARS, MAX_CHANNEL, SKIPPED, fields_of, read_comment, shown, whole)
 from lab.wrong import wrong_line
 
-BEGINS = re.compile(
-    r"^[ \t]*(p[ \t]+[a-z]+[ \t]+[0-9]+|p[ \t]+[0-9]+[ \t]+[0-9]+|e[ \t]+[0-9]+[ \t]+[0-9]+)\b", re.M
-)
+BEGINS = re.compile(r"^[ \t]*(p[ \t]+[a-z]+[ \t]+[0-9]+|p[ \t]+[0-9]+[ \t]+[0-9]+|e[ \t]+[0-9]+[ \t]+[0-9]+)\b", re.M)
 
 # The words after `p` that the programs read, those of texts that are networks, too, and those of others.
 ALIKE = (None, "sp", "tw", "max", "min", "ds", "vc", "cep", "mat", "graph")

@@ -33,9 +33,7 @@ def renumbered(network, way, seed, is_reversed):
     identifiers = {number[v]: own for v, own in network.said.items()}
     same = two_alike({v: v for v in network.vertices} | identifiers)
     if same:
-        raise Wrong(
-            f"{network.name}: nodes {same[0]} and {same[1]} would have one identifier; "
-            "give each node a line `i V NUMBER`"
-        )
+        raise Wrong(f"{network.name}: nodes {same[0]} and {same[1]} would have one identifier; "
+                    "give each node a line `i V NUMBER`")
     return Network(network.name, network.nodes, {(number[v], number[w]) for v, w in network.edges}, places, names,
                    identifiers, {number[v]: channels for v, channels in network.bars.items()})

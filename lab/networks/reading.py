@@ -83,15 +83,10 @@ def made_of(found, name):
         found.notes.append(f"two nodes are named {shown(twin_of(names))}")
     if len(order) > MAX_NODES:
         raise Wrong(f"{name}: {len(order)} nodes, and a network has at most {MAX_NODES}")
-    made = Network(
-        stem(name),
-        len(order),
-        edges,
-        {v: place for v, place in places.items() if all(abs(part) < FARTHEST for part in place)},
-        names,
-        given(found.identifiers, number, name, "an identifier"),
-        given(found.bars, number, name, "a barred channel"),
-    )
+    made = Network(stem(name), len(order), edges,
+                   {v: place for v, place in places.items() if all(abs(part) < FARTHEST for part in place)}, names,
+                   given(found.identifiers, number, name, "an identifier"),
+                   given(found.bars, number, name, "a barred channel"))
     check(made, name)
     return made, [summary(made, found, by)] + found.notes, found.left_out + left_out
 

@@ -169,11 +169,8 @@ def label_places(places, edges, bend, distance, boxes=None, radius=0):
         for k in (2, 14, 1, 15, 3, 13, 0, 4, 12, 6, 10, 5, 11, 7, 9, 8):
             dx, dy = turned(k / 16)
             spot = x + dx * distance + aside * max(-1, min(1, 2 * dx)), y + dy * distance
-            room = min(
-                [gap(spot, p) for p in points]
-                + [gap(spot, p) - 0.45 * distance for p in others + [at for at, _ in taken]]
-                + [near]
-            )
+            room = min([gap(spot, p) for p in points]
+                       + [gap(spot, p) - 0.45 * distance for p in others + [at for at, _ in taken]] + [near])
             circles = [*others, (x, y)] if aside else others
             covered = covers((spot, (half_wide, half_high)), circles, radius, taken) if boxes else 0
             if best is None or covered < best[0] - 0.5 or covered <= best[0] + 0.5 and room > best[1] + 1:

@@ -67,11 +67,8 @@ def draw(run, pulses=None, kinds=None, wrong=None):
     width = max(window.x(window.stop) + 28, WIDTH)
     lower_top = TOP + upper + 136
     svg = Svg(width, lower_top + (nodes - 1) * lower_row + 66, f"Space and time of {run.name}")
-    shown = (
-        "what each node put, took and did"
-        if set(kinds) == set(KINDS)
-        else " and ".join(f"{NAMES[kind]}s" for kind in kinds)
-    )
+    shown = ("what each node put, took and did" if set(kinds) == set(KINDS)
+             else " and ".join(f"{NAMES[kind]}s" for kind in kinds))
     svg.heading(f"{run.name}: {shown}, pulses {first} to {last} of {run.last}",
                 time_words(run, ", so every arrow points right"))
     legend(svg, kinds)
@@ -202,11 +199,8 @@ def write_words(svg, window, words):
             x, y = x1 + dx * part, y1 + dy * part + 3
             off = (y - 3 - TOP) % window.row_height
             is_inside = LEFT + half < x < window.x(window.stop) - half
-            if (
-                is_inside
-                and min(off, window.row_height - off) > 11
-                and all(abs(x - a) > half + b or abs(y - c) > 13 for a, c, b in used)
-            ):
+            is_free = all(abs(x - a) > half + b or abs(y - c) > 13 for a, c, b in used)
+            if is_inside and is_free and min(off, window.row_height - off) > 11:
                 used.append((x, y, half))
                 svg.text(x, y, text, 9.5, WIRES["payload"], "middle", bold=True, halo=3, mark="words")
                 break

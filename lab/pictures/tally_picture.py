@@ -49,9 +49,8 @@ def draw(network, name, counts, pulses=None, by_rounds=False):
     )
     legend(svg, totals)
     draw_bars(svg, counts, shown, bar, width)
-    alone = (
-        "" if len(shown) == last + 1 else f"; bars of pulses {first} to {final} of {last} alone, numbers above of all"
-    )
+    alone = ("" if len(shown) == last + 1
+             else f"; bars of pulses {first} to {final} of {last} alone, numbers above of all")
     if pulses is None and final < last:
         alone = f"; bars of the first {USUAL} pulses of {last + 1} (others with --pulses A..B), numbers above of all"
     svg.text(LEFT, TOP + HEIGHT + 36, f"pulse that the wire speaks of (close stands at R){alone}", 11, SOFT)
