@@ -29,6 +29,11 @@ def in_words(things) -> str:
     return " and ".join(filter(None, [", ".join(words[:-1]), *words[-1:]]))
 
 
+def counted(count: int, one: str, more: str | None = None) -> str:
+    """A number of things: `1 node`, `2,000 nodes`."""
+    return f"{count:,} {one if count == 1 else more or f'{one}s'}"
+
+
 def parser_of(name: str, words: str, what: str, more: str | None, door: str = "forestlab") -> argparse.ArgumentParser:
     """The parser of `forestlab NAME WORDS`, whose help begins with `what` and ends with `more`, as they stand."""
     return Parser(prog=f"{door} {name}", usage=f"{door} {name} {words}", description=what, epilog=more,

@@ -6,9 +6,9 @@ import subprocess
 import time
 
 from lab.networks import kinds
-from lab.networks.reading import counted
 from lab.networks.texts import plain_text
 from lab.programs import built, environment
+from lab.words import counted
 from lab.wrong import Wrong
 
 # The most nodes times pulses for which the rounds are worked out here, in about a second. Above that

@@ -1,7 +1,7 @@
 """`forestlab network tell`: what a network is, what a run on it comes to, and what is wrong with its text."""
 from lab.networks.costs import Run, times
 from lab.networks.network_text import network_of_reading, reading_of
-from lab.networks.reading import counted
+from lab.words import counted
 
 
 def steps_in_turn(network):

@@ -5,6 +5,7 @@ from lab.networks.forms import listed
 from lab.networks.network_text import (
     MAX_DEGREE, MAX_EDGES, MAX_NODES, Network, read_network, shown, stem, two_alike, whole)
 from lab.networks.texts import text_of
+from lab.words import counted
 from lab.wrong import Wrong
 
 # Forms whose texts end with a bracket, so that it is seen if they are cut.
@@ -157,10 +158,6 @@ def kept(found, number):
     if again:
         notes.append(f"{counted(again, 'line')} with an edge that was there before, counted once")
     return edges, notes
-
-
-def counted(count, what):
-    return f"{count} {what}" if count == 1 else f"{count:,} {what}s"
 
 
 def check(made, name):

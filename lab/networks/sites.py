@@ -5,11 +5,12 @@ from lab.networks.edge_list import Listed, clean, note_alike
 from lab.networks.fields import columns_left
 from lab.networks.network_text import IDENTIFIERS, MAX_BARS, MAX_CHANNEL, MAX_EDGES, MAX_NODES, shown
 from lab.networks.places import Sites, across_of, add_place, near, on_map, say_of_places
-from lab.networks.reading import counted, numbered_by_text
+from lab.networks.reading import numbered_by_text
 from lab.networks.site_doubts import (
     check_marks, one_pair, refuse_far, refuse_maps, refuse_names, refuse_no_place, refuse_units)
 from lab.networks.site_tables import (
     BARE, CHANNELS, GLOBES, IDENTIFIER, NAMES, PLANES, identifier_of, named, number_of, table)
+from lab.words import counted
 from lab.wrong import Wrong, wrong_line
 
 

@@ -5,8 +5,9 @@ from math import sqrt
 from lab.pictures.overview_picture import USUAL
 from lab.pictures.palette import HAIRLINE, INK, PAPER, SOFT, WIRES
 from lab.pictures.sizes import MANY_WIRES, least_wires
-from lab.pictures.svg import Svg, counted
+from lab.pictures.svg import Svg
 from lab.pictures.synchroniser import steps_of
+from lab.words import counted
 
 ROW_OF_NODE, ROW_OF_PORT = 182, 520
 STAGES = {

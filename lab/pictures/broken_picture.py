@@ -14,11 +14,11 @@ from lab.pictures.results_picture import draw_chosen, found_in, legend
 from lab.pictures.rounds_picture import GROUPS
 from lab.pictures.schedules_picture import wrapped
 from lab.pictures.schedules_space import broken_rounds, left_out_words
-from lab.pictures.svg import Svg, counted, text_width
+from lab.pictures.svg import Svg, text_width
 from lab.schedules.ruled_rounds import RuledRounds
 from lab.schedules.ruled_sequels import RuledSequel
 from lab.schedules.rules import OF_FORESTS
-from lab.words import in_words
+from lab.words import counted, in_words
 from lab.wrong import at_most
 
 LEFT, ROW, COLUMN, HALF, HEAD, GAP, RIGHT = 100, 38, 34, 12, 62, 40, 24

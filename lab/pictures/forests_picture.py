@@ -3,7 +3,8 @@ from lab.definitions.pulses import LAST_COLOUR
 from lab.pictures.marks import LARGE, SMALL, Map, alone_chip, channel_circle, colour_square
 from lab.pictures.palette import FOREST_COLOURS, INK, PAPER, SOFT
 from lab.pictures.places import OF_SQUARES, box_height, places_of
-from lab.pictures.svg import Svg, counted, text_width
+from lab.pictures.svg import Svg, text_width
+from lab.words import counted
 from lab.wrong import Wrong, at_most
 
 MOST_COLUMNS, PANEL, SPACE, GAP, LEFT, TOP = 6, 250, 26, 120, 20, 140

@@ -3,7 +3,8 @@ pictures that have words beside the circles."""
 from lab.pictures.marks import LARGE, SMALL, Map, bar_row, bars_width, short_name, width_of_map
 from lab.pictures.palette import INK, PAPER, SOFT
 from lab.pictures.places import box_height, places_of
-from lab.pictures.svg import Svg, counted, text_width
+from lab.pictures.svg import Svg, text_width
+from lab.words import counted
 
 MARGIN, TOP = 48, 58
 BAR, SIZE = 9, 11.5

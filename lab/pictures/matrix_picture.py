@@ -2,7 +2,8 @@
 from lab.networks.plan_text import clashes
 from lab.pictures.marks import channel_circle
 from lab.pictures.palette import INK, PAPER, SOFT, WRONG, channel_hue
-from lab.pictures.svg import Svg, counted, shown, stretches, text_width
+from lab.pictures.svg import Svg, shown, stretches, text_width
+from lab.words import counted
 
 LARGEST_SIDE = 1180
 HEADING, CIRCLES = 76, 30

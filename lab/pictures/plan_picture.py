@@ -4,7 +4,8 @@ from lab.pictures.marks import (LARGE, SMALL, Map, bar_row, bars_width, channel_
                                 label_of, width_of_map)
 from lab.pictures.palette import INK, PAPER
 from lab.pictures.places import box_height, places_of
-from lab.pictures.svg import Svg, counted, text_width
+from lab.pictures.svg import Svg, text_width
+from lab.words import counted
 from lab.wrong import Wrong
 
 LARGEST_NUMBERED = 100

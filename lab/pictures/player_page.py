@@ -4,7 +4,7 @@ from lab.definitions.pulses import SEED, Rounds
 from lab.definitions.recolouring import Recolouring
 from lab.pictures.pages import net_of, page
 from lab.pictures.program_picture import is_new
-from lab.pictures.svg import counted
+from lab.words import counted
 
 SAY = {"greet": "Every node tells its neighbours its identifier.",
        "orient": "Each numbers its higher neighbours and tells each its forest: the edges are parted.",

@@ -7,7 +7,8 @@ from lab.definitions.recolouring import Recolouring
 from lab.pictures.map_picture import Vertex, begun, draw_map
 from lab.pictures.marks import channel_circle, short_name
 from lab.pictures.palette import INK, PAPER, channel_hue, text_on
-from lab.pictures.svg import counted, text_width
+from lab.pictures.svg import text_width
+from lab.words import counted
 
 TOP = 84
 # Programs whose colours are channels: in the circle is the channel, and the node's number beside it; and those of which
@@ -91,5 +92,5 @@ def counts(found, network):
         return counted(after, "channel") + (f"; before there were {before}" if before != after else "")
     chosen = len({tuple(sorted((v, one.other))) for v, one in found.items() if one.other})
     filled = sum(one.colour is not None for one in found.values())
-    return "; ".join([f"{counted(chosen, 'edge')} of {len(network.edges)}"] * bool(chosen)
-                     + [f"{filled} of {counted(len(found), 'node')}"] * bool(filled)) or counted(len(found), "node")
+    return "; ".join([f"{counted(chosen, 'edge')} of {len(network.edges):,}"] * bool(chosen)
+                     + [f"{filled:,} of {counted(len(found), 'node')}"] * bool(filled)) or counted(len(found), "node")

@@ -7,8 +7,9 @@ from math import sqrt
 
 from lab.pictures.marks import dash_of, short_name, wire_arrow
 from lab.pictures.palette import BAND, BORDER, INK, PAPER, PULSE, SOFT, WIRES, WRONG
-from lab.pictures.svg import Svg, counted, text_width
+from lab.pictures.svg import Svg, text_width
 from lab.pictures.wrong_run import draw_stop, draw_untaken, draw_wrong, pulses_around, set_in_time
+from lab.words import counted
 from lab.wrong import at_most
 
 LEFT, TOP, WIDTH = 64, 136, 1214
@@ -227,7 +228,7 @@ def early_words(window, kinds):
     named = "payload" if list(kinds) == ["payload"] else "wire"
     of_them = ("" if named == "payload" or not early
                else f" ({payloads} of them {'a payload' if payloads == 1 else 'payloads'})")
-    come = "none comes" if not early else "1 comes" if len(early) == 1 else f"{len(early)} come"
+    come = "none comes" if not early else "1 comes" if len(early) == 1 else f"{len(early):,} come"
     before = "their" if len(early) > 1 else "its"
     kept = "They are kept: a" if len(early) > 1 else "It is kept: a" if early else "A"
     return (

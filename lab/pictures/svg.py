@@ -29,11 +29,6 @@ def quoted(text):
     return escaped(text).replace('"', "&quot;")
 
 
-def counted(count, what):
-    """A number of things in words: `1 node`, `2 nodes`."""
-    return f"{count} {what}{'' if count == 1 else 's'}"
-
-
 def text_width(text, size):
     """About how wide a text is: DejaVu Sans takes six tenths of its size for a letter, or a little less."""
     return 0.6 * size * len(str(text))

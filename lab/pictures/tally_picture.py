@@ -1,8 +1,9 @@
 """What it costs to have no clock: the wires by pulse, under the identity that counts them."""
 from lab.pictures.overview_picture import USUAL, usual
 from lab.pictures.palette import SOFT, WIRES
-from lab.pictures.svg import Svg, counted, text_width
+from lab.pictures.svg import Svg, text_width
 from lab.pictures.transcripts import window_of
+from lab.words import counted
 from lab.wrong import Wrong
 
 LEFT, TOP, HEIGHT = 64, 100, 230
@@ -42,7 +43,7 @@ def draw(network, name, counts, pulses=None, by_rounds=False):
     width = max(LEFT + bar * len(shown) + 30, 900)
     svg = Svg(width, TOP + HEIGHT + 76, f"Wires of {name}")
     svg.heading(
-        f"{sum(totals.values())} wires = 2 · {counted(totals['payload'], 'payload')} "
+        f"{sum(totals.values()):,} wires = 2 · {counted(totals['payload'], 'payload')} "
         f"+ 2 · {counted(edges, 'edge')} · ({last} + 1)",
         f"{name}: in every whole run of a network, wires = 2 · payloads + 2 · edges · (R + 1), R being the last pulse"
         + ("; counted by the rounds" if by_rounds else ""),
@@ -65,7 +66,7 @@ def draw(network, name, counts, pulses=None, by_rounds=False):
 def legend(svg, totals):
     x = 20
     for kind in ("payload", "ack", "safe", "close"):
-        words = f"{kind} {totals[kind]}"
+        words = f"{kind} {totals[kind]:,}"
         svg.rect(x, 66, 12, 12, WIRES[kind])
         svg.text(x + 18, 76, words, 11.5)
         x += 44 + text_width(words, 11.5)

@@ -12,7 +12,7 @@ from lab.schedules.reading import network_at
 from lab.schedules.ruled_sequels import ruled, smallest_wrong
 from lab.schedules.rules import ALL, OF_SCHEDULES, program_of, table, unknown_to
 from lab.schedules.space import Space, TooMany
-from lab.words import add_output, count, parser_of, write
+from lab.words import add_output, count, counted, parser_of, write
 from lab.wrong import Wrong
 
 MOST_NODES, LIMIT, BYTES_A_STATE = 4, 1_000_000, 420
@@ -250,10 +250,6 @@ def events_words(listed):
     """How many events a list has, puts among them: `8 events (5 takes and pulses)`."""
     rest = sum(event.kind != "put" for event in listed)
     return f"{counted(len(listed), 'event')} ({counted(rest, 'take or pulse', 'takes and pulses')})"
-
-
-def counted(count, one, more=None):
-    return f"{count} {one if count == 1 else more or one + 's'}"
 
 
 def event_lines(listed):

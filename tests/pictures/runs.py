@@ -299,7 +299,7 @@ class Runs(PictureCase):
                   all(abs(height - unit * count) < 0.2 for height, count in heights), heights)
         total, payloads = sum(counts.values()), sum(count for (kind, _), count in counts.items() if kind == "payload")
         edges = "1 edge" if len(net.number) == 1 else f"{len(net.number)} edges"
-        said = f"{total} wires = 2 · {payloads} payloads + 2 · {edges} · ({last} + 1)"
+        said = f"{total:,} wires = 2 · {payloads:,} payloads + 2 · {edges} · ({last} + 1)"
         self.note(f"tally of {name}: its title",
                   texts(root)[0] == said and total == 2 * payloads + 2 * len(net.number) * (last + 1), texts(root)[0])
 
