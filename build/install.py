@@ -11,7 +11,7 @@ import tempfile
 from build import completion, kit, manuals, note, program, readme
 from build.order import PROGRAMS
 from lab import checksums, version
-from lab.door import SIGNALS
+from lab.door import held
 from lab.words import parser_of
 from lab.workshop.class_files import IS_CLASS, class_files, finish_class, write, write_scripts
 
@@ -138,7 +138,7 @@ def install(folder, is_class=False):
             shutil.rmtree(os.path.join(folder, name), ignore_errors=True)
     try:
         # A signal between the folder's making and its being known would leave it.
-        with SIGNALS.held():
+        with held():
             kept = tempfile.TemporaryDirectory(prefix=".install-", dir=folder)
         with kept as room:
             make(room, is_class)

@@ -15,7 +15,7 @@ import tempfile
 import time
 from dataclasses import dataclass, field
 
-from lab.door import SIGNALS
+from lab.door import held
 from lab.programs import TOP
 from lab.schedules.policies import POLICIES
 from lab.workshop.findings import NoVerdict
@@ -251,7 +251,7 @@ class Play:
         self.part, self.said = part, bytearray()
         self.pipe, to = os.pipe()
         self.until = time.monotonic() + given.seconds + GRACE
-        with SIGNALS.held():
+        with held():
             self.number = os.fork()
             if self.number == 0:
                 status = 2              # nothing leaves this process, whatever is wrong in it
@@ -265,7 +265,7 @@ class Play:
         """In the process itself: its status is 0 if it has said what there is to say."""
         try:
             os.setpgid(0, 0)            # so that Ctrl-C ends the one that grades, which ends this one
-            SIGNALS.depth = 0
+            signal.pthread_sigmask(signal.SIG_SETMASK, ())
             keep_apart()
             shut()
             with open(to, "w", encoding="utf-8") as pipe:
@@ -319,7 +319,7 @@ def play_all(parts: list[Part], given: argparse.Namespace, jobs: int, room: str)
                     one.finish([other.number for other in running.values()])
                     tell(one.part)
     finally:
-        with SIGNALS.held():
+        with held():
             for one in running.values():
                 os.kill(one.number, signal.SIGTERM)
             wait_for([one.number for one in running.values()])

@@ -162,6 +162,7 @@ class Guard:
     def enter(self, limits: Limits, tasks: int, workshop: int) -> None:
         """In a process that is about to become a program: it ends with the workshop, and even root's programs can do no
         more than the owner of root's files."""
+        signal.pthread_sigmask(signal.SIG_SETMASK, ())
         limit(limits, tasks)
         control(PDEATHSIG, signal.SIGKILL)
         if os.getppid() != workshop:

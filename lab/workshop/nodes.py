@@ -2,7 +2,7 @@
 import time
 from typing import Callable
 
-from lab.door import SIGNALS
+from lab.door import held
 from lab.workshop.findings import Fault
 from lab.workshop.guard import Guard, Limits, end_all, is_reaper
 from lab.workshop.processes import Process
@@ -36,7 +36,7 @@ class Nodes:
         if self.is_shared and same < v:
             self.of[v] = self.of[same]
             return
-        with SIGNALS.held():
+        with held():
             guard = self.guard.at(len(self.processes))
             self.processes.append(Process(self.commands[owner], self.limits, guard, self.tasks))
         self.of[v] = self.processes[-1]
@@ -61,7 +61,7 @@ class Nodes:
     def stop(self, patience: float = 0.0) -> None:
         """Ends all programs. None is left running, and all together are waited for no longer than that."""
         until = time.monotonic() + patience
-        with SIGNALS.held():
+        with held():
             for process in self.processes:
                 process.end()
             while self.processes:

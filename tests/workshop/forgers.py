@@ -143,12 +143,16 @@ class Forgers(unittest.TestCase):
         self.assertNotRegex(done.stdout, r"(?m)^right$")
 
     def test_the_environment_is_small(self):
-        more = "said.append('names=' + '+'.join(sorted(os.environ)))\n"
+        """And no signal is blocked, though signals wait while a program is started."""
+        more = ("said.append('names=' + '+'.join(sorted(os.environ)))\n"
+                "said.append(f'blocked={len(signal.pthread_sigmask(signal.SIG_BLOCK, ()))}')\n")
         done = call("rounds", "two", *PYTHON, program({}, more),
                     env={**os.environ, "SECRET": "x", "PYTHONUNBUFFERED": "1", "HOME": "/", "LANG": "C.UTF-8"})
-        names = set(got(done.stdout)["names"].split("+"))
+        said = got(done.stdout)
+        names = set(said["names"].split("+"))
         self.assertLessEqual(names, {"HOME", "LANG", "PATH", "TMPDIR", "LC_CTYPE"})
         self.assertLessEqual({"HOME", "LANG", "PATH"}, names)
+        self.assertEqual(said["blocked"], "0")
 
 
 class Guards(unittest.TestCase):
