@@ -3,10 +3,11 @@ one program is refused by the others."""
 from lab.definitions.colours import network_of
 from lab.definitions.layers import Layers
 from lab.definitions.leader import Leader
-from tests.cases import Case, run_program, text
+from tests.cases import Case, called, text
+from tests.commands import EDGE
 from tests.settings import PLAY
 
-EDGE, ROW = "p edge 2 1|e 1 2|", "p edge 3 2|e 1 2|e 2 3|"
+ROW = "p edge 3 2|e 1 2|e 2 3|"
 # Node 1 has the identifier 9 and no neighbour, and nobody the identifier 1.
 APART = "p edge 3 1|i 1 9|e 2 3|"
 
@@ -18,6 +19,8 @@ def network(numbers, edges):
 
 
 PATH, TAIL, PAIRS = [(1, 2), (2, 3), (3, 4), (4, 5)], [(1, 2), (1, 3), (2, 3), (3, 4)], [(1, 2), (3, 4)]
+# A path with the root at vertex 2, and vertex 6 alone; a square whose root is vertex 4.
+LONG, SQUARE = network([9, 1, 20, 5, 8, 6], PATH), network([8, 6, 3, 1], [(1, 2), (1, 3), (2, 4), (3, 4)])
 # What the nodes end with: by program and network, the last pulse, the result of each node, and what `run` adds to it:
 # that a leader is elected, and the neighbour to which a port leads.
 ENDS = [
@@ -51,16 +54,15 @@ ENDS = [
     ("leader", network([7, 5, 3, 2, 9], PAIRS), 5, ["leader 7", "leader 7", "leader 3", "leader 3", "leader 9"],
      {1: "elected", 3: "elected", 5: "elected"}),
     ("layers", network([7, 5, 3, 2], PAIRS), 3, ["layer none"] * 4, {}),
-    # A path with the root at vertex 2, and vertex 6 alone.
-    ("layers", network([9, 1, 20, 5, 8, 6], PATH), 5,
+    ("layers", LONG, 5,
      ["layer 1 by 0", "layer 0", "layer 1 by 0", "layer 2 by 0", "layer 3 by 0", "layer none"],
      {1: "to 2", 3: "to 2", 4: "to 3", 5: "to 4"}),
     # A path with the root at one end: the other end is as far as can be, and hears at the last pulse.
     ("layers", network([1, 9, 4, 5, 20], PATH), 4,
      ["layer 0", "layer 1 by 0", "layer 2 by 0", "layer 3 by 0", "layer 4 by 0"],
      {2: "to 1", 3: "to 2", 4: "to 3", 5: "to 4"}),
-    # A square: two ways lead from vertex 1 to the root 4, and the one by the lesser port is taken.
-    ("layers", network([8, 6, 3, 1], [(1, 2), (1, 3), (2, 4), (3, 4)]), 3,
+    # Two ways lead from vertex 1 to the root, and the one by the lesser port is taken.
+    ("layers", SQUARE, 3,
      ["layer 2 by 0", "layer 1 by 1", "layer 1 by 1", "layer 0"], {1: "to 2", 2: "to 4", 3: "to 4"}),
 ]
 # By program and network. Of an edge, node 2 has the greater identifier, and node 1 is the root. No node sends at the
@@ -87,10 +89,10 @@ NAMED = "transcript 3 leader 2||1 1 put 2 payload 0 "
 # Entries of a transcript of an edge, and what is said of them: words of another program, and numbers out of range.
 REFUSED = [
     ("colouring", FIRST + "leader 1|", "X1 line 4"), ("colouring", FIRST + "hops 0|", "X1 line 4"),
-    ("leader", FIRST + "hello 1|", "X1 line 4"), ("leader", FIRST + "hops 0|", "X1 line 4"),
     ("layers", FIRST + "hello 1|", "X1 line 4"), ("layers", FIRST + "leader 1|", "X1 line 4"),
     ("leader", FIRST + f"leader {2**128}|", "X1 line 4"), ("layers", FIRST + f"hops {2**32}|", "X1 line 4"),
     ("layers", FIRST + "hop 0|", "X1 line 4"), ("leader", FIRST + "leader|", "X1 line 4"),
+    ("leader", FIRST + "hello 1|", "X1 line 4"),
     ("leader", FIRST + "leader 2|", "WrongWire line 4: expected payload 0 leader 1"),
     ("layers", FIRST + "hops 1|", "WrongWire line 4: expected payload 0 hops 0"),
     # A name comes before what is wrong in later lines, and after nothing else than faults of the network.
@@ -116,74 +118,59 @@ REFUSED = [
     ("independent-set", FIRST + f"joined {2**16}|", "X1 line 4"),
     ("leader", "transcript 3 Leader 2|", "X1 line 3"), ("leader", "transcript 3 lead\x1ber 2|", "X1 line 3"),
     ("leader", "transcript 4 leader 2|", "X1 line 3"),
-    ("matching", FIRST + "hops 0|", "X1 line 4"), ("recolouring", FIRST + "anew|", "X1 line 4"),
-    ("independent-set", FIRST + "hello 2|", "WrongWire line 4: expected payload 0 hello 1"),
     ("recolouring", "transcript 3 independent-set 2|", "WrongProgram line 3: independent-set"),
     ("independent-set", "transcript 3 independentset 2|", "WrongProgram line 3: independentset"),
 ]
-STOPPED = b"forestplay: stopped\n"
 UNKNOWN = "error: invalid value '{}' for '--program <NAME>'|" \
           "  [possible values: colouring, leader, layers, matching, independent-set, recolouring]||" \
           "For more information, try '--help'.|"
 
 
-def play(words, data):
-    return run_program(PLAY, words, text(data))
+# Programs of their own, and those that go on after the colouring.
+PLAIN, SEQUELS = ("colouring", "leader", "layers"), ("matching", "independent-set", "recolouring")
 
 
-class Programs(Case):
+def play(*words, data):
+    """The status and both outputs of `forestplay` with a text in which '|' is a line feed, or bytes."""
+    return called(PLAY, *words, data=data if isinstance(data, bytes) else text(data))
+
+
+class Played(Case):
+    def ends(self, words, net, last, results, more):
+        """What nodes end with: by one worker, by three, and in rounds, where nothing is added."""
+        lines = [f"node {v} pulse {last} {end}" for v, end in enumerate(results, 1)]
+        wanted = "".join(f"{line} {more[v]}|" if v in more else f"{line}|" for v, line in enumerate(lines, 1))
+        for workers in (1, 3):
+            done = play("run", *words, "--workers", workers, data=net)
+            self.same(f"run {words} on {net} by {workers}", done, (0, text(wanted), b""))
+        if "colouring" not in words:
+            done = play("rounds", *words, data=net)
+            ends = text(f"pulse {last}|" + "".join(f"{v} {end}|" for v, end in enumerate(results, 1)))
+            self.note(f"rounds {words} on {net}", done[::2] == (0, b"") and done[1].endswith(ends), done)
+
+
+class Programs(Played):
     def test_ends(self):
-        """By one worker, by three, and in rounds, which show no channels."""
         for program, net, last, results, added in ENDS:
-            lines = [f"node {v} pulse {last} {end}" for v, end in enumerate(results, 1)]
-            wanted = "".join(f"{line} {added[v]}|" if v in added else f"{line}|" for v, line in enumerate(lines, 1))
-            for workers in ("1", "3"):
-                done = play(["run", "--program", program, "--workers", workers], net)
-                self.expect(f"run of {program} on {net} by {workers}", done, 0, text(wanted), b"")
-            if program == "colouring":
-                continue
-            done = play(["rounds", "--program", program], net)
-            ends = "".join(f"{v} {end}|" for v, end in enumerate(results, 1))
-            self.note(f"rounds of {program} on {net}",
-                      (done.returncode, done.stderr) == (0, b"") and done.stdout.endswith(text(f"pulse {last}|{ends}")),
-                      done)
+            self.ends(["--program", program], net, last, results, added)
 
     def test_transcripts(self):
         """The transcript of a run is one run, which its own program replays and the others refuse: by the name in the
-        first line, and without it by the first payload."""
-        for program, first, payload in (("colouring", "transcript 2 2", "hello 1"),
-                                        ("leader", "transcript 3 leader 2", "leader 1"),
-                                        ("layers", "transcript 3 layers 2", "hops 0")):
-            done = play(["run", "--program", program, "--transcript", "--workers", "1"], EDGE)
-            begins = text(f"{first}|1 1 put 2 payload 0 {payload}|")
-            self.note(f"transcript of {program}", done.returncode == 0 and done.stdout.startswith(begins), done)
-            unnamed = text(FIRST_STAMPED) + done.stdout.split(b"\n", 1)[1]
-            for other in ("colouring", "leader", "layers"):
-                again = run_program(PLAY, ["replay", "--program", other], text(EDGE) + done.stdout)
-                by_name = "X1 line 4" if program == "colouring" else f"WrongProgram line 3: {program}"
-                self.judged(f"{program} replayed as {other}", again, other == program, by_name)
-                again = run_program(PLAY, ["replay", "--program", other], text(EDGE) + unnamed)
-                self.judged(f"{program} without its name as {other}", again, other == program, "X1 line 4")
-
-    def test_transcripts_of_sequels(self):
-        """The same of those that begin with the colouring's payloads: without its name such a text is refused where the
-        first word of the sequel is, or where the colouring ends."""
-        sequels = ("matching", "independent-set", "recolouring")
-        for program in sequels:
-            done = play(["run", "--program", program, "--transcript", "--workers", "1"], EDGE)
-            begins = text(f"transcript 3 {program} 2|1 1 put 2 payload 0 hello 1|")
-            self.note(f"transcript of {program}", done.returncode == 0 and done.stdout.startswith(begins), done)
-            unnamed = text(FIRST_STAMPED) + done.stdout.split(b"\n", 1)[1]
-            for other in ("colouring", "leader", *sequels):
-                again = run_program(PLAY, ["replay", "--program", other], text(EDGE) + done.stdout)
-                self.judged(f"{program} replayed as {other}", again, other == program,
-                            f"WrongProgram line 3: {program}")
-                again = run_program(PLAY, ["replay", "--program", other], text(EDGE) + unnamed)
-                self.note(f"{program} without its name as {other}", again.returncode == (other != program), again)
-
-    def judged(self, what, done, good, fault):
-        wanted = (0, b"") if good else (1, text(f"forestplay: {fault}|"))
-        self.note(what, (done.returncode, done.stderr) == wanted, done)
+        first line, and without it by the first payload; of a program that begins with the colouring's payloads where
+        its own first word is, or where the colouring ends."""
+        for program, payload in zip((*PLAIN, *SEQUELS), ("hello 1", "leader 1", "hops 0", *["hello 1"] * 3)):
+            head = "2 2" if program == "colouring" else f"3 {program} 2"
+            _, run, _ = play("run", "--program", program, "--transcript", "--workers", 1, data=EDGE)
+            begins = text(f"transcript {head}|1 1 put 2 payload 0 {payload}|")
+            self.note(f"transcript of {program}", run.startswith(begins), run)
+            unnamed = text(FIRST_STAMPED) + run.split(b"\n", 1)[1]
+            for other in PLAIN if program in PLAIN else ("colouring", "leader", *SEQUELS):
+                fault = "X1 line 4" if program == "colouring" else f"WrongProgram line 3: {program}"
+                for how, data, said in (("", run, fault), (" without its name", unnamed, "X1 line 4")):
+                    status, _, errors = play("replay", "--program", other, data=text(EDGE) + data)
+                    wanted = text(f"forestplay: {said}|") if other != program else b""
+                    self.note(f"{program}{how} replayed as {other}", status == (other != program)
+                              and (errors == wanted or how and program in SEQUELS), (status, errors))
 
     def test_illegal_inboxes(self):
         """Which inboxes no round has, by the definitions' pages: the first rule of the election, and of the layers that
@@ -201,34 +188,34 @@ class Programs(Case):
 
     def test_rounds(self):
         for program, net, wanted in ROUNDS:
-            done = play(["rounds", "--program", program], net)
-            self.expect(f"rounds of {program} on {net}", done, 0, text(wanted), b"")
+            self.same(f"rounds of {program} on {net}", play("rounds", "--program", program, data=net),
+                      (0, text(wanted), b""))
 
     def test_payloads_put(self):
         """The puts of payloads of a run, by one worker and by three, are those of the rounds, in another order."""
         for program, net, wanted in ROUNDS:
             sent = sorted(line for line in wanted.split("|") if " put " in line)
-            for workers in ("1", "3"):
-                done = play(["run", "--program", program, "--transcript", "--workers", workers], net)
-                entries = (line.split(" ", 1)[1] for line in done.stdout.decode("ascii").splitlines()[1:])
+            for workers in (1, 3):
+                _, run, _ = play("run", "--program", program, "--transcript", "--workers", workers, data=net)
+                entries = (line.split(" ", 1)[1] for line in run.decode("ascii").splitlines()[1:])
                 put = sorted(entry for entry in entries if " put " in entry and " payload " in entry)
-                self.note(f"puts of {program} on {net} by {workers}", done.returncode == 0 and put == sent, done)
+                self.same(f"puts of {program} on {net} by {workers}", put, sent)
 
     def test_events(self):
         """Node 2 sends nothing in pulse 0, so it said safe 0 before node 1's payload came: that is put first."""
-        done = play(["events", "--program", "layers"], EDGE + "put 1 0|take 2 0|put 2 0|")
         wanted = "node 1 pulse 0|link 1 2 taken 1|node 2 pulse 0|link 2 1 taken 0 safe 0|"
-        self.expect("the root is heard", done, 0, text(wanted), b"")
+        done = play("events", "--program", "layers", data=EDGE + "put 1 0|take 2 0|put 2 0|")
+        self.same("the root is heard", done, (0, text(wanted), b""))
 
     def test_refused(self):
         for program, lines, fault in REFUSED:
-            done = play(["replay", "--program", program], EDGE + lines)
-            self.expect(f"{program} {lines}", done, 1, b"", f"forestplay: {fault}\n".encode())
+            self.same(f"{program} {lines}", play("replay", "--program", program, data=EDGE + lines),
+                      (1, b"", f"forestplay: {fault}\n".encode()))
 
     def test_words(self):
         for word in ("colour", "", "Leader", "layers2", "independent", "independent_set"):
             for command in ("events", "replay", "rounds", "run"):
-                done = play([command, f"--program={word}"], EDGE)
-                self.expect(f"{command} {word!r}", done, 2, b"", text(UNKNOWN.format(word)))
-        self.expect("no turns", play(["run", "--turns", "0"], EDGE), 3, b"", STOPPED)
-        self.expect("turns of no node", play(["run", "--turns", "0"], "p edge 0 0|"), 0, b"", b"")
+                done = play(command, f"--program={word}", data=EDGE)
+                self.same(f"{command} {word!r}", done, (2, b"", text(UNKNOWN.format(word))))
+        self.same("no turns", play("run", "--turns", 0, data=EDGE), (3, b"", b"forestplay: stopped\n"))
+        self.same("turns of no node", play("run", "--turns", 0, data="p edge 0 0|"), (0, b"", b""))
