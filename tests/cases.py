@@ -40,16 +40,6 @@ class Case(unittest.TestCase):
         """The row of a refusal: nothing is written, and this is said. `done` is the status and both outputs."""
         self.note(name, done[0] == status and not done[1] and said in done[2], done)
 
-    def note_all(self, rows):
-        """The rows (name, good, what) that a helper gives."""
-        for name, good, what in rows:
-            self.note(name, good, what)
-
-    def expect(self, name, done, status, output, errors):
-        """The row of a program that has ended: its status, and its bytes on standard output and standard error."""
-        got = (done.returncode, done.stdout, done.stderr)
-        self.note(name, got == (status, output, errors), f"wanted {(status, output, errors)}, got {got}")
-
     @functools.cached_property
     def folder(self):
         """A folder of the test."""

@@ -2,6 +2,7 @@
 
 Each has a small input and the answer to it, worked by hand. What tests every command reads it from here, and
 tests/programs/commands.py fails if a command is missing. In the texts '|' is a line feed."""
+import re
 from dataclasses import dataclass
 
 EDGE, TRIANGLE, APART, ALONE = "p edge 2 1|e 1 2|", "p edge 3 3|e 1 2|e 1 3|e 2 3|", "p edge 2 0|", "p edge 1 0|"
@@ -85,7 +86,7 @@ def commands_of(program):
 
 @dataclass(frozen=True)
 class Script:
-    """A command of forestlab, with the commands below it that its help lists."""
+    """A command of forestlab."""
 
     name: str
     # The words of a call, its standard input, and a pattern of all that it prints. FILE is a network of two nodes that
@@ -93,7 +94,6 @@ class Script:
     words: tuple[str, ...]
     data: str
     answer: str
-    commands: tuple[str, ...] = ()
 
     @property
     def line(self):
@@ -103,21 +103,13 @@ class Script:
 
 ENDED = "transcript 1 2|" + "".join(f"{v} pulse {p}|" for v in (1, 2) for p in PULSES)
 SCRIPTS = (
-    Script(
-        "picture", ("plan", "FILE", "--plan", "-"), "plan|1 1|2 1|", r"<svg [^\0]*</svg>\n",
-        commands=("map", "plan", "results", "matrix", "forests", "rounds", "bits", "why", "run", "overview", "node",
-                  "tally", "player", "watch", "schedules", "adversary", "broken"),
-    ),
-    Script(
-        "network", ("path", "3"), "", r"(c [^\n]*\n)*p edge 3 2\n(c [^\n]*\n)*e 1 2\ne 2 3\n(c [^\n]*\n)*",
-        commands=("path", "ring", "star", "complete", "grid", "queen", "tree", "disk", "random", "read", "number",
-                  "tell", "names"),
-    ),
+    Script("picture", ("plan", "FILE", "--plan", "-"), "plan|1 1|2 1|", r"<svg [^\0]*</svg>\n"),
+    Script("network", ("path", "3"), "", r"(c [^\n]*\n)*p edge 3 2\n(c [^\n]*\n)*e 1 2\ne 2 3\n(c [^\n]*\n)*"),
     Script("channels", ("1", "6", "11"), "plan|1 3|2 1|", r"plan\n1 11\n2 1\n"),
     # Each of two nodes that are apart makes its 12 pulses by itself: 13 times 13 states.
     Script("explore", ("FILE",), "", r"every schedule of net: 169 states, [^\0]*\none end: channels 1 1\n"),
     Script("simulate", ("FILE", "--policy", "oldest"), "", r"transcript 2 2\n(\d+ [12] pulse \d+\n){24}"),
-    Script("transcript", ("--help",), "", r"Judges a transcript [^\0]*", commands=("check", "replay", "convert")),
+    Script("transcript", ("--help",), "", r"Judges a transcript [^\0]*"),
     Script("transcript check", ("FILE",), ENDED, r"whole run of 2 nodes, 24 entries, 0 payloads, 0 wires\n"),
     Script("transcript replay", ("FILE",), ENDED, r"node 1 pulse 12 channel 1\nnode 2 pulse 12 channel 1\n"),
     Script("transcript convert", ("json",), "transcript 2 1|1 1 pulse 1|",
@@ -127,6 +119,9 @@ SCRIPTS = (
     Script("workshop", ("--help",), "", r"usage: forestlab workshop [^\0]*"),
     Script("sheet", ("--seed", "7", "--lesson", "2"), "", r"<!doctype html>[^\0]*</html>\n"),
 )
-# What `python3 build NAME` does for whoever builds.
-BUILDERS = ("completion", "install", "new-program", "pack", "program", "promises", "prove", "prove-crate", "schedule",
-            "vendor", "wrong-bodies")
+
+
+def listed_below(helped):
+    """The commands below one of forestlab that its help lists."""
+    first = re.split("positional arguments:|^Example", helped, flags=re.M)[0]
+    return re.findall(r"^  ([a-z]+)(?: [A-Z]+)* {2,}[a-z]", first, re.M)

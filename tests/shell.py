@@ -14,8 +14,8 @@ def without_rt(path):
 
 
 def run_line(line, *words, limit, **given):
-    """What bash makes of a line and its words, `$0` onwards. The line has a process group of its own, which is killed
-    as a whole: if bash alone were, the programs of a pipeline would go on."""
+    """The status and both outputs of a line with its words, `$0` onwards, in bash. The line has a process group of its
+    own, which is killed as a whole: if bash alone were, the programs of a pipeline would go on."""
     with subprocess.Popen(["bash", "-c", line, *words], stdout=subprocess.PIPE, stderr=subprocess.PIPE,
                           start_new_session=True, **given) as started:
         try:
@@ -24,7 +24,7 @@ def run_line(line, *words, limit, **given):
             with contextlib.suppress(ProcessLookupError):
                 os.killpg(started.pid, signal.SIGKILL)
             raise
-    return subprocess.CompletedProcess(started.args, started.returncode, out, err)
+    return started.returncode, out, err
 
 
 def wait_until(what, limit, moment=0.02):

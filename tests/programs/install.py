@@ -12,17 +12,15 @@ import subprocess
 import sys
 import tarfile
 import tempfile
-import time
 
 from lab.__main__ import COMMANDS as OF_LAB
-from lab.definitions.colours import network_of, plan_text
-from lab.definitions.rounds import rounds_text
+from lab.definitions.colours import plan_text
 from tests import FORESTLAB, TOP
-from tests.cases import Case, text
-from tests.commands import APART, COMMANDS, HELPS, PROGRAMS
+from tests.cases import Case, called, contents, copied, example, text
+from tests.commands import APART, COMMANDS, HELPS, PROGRAMS, listed_below
 from tests.commands import SCRIPTS as OF_BIN
 from tests.pages.pages import PAGES, lines_of
-from tests.shell import run_line
+from tests.shell import run_line, wait_until
 
 # Seconds; a busy machine takes long for the many calls of help that the manual pages are made of.
 LIMIT = 600
@@ -32,14 +30,11 @@ BUILD = [sys.executable, os.path.join(TOP, "build")]
 ENVIRONMENT = dict(os.environ, COLUMNS="80")
 
 
-def run(words, data=b"", **more):
-    done = subprocess.run(words, input=data, capture_output=True, timeout=LIMIT, **more)
-    return done.returncode, done.stdout, done.stderr
-
-
-def contents(path):
-    with open(path, "rb") as file:
-        return file.read()
+def run(words, data=b"", most=None, **more):
+    """The status and both outputs of a call, of which each file may be so large at most."""
+    if most:
+        more["preexec_fn"] = lambda: resource.setrlimit(resource.RLIMIT_FSIZE, (most, most))
+    return called(*words, data=data, limit=LIMIT, **{"env": ENVIRONMENT} | more)
 
 
 def all_of(folder):
@@ -74,7 +69,8 @@ def listed_commands(lines):
     for number, line in enumerate(lines, 1):
         if re.match(r" {4}forest(lab|plan|play) ", line):
             for command in re.split(r" {2,}", line.strip()):
-                if re.match(r"forestlab (?!.*( -- |~/|\b(pairs\.csv|submissions)\b)|studio$)", command):
+                is_own = re.search(r" -- |~/|\b(pairs\.csv|submissions)\b|lab studio$", command)
+                if command.startswith("forestlab ") and not is_own:
                     yield number, command
 
 
@@ -105,9 +101,8 @@ class Install(Case):
                 done = self.line(command.removeprefix("./"))
                 wanted = "".join(line + "\n" for line in shown).encode()
                 is_broken = wanted.startswith(b"broken ") and " | " not in command
-                good = [(int(is_broken), wanted, b""),
-                        *((status, b"", wanted) for status in (1, 3) if wanted)]
-                self.note(f"{page}:{number} {command}", (done.returncode, done.stdout, done.stderr) in good, done)
+                good = [(int(is_broken), wanted, b""), *((status, b"", wanted) for status in (1, 3) if wanted)]
+                self.note(f"{page}:{number} {command}", done in good, done)
         self.note("commands of the pages", count > 60, count)
 
     def test_listed_commands(self):
@@ -117,8 +112,7 @@ class Install(Case):
             for number, command in listed_commands(lines_of(page)):
                 count += 1
                 done = self.line(command.partition(" > ")[0])
-                self.note(f"{page}:{number} {command}", done.returncode == 0 and done.stdout and not done.stderr,
-                          (done.returncode, done.stderr))
+                self.note(f"{page}:{number} {command}", done[::2] == (0, b"") and done[1], done)
         self.note("commands in lists", count > 8, count)
 
     def test_pictures_drawn_anew(self):
@@ -129,7 +123,7 @@ class Install(Case):
             if name.endswith((".svg", ".html")):
                 os.remove(os.path.join(folder, name))
         done = self.line("sh docs/pictures/draw.sh")
-        self.note("docs/pictures/draw.sh", done.returncode == 0 and all_of(folder) == stored, done)
+        self.note("docs/pictures/draw.sh", done[0] == 0 and all_of(folder) == stored, done)
 
     def test_copy(self):
         """A copy of the folder, called through links, where the folder itself is away."""
@@ -147,11 +141,8 @@ class Install(Case):
 
     def run_rows(self, name, folder):
         """Each program and script of a folder, called by its path from another folder, without the toolchain."""
-        network = os.path.join(folder, "examples", "petersen.col")
-        data = contents(network)
-
         def call(*words, given=b""):
-            return run([os.path.join(folder, "bin", words[0]), *words[1:]], given, cwd=self.elsewhere, env=ENVIRONMENT)
+            return run([os.path.join(folder, "bin", words[0]), *words[1:]], given, cwd=self.elsewhere)
 
         def check(what, good, got):
             self.note(f"{name}: {what}", good, got)
@@ -159,61 +150,39 @@ class Install(Case):
         for it in COMMANDS:
             got = call(it.program, *it.line, given=text(it.data))
             check(f"{it.program} {it.name}", got == (0, text(it.answer), b""), got)
-        own = os.path.join(self.elsewhere, "net.col")
-        with open(own, "wb") as file:
-            file.write(text(APART))
+        own = self.file(os.path.join(self.elsewhere, "net.col"), text(APART))
         for it in OF_BIN:
             got = call(*(own if word == "FILE" else word for word in it.line), given=text(it.data))
             check(it.name, got[::2] == (0, b"") and re.fullmatch(it.answer, got[1].decode()), got)
-        got = call("forestplan", "plain", given=data)
-        check("forestplan plain", got == (0, plan_text(data), b""), got)
-        got = call("forestplay", "rounds", given=data)
-        check("forestplay rounds", got == (0, rounds_text(network_of(data)), b""), got[2])
-        status, transcript, _ = call("forestplan", "transcript", "--workers", "2", given=data)
-        got = call("forestlab", "transcript", "check", network, given=transcript)
-        check("transcript check",
-              status == 0 and got[0] == 0 and got[1].startswith(b"whole run of 10 nodes, 4496 entries, "), got)
-        got = call("forestlab", "transcript", "replay", network, given=transcript)
-        check("transcript replay",
-              got[0] == 0 and len(re.findall(rb"^node \d+ pulse 48 channel \d+$", got[1], re.M)) == 10, got)
-        got = call("forestlab", "network", "tell", network)
-        check("network tell", got[0] == 0 and b"nodes: 10\n" in got[1] and got[2] == b"", got)
         got = call("forestlab", "explore", "two")
-        check("explore", got[0] == 0 and got[1].startswith(b"every schedule of two: 281 states, ") and got[2] == b"",
-              got)
-        got = call("forestlab", "explore", "--without", "root")
-        check("explore without a rule",
-              got[0] == 1 and got[1].startswith(b"broken on 2 nodes with the edges 1-2\n") and got[2] == b"", got)
+        check("a network by its name", got[::2] == (0, b"") and got[1].startswith(b"every schedule of two: 281 "), got)
         for kind in ("plan", "rounds", "run", "player"):
-            net = os.path.join(folder, "examples", "triangle.col")
-            got = call("forestlab", "picture", kind, net)
-            check(f"picture {kind}", got[0] == 0 and re.search(rb"<svg|<!doctype html", got[1][:200]) and got[2] == b"",
-                  (got[0], got[1][:80], got[2]))
+            got = call("forestlab", "picture", kind, os.path.join(folder, "examples", "triangle.col"))
+            check(f"picture {kind}", got[::2] == (0, b"") and re.search(rb"<svg|<!doctype html", got[1][:200]), got)
 
     def test_manual(self):
         pages = os.path.join(self.target, "share", "man", "man1")
-        self.note("a manual page for each",
-                  sorted(os.listdir(pages)) == sorted(f"{name}.1" for name in NAMES), os.listdir(pages))
+        self.same("a manual page for each", sorted(os.listdir(pages)), sorted(f"{name}.1" for name in NAMES))
         for name in PROGRAMS:
             texts = {" ".join(words).upper() if words[1:] else "DESCRIPTION": file
                      for words, file in HELPS if words[0] == name}
             wanted = {title: contents(os.path.join(TOP, "lab", "help", f"{file}.txt")).decode()
                       for title, file in texts.items()}
             for option in ("-h", "--help"):
-                got = run([os.path.join(self.target, "bin", name), option], env=ENVIRONMENT)
+                got = run([os.path.join(self.target, "bin", name), option])
                 self.note(f"{name} {option}", got == (0, wanted["DESCRIPTION"].encode(), b""), got)
             page = contents(os.path.join(pages, f"{name}.1")).decode()
             self.note(f"the manual page of {name} is its help", lines_of_page(page) == wanted, page[:500])
         page = contents(os.path.join(pages, "forestlab.1")).decode()
         blocks = lines_of_page(page)
         words = {title: title.lower().split()[1:] if title != "DESCRIPTION" else [] for title in blocks}
-        texts = {title: run([FORESTLAB, *words[title], "--help"], env=ENVIRONMENT)[1].decode() for title in blocks}
+        texts = {title: run([FORESTLAB, *words[title], "--help"])[1].decode() for title in blocks}
         self.note("the manual page of forestlab is its help", "DESCRIPTION" in blocks and blocks == texts, page[:500])
         self.note("it has its purpose", re.search(r"^\.SH NAME\nforestlab \\- [a-z][^\n]*[a-z]$", page, re.M),
                   page[:200])
         wanted = {f"forestlab {it.name}".upper() for it in OF_BIN}
-        wanted |= {f"forestlab {it.name} {below}".upper() for it in OF_BIN for below in it.commands}
-        self.note("it has its commands", set(blocks) - {"DESCRIPTION"} == wanted, list(blocks))
+        wanted |= {f"{title} {below}".upper() for title in wanted for below in listed_below(texts.get(title, ""))}
+        self.same("it has its commands", set(blocks) - {"DESCRIPTION"}, wanted)
         if shutil.which("groff"):
             for page in sorted(os.listdir(pages)):
                 status, _, said = run(["groff", "-man", "-Tutf8", "-ww", os.path.join(pages, page)])
@@ -221,9 +190,7 @@ class Install(Case):
 
     def test_again(self):
         """Once more, while a program of the folder runs; what is there besides stays."""
-        own = os.path.join(self.target, "examples", "own.col")
-        with open(own, "wb") as file:
-            file.write(b"p edge 2 1\ne 1 2\n")
+        own = self.file(os.path.join(self.target, "examples", "own.col"), b"p edge 2 1\ne 1 2\n")
         with subprocess.Popen([os.path.join(self.target, "bin", "forestplan"), "forests"], stdin=subprocess.PIPE,
                               stdout=subprocess.PIPE) as running:
             got = run([*self.script, self.target])
@@ -233,25 +200,20 @@ class Install(Case):
 
     def test_refused(self):
         for words in ([], [self.folder, self.folder], ["--all"], [TOP], [os.path.join(TOP, "docs", "new")]):
-            got = run([*self.script, *words])
-            self.note(f"install {words}", got[:2] == (2, b"") and b"install: error: " in got[2], got)
-        file = os.path.join(self.folder, "a file")
-        with open(file, "wb"):
-            pass
+            self.refusal(f"install {words}", run([*self.script, *words]), 2, b"install: error: ")
+        file = self.file(os.path.join(self.folder, "a file"), b"")
         got = run([*self.script, os.path.join(file, "below")])
         self.note("install below a file", got[:2] == (1, b"") and re.fullmatch(rb"install: [^\n]+\n", got[2]), got)
-        got = run([*self.script, "--help"], env=ENVIRONMENT)
+        got = run([*self.script, "--help"])
         is_shown = b"  python3 build install ~/forestplan\n" in got[1]
         self.note("install --help", (got[0], got[2]) == (0, b"") and is_shown, got)
 
     def test_in_the_place(self):
         """A folder in the place of a file, or a file in that of a folder, leaves all as it was."""
-        for name, path, content in (("a folder", "bin/forestplan/mine", "mine"), ("a file", "lab", "mine")):
+        for name, path in (("a folder", "bin/forestplan/mine"), ("a file", "lab")):
             folder = os.path.join(self.folder, f"with {name}")
-            os.makedirs(os.path.dirname(os.path.join(folder, path)))
-            for own, text_of_it in ((path, content), ("README.md", "own")):
-                with open(os.path.join(folder, own), "w", encoding="utf-8") as file:
-                    file.write(text_of_it)
+            for own in (path, "README.md"):
+                self.file(os.path.join(folder, own), b"own")
             got = run([*self.script, folder])
             place = os.path.join(folder, "/".join(path.split("/")[:2]))
             self.note(f"{name} in the place", got[:2] == (1, b"") and place.encode() in got[2]
@@ -262,27 +224,30 @@ class Install(Case):
                       and contents(os.path.join(folder, "README.md")) == b"own", there)
 
     def test_signals(self):
-        """SIGTERM and SIGHUP leave nothing, nor does the next install what was left before."""
-        folder = os.path.join(self.folder, "ended")
-        os.makedirs(os.path.join(folder, ".install-before"))
-        for number in (signal.SIGTERM, signal.SIGHUP):
-            # On a busy machine the installation may be done before the signal comes; then once more.
-            for _ in range(TRIES):
-                status, said = self.ended_by(number, [*self.script, folder],
-                                             lambda: os.listdir(folder) not in ([], [".install-before"]))
-                got = status, os.listdir(folder)
-                if status:
-                    break
-                shutil.rmtree(folder)
-                os.mkdir(folder)
-            self.note(f"{number.name}: nothing is left", got == (128 + number, []), (got, said))
+        """SIGTERM and SIGHUP leave nothing of an installation or an archive that isn't whole, nor does the next
+        installation what was left before."""
+        os.makedirs(os.path.join(self.folder, "ended", ".install-before"))
+        os.makedirs(os.path.join(self.folder, "packs that end"))
+        for name, words, has_begun in (
+            ("ended", self.script, lambda there: there not in ([], [".install-before"])),
+            ("packs that end", [*BUILD, "pack", self.target], lambda there: any(one.endswith(".new") for one in there)),
+        ):
+            folder = os.path.join(self.folder, name)
+            for number in (signal.SIGTERM, signal.SIGHUP):
+                # On a busy machine all may be done before the signal comes; then once more.
+                for _ in range(TRIES):
+                    status, said = self.ended_by(number, [*words, folder], lambda: has_begun(os.listdir(folder)))
+                    got = status, os.listdir(folder)
+                    if status:
+                        break
+                    shutil.rmtree(folder)
+                    os.mkdir(folder)
+                self.note(f"{name} by {number.name}: nothing is left", got == (128 + number, []), (got, said))
 
     def ended_by(self, number, words, has_begun):
         """The status of a command that gets a signal once it has begun, and what it says."""
         with subprocess.Popen(words, stdout=subprocess.DEVNULL, stderr=subprocess.PIPE) as started:
-            deadline = time.monotonic() + LIMIT
-            while not has_begun() and started.poll() is None and time.monotonic() < deadline:
-                time.sleep(0.001)
+            wait_until(lambda: has_begun() or started.poll() is not None, LIMIT, 0.001)
             started.send_signal(number)
             _, said = started.communicate(timeout=LIMIT)
         return started.returncode, said
@@ -292,9 +257,8 @@ class Install(Case):
         path = os.path.join(self.folder, "plan")
         for name, words in (("forestplan", "plain"), ("forestplay", "rounds")):
             script = os.path.join(self.target, "bin", name)
-            got = run(["bash", "-c", 'ulimit -f 0; exec "$0" "$1" >"$2"', script, words, path], b"p edge 2 1\ne 1 2\n",
-                      env=ENVIRONMENT)
-            self.note(f"{name}: no room", got == (4, b"", b"%s: stream\n" % name.encode()), got)
+            got = run(["bash", "-c", 'ulimit -f 0; exec "$0" "$1" >"$2"', script, words, path], b"p edge 2 1\ne 1 2\n")
+            self.same(f"{name}: no room", got, (4, b"", b"%s: stream\n" % name.encode()))
 
     def test_python(self):
         """`pip install` of the folder has Python import the module, which finds its programs by itself."""
@@ -308,20 +272,15 @@ class Install(Case):
         self.note("pip install", got[0] == 0, got)
         code = ("import forestplan; plan = forestplan.plan({1: [2, 3], 2: [3]}); "
                 "print(forestplan.home(), dict(plan), '<svg' in plan._repr_svg_())")
-        got = run([python, "-c", code], cwd=self.elsewhere, env=ENVIRONMENT)
+        got = run([python, "-c", code], cwd=self.elsewhere)
         wanted = f"{room}/share/forestplan {{1: 2, 2: 3, 3: 1}} True\n"
-        self.note("a plan in Python", got == (0, wanted.encode(), b""), got)
+        self.same("a plan in Python", got, (0, wanted.encode(), b""))
 
     def test_unbuilt(self):
         """From a tree that isn't built, without the toolchain: what it would cost is said, and nothing is installed."""
         tree, target = os.path.join(self.folder, "a tree"), os.path.join(self.folder, "target")
-        os.mkdir(tree)
-        for name in ("forestplan", "crates.txt"):
-            shutil.copy(os.path.join(TOP, name), tree)
-        for name in ("bin", "build", "lab"):
-            shutil.copytree(os.path.join(TOP, name), os.path.join(tree, name), symlinks=True,
-                            ignore=shutil.ignore_patterns("__pycache__"))
-        got = run([sys.executable, os.path.join(tree, "build"), "install", target], env=ENVIRONMENT)
+        copied(tree, "forestplan", "crates.txt", "bin", "build", "lab")
+        got = run([sys.executable, os.path.join(tree, "build"), "install", target])
         self.note("install from a tree that isn't built",
                   got[0] == 70 and b"not built, and the toolchain's command rt is not on the PATH" in got[2], got)
         self.note("nothing is installed then", got[0] != 0 and not os.path.exists(target), got)
@@ -331,12 +290,9 @@ class Install(Case):
         version = contents(os.path.join(self.target, "VERSION")).decode()
         lines = r"forestplan \d+\.\d+\.\d+\ncommit [^\n]+\nkit rattle-kit-[^\n]+\n(built where rt is of [^\n]+\n)?"
         self.note("VERSION", re.fullmatch(lines, version), version)
-        for words in ([], *([name] for name in OF_LAB)):
-            got = run([os.path.join(self.target, "bin", "forestlab"), *words, "--version"], env=ENVIRONMENT)
-            self.note(f"forestlab {words} --version", got == (0, version.encode(), b""), got)
-        for name in PROGRAMS:
-            got = run([os.path.join(self.target, "bin", name), "--version"], env=ENVIRONMENT)
-            self.note(f"{name} --version", got == (0, version.encode(), b""), got)
+        for words in (["forestlab"], *(["forestlab", name] for name in OF_LAB), *([name] for name in PROGRAMS)):
+            got = run([os.path.join(self.target, "bin", words[0]), *words[1:], "--version"])
+            self.same(f"{words} --version", got, (0, version.encode(), b""))
         for name in ("LICENSE-MIT", "LICENSE-APACHE", "CHANGELOG.md", "docs/claim/FORMATS.md"):
             there, here = (contents(os.path.join(top, name)) for top in (self.target, TOP))
             self.note(f"{name} is there", there == here)
@@ -357,26 +313,18 @@ class Install(Case):
         good = len(parts) == 2 and all(part in there for part in parts)
         self.note("the claim is that of the repository", good, there)
         shown = re.search(r"\$ (forestplan plan < \S+)", there)
-        done = self.line(shown[1])
-        got = done.returncode, done.stdout, done.stderr
-        self.note("its first command", got == (0, b"plan\n1 2\n2 3\n3 1\n", b""), got)
+        self.same("its first command", self.line(shown[1]), (0, b"plan\n1 2\n2 3\n3 1\n", b""))
 
     def small_tree(self, name):
         """A tree of this one's scripts, whose programs are of one crate each, and were built by another command."""
         tree = os.path.join(self.folder, name)
-        for part in ("bin", "build", "lab", "examples", "docs"):
-            shutil.copytree(os.path.join(TOP, part), os.path.join(tree, part), symlinks=True,
-                            ignore=shutil.ignore_patterns("__pycache__"))
-        for part in ("forestplan", "README.md", "CHANGELOG.md", "LICENSE-MIT", "LICENSE-APACHE"):
-            shutil.copy(os.path.join(TOP, part), tree)
-        with open(os.path.join(tree, "crates.txt"), "w", encoding="utf-8") as file:
-            file.write("forestplan:\nforestplay:\n")
+        copied(tree, "bin", "build", "lab", "examples", "docs", "forestplan", "README.md", "CHANGELOG.md",
+               "LICENSE-MIT", "LICENSE-APACHE")
+        self.file(os.path.join(tree, "crates.txt"), b"forestplan:\nforestplay:\n")
         for program in PROGRAMS:
             folder = os.path.join(tree, "crates", program)
-            os.makedirs(os.path.join(folder, "src"))
+            self.file(os.path.join(folder, "src", "main.rt"), b"// as it was built\n")
             os.makedirs(os.path.join(folder, "out"))
-            with open(os.path.join(folder, "src", "main.rt"), "w", encoding="utf-8") as file:
-                file.write("// as it was built\n")
             shutil.copy(os.path.join(self.target, "lib", program), os.path.join(folder, "out", program))
         self.vouch(tree)
         return tree
@@ -385,48 +333,42 @@ class Install(Case):
         """Has it noted that the programs are made from the sources, as ./test does after the gate."""
         for name in PROGRAMS:
             build = [sys.executable, "-S", os.path.join(tree, "build"), "program"]
-            sources = run([*build, "--sources", name], env=ENVIRONMENT)[1].decode().strip()
-            done = run([*build, "--made-from", sources, name], env=ENVIRONMENT)
-            self.note(f"a note of {name}", done == (0, b"", b""), done)
+            sources = run([*build, "--sources", name])[1].decode().strip()
+            done = run([*build, "--made-from", sources, name])
+            self.same(f"a note of {name}", done, (0, b"", b""))
 
     def test_changed(self):
         """A tree whose sources have changed since installs nothing old, and a full disk leaves nothing half."""
         tree, target = self.small_tree("small tree"), os.path.join(self.folder, "of the small tree")
         script = [sys.executable, os.path.join(tree, "build"), "install"]
         os.makedirs(os.path.join(target, "lab"))
-        with open(os.path.join(target, "README.md"), "w", encoding="utf-8") as file:
-            file.write("mine\n")
-        # The limit is on the size of a file, and the programs are larger.
+        self.file(os.path.join(target, "README.md"), b"mine\n")
         for folder in (target, os.path.join(self.folder, "nowhere yet")):
-            got = run([*script, folder], env=ENVIRONMENT,
-                      preexec_fn=lambda: resource.setrlimit(resource.RLIMIT_FSIZE, (200_000, 200_000)))
+            got = run([*script, folder], most=200_000)  # The programs are larger.
             self.note(f"no room in {folder}", got[:2] == (1, b"") and got[2].count(b"\n") == 1, got)
         self.note("what was there stays",
                   sorted(os.listdir(target)) == ["README.md", "lab"] and not os.listdir(os.path.join(target, "lab"))
                   and contents(os.path.join(target, "README.md")) == b"mine\n", os.listdir(target))
         self.note("a new folder isn't left", not os.path.exists(os.path.join(self.folder, "nowhere yet")))
-        got = run([*script, target], env=ENVIRONMENT)
+        got = run([*script, target])
         self.note("with room", got[:2] == (0, b""), got)
         old, kept = (os.path.join(target, "lab", name) for name in ("old.py", "own.py"))
         for path in (old, kept):
-            with open(path, "wb") as file:
-                file.write(b"x")
-        with open(os.path.join(target, "SHA256SUMS"), "a", encoding="utf-8") as file:
-            file.write(f"{hashlib.sha256(b'x').hexdigest()}  lab/old.py\n")
-        with open(os.path.join(tree, "crates", "forestplan", "src", "main.rt"), "a", encoding="utf-8") as file:
-            file.write("// changed\n")
+            self.file(path, b"x")
+        sum_of_old = f"{hashlib.sha256(b'x').hexdigest()}  lab/old.py\n"
+        self.file(os.path.join(target, "SHA256SUMS"), sum_of_old.encode(), "ab")
+        self.file(os.path.join(tree, "crates", "forestplan", "src", "main.rt"), b"// changed\n", "ab")
         before = os.stat(os.path.join(target, "lib", "forestplan")).st_ino
-        got = run([*script, target], env=ENVIRONMENT)
-        self.note("from changed sources", got[0] == 70 and b"forestplan: not built" in got[2], got)
+        self.refusal("from changed sources", run([*script, target]), 70, b"forestplan: not built")
         self.note("the old program isn't put there again",
                   os.stat(os.path.join(target, "lib", "forestplan")).st_ino == before)
         out = os.path.join(tree, "crates", "forestplan", "out")
         os.remove(os.path.join(out, "forestplan.made-from"))
         shutil.copy(os.path.join(self.target, "lib", "forestplan"), out)
-        got = run([*script, target], env=ENVIRONMENT)
-        self.note("a newer program that nobody vouches for", got[0] == 70 and b"forestplan: not built" in got[2], got)
+        got = run([*script, target])
+        self.refusal("a newer program that nobody vouches for", got, 70, b"forestplan: not built")
         self.vouch(tree)
-        got = run([*script, target], env=ENVIRONMENT)
+        got = run([*script, target])
         after = os.stat(os.path.join(target, "lib", "forestplan")).st_ino
         self.note("built again by another command", got[0] == 0 and after != before, got)
         self.note("what an earlier install put there is removed, and nothing else",
@@ -436,8 +378,7 @@ class Install(Case):
         """An archive of an installed folder is that folder again, and nothing that was put there besides."""
         packs, out = os.path.join(self.folder, "packs"), os.path.join(self.folder, "unpacked")
         os.mkdir(packs)
-        with open(os.path.join(self.target, "mine.txt"), "w", encoding="utf-8") as file:
-            file.write("mine\n")
+        self.file(os.path.join(self.target, "mine.txt"), b"mine\n")
         pack = [*BUILD, "pack"]
         sums = set()
         for _ in range(2):
@@ -454,73 +395,47 @@ class Install(Case):
         paths = [line[66:] for line in contents(os.path.join(top, "SHA256SUMS")).decode().splitlines()]
         same = all(contents(os.path.join(top, path)) == contents(os.path.join(self.target, path)) for path in paths)
         self.note("it has what was installed", same and not os.path.exists(os.path.join(top, "mine.txt")))
-        data = contents(os.path.join(TOP, "examples", "petersen.col"))
-        got = run([os.path.join(top, "bin", "forestplan"), "plain"], data, env=ENVIRONMENT)
-        self.note("its program plans", got == (0, plan_text(data), b""), got)
-        with open(os.path.join(top, "README.md"), "a", encoding="utf-8") as file:
-            file.write("more\n")
-        got = run([*pack, top, packs])
-        self.note("a changed folder isn't packed", got[:2] == (1, b"") and b"first: README.md" in got[2], got)
-        got = run([*pack, self.elsewhere])
-        self.note("another folder isn't packed", got[:2] == (2, b"") and b"pack: error: " in got[2], got)
-
-    def test_pack_signals(self):
-        """SIGTERM and SIGHUP leave nothing of an archive that isn't whole."""
-        packs = os.path.join(self.folder, "ended packs")
-        os.mkdir(packs)
-        for number in (signal.SIGTERM, signal.SIGHUP):
-            for _ in range(TRIES):
-                status, said = self.ended_by(number, [*BUILD, "pack", self.target, packs],
-                                             lambda: any(name.endswith(".new") for name in os.listdir(packs)))
-                got = status, os.listdir(packs)
-                if status:
-                    break
-                shutil.rmtree(packs)
-                os.mkdir(packs)
-            self.note(f"{number.name}: nothing is left", got == (128 + number, []), (got, said))
+        data = example("petersen")
+        got = run([os.path.join(top, "bin", "forestplan"), "plain"], data)
+        self.same("its program plans", got, (0, plan_text(data), b""))
+        self.file(os.path.join(top, "README.md"), b"more\n", "ab")
+        self.refusal("a changed folder isn't packed", run([*pack, top, packs]), 1, b"first: README.md")
+        self.refusal("another folder isn't packed", run([*pack, self.elsewhere]), 2, b"pack: error: ")
 
     def test_vendor(self):
         """Crates go to another repository with those below them and their lines, and replace nothing unasked."""
         vendor, there = [*BUILD, "vendor"], os.path.join(self.folder, "other repository")
         os.mkdir(there)
-        got = run([*vendor, there, "cole_vishkin", "--build"], env=ENVIRONMENT)
+        got = run([*vendor, there, "cole_vishkin", "--build"])
         self.note("vendor", got[:2] == (0, b"") and b"2 crates" in got[2], got)
-        with open(os.path.join(there, "crates.txt"), encoding="utf-8") as file:
-            lines = [line for line in file.read().split("\n") if line and not line.startswith("#")]
-        self.note("their lines", lines == ["colour_base:", "cole_vishkin: colour_base"], lines)
+        lines = re.findall(r"(?m)^[^#\n].*$", contents(os.path.join(there, "crates.txt")).decode())
+        self.same("their lines", lines, ["colour_base:", "cole_vishkin: colour_base"])
         for crate in ("colour_base", "cole_vishkin"):
             for part in ("src", "specs", "proofs"):
                 here, copy = (os.path.join(top, "crates", crate, part) for top in (TOP, there))
                 self.note(f"{part} of {crate}", subprocess.run(["diff", "-r", here, copy]).returncode == 0)
         self.note("nothing else of a crate", not os.path.exists(os.path.join(there, "crates", "cole_vishkin", "out")))
-        got = run(["python3", os.path.join(there, "build"), "prove", "cole_vishkin"], env=ENVIRONMENT)
-        self.note("what proves is there, and wants the toolchain",
-                  got[:2] == (2, b"") and got[2].startswith(b"prove: the toolchain's command rt is not on the PATH"),
-                  got)
-        with open(os.path.join(there, "crates.txt"), "a", encoding="utf-8") as file:
-            file.write("mine: cole_vishkin\n")
-        changed = os.path.join(there, "crates", "colour_base", "src", "lib.rt")
-        with open(changed, "a", encoding="utf-8") as file:
-            file.write("// changed\n")
-        got = run([*vendor, there, "shift_down"], env=ENVIRONMENT)
+        got = run(["python3", os.path.join(there, "build"), "prove", "cole_vishkin"])
+        said = b"prove: the toolchain's command rt is not on the PATH"
+        self.refusal("what proves is there, and wants the toolchain", got, 2, said)
+        self.file(os.path.join(there, "crates.txt"), b"mine: cole_vishkin\n", "ab")
+        changed = self.file(os.path.join(there, "crates", "colour_base", "src", "lib.rt"), b"// changed\n", "ab")
+        got = run([*vendor, there, "shift_down"])
         is_refused = got[:2] == (1, b"") and b"another crate colour_base" in got[2]
         self.note("a changed crate isn't replaced", is_refused and b"// changed" in contents(changed), got)
         self.note("nor is anything copied then", not os.path.exists(os.path.join(there, "crates", "shift_down")))
-        got = run([*vendor, there, "shift_down", "--replace"], env=ENVIRONMENT)
+        got = run([*vendor, there, "shift_down", "--replace"])
         text_of_lines = contents(os.path.join(there, "crates.txt"))
         self.note("it is if that is asked for", got[0] == 0 and b"// changed" not in contents(changed), got)
         self.note("a line of one's own stays", b"\nmine: cole_vishkin\n" in text_of_lines, text_of_lines)
-        # The limit is on the size of a file.
         empty = os.path.join(self.folder, "empty repository")
         os.mkdir(empty)
         for top in (there, empty):
             before = all_of(top)
             for more in ([], ["--build"]):
-                got = run([*vendor, top, "sync_rounds", "--replace", *more], env=ENVIRONMENT,
-                          preexec_fn=lambda: resource.setrlimit(resource.RLIMIT_FSIZE, (8_000, 8_000)))
+                got = run([*vendor, top, "sync_rounds", "--replace", *more], most=8_000)
                 is_one_line = re.fullmatch(rb"vendor: \[Errno \d+\] File too large: [^\n\[]+\n", got[2])
                 self.note(f"no room in {top} {more}", got[:2] == (1, b"") and is_one_line, got)
             self.note(f"{top} is as it was", all_of(top) == before)
         for words in ([there, "nothing"], [TOP, "forests"], [os.path.join(there, "away"), "forests"]):
-            got = run([*vendor, *words], env=ENVIRONMENT)
-            self.note(f"vendor {words}", got[:2] == (2, b"") and b"vendor: error: " in got[2], got)
+            self.refusal(f"vendor {words}", run([*vendor, *words]), 2, b"vendor: error: ")

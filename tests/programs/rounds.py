@@ -1,44 +1,28 @@
-"""Black-box tests of `forestplay rounds`: compares whole texts with the definitions, and the payloads of the rounds
-with transcripts' payloads.
+"""Black-box tests of `forestplay rounds`: compares whole texts with the definitions.
 
 Expected texts are worked by hand, or come from the definitions in lab/definitions/rounds.py; none is taken from a
 program."""
-import glob
-import os
 import random
-import tempfile
 
 from lab.definitions.colours import network_of
 from lab.definitions.nodes import ports_of, synchronous_pulses
 from lab.definitions.rounds import FIRST_MERGE, head_of, merge_step, phase_words, rounds_text
-from tests import TOP
-from tests.cases import Case, run_program, text
+from tests.cases import Case, called, examples, text
+from tests.commands import EDGE, TRIANGLE
+from tests.programs.black_box import FOUR, STAR
 from tests.programs.plain_networks import (climbing, complete, cycle, path, random_of, some_bars, star, text_of, tree,
                                            two_sided)
-from tests.settings import PLAN, PLAY
-from tests.shell import run_line
+from tests.settings import PLAY
 
-LIMIT = 60
 SEED = 2026
-WORKERS = (1, 2, 4)
-# The bytes of a network text up to which transcripts are made of it: most of the networks are shorter.
-MOST = 400
-EDGE = "p edge 2 1|e 1 2|"
-TRIANGLE = "p edge 3 3|e 1 2|e 1 3|e 2 3|"
-FOUR = "p edge 4 6|e 1 2|e 1 3|e 1 4|e 2 3|e 2 4|e 3 4|"
 # A network text, the first line of its rounds, and the colours of all nodes after the merge of each forest, by hand.
 # The last pulse is 12 + 3 U (D + B + 1): of the star 12 + 3 * 1024, of two nodes without an edge 12.
 MERGES = [
     ("four nodes that are all neighbours", FOUR, "rounds 1 4 3 3 48", [(0, 1, 0, 1), (2, 1, 0, 2), (1, 2, 0, 3)]),
     ("a triangle with a bar", TRIANGLE + "b 3 1|", "rounds 2 3 2 1 2 36", [(0, 2, 1), (0, 2, 1)]),
     ("two nodes with bars", "p edge 2 0|b 1 1|b 1 2|b 2 2|", "rounds 2 2 0 2 0 12", []),
-    ("the greatest star", "p edge 1024 1023|" + "".join(f"e {v} 1024|" for v in range(1, 1024)),
-     "rounds 1 1024 1023 1 3084", [(0,) * 1023 + (1,)]),
+    ("the greatest star", STAR, "rounds 1 1024 1023 1 3084", [(0,) * 1023 + (1,)]),
 ]
-# The headline as one line of shell, as README has it: the payloads of the rounds and of a run of threads are the same
-# lines.
-HEADLINE = """cmp <("$0" rounds < "$2" | grep put | sort) \\
-<("$1" transcript --edition 1 --workers "$3" < "$2" | grep 'put .* payload' | sort)"""
 
 
 # Node 2 is the root of the edge's forest: from 2 it steps to 0 and stays there, shifts to 1, then to 0, then to 1, and
@@ -76,11 +60,7 @@ EMPTY_TEXT = "rounds 1 0 0 0 12|pulse 0 greet|pulse 1 orient|" + "".join(
 
 def networks():
     """Each by its name: the examples, and shapes."""
-    all_of = {}
-    for name in sorted(glob.glob(os.path.join(TOP, "examples", "*.col"))):
-        with open(name, "rb") as file:
-            all_of[os.path.basename(name)] = file.read()
-    source = random.Random(SEED)
+    all_of, source = examples(), random.Random(SEED)
     names = list(range(1, 9))
     for shape in (path, cycle, tree, star, two_sided, complete):
         order = source.sample(names, len(names))
@@ -131,9 +111,9 @@ class Rounds(Case):
     def test_merges(self):
         """The last pulse, and the colours after each merge."""
         for name, data, head, merges in MERGES:
-            done = run_program(PLAY, ["rounds"], text(data))
-            self.note(f"the first line of {name}", done.stdout.startswith(head.encode() + b"\n"), done.stdout[:80])
-            self.note(f"the merges of {name}", merges_of(done.stdout) == merges, merges_of(done.stdout)[:3])
+            rounds = called(PLAY, "rounds", data=text(data))[1]
+            self.note(f"the first line of {name}", rounds.startswith(head.encode() + b"\n"), rounds[:80])
+            self.same(f"the merges of {name}", merges_of(rounds), merges)
 
     def test_texts(self):
         for name, data, wanted in [
@@ -143,26 +123,10 @@ class Rounds(Case):
             ("a node alone with two bars", "p edge 1 0|b 1 9|b 1 1|", EMPTY_TEXT.replace("1 0 0 0", "2 1 0 2 0")),
             *((f"an edge with {bars}", EDGE + bars, wanted) for bars, wanted in BARRED_EDGES),
         ]:
-            got = rounds_text(network_of(text(data)))
-            self.note(f"the definition of {name}", got == text(wanted), got)
-            done = run_program(PLAY, ["rounds"], text(data))
-            self.expect(f"the rounds of {name}", done, 0, text(wanted), b"")
+            self.same(f"the definition of {name}", rounds_text(network_of(text(data))), text(wanted))
+            self.same(f"the rounds of {name}", called(PLAY, "rounds", data=text(data)), (0, text(wanted), b""))
         for name, data in networks().items():
             net = network_of(data)
             wanted = rounds_text(net)
             self.note(f"both definitions on {name}", wanted == made_text(net), data)
-            done = run_program(PLAY, ["rounds"], data)
-            self.expect(f"the rounds of {name}", done, 0, wanted, b"")
-
-    def test_headline(self):
-        """On each network, with each number of workers."""
-        with tempfile.TemporaryDirectory() as folder:
-            short = {name: data for name, data in networks().items() if len(data) < MOST}
-            for i, (name, data) in enumerate(short.items()):
-                file_name = os.path.join(folder, f"{i}.col")
-                with open(file_name, "wb") as file:
-                    file.write(data)
-                for workers in WORKERS:
-                    done = run_line(HEADLINE, PLAY, PLAN, file_name, str(workers), limit=LIMIT)
-                    self.note(f"the payloads of {name} with {workers} workers",
-                              (done.returncode, done.stdout, done.stderr) == (0, b"", b""), done)
+            self.same(f"the rounds of {name}", called(PLAY, "rounds", data=data), (0, wanted, b""))
