@@ -11,6 +11,7 @@ from build.crate_lists import listed, with_below
 from lab.__main__ import COMMANDS as OF_LAB
 from tests import TOP
 from tests.cases import Case, text_in
+from tests.commands import COMMANDS
 from tests.pages.pages import PAGES, lines_of
 
 README_WORDS, README_COLUMNS = 900, 120
@@ -55,16 +56,19 @@ def one_line(text):
     return re.sub(r"\s+", " ", text)
 
 
+# Where a record or a struct has its fields: the files, its name and its body, and a field.
+MEMBERS = (("specs/**/*.antt", r"^\s*(?:pub )?record (\w+)\b(.*?)(?=^\s*pub record |^\S|\Z)", r"^\s+pub (\w+)\b"),
+           ("src/**/*.rt", r"^\s*(?:pub )?(?:struct|trait) (\w+)\b(.*?)^\}",
+            r"^\s+(?:pub )?(?:ghost )?(\w+)\s*[:=]"))
+
+
 def members():
     """The fields of each record of specs/, and the ghost fields and fields of each struct of src/, by its name."""
     found = {}
-    for path in glob.glob(os.path.join(TOP, "crates", "*", "specs", "**", "*.antt"), recursive=True):
-        pattern = r"^\s*(?:pub )?record (\w+)\b(.*?)(?=^\s*pub record |^\S|\Z)"
-        for name, body in re.findall(pattern, text_in(path), re.M | re.S):
-            found.setdefault(name, set()).update(re.findall(r"^\s+pub (\w+)\b", body, re.M))
-    for path in glob.glob(os.path.join(TOP, "crates", "*", "src", "**", "*.rt"), recursive=True):
-        for name, body in re.findall(r"^\s*(?:pub )?(?:struct|trait) (\w+)\b(.*?)^\}", text_in(path), re.M | re.S):
-            found.setdefault(name, set()).update(re.findall(r"^\s+(?:pub )?(?:ghost )?(\w+)\s*[:=]", body, re.M))
+    for files, whole, field in MEMBERS:
+        for path in glob.glob(os.path.join(TOP, "crates", "*", files), recursive=True):
+            for name, body in re.findall(whole, text_in(path), re.M | re.S):
+                found.setdefault(name, set()).update(re.findall(field, body, re.M))
     return found
 
 
@@ -97,17 +101,9 @@ class Index(Case):
 
     def test_readme_has_each_command(self):
         """Each command of forestlab and of the programs is in the table."""
-        rows = re.findall(r"^(`[^|]*`) \| ", text_in("README.md"), re.M)
-        self.assertEqual(len(rows), 8, "rows of README's table")
-        words = {name: set() for name in ("forestplan", "forestplay", "forestlab")}
-        for row in rows:
-            program, *commands = re.findall(r"[a-z]+", row)
-            words[program] |= set(commands)
-        line = text_in("crates", "command_line", "src", "request.rt")
-        commands = set(re.findall(r'"(\w+)"\s*=>', line)) | set(re.findall(r"^\s+\"(\w+)\"", line, re.M))
-        self.assertGreater(len(commands), 7, "commands of the programs")
-        self.assertEqual(words["forestplan"] | words["forestplay"], commands, "commands of the programs")
-        self.assertEqual(words["forestlab"], set(OF_LAB), "commands of forestlab")
+        rows = [re.findall(r"[a-z]+", row) for row in re.findall(r"^(`[^|]*`) \| ", text_in("README.md"), re.M)]
+        wanted = {(it.program, it.name) for it in COMMANDS} | {("forestlab", name) for name in OF_LAB}
+        self.same("commands of README", {(program, name) for program, *names in rows for name in names}, wanted)
 
     def test_layers_of_lab(self):
         """A package of lab/ imports only those before it; what is in lab/ itself belongs to none."""
@@ -131,8 +127,7 @@ class Index(Case):
             for names, record in re.findall(named, one_line(text_in(page))):
                 for name in re.findall(r"`(\w+)`", names):
                     count += 1
-                    with self.subTest(page=page, field=f"{name} of {record}"):
-                        self.assertIn(name, known.get(record, set()))
+                    self.note(f"{page}: {name} of {record}", name in known.get(record, ()), known.get(record))
         self.assertGreater(count, 5, "fields that pages name")
 
     def test_names_in_files(self):
@@ -148,24 +143,20 @@ class Index(Case):
                     r"((?:`\w+`(?:, | and |))+) of `((?:crates/)?\w+/(?:src|specs)/[\w/-]+\.(?:rt|antt))`", line)]
                 for path, names in named:
                     folder = os.path.dirname(path) or folder
-                    top = folder if folder.split("/")[0] == "crates" else os.path.join("crates", folder)
-                    file = os.path.join(TOP, top, os.path.basename(path))
+                    file = "crates" * (folder.split("/")[0] != "crates"), folder, os.path.basename(path)
                     for name in re.findall(r"`(\w+)`", names):
                         count += 1
-                        with self.subTest(page=f"{page}:{number}", name=name, path=path):
-                            self.assertTrue(re.search(rf"\b{name}\b", text_in(file)), "isn't there")
+                        self.note(f"{page}:{number} {name}", re.search(rf"\b{name}\b", text_in(*file)), "isn't there")
         self.assertGreater(count, 50, "names with their files")
 
     def test_synopsis(self):
         """FORMATS shows each option of a command that takes options, as its help lists them."""
         page = text_in("docs", "claim", "FORMATS.md")
         for command in ("plan", "transcript"):
-            line = next(line for line in page.split("\n") if line.startswith(f"    forestplan {command} "))
-            options = set(re.findall(r"^\s+(?:-\w, )?(--\w+)", text_in("lab", "help", f"forestplan-{command}.txt"),
-                                     re.M))
-            with self.subTest(command=command):
-                self.assertGreater(len(options), 3)
-                self.assertEqual(set(re.findall(r"--\w+", line)), options - {"--help"})
+            line = re.search(rf"(?m)^    forestplan {command} .*", page)[0]
+            helped = text_in("lab", "help", f"forestplan-{command}.txt")
+            options = set(re.findall(r"^\s+(?:-\w, )?(--\w+)", helped, re.M)) - {"--help"}
+            self.note(f"options of {command}", len(options) > 2 and set(re.findall(r"--\w+", line)) == options, options)
 
     def test_limits(self):
         """Pages, and what of lab/ has a limit of its own, have the numbers of the constants."""
