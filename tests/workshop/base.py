@@ -1,10 +1,12 @@
 """What the tests of the workshop share."""
 import functools
 import os
+import runpy
 import shutil
 import subprocess
 import sys
 import tempfile
+from types import SimpleNamespace
 
 from lab.networks.network_text import Network
 from lab.workshop.cases import Case, Chance, network_of
@@ -16,6 +18,7 @@ from tests.cases import Case as Rows
 DOOR = [FORESTLAB, "workshop"]
 EXAMPLES = os.path.join(TOP, "examples", "workshop")
 LIMIT = 120                     # seconds; a busy machine is slow
+MISTAKES = SimpleNamespace(**runpy.run_path(os.path.join(EXAMPLES, "mistakes.py")))
 
 
 def python(*path: str) -> list[str]:
@@ -41,6 +44,11 @@ def played(assignment: str, name: str | Network, *commands: list[str], policy: s
 
 
 class Played(Rows):
+    def wrong_node(self, name: str, file: str, *words: str) -> list[str]:
+        """The command of a node with a mistake."""
+        MISTAKES.write(self.folder, [name])
+        return [sys.executable, "-S", os.path.join(self.folder, name, file), *words]
+
     def found(self, right: tuple | None, assignment: str, given: str | Network, *commands: list[str], **more):
         """The row of a run with what is wrong in it, (verdict, node, pulse), or None; returns the finding."""
         finding = played(assignment, given, *commands, **more).finding
@@ -52,12 +60,6 @@ class Played(Rows):
 
     def right(self, *given, **more) -> None:
         self.found(None, *given, **more)
-
-    def garbage(self, words: str, assignment: str, line: str, program: str) -> None:
-        """The row of a node that answers with a line that is none, and a part of what is said of it."""
-        finding = played(assignment, "two", answering(line), program=program).finding
-        said = dict(finding.lines)["wrong"]
-        self.note(f"{assignment} of {program}: {line}", finding.kind == "garbage" and words in said, finding.text())
 
 
 def answering(*lines: str) -> list[str]:

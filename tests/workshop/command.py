@@ -5,9 +5,8 @@ import os
 import subprocess
 import sys
 
-from tests.cases import Case, text_in
-from tests.workshop.base import ALPHA, GREEDY, ROUNDS, call
-from tests.workshop.mistakes import MISTAKES
+from tests.cases import text_in
+from tests.workshop.base import ALPHA, GREEDY, ROUNDS, Played, call
 
 WAITS = [sys.executable, "-S", "-c", "import time; time.sleep(100)"]
 # A program between two ends that writes down what goes in and out of it.
@@ -29,13 +28,9 @@ thread.join()
 """
 
 
-class Command(Case):
+class Command(Played):
     def path(self, *names):
         return os.path.join(self.folder, *names)
-
-    def wrong(self, name, kind):
-        MISTAKES.write(self.folder, [name])
-        return [sys.executable, "-S", self.path(name, f"{kind}_node.py")]
 
     def test_statuses(self):
         for words, status, said in (
@@ -69,7 +64,7 @@ class Command(Case):
 
     def test_the_result_for_a_program(self):
         done = call("alpha", "alone4", "path1", "--policies", "newest", "--runs", "3", "--json", "--one-process", "--",
-                    *self.wrong("close_never", "alpha"))
+                    *self.wrong_node("close_never", "alpha_node.py"))
         got, right = json.loads(done.stdout), {"case": 1, "network": "path1", "nodes": 1, "policy": "newest"}
         stuck = {"case": 0, "network": "alone4", "nodes": 4, "policy": "newest", "verdict": "stuck", "node": 1,
                  "pulse": 30}
@@ -82,13 +77,13 @@ class Command(Case):
     def test_the_smallest_case_has_no_node_too_many(self):
         """A close that is never put shows on two nodes, and on no fewer."""
         done = call("alpha", "alone4", "star4", "--policies", "oldest", "--one-process", "--",
-                    *self.wrong("close_never", "alpha"))
+                    *self.wrong_node("close_never", "alpha_node.py"))
         self.assertIn("smallest case that is wrong: stuck", done.stdout)
         self.assertRegex(done.stdout, r"\ncase   \d: \w+, oldest; 2 nodes, edges 1-2\n")
 
     def test_the_smallest_case_is_wrong_in_the_same_way(self):
         """This node is wrong in the shift of two nodes, and never says its channel, which shows on one node."""
-        self.wrong("no_shift", "rounds")
+        self.wrong_node("no_shift", "rounds_node.py")
         code = f"import sys\nsys.path[:0] = [{self.path('no_shift')!r}]\n" + NO_CHANNEL
         done = call("rounds", "two", "path3", "--", sys.executable, "-S", "-c", code)
         self.assertRegex(done.stdout, r"\ncase   0: two; 2 nodes, edges 1-2\nwhere  node 1, pulse 7 \(shift\)\n")
@@ -101,8 +96,8 @@ class Command(Case):
 
     def test_anybody_can_repeat_the_verdict(self):
         """The commands in verdict.txt are run as they stand, in the folder in which the workshop was called."""
-        rows = (("alpha", self.wrong("safes_none", "alpha"), ["forestplay: NotReady line", "NotReady"]),
-                ("rounds", self.wrong("bit_root", "rounds"), ["", "payload 3 colour"]),
+        rows = (("alpha", self.wrong_node("safes_none", "alpha_node.py"), ["forestplay: NotReady line", "NotReady"]),
+                ("rounds", self.wrong_node("bit_root", "rounds_node.py"), ["", "payload 3 colour"]),
                 ("open", [sys.executable, "-S", "-c", ALL_ONE], ["forestplan: C4 vertices 1 2"]))
         for kind, command, expected in rows:
             with self.subTest(kind):

@@ -1,17 +1,9 @@
 """Each typical mistake has its verdict, node and pulse. Those of the colouring show on most4 or rest3 with a clock,
 those of the synchroniser on alone4 without one, under `newest`."""
-import importlib.util
 import os
-import sys
 
 from lab.workshop.cases import NETWORKS
-from tests.workshop.base import ALPHA, EXAMPLES, Played
-
-specification = importlib.util.spec_from_file_location("mistakes_of_nodes", os.path.join(EXAMPLES, "mistakes.py"))
-MISTAKES = importlib.util.module_from_spec(specification)
-sys.dont_write_bytecode, before = True, sys.dont_write_bytecode
-specification.loader.exec_module(MISTAKES)
-sys.dont_write_bytecode = before
+from tests.workshop.base import ALPHA, EXAMPLES, MISTAKES, Played
 
 # By mistake, what is found on most4 and on rest3: (node, pulse) of a difference, or None where all is right. On rest3
 # by hand: node 2 has the parents 3 and 13, in this order, and as texts in the other. The bit steps of 13, 3 and 2 give
@@ -42,12 +34,6 @@ ALPHA_MISTAKES = {
 
 
 class Mistakes(Played):
-    def setUp(self):
-        MISTAKES.write(self.folder)
-
-    def node(self, name, kind):
-        return [sys.executable, "-S", os.path.join(self.folder, name, f"{kind}_node.py")]
-
     def test_each_has_a_row(self):
         self.assertEqual((set(COLOURING), set(ALPHA_MISTAKES)), (set(MISTAKES.COLOURING), set(MISTAKES.ALPHA)))
 
@@ -63,12 +49,14 @@ class Mistakes(Played):
     def test_of_the_colouring(self):
         for name, rights in COLOURING.items():
             for network, right in zip(("most4", "rest3"), rights):
-                self.found(right and ("differs", *right), "rounds", network, self.node(name, "rounds"), is_shared=True)
+                self.found(right and ("differs", *right), "rounds", network, self.wrong_node(name, "rounds_node.py"),
+                           is_shared=True)
 
     def test_of_the_synchroniser(self):
         for name, right in ALPHA_MISTAKES.items():
-            self.found(right, "alpha", "alone4", self.node(name, "alpha"), policy="newest", is_shared=name != "leaves")
+            self.found(right, "alpha", "alone4", self.wrong_node(name, "alpha_node.py"), policy="newest",
+                       is_shared=name != "leaves")
 
     def test_blame_is_of_the_node_whose_mistake_it_is(self):
         """Two right nodes, and one at the end of the row that makes pulses without its neighbours' safes."""
-        self.found(("NotReady", 3, 0), "alpha", "path3", ALPHA, ALPHA, self.node("safes_none", "alpha"))
+        self.found(("NotReady", 3, 0), "alpha", "path3", ALPHA, ALPHA, self.wrong_node("safes_none", "alpha_node.py"))

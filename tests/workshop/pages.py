@@ -13,8 +13,7 @@ from lab.transcripts.fields import PAYLOADS
 from lab.workshop import cases, class_files, guard, options, processes, protocol
 from tests import FORESTLAB, TOP
 from tests.cases import Case, called, text_in
-from tests.workshop.base import call, python
-from tests.workshop.mistakes import MISTAKES
+from tests.workshop.base import MISTAKES, call, python
 
 
 def page(name: str) -> str:
