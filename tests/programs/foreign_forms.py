@@ -6,50 +6,28 @@ import tempfile
 from unittest import mock
 
 from tests.cases import Case, called, forestlab
+from tests.programs.foreign_texts import as_gml, as_graphml, as_json
 from tests.programs.own_networks import call, comments, pairs_in
 from tests.settings import PLAN
 
-# Three sites that interfere, and one by itself.
-EDGES, ALONE = {frozenset(("Ulm", "Aue")), frozenset(("Aue", "Hof")), frozenset(("Ulm", "Hof"))}, {"Bonn"}
-GRAPHML = """<?xml version='1.0' encoding='utf-8'?>
-<graphml xmlns="http://graphml.graphdrawing.org/xmlns">
-  %s<graph edgedefault="%s">
-    %s
-    %s
-  </graph>
-</graphml>
-"""
-NODES = ('<node id="Ulm" />', '<node id="Aue" />', '<node id="Hof" />', '<node id="Bonn" />')
-LINES = (
-    '<edge source="Ulm" target="Aue" />', '<edge source="Ulm" target="Hof" />', '<edge source="Aue" target="Hof" />'
-)
-NAMES = ("Ulm", "Aue", "Hof", "Bonn")
-LABELLED = "".join(
-    f'<node id="n{at}"><data key="d4">{name}</data><data key="d5">{at}</data><data key="d6">0</data></node>'
-    for at, name in enumerate(NAMES)
-)
-NUMBERED = '<edge source="n0" target="n1"/><edge source="n1" target="n2"/><edge source="n0" target="n2"/>'
-KEYS = "".join(f'<key id="{key}" for="node" attr.name="{name}" attr.type="string" />'
+# Three sites that interfere, and one by itself, in some forms.
+NAMES, PAIRS = ("Ulm", "Aue", "Hof", "Bonn"), (("Ulm", "Aue"), ("Ulm", "Hof"), ("Aue", "Hof"))
+GRAPHML, GML, JSON = (writer(NAMES, PAIRS) for writer in (as_graphml, as_gml, as_json))
+KEYS = "".join(f'<key id="{key}" for="node" attr.name="{name}" attr.type="string"/>'
                for key, name in (("d4", "label"), ("d5", "x"), ("d6", "y")))
-GML = (
-    "graph [\n" + "".join(f'  node [\n    id {at}\n    label "{name}"\n  ]\n' for at, name in enumerate(NAMES))
-    + "".join(f"  edge [\n    source {v}\n    target {w}\n    weight 3.5\n  ]\n" for v, w in ((0, 1), (0, 2), (1, 2)))
-    + "]\n"
-)
-JSON = ('{"directed": false, "multigraph": false, "graph": {}, "nodes": [{"id": "Ulm"}, {"id": "Aue"}, {"id": "Hof"}, '
-        '{"id": "Bonn"}], "%s": [{"source": "Ulm", "target": "Aue"}, {"source": "Ulm", "target": "Hof"}, '
-        '{"source": "Aue", "target": "Hof"}]}')
+NUMBERED = "".join(
+    f'<node id="n{at}"><data key="d4">{name}</data><data key="d5">{at}</data><data key="d6">0</data></node>'
+    for at, name in enumerate(NAMES)) + "".join(
+        f'<edge source="n{NAMES.index(a)}" target="n{NAMES.index(b)}"/>' for a, b in PAIRS)
 D3 = ('{"nodes":[{"name":"Ulm","x":1,"y":2},{"name":"Aue","x":3,"y":4},{"name":"Hof","x":5,"y":6},'
       '{"name":"Bonn","x":7,"y":8}],"links":[{"source":0,"target":1},{"source":0,"target":2},{"source":1,"target":2}]}')
-# (what it is, its text, a part of what is said). Each is the network above.
-READ = [
-    ("GraphML", GRAPHML % ("", "undirected", "".join(NODES), "".join(LINES)), "GraphML; 4 nodes, 1 of them without"),
-    ("GraphML in one line", (GRAPHML % ("", "directed", "".join(NODES), "".join(LINES))).replace("\n", ""),
-     "directions aren't read"),
-    ("GraphML with labels", GRAPHML % (KEYS, "undirected", LABELLED, NUMBERED), "nodes are named by their label"),
+SITES = [
+    ("GraphML", GRAPHML, "GraphML; 4 nodes, 1 of them without"),
+    ("GraphML in one line", GRAPHML.replace("undirected", "directed").replace("\n", ""), "directions aren't read"),
+    ("GraphML with labels", f"<graphml>{KEYS}<graph>{NUMBERED}</graph></graphml>", "nodes are named by their label"),
     ("GML of yEd", 'Creator "yFiles"\nVersion 2.17\n' + GML.replace('label "Ulm"', 'label "Ulm" graphics [ x 1 y 2 ]'),
      "nodes are named by their label"),
-    ("JSON with links", (JSON % "links").replace("{", "{\n").replace(",", ",\n"), "JSON of nodes and links; 4 nodes"),
+    ("JSON with links", JSON, "JSON of nodes and links; 4 nodes"),
     ("JSON of D3", D3, "nodes are named by their label or name"),
     ("JSON of vis.js", D3.replace('"source"', '"from"').replace('"target"', '"to"').replace("links", "edges"),
      "JSON of nodes and links; 4 nodes"),
@@ -57,6 +35,62 @@ READ = [
      "with a heading"),
     ("a heading over numbers", "a b km\nUlm Aue 1\nUlm Hof 2\nAue Hof 3\nBonn Bonn 0\n",
      "1 edge from a node to itself left out"),
+]
+# (what it is, the text, the edges by names in which `_` is a blank, nodes without one, a part of what is said). The
+# first six were written by networkx 3.6.1, by its writers of edge lists, weighted edge lists, adjacency lists and
+# multiline adjacency lists.
+GRAPH = "03 04 34 41 12"
+FORMS = [
+    ("an edge list", "0 3 {}\n0 4 {}\n3 4 {}\n4 1 {}\n1 2 {}\n", GRAPH, "",
+     "pairs; 5 nodes, 5 edges, at most 3 neighbours; it counts from 0"),
+    ("an edge list with data",
+     "0 3 {'weight': 3.5}\n0 4 {'weight': 4.5}\n3 4 {'weight': 6.0}\n4 1 {'weight': 3.5}\n1 2 {'weight': 3.0}\n", GRAPH,
+     "", "pairs; "),
+    ("a weighted edge list", "0 3 3.5\n0 4 4.5\n3 4 6.0\n4 1 3.5\n1 2 3.0\n", GRAPH, "",
+     "1 column not read: number 3"),
+    ("an adjacency list", "#nx.py\n# GMT Mon Nov 23 22:04:36 2026\n# \n0 3 4\n3 4\n4 1\n1 2\n2\n5\n", GRAPH, "5",
+     "adjacency; 6 nodes, 1 of them without"),
+    ("a multiline adjacency list", "#nx.py\n# GMT\n# \n0 2\n3 {}\n4 {}\n3 1\n4 {}\n4 1\n1 {}\n1 1\n2 {}\n2 0\n5 0\n",
+     GRAPH, "5", "in several lines; 6 nodes"),
+    ("an adjacency list of names", "# \nUlm Jena Kiel\nJena Kiel\nKiel Aue\nAue Bonn\nBonn\nTrier\n",
+     "Ulm-Jena Ulm-Kiel Jena-Kiel Kiel-Aue Aue-Bonn", "Trier", "numbers by first appearance"),
+    ("CSV with a heading", "source,target\nA,B\nB,C\nA,C\n", "AB BC AC", "",
+     "pairs with a heading; 3 nodes, 3 edges, at most 2 neighbours; numbers by"),
+    ("CSV of Gephi", "Id,Source,Target,Type,Weight\n0,a,b,Undirected,1\n1,b,c,Undirected,2\n", "ab bc", "",
+     "pairs with a heading"),
+    ("CSV without a heading", '"Upper Hill","Mill, old"\n"Mill, old",Dam\n', "Upper_Hill-Mill,_old Mill,_old-Dam", "",
+     "pairs; 3 nodes"),
+    ("CSV with an unknown heading", "Mast,Next\n1,2\n2,3\n", "12 23", "", "pairs with a heading; 3 nodes, 2 edges"),
+    ("CSV with semicolons and CR LF", "from;to\r\n1;2\r\n2;3\r\n3;\r\n", "12 23", "", "pairs with a heading"),
+    ("pairs with tabs, in both directions", "1\t2\n2\t1\n2\t3\n3\t2\n", "12 23", "",
+     "2 edges there in both directions, counted once"),
+    ("pairs with a loop and an edge again", "1 2\n2 2\n1 2\n2 3\n", "12 23", "",
+     "1 edge from a node to itself left out, first at line 2: 2"),
+    ("pairs with lines that end with CR", "1 2\r2 3\r", "12 23", "", "lines end with a carriage return alone"),
+    ("pairs after a byte order mark", "\ufeff1 2\n2 3\n", "12 23", "", "a byte order mark is left out"),
+    ("pairs with a gap in the numbers", "10 20\n20 40\n", "10-20 20-40", "", "numbered anew, in their order"),
+    ("pairs and a lone node", "1 2\n3\n", "12", "3", "3 nodes, 1 of them without a neighbour"),
+    ("a ring as adjacency", "1 2 3\n2 1 3\n3 1 2\n", "12 13 23", "", "adjacency; 3 nodes, 3 edges"),
+    ("adjacency with tabs", "a\tb\tc\nb\ta\nc\ta\nd\n", "ab ac", "d", "adjacency; 4 nodes, 1 of them without"),
+    ("pairs with tabs and a lone node", "1\t2\n2\t3\n4\n", "12 23", "4", "pairs; 4 nodes, 1 of them without"),
+    ("adjacency with colons", "a: b c\nb: a\nc: a\n", "ab ac", "", "adjacency; 3 nodes, 2 edges"),
+    (
+        "DOT",
+        'graph "my net" {\n  // masts\n  node [shape=circle, label="a -- b"];\n  rankdir = LR;\n'
+        '  A -- B -- C [len=2];\n  "D e" -- A:n /* x */\n  F\n}\n',
+        "A-B B-C D_e-A",
+        "F",
+        "DOT; 5 nodes, 1 of them without a neighbour, 3 edges",
+    ),
+    ("directed DOT", "strict digraph{a->b;b->a;b->c}", "ab bc", "", "directions aren't read"),
+    ("DOT with subgraphs", "graph {\n a -- { b c }\n subgraph cluster_x { d -- e }\n}\n", "ab ac de", "",
+     "DOT; 5 nodes"),
+    ("DIMACS from 0", "p edge 3 2\ne 0 1\ne 1 2\n", "01 12", "", "it counts from 0"),
+    ("DIMACS of shortest paths", "p sp 3 2\na 1 2 7\na 2 3 9\n", "12 23", "", "`p sp` is read like `p edge`"),
+    ("a graph of tree width", "c x\np tw 4 2\n1 2\n2 3\n", "12 23", "4", "`p tw` is read like `p edge`"),
+    ("DIMACS without its word", "p 3 2\ne 1 2\ne 2 3\n", "12 23", "", "DIMACS; 3 nodes, 2 edges"),
+    ("DIMACS with a loop", "p edge 3 2\ne 1 1\ne 2 3\n", "23", "1", "left out"),
+    *((name, text, "Ulm-Aue Aue-Hof Ulm-Hof", "Bonn", said) for name, text, said in SITES),
 ]
 YED = """<?xml version="1.0" encoding="UTF-8" standalone="no"?>
 <!DOCTYPE graphml SYSTEM "http://graphml.graphdrawing.org/dtds/1.0rc/graphml.dtd">
@@ -143,9 +177,9 @@ REFUSED = [
     ("a sheet of Excel", "PK\x03\x04" + "x" * 40, "save the sheet as CSV"),
     ("two graphs", GML + GML, "2 graphs, and one is read"),
     ("GML that is cut", GML[:-20], "is the text cut?"),
-    ("GraphML that is cut", (GRAPHML % ("", "undirected", "".join(NODES), "".join(LINES)))[:-30], "is no XML"),
-    ("GraphML with an edge of no node", GRAPHML % ("", "undirected", NODES[0], LINES[0]), "which is no node"),
-    ("GraphML with entities", '<!DOCTYPE g [<!ENTITY a "b">]>\n' + GRAPHML % ("", "undirected", NODES[0], ""),
+    ("GraphML that is cut", GRAPHML[:-30], "is no XML"),
+    ("GraphML with an edge of no node", as_graphml(NAMES[:1], PAIRS[:1]), "which is no node"),
+    ("GraphML with entities", '<!DOCTYPE g [<!ENTITY a "b">]><graphml><graph><node id="Ulm"/></graph></graphml>',
      "entities"),
     ("nothing", "", "no line with a node"),
     ("a comment alone", "# x\n", "no line with a node"),
@@ -168,16 +202,26 @@ REFUSED = [
 ]
 
 
+def named_pairs(edges):
+    """Pairs of names of a row of FORMS, unordered."""
+    pairs = (pair.split("-") if "-" in edges else pair for pair in edges.split())
+    return {frozenset(name.replace("_", " ") for name in pair) for pair in pairs}
+
+
 class ForeignForms(Case):
     def test_read(self):
-        for name, text, said in READ:
-            status, wrote, told = call("read", "-", data=text.encode())
-            self.note(f"read: {name}", status == 0 and pairs_in(wrote) == (EDGES, ALONE), (status, wrote, told))
-            self.note(f"read: {name}: what is said", said.encode() in told, told)
-            done = called(PLAN, "plain", data=wrote)
-            self.note(f"read: {name}: it is planned", done[1].count(b"\n") == 5, done)
+        for name, text, edges, alone, said in FORMS:
+            path = self.file("net.txt", text)
+            status, wrote, told = call("read", path)
+            self.note(f"read: {name}", status == 0 and pairs_in(wrote) == (named_pairs(edges), set(alone.split())),
+                      (status, wrote, told))
+            self.note(f"read: {name}: what is said", f"network: {path}: ".encode() in told and said.encode() in told,
+                      told)
+            self.same(f"read: {name}: read again", call("read", "-", data=wrote)[1], wrote)
+            self.same(f"read: {name}: it is planned", called(PLAN, "check", data=wrote + called(
+                PLAN, "plain", data=wrote)[1])[::2], (0, b""))
         for name in ("GraphML with labels", "JSON of D3"):
-            text = next(text for known, text, _ in READ if known == name)
+            text = next(text for known, text, _ in SITES if known == name)
             places = comments(call("read", "-", data=text.encode())[1], "at")
             wanted = {v: (f"{v - 1} 0" if "GraphML" in name else f"{2 * v - 1} {2 * v}") for v in range(1, 5)}
             self.note(f"read: {name}: its places", places == wanted, places)

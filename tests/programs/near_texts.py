@@ -8,15 +8,18 @@ from lab.networks.edge_list import Listed
 from lab.networks.reading import listed_of, made_of
 from lab.wrong import Wrong
 from tests.cases import Case
-from tests.programs.foreign_texts import as_csv, as_dot, as_gml, as_graphml, as_metis, beside, excuses, found_in
+from tests.programs.foreign_texts import (as_csv, as_dot, as_gml, as_graphml, as_json, as_metis, beside, excuses,
+                                          found_in)
 
-TEXTS, SEED = 30, 20261130
+TEXTS, SEED = 25, 20261130
 TOWNS = ("Ulm", "Aue", "Hof", "Köln", "Mörs", "Bonn", "Kiel", "Jena")
 BLANKS = ("Bad Tölz", "New York", "New Haven", "Ulm", "Upper Hill", "Mill", "Hof", "Old Dam")
 CELLS = ("A1", "A2", "B1", "B2", "C-1", "C-2", "x.y", "D4")
 ONES, ZEROS, GAPS = tuple("12345678"), tuple("01234567"), ("10", "20", "21", "5", "7", "101", "33", "8")
 MARKS, NUMBERS, WORDS = ("#1", "#2", "#12", "%3", "#4", "#5"), (ONES, ZEROS, GAPS), (TOWNS, BLANKS, CELLS)
+ALL, BARE, PLAIN = WORDS + NUMBERS, (TOWNS, CELLS), (TOWNS, CELLS, *NUMBERS)
 HEADINGS = (("source", "target"), ("von", "nach"), ("from", "to"), ("site_a", "site_b"))
+WEIGHT = '"weight": 2'
 
 
 def graph_of(source, names):
@@ -29,28 +32,74 @@ def graph_of(source, names):
             return nodes, pairs
 
 
-def rows_of(nodes, pairs, source):
-    """The neighbours of each node that has some, both ways or one way."""
-    return {node: ones for node, ones in beside(nodes, pairs, source.random() < 0.6).items() if ones}
-
-
-def neighbours(before, between, after=""):
-    """A writer of a line for each node, with its neighbours."""
-    return lambda nodes, pairs, source: "".join(
-        f"{node}{before}{between.join(ones)}{after}\n" for node, ones in rows_of(nodes, pairs, source).items())
-
+# Writers: functions of the nodes, the pairs and chance. A text is one, too, in which {0}, {1}, .. are nodes, {n}, {m}
+# and {m2} the numbers of nodes and of pairs, once and twice, {x} is the greatest number, and others are pairs: {comma},
+# {blank} and {any} with such a mark, or any, between their ends, {weight} with commas and a weight, {head} the first
+# one and {rest} those after it.
 
 def lines(pairs, mark, *more):
     return "".join(mark.join((a, b, *more)) + "\n" for a, b in pairs)
 
 
-def with_line(what, is_first):
-    """A writer of pairs with a line before them or after them that is none."""
+def filled(form, nodes, pairs, source):
+    numbers = [int(node) for node in nodes if node.isdigit()]
+    return form.format(*nodes, n=len(nodes), m=len(pairs), m2=2 * len(pairs), x=max(numbers, default=0),
+                       comma=lines(pairs, ","), blank=lines(pairs, " "), any=lines(pairs, source.choice(" ,;\t")),
+                       weight=lines(pairs, ",", "3"), head=lines(pairs[:1], " "), rest=lines(pairs[1:], " "))
+
+
+def each(form):
+    """A line, or two, for each pair: a and b are its ends, i is its number, and w a weight."""
+    return lambda nodes, pairs, source: "".join(
+        form.format(a=a, b=b, i=i, w=source.randint(1, 9)) + "\n" for i, (a, b) in enumerate(pairs, 1))
+
+
+def rows_of(nodes, pairs, source):
+    """The neighbours of each node that has some, both ways or one way."""
+    return {node: ones for node, ones in beside(nodes, pairs, source.random() < 0.6).items() if ones}
+
+
+def neighbours(before, between, after="\n", last=""):
+    """A line, or more, for each node, with its neighbours; {c} is their number."""
+    return lambda nodes, pairs, source: "".join(
+        before.format(node, c=len(ones)) + between.join(ones) + last + after
+        for node, ones in rows_of(nodes, pairs, source).items())
+
+
+def two(between, inside):
+    """Two pairs a line."""
+    return lambda nodes, pairs, source: "\n".join(
+        between.join(inside.join(pair) for pair in pairs[at:at + 2]) for at in range(0, len(pairs), 2)) + "\n"
+
+
+def all_pairs(nodes, pairs):
+    """Each pair of nodes, and whether it is one of the network's."""
+    there = set(map(frozenset, pairs))
+    return [((a, b), {a, b} in there) for at, a in enumerate(nodes) for b in nodes[at + 1:]]
+
+
+def beside_others(word, other, heading=""):
+    """All pairs, those of the network with a word and the others with another."""
+    return lambda nodes, pairs, source: heading + "".join(
+        f"{a},{b},{word if is_there else other}\n" for (a, b), is_there in all_pairs(nodes, pairs))
+
+
+def of_all(writer, mark, there, other, key="weight"):
+    """All pairs, each of which says in place of a mark whether it is one of the network's; GraphML has a key for it."""
     def text(nodes, pairs, source):
-        mark = source.choice(" ,;\t")
-        line = what.format(mark, len(nodes), len(pairs)) + "\n"
-        return line * is_first + lines(pairs, mark) + line * (not is_first)
+        found = all_pairs(nodes, pairs)
+        first, *parts = writer(nodes, [pair for pair, _ in found]).replace('"weight" ', f'"{key}" ').split(mark)
+        return first + "".join((there if is_there else other) + part for (_, is_there), part in zip(found, parts))
     return text
+
+
+def of_default(kind, default, word):
+    """All pairs in GraphML, those of the network with a word of a key and the others with its default."""
+    return lambda nodes, pairs, source: (
+        f'<graphml><key id="k" for="edge" attr.name="weight" {kind}><default>{default}</default></key><graph>'
+        + "".join(f'<node id="{node}"/>' for node in nodes)
+        + "".join(f'<edge source="{a}" target="{b}">' + f'<data key="k">{word}</data>' * is_there + "</edge>"
+                  for (a, b), is_there in all_pairs(nodes, pairs)) + "</graph></graphml>")
 
 
 def commented(nodes, pairs, source):
@@ -70,20 +119,18 @@ def more_columns(nodes, pairs, source):
     return as_csv([[one, other] + [again] * (most - 1)] + [[node, *ones] for node, ones in rows.items()])
 
 
-def two_encodings(nodes, pairs, source):
-    return b"".join(f"{a},{b}\n".encode(source.choice(("utf-8", "cp1252"))) for a, b in pairs)
+def with_marks(marks, again=False):
+    """Names with a mark behind them now and then."""
+    return lambda nodes, pairs, source: as_csv(
+        [[end + source.choice(("", source.choice(marks))) for end in pair] for pair in pairs + pairs[::-1] * again])
 
 
-def invisible(nodes, pairs, source):
-    marks = "\ufe0f\u034f\u200d\u200b\u00a0\u2060\u3164\u00ad\x7f"
-    return as_csv([[name + source.choice(("", source.choice(marks))) for name in pair] for pair in pairs])
-
-
-def squares(head):
-    """A writer of a matrix, or of a half of it, with names above it or without."""
+def squares(head, one="1"):
+    """A matrix, or a half of it, with names above it or without."""
     def text(nodes, pairs, source):
         there, mark = {frozenset(pair) for pair in pairs}, source.choice(",; \t")
-        rows = [["01"[frozenset((a, b)) in there] for b in nodes] for a in nodes]
+        rows = [["0", one][frozenset((a, b)) in there] for a in nodes for b in nodes]
+        rows = [rows[at:at + len(nodes)] for at in range(0, len(rows), len(nodes))]
         if source.random() < 0.4:
             rows = [row[:at + 1] for at, row in enumerate(rows)]
         return (mark.join(nodes) + "\n") * head + "".join(mark.join(row) + "\n" for row in rows)
@@ -95,63 +142,229 @@ def as_cnf(nodes, pairs, source):
     return f"p cnf {len(nodes)} {len(pairs)}\n" + "".join(f"{number[a]} {number[b]} 0\n" for a, b in pairs)
 
 
+def ports(nodes, pairs, source):
+    """Pairs of ports, each of which a device has once."""
+    count, text = dict.fromkeys(nodes, 0), "source,target\n"
+    for pair in pairs:
+        for node in pair:
+            count[node] += 1
+        text += ",".join(f"{node}:{count[node]}" for node in pair) + "\n"
+    return text
+
+
+def merged(nodes, pairs, source):
+    """Pairs in the order of their second ends, each of which is written once, but for the last two."""
+    rows = sorted(pairs, key=lambda pair: pair[1])
+    ends = [b if not at or rows[at - 1][1] != b or at == len(rows) - 1 else "" for at, (_, b) in enumerate(rows)]
+    return lines([(a, end) for (a, _), end in zip(rows, ends)], ",")
+
+
+def plain(writer, *changes):
+    """What a writer makes of nodes and pairs alone, with texts changed in it, all or the first of them."""
+    def text(nodes, pairs, source):
+        made = writer(nodes, pairs)
+        for old, new, *most in changes:
+            made = made.replace(old, new, *most)
+        return made
+    return text
+
+
 # (what it is, the names that it can have, its writer).
 NEAR = (
-    ("a colon without a blank", (TOWNS, CELLS, *NUMBERS), neighbours(":", " ")),
-    ("a colon before commas", WORDS + NUMBERS, neighbours(": ", ", ")),
-    ("an arrow before commas", WORDS + NUMBERS, neighbours(" -> ", ", ")),
-    ("YAML", WORDS + NUMBERS, neighbours(": [", ", ", "]")),
-    ("TOML", WORDS + NUMBERS, neighbours(" = [", ", ", "]")),
-    ("neighbours with a bar between them", WORDS + NUMBERS, neighbours(",", "|")),
+    ("a colon without a blank", PLAIN, neighbours("{}:", " ")),
+    *((f"{before!r} before commas", ALL, neighbours(before, ", ", last=last))
+      for before, last in (("{}: ", ""), ("{} -> ", ""), ("{}: [", "]"), ("{} = [", "]"))),
+    ("neighbours with a bar between them", ALL, neighbours("{},", "|")),
     ("neighbours in one field", (CELLS, *NUMBERS), lambda nodes, pairs, source: "source,target\n" + "".join(
         f"{node},{' '.join(ones)}\n" for node, ones in beside(nodes, pairs, True).items() if ones)),
-    ("neighbours in commas", WORDS + NUMBERS, neighbours(",", ",")),
-    ("a count before neighbours", (TOWNS, CELLS), lambda nodes, pairs, source: "".join(
-        f"{node} {len(ones)} {' '.join(ones)}\n" for node, ones in rows_of(nodes, pairs, source).items())),
-    ("more columns of neighbours", WORDS + NUMBERS, more_columns),
-    *((f"a title {line!r}", (TOWNS, CELLS), with_line(line, True))
-      for line in ("Masts", "nodes {1}", "{1} {2}", "{2}", "n={1} m={2} x")),
-    *((f"a title {line!r} of numbers", NUMBERS, with_line(line, True)) for line in ("Masts", "nodes{0}{1}", "n {1}")),
-    *((f"a last line {line!r}", (TOWNS, CELLS, *NUMBERS), with_line(line, False))
-      for line in ("Total{0}{2}", "({2} rows)", "{2} rows", "END", "Summe{0}{2}")),
+    ("neighbours in commas", ALL, neighbours("{},", ",")),
+    ("lists with a word", ALL, neighbours("{},", " und ")),
+    ("a count before neighbours", BARE, neighbours("{} {c} ", " ")),
+    ("more columns of neighbours", ALL, more_columns),
+    ("LGL of numbers", NUMBERS, neighbours("# {}\n", " 1\n", last=" 1")),
+    ("LGL", BARE, neighbours("# {}\n", " 3\n", last=" 3")),
+    *((f"a title {line!r}", names, line + "\n{any}") for names, titles in (
+        (BARE, ("Masts", "nodes {n}", "{n} {m}", "{m}", "n={n} m={m} x")), (NUMBERS, ("Masts", "nodes {n}", "n {n}"))
+      ) for line in titles),
+    *((f"a last line {line!r}", PLAIN, "{any}" + line + "\n")
+      for line in ("Total {m}", "Total,{m}", "({m} rows)", "{m} rows", "END", "Summe;{m}")),
+    *((f"a last line {line!r}", BARE, "{comma}" + line + "\n")
+      for line in ("Page 1,", "Source: BNetzA,", "5 more rows,", "2026-01-01,", "Stand 2026,")),
+    *((f"a line {line!r} after the pairs", BARE, "{comma}" + line + "\n")
+      for line in ("not {0},{1}", "{0},no {1}", "except,{0}")),
+    *((f"an end {end!r}", (ONES, GAPS), "{blank}" + end) for end in ("-1\n", "0\n")),
+    *((f"counts {form!r}", NUMBERS, form) for form in (
+        "{m} {n}\n{blank}", "{n} {m2}\n{blank}", "{m} {x}\n{blank}", "{m},{n}\n{comma}", "{n},{m2}\n{comma}",
+        "{m},{x}\n{comma}", "1\n{n} {m}\n{blank}", "{n}\n0\n{blank}")),
+    ("queries after the pairs", NUMBERS, "{blank}2\n{0} {1}\n{1} {2}\n"),
+    *((f"titles {titles!r}", BARE, titles) for titles in (
+        "{head}South\n{rest}", "Part 1:\n{head}Part 2:\n{rest}")),
+    *((f"a title with a node {word!r}", (TOWNS,), "{0} " + word + "\n{blank}")
+      for word in ("network", "Network", "region")),
+    ("a section of two words", (TOWNS,), "{head}Sector South\n{rest}"),
+    ("an average", BARE, "{weight}Average,,3\n"),
+    ("kinds below the heading", ALL, "source,target\nString,Text\n{comma}"),
+    ("columns of numbers as heading, and a weight", ALL, "0,1,2\n{weight}"),
+    *((f"a comment {comment!r} over a list that is cut", NUMBERS, comment + "{rest}") for comment in (
+        "# Nodes: {n} Edges: {m}\n", "% sym\n% {m} {n} {n}\n", "# {m} edges\n")),
+    *((f"columns of numbers as heading {marks!r}", names, lambda nodes, pairs, source, marks=marks: lines(
+        [("0", "1"), *pairs], source.choice(marks))) for marks, names in ((",;\t", ALL), (" ", (*BARE, GAPS, ONES)))),
     ("comments after a name", WORDS, commented),
-    ("a second heading", WORDS + NUMBERS, second_heading),
-    ("times before the ends", WORDS + NUMBERS, lambda nodes, pairs, source: as_csv(
+    ("a second heading", ALL, second_heading),
+    ("times before the ends", ALL, lambda nodes, pairs, source: as_csv(
         [("start", "end", "transmitter", "receiver"), *(("2026-01-01", f"2026-01-{at:02}", *pair)
                                                         for at, pair in enumerate(pairs, 2))])),
-    ("two encodings", (TOWNS, BLANKS), two_encodings),
+    ("two encodings", (TOWNS, BLANKS), lambda nodes, pairs, source: b"".join(
+        f"{a},{b}\n".encode(source.choice(("utf-8", "cp1252"))) for a, b in pairs)),
     ("letters that are lost", (TOWNS, BLANKS),
      lambda nodes, pairs, source: as_csv(pairs).encode("ascii", "replace").replace(b"?", "\ufffd".encode())),
-    ("invisible letters", (TOWNS, CELLS), invisible),
-    ("an edge before a weight", (TOWNS, CELLS), lambda nodes, pairs, source: "".join(
+    ("invisible letters", BARE, with_marks("\ufe0f\u034f\u200d\u200b\u00a0\u2060\u3164\u00ad\x7f")),
+    ("a footnote", BARE, with_marks("*'?", again=True)),
+    ("an edge before a weight", BARE, lambda nodes, pairs, source: "".join(
         f"{a}{source.choice(('->', '--', ' - ', ': '))}{b},near\n" for a, b in pairs)),
-    ("a weight between the ends", NUMBERS, lambda nodes, pairs, source: "".join(f"{a} 2.5 {b}\n" for a, b in pairs)),
-    ("a weight before the ends", NUMBERS, lambda nodes, pairs, source: "".join(f"0.5;{a};{b}\n" for a, b in pairs)),
-    ("numbered rows", (TOWNS, CELLS), lambda nodes, pairs, source: ",0,1\n" + "".join(
+    *((f"two pairs a line {between!r} {inside!r}", PLAIN, two(between, inside)) for between, inside in (
+        (" ", "-"), (", ", ":"), (" ", "="), ("\t", "/"), (";", "\u2013"), (" ", "->"))),
+    *((f"a mark {form!r}", ALL, each(form)) for form in (
+        "- {a},{b}", "* {a},{b}", "\u2022 {a},{b}", "1. {a},{b}", "+{a},{b}", ">{a},{b}", "@{a},{b}", "{a},{b}*",
+        "{a},{b}.", "{a},{b}\u00b0", "{a},{b}^1", "{a},{b}\\", "**{a}**,**{b}**", '="{a}",="{b}"', "{a},{b} {w} km",
+        "{a},{b}@{w}", "{a},{b}={w}")),
+    *((f"numbers {form!r}", NUMBERS, each(form)) for form in (
+        "{a}.0,{b}.0", "+{a} +{b}", "'{a},'{b}", "{a} 2.5 {b}", "0.5;{a};{b}")),
+    *((f"numbers and a weight {form!r}", NUMBERS, each(form)) for form in ("{w},{a},{b}", "{a} {w} {b}")),
+    ("numbered rows", BARE, lambda nodes, pairs, source: ",0,1\n" + "".join(
         f"{at},{a},{b}\n" for at, (a, b) in enumerate(pairs))),
-    ("dates", (TOWNS, CELLS), lambda nodes, pairs, source: "".join(f"{node},2026-11-30\n" for node in nodes)),
-    ("a matrix", (TOWNS, CELLS, *NUMBERS), squares(False)),
-    ("a matrix below names", (TOWNS, CELLS, *NUMBERS), squares(True)),
-    ("a matrix of weights below numbers", NUMBERS, lambda *graph: squares(True)(*graph).replace("1\n", "2.7\n")),
+    ("numbers of edges before each end", BARE, each("L{i},{a}\nL{i},{b}")),
+    ("edges with their numbers, one a node's", (GAPS,), lambda nodes, pairs, source: "".join(
+        f"{at},{end}\n" for at, pair in enumerate(pairs, 10) for end in pair)),
+    ("lists in quotes in both columns", (TOWNS, BLANKS), each('"{a}, {b}","{b}, {a}"')),
+    *((f"a mark between names with blanks {mark!r}", (BLANKS,), each("{a}" + mark + "{b}")) for mark in ":@"),
+    ("dates of nodes", BARE, lambda nodes, pairs, source: "".join(f"{node},2026-11-30\n" for node in nodes)),
+    ("dates", (TOWNS,), lambda nodes, pairs, source: "".join(
+        f"0{source.randint(1, 9)}.03.2026,1{source.randint(1, 9)}.04.2026\n" for _ in pairs) + "01.03.2026,12.04.2026\n"
+        "01.03.2026,13.04.2026\n"),
+    ("numbers of nodes after the pairs", BARE, lambda nodes, pairs, source: lines(pairs, " ") + "".join(
+        f"{at} {node}\n" for at, node in enumerate(nodes))),
+    ("cells that are merged", BARE, merged),
+    ("a matrix", PLAIN, squares(False)), ("a matrix below names", PLAIN, squares(True)),
+    ("a matrix of weights below numbers", NUMBERS, squares(True, "2.7")),
+    *((f"all pairs {word!r} {other!r} {heading!r}", ALL, beside_others(word, other, heading))
+      for word, other, heading in (
+          ("1", "0", ""), ("2.5", "0.0", ""), ("1", "0", "source,target,weight\n"), ("x", "", "von,nach,gilt\n"),
+          ("yes", "no", "site_a,site_b,interferes\n"), ("active", "removed", "from,to,status\n"))),
+    *((f"letters of {code}", (TOWNS,), lambda nodes, pairs, source, code=code: lines(pairs, ",").encode(code))
+      for code in ("cp850", "mac_roman")),
+    ("UTF-8 taken for Windows", (TOWNS,),
+     lambda nodes, pairs, source: lines(pairs, ",").encode().decode("cp1252").encode()),
+    *((f"names alike {names[0]!r}", (names,), lambda nodes, pairs, source, alike=alike: lines(pairs, ",") + alike(
+        lines(pairs, ","))) for names, alike in (
+            (TOWNS, str.lower), (BLANKS, lambda text: text.replace(" ", "-")),
+            (("K\u00f6ln", "M\u00f6rs", "Bonn", "Ulm", "H\u00f6xter"), lambda text: text.replace("\u00f6", "oe")),
+            *((("A1", "O2", "B1", "B2"), lambda text, letters=letters: text.translate(str.maketrans("AO", letters)))
+              for letters in ("\u0410\u041e", "A0")))),
     ("a formula", NUMBERS, as_cnf),
-    ("LGL of numbers", NUMBERS, lambda nodes, pairs, source: "".join(
-        f"# {node}\n" + "".join(f"{one} 1\n" for one in ones)
-        for node, ones in rows_of(nodes, pairs, source).items())),
+    ("DIMACS of sets", (ONES,), lambda nodes, pairs, source: f"p hs 8 {len(pairs)}\n" + "".join(
+        f"{a} {b} {source.choice(nodes)}\n" for a, b in pairs)),
     ("LGF", (ONES, TOWNS), lambda nodes, pairs, source: "@nodes\nlabel\n" + "\n".join(nodes) + "\n@arcs\n" + lines(
         pairs, " ")),
-    ("LGL", (TOWNS, CELLS), lambda nodes, pairs, source: "".join(
-        f"# {node}\n" + "".join(f"{one} 3\n" for one in ones)
-        for node, ones in rows_of(nodes, pairs, source).items())),
     ("METIS with twice the edges", (ONES,), lambda nodes, pairs, source: as_metis(nodes, pairs).replace(
         f" {len(pairs)}\n", f" {2 * len(pairs)}\n", 1)),
-    ("GML with another key", WORDS, lambda nodes, pairs, source: as_gml(nodes, pairs).replace(
-        "  edge [", "  link [", 1)),
-    ("GraphML with another element", WORDS + (MARKS,), lambda nodes, pairs, source: as_graphml(nodes, pairs).replace(
-        "<edge", "<Edge").replace("</edge", "</Edge")),
+    ("ports of devices", (("s1", "s2", "s3", "s4", "s5"),), ports),
+    ("GML with another key", WORDS, plain(as_gml, ("  edge [", "  link [", 1))),
+    ("GraphML with another element", WORDS + (MARKS,), plain(as_graphml, ("<edge", "<Edge"), ("</edge", "</Edge"))),
+    ("GraphML with a default of zero", WORDS, of_default('attr.type="double"', "0", "2.5")),
+    ("GraphML with a default of no", WORDS, of_default('attr.type="boolean"', "false", "true")),
     ("DOT of two graphs", WORDS + (MARKS,), lambda nodes, pairs, source: as_dot(nodes, pairs[:2])
      + as_dot(nodes, pairs[2:])),
-    ("JSON with lists of neighbours", WORDS + NUMBERS, lambda nodes, pairs, source: json.dumps({"links": [], "nodes": [
+    ("DOT of nodes with commas", WORDS, lambda nodes, pairs, source: "graph {\n" + each('"{a}", "{b}";')(
+        nodes, pairs, source) + "}\n"),
+    ("DOT of names with hyphens", (("a-1", "a-2", "b-1", "c-3", "d-4"),), lambda nodes, pairs, source: (
+        "graph {\n" + lines(pairs, " -- ") + "}\n")),
+    ("DOT with a default", WORDS, lambda nodes, pairs, source: as_dot(nodes, pairs).rstrip()[:-1]
+     + "edge [style=invis]\n" + "".join(f'"{nodes[0]}" -- "{other}"\n' for other in nodes[1:]) + "}\n"),
+    ("places beside texts of JSON", (ONES, ZEROS), lambda nodes, pairs, source: json.dumps({
+        "nodes": [{"id": node} for node in nodes],
+        "links": [{"source": nodes.index(a), "target": nodes.index(b)} for a, b in pairs]})),
+    ("JSON of two lists", WORDS, lambda nodes, pairs, source: json.dumps(json.loads(as_json(nodes, pairs[:1])) | {
+        "relations": [{"source": a, "target": b} for a, b in pairs[1:]]})),
+    ("JSON with lists of neighbours", ALL, lambda nodes, pairs, source: json.dumps({"links": [], "nodes": [
         {"id": node, "neighbours": ones} for node, ones in beside(nodes, pairs, True).items()]})),
+    ("JSON of the first page", WORDS, lambda nodes, pairs, source: as_json(nodes, pairs[:-1])[:-1] + ', "next": 2}'),
+    *((f"{name} {there!r} or {other!r}", WORDS, of_all(writer, mark, there, other, *key))
+      for name, writer, mark, there, other, *key in (
+          *(("JSON of all pairs", as_json, WEIGHT, there, other) for there, other in (
+              (WEIGHT, '"weight": 0'), (WEIGHT, '"hidden": true'), ('"id": 1', '"present": ""'),
+              ('"id": 1', '"present": null'))),
+          *(("JSON with", as_json, WEIGHT, there, other) for there, other in (
+              (WEIGHT, '"weight": -1'), (WEIGHT, '"on": false'), (WEIGHT, '"kind": "far"'),
+              ('"status": "active"', '"status": "removed"'), ('"near": "yes"', '"near": "no"'))),
+          ("GraphML of all pairs", as_graphml, ">2<", ">2<", ">0<"),
+          *(("GraphML of all pairs", as_graphml, ">2<", there, other, "interferes")
+            for there, other in ((">yes<", ">no<"), (">1<", ">0<"))),
+          ("GraphML of all pairs", as_graphml, '<data key="w">2</data>', "", '<data key="w"></data>', "present"),
+          *(("GML of all pairs", as_gml, "edge [", f"edge [ {there}", f"edge [ {other}") for there, other in (
+              ("weight 1", "weight 0"), ("near 1", "near 0"), ("", 'present ""\n'))),
+          ("GML with styles", as_gml, "edge [", 'edge [ style "solid"', 'edge [ style "invis"'),
+          *(("DOT of all pairs", as_dot, "[len=2]", there, other) for there, other in (
+              ("[len=2]", "[style=invis]"), ("[len=2]", "[color=transparent]"), ("[near=yes]", "[near=no]"))))),
+)
+# Quotes around whole fields, which aren't part of names: most such texts are read.
+QUOTES = tuple((f"quotes {opened} {closed} {mark}", names, each(f"{opened}{{a}}{closed}{mark}{opened}{{b}}{closed}"))
+               for mark, names in ((",", ALL), (" ", PLAIN)) for opened, closed in (
+                   "\u00ab\u00bb", "\u201c\u201d", "\u201e\u201c", "\u2018\u2019", "\u201a\u2018", "''"))
+# Texts that were read as another network once, and are refused.
+REFUSED = (
+    "Ulm,Aue\nGera,Hof;Bonn\n", "Gera;Hof, Bonn\nUlm;K\u00f6ln\n", "Gera,Hof/Bonn\nUlm,Aue\n", "9-1 1-10\n2-3 3-4\n",
+    "7:10, 6:1\n1:2, 3:4\n", "4\n5\n6 7\n4 7\n4 6\n3 2\n", "T&ouml;lz,Hof\nHof,Ulm\nHof,K&ouml;ln\n",
+    '{"nodes": [{"id": 1}, {"id": 2}, {"id": 3}], "links": [{"source": 1, "target": 2}]}',
+    '{"nodes": [{"id": 2}, {"id": 0}, {"id": 1}], "links": [{"source": 0, "target": 1}]}',
+    '{"nodes": [{"name": 2}, {"name": 0}, {"name": 1}], "links": [{"source": 0, "target": 1}]}',
+    'Bad T\u00f6lz,"Ulm New York"\nUlm,Bad T\u00f6lz\nNew York,Bad T\u00f6lz\n', "8,0004\n8,0005\n1,0005\n",
+    "TRUE,Ulm\nTRUE,Aue\nUlm,Aue\n", "*Vertices 3\n1 Ulm\n2 New Haven\n3 Hof\n*Edges\n1 2\n2 3\n",
+    '<gexf xmlns="http://www.gexf.net/1.2draft" version="1.2"><graph><attributes class="edge"><attribute id="0" '
+    'title="near" type="boolean"/></attributes><nodes><node id="a"/><node id="b"/><node id="c"/></nodes><edges><edge '
+    'id="0" source="a" target="b"><attvalues><attvalue for="0" value="true"/></attvalues></edge><edge id="1" source="b"'
+    ' target="c"><attvalues><attvalue for="0" value="false"/></attvalues></edge></edges></graph></gexf>\n',
+    '{"nodes": [{"name": "a"}, {"name": "b"}, {"name": "c"}], "links": [{"source": 1, "target": 2}]}',
+    '*Vertices 4\n1 "2"\n2 "6"\n3 "3"\n4 "4"\n*Edges\n2 3\n4 2\n6 4\n',
+    "source,target\nUlm,Aue\nHof,\nBonn,Aue\n", "4 3\n1 2\n0\n3 0\n2\n",
+    "Upper Hill:Ulm\nUlm:Neu Ulm\nUpper Hill:Mill\nHof:Neu Ulm\n", "1 2\n2 3\n3 4\n2\n1 4\n",
+    "origen,destino\nUlm,Aue\n", "6 1\n7 2\n4 3\n8 4\n3 2\n5 2\n", "Ulm,Hof/Bonn\nHof,Aue\nAue,Ulm\n",
+    "Aue,Ulm\nUlm,Hof und Wald\nHof,Aue\n", "Ulm,Smith & Co\nCo,Aue\nAue,Ulm\n",
+    "source,target\nUlm,Aue\nsite,height\nAue,Hof\n", "source,target\nUlm,Aue\nAnzahl,1\n",
+    "source,target\n1,2\nGrand Total,1\n", "source,target\nUlm,Aue\nErstellt von,M. Huber\n",
+    "Ulm Aue\nAue Hof\n\nTom Huber\n", "source,target\nUlm,Aue\nAue,6\n", "source,target\nUlm,Aue\nAue,yes\n",
+    "source,target\nfw1[Gi0/1],sw2[Gi0/8]\nsw2[Gi0/2],fw1[Gi0/3]\n", "WARN fw1\nINFO ap3\nWARN sw2\n",
+    "Access denied\n", "F,T\nT,F\n", "source,target,interference\nUlm,Aue,0.5\nAue,Hof,0\n",
+    "start,end\n08:00,09:30\n10:00,11:15\n", "A B C\nB C D\nC D A\nD A B\n",
+    "source,target\nfw1 (1),sw2 (8)\nsw2 (8),ap3 (1)\nap3 (2),fw1 (2)\n", "source,target\nfw1:a,sw2:b\nsw2:a,fw1:b\n",
+    "source,target\nUlm,Aue\nAue,Hof\nid,label\n1,Ulm\n",
+    "Ulm Aue\nAue Hof\nHof Ulm\nremoved Ulm Aue\n", "% bip unweighted\n1 2\n2 1\n2 3\n",
+    "source,target\nUlm,Aue\nAue,10 km\n", "| source | target |\n|---|---|\n| Ulm | Aue |\n")
+# Texts of which something is counted, which may be another network.
+COUNTED = (
+    *(f"source,target\nUlm,Aue\nAue,Hof\nHof,{word}\n" for word in ("removed", "x", "5km", "Kanal 6", "prepared by")),
+    "# edges: 4\n1 2\n2 3\n", "# n=3 m=4\n1 2\n2 3\n", "# Nodes: 5 Edges: 2\n1\t2\n2\t3\n",
+    "Ulm,Aue\n# removed:\nAue,Hof\n", "# pairs that DON'T interfere\n1 2\n2 3\n", "Ulm,Aue\nAue,\nHof,Ulm\n",
+    "6,3\n6,4\n5,\n", "source,target\nUlm,Aue\nAue,Hof old\nHof,Ulm\n",
+    "Ulm,Aue\nAue,Hof\nREM Hof,Ulm\nHof,Bonn\n",
+    "source,target\nCGN-020,BER-001\nCGN020,HAM-014\n", "0,1\n1,4\n2,5\n",
+    "source,target,weight\nUlm,Aue,1\nAue,Hof,2\n",
+    "%%MatrixMarket matrix coordinate pattern general\n3 3 1\n1 2\n",
+    "graph { node [style=invis]; A -- B; B -- C }\n",
+    "source;target\nUlm;Aue\nAue;Hof\nHof;Bonn Ulm\n", "sw1 sw2\nsw2 sw1.example.net\n",
+    '{"nodes": [{"id": "A"}, {"id": "B"}], "links": [{"source": "A", "target": "B", "key": "removed"}]}',
+    '<graphml><key id="d" for="edge" yfiles.type="edgegraphics"/><graph><node id="A"/><node id="B"/><edge source="A" '
+    'target="B"><data key="d"><E><EdgeLabel>removed</EdgeLabel></E></data></edge></graph></graphml>')
+# Texts that programs write and that are read with nothing left out but a column of numbers of the rows.
+WRITTEN = (
+    ",source,target\n0,Ulm,Aue\n1,Aue,Hof\n", "from to\n1 Ulm Aue\n2 Aue Hof\n",
+    '"from" "to"\n"1" "Ulm" "Aue"\n"2" "Aue" "Hof"\n',
+    "  source target\n0    Ulm    Aue\n1    Aue    Hof\n")
+# Names with a mark that lists have, too, and no part that is another node: they are read, and counted.
+WITH_MARKS = (
+    ("source,target\nUlm,Smith & Co\nHof,Aue\nA/B,Ulm\n", 1),
+    ("source,target\nUlm,Smith & Co\nWald & Sons,Aue\n", 1), ("source,target\nUlm,Aue\nHof,Aue\n", 0),
+    ("von;nach\nUlm;Berg+Wald\nHof;Aue\n", 1), ("Aue,Ulm\nUlm,Berg und Wald\nHof,Aue\n", 1),
 )
 # Tables of sites, and of bars if there are some, that have more than is read, or less: each is refused.
 TABLES = (
@@ -181,7 +394,7 @@ TABLES = (
     ("two sites a row", b"site,x,y,site 2,x 2,y 2\nUlm,0,0,Aue,1,1\n"),
 )
 # Tables of which something is counted that isn't read, or may be wrong.
-COUNTED = (
+COUNTED_TABLES = (
     ("sites that are off", b"site,x,y,active\nUlm,0,0,yes\nAue,1,1,no\n"),
     ("sites with a status", b"site,x,y,status\nUlm,0,0,on air\nAue,1,1,planned\n"),
     ("bars that are free", b"site,x,y\nUlm,0,0\nAue,1,1\n", b"site,channel,allowed\nUlm,1,yes\nAue,6,no\n"),
@@ -194,8 +407,6 @@ COUNTED = (
     ("a line without its end", b"site,x,y\nUlm,0,0\nAue,1,1"),
     ("letters of Windows", "site,x,y\nUlm,0,0\nKöln,1,1\n".encode("cp1252")),
 )
-
-
 # Places without a unit that may be in another one, so that another network has the edges of a reach: each is refused.
 UNITS = (
     ("metres in x and y", "site,x,y\nUlm,0,0\nAue,1000,1000\n"),
@@ -206,22 +417,20 @@ UNITS = (
     ("degrees of a programme", "site,x,y\nUlm,10.12345,48.40123\nAue,10.12745,48.41123\n"),
     ("degrees by hand", "site;x;y\nUlm;10,05;48,06\nAue;10,09;48,05\nHof;10,12;48,0\n"),
 )
-
-
 # Kinds of which a column or a key that isn't read, and is counted, may say which edges count.
 UNREAD = ("JSON with ", "JSON of the first page", "all pairs 'active'", "GML with styles",
           "GraphML with a default of zero", "numbers and a weight")
 
 
-def judge(case, kinds, texts, seed):
+def judge(case, kinds):
     """Has the texts of each kind read: each gives its network, or none, or says that something is left out, other than
     a column or a key where these are no edges. Returns how many were read of each kind."""
-    source, read = random.Random(seed), {}
+    read = {}
     for name, names, writer in kinds:
-        wrong = []
-        for _ in range(texts):
+        source, wrong = random.Random(f"{SEED} {name}"), []
+        for _ in range(TEXTS):
             nodes, pairs = graph_of(source, source.choice(names))
-            text = writer(nodes, pairs, source)
+            text = filled(writer, nodes, pairs, source) if isinstance(writer, str) else writer(nodes, pairs, source)
             found, left_out = found_in(text if isinstance(text, bytes) else text.encode())
             read[name] = read.get(name, 0) + (found is not None)
             edges = frozenset(map(frozenset, pairs))
@@ -244,7 +453,40 @@ class NearTexts(Case):
     needs_programs = False
 
     def test_near(self):
-        judge(self, NEAR, TEXTS, SEED)
+        judge(self, NEAR)
+
+    def test_quotes(self):
+        read = judge(self, QUOTES)
+        self.note("most with quotes are read", min(read.values()) > TEXTS // 2, read)
+
+    def test_texts(self):
+        """Of each text: it is refused, or so much is left out."""
+        for kind, texts in (("refused", REFUSED), ("counted", COUNTED)):
+            for text in texts:
+                found, left_out = found_in(text.encode())
+                good = found is None if kind == "refused" else found is not None and len(left_out) == 1
+                self.note(f"{kind}: {text!r}", good, (found, left_out))
+        for text, count in WITH_MARKS:
+            found, left_out = found_in(text.encode())
+            is_headed = text.startswith(("source", "von"))
+            self.note(f"read: {text!r}", found and len(found[0]) == text.count("\n") - is_headed and [
+                " may be a list" in what for what in left_out] == [True] * count, (found, left_out))
+
+    def test_written(self):
+        for text in WRITTEN:
+            found, left_out = found_in(text.encode())
+            wanted = frozenset((frozenset(("Ulm", "Aue")), frozenset(("Aue", "Hof"))))
+            self.note(f"written: {text!r}", found == (wanted, frozenset()) and len(left_out) == 1, (found, left_out))
+        for text in ("Site A,Site B\nCelle,Ulm\nUlm,Hof\n", "source target\n   sw3    sw2\n   sw3  rtr-b\n"):
+            found, left_out = found_in(text.encode())
+            self.note(f"written: {text!r}", found and len(found[0]) == 2 and not left_out, (found, left_out))
+        named_twice = "source;target\nap18;sw2\ncore01;edge-1\nap18;edge-1\ncore01;rtr-a\n"
+        self.note("names that come twice below a heading", found_in(named_twice.encode())[0] is not None)
+
+    def test_numbers_as_names(self):
+        """A node's name in JSON may be a number."""
+        text = b'{"nodes": [{"name": 10}, {"name": 13}, {"name": 17}], "links": [{"source": 0, "target": 2}]}'
+        self.note("numbers as names", found_in(text)[0] == ({frozenset(("10", "17"))}, {"13"}), found_in(text))
 
     def test_tables(self):
         for name, *tables in TABLES:
@@ -274,7 +516,7 @@ class NearTexts(Case):
         self.note("where", said == ["the sites of sites are at 48.4 to 50.5 degrees north, 10 to 12.7 east"], said)
 
     def test_counted(self):
-        for name, *tables in COUNTED:
+        for name, *tables in COUNTED_TABLES:
             found = of_tables(*tables, reach=3)
             self.note(f"counted: {name}", len(made_of(found, "sites")[2]) == 1, found.left_out)
 

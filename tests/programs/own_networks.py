@@ -75,69 +75,6 @@ REFUSED = ["path 0", "path -1", "path x", "path 20001", "ring 2", "star 1025", "
            "number x", "number x --by size", "tell", "tell x y", "read x --as graph"]
 
 
-# (what it is, the text, the edges by names in which `_` is a blank, nodes without one, a part of what is said). The
-# first six were written by networkx 3.6.1, by its writers of edge lists, weighted edge lists, adjacency lists and
-# multiline adjacency lists.
-GRAPH, ALONE = "03 04 34 41 12", "5"
-FORMS = [
-    ("an edge list", "0 3 {}\n0 4 {}\n3 4 {}\n4 1 {}\n1 2 {}\n", GRAPH, "",
-     "pairs; 5 nodes, 5 edges, at most 3 neighbours; it counts from 0"),
-    ("an edge list with data",
-     "0 3 {'weight': 3.5}\n0 4 {'weight': 4.5}\n3 4 {'weight': 6.0}\n4 1 {'weight': 3.5}\n1 2 {'weight': 3.0}\n", GRAPH,
-     "", "pairs; "),
-    ("a weighted edge list", "0 3 3.5\n0 4 4.5\n3 4 6.0\n4 1 3.5\n1 2 3.0\n", GRAPH, "",
-     "1 column not read: number 3"),
-    ("an adjacency list", "#nx.py\n# GMT Mon Nov 23 22:04:36 2026\n# \n0 3 4\n3 4\n4 1\n1 2\n2\n5\n", GRAPH, ALONE,
-     "adjacency; 6 nodes, 1 of them without"),
-    ("a multiline adjacency list", "#nx.py\n# GMT\n# \n0 2\n3 {}\n4 {}\n3 1\n4 {}\n4 1\n1 {}\n1 1\n2 {}\n2 0\n5 0\n",
-     GRAPH, ALONE, "in several lines; 6 nodes"),
-    ("an adjacency list of names", "# \nUlm Jena Kiel\nJena Kiel\nKiel Aue\nAue Bonn\nBonn\nTrier\n",
-     "Ulm-Jena Ulm-Kiel Jena-Kiel Kiel-Aue Aue-Bonn", "Trier", "numbers by first appearance"),
-    ("CSV with a heading", "source,target\nA,B\nB,C\nA,C\n", "AB BC AC", "",
-     "pairs with a heading; 3 nodes, 3 edges, at most 2 neighbours; numbers by"),
-    ("CSV of Gephi", "Id,Source,Target,Type,Weight\n0,a,b,Undirected,1\n1,b,c,Undirected,2\n", "ab bc", "",
-     "pairs with a heading"),
-    ("CSV without a heading", '"Upper Hill","Mill, old"\n"Mill, old",Dam\n', "Upper_Hill-Mill,_old Mill,_old-Dam", "",
-     "pairs; 3 nodes"),
-    ("CSV with an unknown heading", "Mast,Next\n1,2\n2,3\n", "12 23", "", "pairs with a heading; 3 nodes, 2 edges"),
-    ("CSV with semicolons and CR LF", "from;to\r\n1;2\r\n2;3\r\n3;\r\n", "12 23", "", "pairs with a heading"),
-    ("pairs with tabs, in both directions", "1\t2\n2\t1\n2\t3\n3\t2\n", "12 23", "",
-     "2 edges there in both directions, counted once"),
-    ("pairs with a loop and an edge again", "1 2\n2 2\n1 2\n2 3\n", "12 23", "",
-     "1 edge from a node to itself left out, first at line 2: 2"),
-    ("pairs with lines that end with CR", "1 2\r2 3\r", "12 23", "", "lines end with a carriage return alone"),
-    ("pairs after a byte order mark", "\ufeff1 2\n2 3\n", "12 23", "", "a byte order mark is left out"),
-    ("pairs with a gap in the numbers", "10 20\n20 40\n", "10-20 20-40", "", "numbered anew, in their order"),
-    ("pairs and a lone node", "1 2\n3\n", "12", "3", "3 nodes, 1 of them without a neighbour"),
-    ("a ring as adjacency", "1 2 3\n2 1 3\n3 1 2\n", "12 13 23", "", "adjacency; 3 nodes, 3 edges"),
-    ("adjacency with tabs", "a\tb\tc\nb\ta\nc\ta\nd\n", "ab ac", "d", "adjacency; 4 nodes, 1 of them without"),
-    ("pairs with tabs and a lone node", "1\t2\n2\t3\n4\n", "12 23", "4", "pairs; 4 nodes, 1 of them without"),
-    ("adjacency with colons", "a: b c\nb: a\nc: a\n", "ab ac", "", "adjacency; 3 nodes, 2 edges"),
-    (
-        "DOT",
-        'graph "my net" {\n  // masts\n  node [shape=circle, label="a -- b"];\n  rankdir = LR;\n'
-        '  A -- B -- C [len=2];\n  "D e" -- A:n /* x */\n  F\n}\n',
-        "A-B B-C D_e-A",
-        "F",
-        "DOT; 5 nodes, 1 of them without a neighbour, 3 edges",
-    ),
-    ("directed DOT", "strict digraph{a->b;b->a;b->c}", "ab bc", "", "directions aren't read"),
-    ("DOT with subgraphs", "graph {\n a -- { b c }\n subgraph cluster_x { d -- e }\n}\n", "ab ac de", "",
-     "DOT; 5 nodes"),
-    ("DIMACS from 0", "p edge 3 2\ne 0 1\ne 1 2\n", "01 12", "", "it counts from 0"),
-    ("DIMACS of shortest paths", "p sp 3 2\na 1 2 7\na 2 3 9\n", "12 23", "", "`p sp` is read like `p edge`"),
-    ("a graph of tree width", "c x\np tw 4 2\n1 2\n2 3\n", "12 23", "4", "`p tw` is read like `p edge`"),
-    ("DIMACS without its word", "p 3 2\ne 1 2\ne 2 3\n", "12 23", "", "DIMACS; 3 nodes, 2 edges"),
-    ("DIMACS with a loop", "p edge 3 2\ne 1 1\ne 2 3\n", "23", "1", "left out"),
-]
-
-
-def named_pairs(edges):
-    """Pairs of names of a row of FORMS, unordered."""
-    pairs = (pair.split("-") if "-" in edges else pair for pair in edges.split())
-    return {frozenset(name.replace("_", " ") for name in pair) for pair in pairs}
-
-
 def pairs_in(text):
     """The edges of a network's text by the names of its nodes, and the nodes without an edge."""
     net, names = network_of(text), comments(text, "name")
@@ -333,16 +270,7 @@ class OwnNetworks(Case):
             self.same(f"{command[0]} of no file", call(*command, "/nowhere.col"),
                       (1, b"", b"network: /nowhere.col: No such file or directory\n"))
 
-    def test_forms(self):
-        for name, text, edges, alone, said in FORMS:
-            path = self.file("net.txt", text)
-            status, wrote, told = call("read", path)
-            self.note(f"read: {name}", status == 0 and pairs_in(wrote) == (named_pairs(edges), set(alone.split())),
-                      (status, wrote, told))
-            self.note(f"read: {name}: what is said", f"network: {path}: ".encode() in told and said.encode() in told,
-                      told)
-            self.same(f"read: {name}: read again", call("read", "-", data=wrote)[1], wrote)
-            self.wrote.append(wrote)
+    def test_encodings_and_words(self):
         data = "1 2\n2 3\n".encode("utf-16")
         self.same("read: UTF-16", edges_of(self.written("read", "-", data=data)), {(1, 2), (2, 3)})
         data = "Köln Aue\n".encode("latin-1")
