@@ -22,7 +22,7 @@ SETTINGS = {
               "number; from 2 on programs.hostile has nothing but random texts, so that a long run goes on after an "
               "interruption"),
     "only": ("", "the commands, with commas between them, whose texts programs.hostile makes; all of them by default"),
-    "runs": ("60", "how many whole runs of threads programs.merged checks; 1000 take some minutes"),
+    "runs": ("90", "how many whole runs of threads programs.merged checks; 1000 take some minutes"),
     "sequels": ("12", "how many networks by chance programs.sequel_runs plays; 1000 take some minutes"),
     "spoiled": ("2000", "how many spoiled transcripts programs.merged makes"),
 }

@@ -9,6 +9,7 @@ takes processors too. A transcript has to be accepted by lab/transcripts/check.p
 `forestplay replay`."""
 import contextlib
 import functools
+import itertools
 import os
 import random
 import subprocess
@@ -18,8 +19,9 @@ import threading
 from lab.definitions.colours import network_of
 from lab.transcripts.check import Wrong, in_order, whole_run
 from tests.by_hand.numbered_runs import all_runs, last_line, options
-from tests.programs.plain_networks import cycle, path, some_bars, star, text_of, tree
-from tests.programs.transcripts import is_counted, replayed_by
+from tests.programs.merged import networks_of_runs
+from tests.programs.plain_networks import some_bars, text_of
+from tests.programs.transcripts import is_counted, said_by
 
 PROCESSORS = sorted(os.sched_getaffinity(0))
 # As long as the process is there that started it.
@@ -27,18 +29,9 @@ BUSY = 'while kill -0 "$0" 2>/dev/null; do :; done'
 
 
 def network(source):
-    """Any density up to six nodes; beyond, a shape with a few edges more, since runs grow with the degrees. Some have
-    bars."""
-    nodes = source.randint(2, 40)
-    names = source.sample(range(1, nodes + 1), nodes)
-    if nodes <= 6:
-        density = source.random()
-        pairs = [(v, w) for v in names for w in names if v < w and source.random() < density]
-    else:
-        shape = source.choice((path, cycle, tree, tree, star if nodes < 20 else tree))
-        pairs = list(shape(source, names)) + [source.sample(names, 2) for _ in range(source.choice((0, 0, 1, 3)))]
-    bars = some_bars(source, nodes, 3) if source.random() < 0.2 else {}
-    return text_of(source, nodes, {(min(pair), max(pair)) for pair in pairs}, bars=bars)
+    """One of those that the tests of ./test play, some with bars."""
+    nodes, pairs = next(itertools.islice(networks_of_runs(source), source.randrange(6), None))
+    return text_of(source, nodes, pairs, bars=some_bars(source, nodes, 3) if source.random() < 0.2 else {})
 
 
 def number_up_to_64(source):
@@ -103,7 +96,7 @@ def fault_in(play, data, answer):
         return str(wrong)
     if not is_counted(net, output, said):
         return f"other numbers: {said}"
-    return replayed_by(play, data, net, in_order(made, output))
+    return said_by(data, in_order(made, output), play=play)
 
 
 def one_run(given, number):

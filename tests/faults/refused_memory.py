@@ -2,10 +2,11 @@
 import os
 import subprocess
 
-from lab.definitions.colours import plan_text
+from lab.definitions.colours import network_of, plan_text
 from tests.cases import Case, called, text, text_in
-from tests.commands import COMMANDS, TRIANGLE
-from tests.settings import CRATE_TESTS, PATHS, PLAN
+from tests.commands import COMMANDS, EDGE, TRIANGLE
+from tests.programs.one_worker import Run
+from tests.settings import CRATE_TESTS, PATHS, PLAN, PLAY
 
 HERE = os.path.dirname(os.path.abspath(__file__))
 # Tests of `checks`, which `rt ci` builds, or `rt test` in that crate, that try again what memory is refused to once.
@@ -13,6 +14,7 @@ TRIED_AGAIN = ("event_machine_checks::a_state_goes_on_after_a_refused_growth",
                "event_machine_checks::a_list_runs_again_after_a_refused_growth",
                "link_queue_checks::a_link_meets_again_after_a_refused_growth")
 MOST, LIMIT = 5000, 60
+THREADS = (4, b"", b"forestplan: threads\n")
 
 
 def build_front(folder, name="refuse_growth"):
@@ -75,15 +77,15 @@ class RefusedMemory(Case):
     def test_each_command(self):
         front = build_front(self.folder)
         for it in COMMANDS:
-            threads = (4, b"", f"{it.program}: threads\n".encode()) if "workers" in it.options else None
+            threads = THREADS[0], b"", THREADS[2].replace(b"forestplan", it.program.encode())
             name, *row = sweep(PATHS[it.program], front, it.line_of_one, text(it.data), (0, text(it.answer), b""),
-                               it.program, threads)
+                               it.program, threads if "workers" in it.options else None)
             self.note(f"{name}, of the table of commands", *row)
 
     def test_growths(self):
-        """With identifiers and bars; with enough bars that the nodes' sets of colours have boxes of their own; and of
-        refusals and help."""
-        front, triangle = build_front(self.folder), text(TRIANGLE)
+        """With identifiers and bars; with enough bars that the nodes' sets of colours have boxes of their own; with the
+        links of a triangle on a worker thread; and of refusals and help."""
+        front, triangle, run = build_front(self.folder), text(TRIANGLE), Run(network_of(text(TRIANGLE)), 4)
         barred = [triangle + b"i 1 9\nb 3 1\nb 3 7\nb 1 2\ni 2 0\n",
                   triangle + b"".join(b"b 1 %d\n" % channel for channel in range(1, 131))]
         for words, data, wanted in (*((["plain"], data, (0, plan_text(data), b"")) for data in barred),
@@ -91,6 +93,16 @@ class RefusedMemory(Case):
                                     (["forests"], b"q\n", (1, b"", b"forestplan: F8 line 1\n")),
                                     (["nothing"], b"", None), (["--help"], b"", None)):
             self.note(*sweep(PLAN, front, words, data, wanted))
+        for words, wanted in (([], run.merged()), (["--edition", "1"], run.text())):
+            words = ["transcript", *words, "--workers", "1"]
+            self.note(*sweep(PLAN, front, words, triangle, (0, wanted, b""), or_else=THREADS))
+        for command, more, fault in (("events", "put 1 0|put 1 0|", "NothingToPut line 4: list of 1 for 2"),
+                                     ("events", "put 1|", "NoEvent line 3"), ("events", "e 1 1|", "F6 line 3"),
+                                     ("replay", "transcript 1 2|1 put 2 safe 0|",
+                                      "WrongWire line 4: expected payload 0 hello 1")):
+            name, *row = sweep(PLAY, front, [command], text(EDGE + more), (1, b"", f"forestplay: {fault}\n".encode()),
+                               "forestplay")
+            self.note(f"{name} of {more}", *row)
 
     def test_tried_again(self):
         """Each growth of a test refused in turn: it passes, and then asks more often for memory than if nothing is

@@ -10,13 +10,12 @@ from lab.transcripts.check import Wrong, whole_run
 from tests.cases import Case, example, text, text_in
 from tests.commands import EDGE
 from tests.commands import TRIANGLE as THREE
-from tests.faults.refused_memory import LIMIT, build_front, sweep, under
-from tests.programs.one_worker import Run
+from tests.faults.refused_memory import LIMIT, THREADS, build_front, under
 from tests.settings import PLAN, PLAY
 
 MOST_WORKERS = 64
 TRIANGLE, ONE_EDGE = text(THREE), text(EDGE)
-THREADS, MEMORY = (4, b"", b"forestplan: threads\n"), (4, b"", b"forestplan: memory\n")
+MEMORY = (4, b"", b"forestplan: memory\n")
 
 
 class Counted:
@@ -101,15 +100,6 @@ class RefusedThreads(Case):
                 words = ["run", "--program", program, "--workers", str(workers)]
                 answer, _, *threads = self.play.run(words, TRIANGLE)
                 self.same(f"threads of {words}", (answer[0], threads), (0, [workers] * 3))
-
-    def test_growths_of_one_worker(self):
-        """With one worker a run is the same each time, by the definition of looks and turns. To start a thread takes
-        memory of the system's own; if that is refused, the thread is."""
-        run = Run(network_of(TRIANGLE), 4)
-        for words, wanted in [(["plan"], plan_text(TRIANGLE)), (["transcript"], run.merged()),
-                              (["transcript", "--edition", "1"], run.text())]:
-            words = [*words, "--workers", "1"]
-            self.note(*sweep(PLAN, self.growths, words, TRIANGLE, (0, wanted, b""), or_else=THREADS))
 
     def test_growths_of_workers(self):
         """With several workers a growth of one number is another one in each run. Each is refused, up to twenty more

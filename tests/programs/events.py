@@ -11,7 +11,6 @@ from lab.definitions.nodes import NetState, Refused, last_pulse, missing_words, 
 from tests import TOP
 from tests.cases import Case, called, text
 from tests.commands import EDGE, TRIANGLE
-from tests.faults.refused_memory import build_front, sweep
 from tests.programs.plain_networks import random_of, some_bars, text_of
 from tests.settings import PLAY, SECOND_PLAY
 
@@ -266,19 +265,3 @@ class Events(Case):
             self.same(f"a whole run of {network}", done, answer_of(net, numbered))
             channels = [int(line.split()[-1]) for line in done[1].splitlines() if line.startswith(b"node")]
             self.same(f"channels of {network}", channels, [c + 1 for _, c in sorted(colours(net).items())])
-
-    def test_refused_memory(self):
-        """Each growth refused in turn: the right answer, or out of memory."""
-        front = build_front(self.folder)
-        worked = next((text(data), (0, text(output), b"")) for name, data, output in WORKED if "47 events" in name)
-        for command, data, wanted in [
-            ("events", *worked),
-            ("events", text(EDGE + "put 1 0|put 1 0|"), refusal("NothingToPut line 4: list of 1 for 2")),
-            ("events", text(EDGE + "put 1|"), refusal("NoEvent line 3")),
-            ("events", b"p edge 2 1\ne 1 1\n", refusal("F6 line 2")),
-            ("replay", text(EDGE + REPLAYED[1][1]), (0, text(REPLAYED[1][2]), b"")),
-            ("replay", text(EDGE + "transcript 1 2|1 put 2 safe 0|"),
-             refusal("WrongWire line 4: expected payload 0 hello 1")),
-        ]:
-            name, *row = sweep(PLAY, front, [command], data, wanted, "forestplay")
-            self.note(f"{name} of {data[-30:]!r}", *row)

@@ -168,17 +168,18 @@ class Merged(Case):
         self.note("refusals of each kind", wanted <= codes, codes)
 
     def test_runs(self):
-        """Whole runs of four and more workers: the checker accepts each, and so does `PLAY replay`, in the order of its
-        lines."""
+        """Whole runs of several workers, written in both editions by turns: the checker accepts each, and so does
+        `forestplay replay` those of edition 2, in the order of their lines."""
         count = int(setting("runs"))
         source, wrong, entries, most = random.Random(SEED), [], 0, 0
         for (nodes, pairs), at in zip(networks_of_runs(source), range(count)):
             network = text_of(source, nodes, pairs)
             net = network_of(network)
-            words = ["--workers", source.choice((4, 5, 8, 16, 64)), "--capacity", source.choice((1, 2, 4, 64))]
+            words = ["--edition", 1 + at % 2, "--workers", source.choice((2, 4, 5, 8, 16, 64)), "--capacity",
+                     source.choice((1, 2, 4, 64))]
             status, data, fault = called(PLAN, "transcript", *words, data=network)
             good = (status, fault) == (0, b"") and is_counted(net, data, said_of(net, data)[0])
-            got = said_by(network, data) if good else None
+            got = said_by(network, data) if good and at % 2 else None
             if not good or got:
                 wrong.append((network, words, status, fault, said_of(net, data)[0], got))
             entries, most = entries + data.count(b"\n") - 1, max(most, nodes)

@@ -18,7 +18,6 @@ LIMIT = 60
 MOST_TOLD = 2000
 
 PAIRS = list(itertools.product((1, 2, 4, 64), repeat=2))
-SMALL_FAMILY, SMALL_NETWORKS = "random on up to 12 nodes", 20
 # Families whose runs take seconds, and how many of their networks are played: in the first, each pair once; of those
 # that climb, with each number of parents twice, and the first.
 LONG = {"random on 20 to 40 nodes": len(PAIRS), "bars on 20 to 40 nodes": len(PAIRS) // 2, "climbing on 1,000 nodes": 6,
@@ -109,15 +108,6 @@ class Plans(Case):
             self.note(f"plan is plain, {count} networks, {family[0]}", count > 0 and not different,
                       f"{len(different)} differ, the first is {different[:1]}"[:MOST_TOLD])
 
-    def test_small(self):
-        """A few small networks with each pair."""
-        family = next(family for family in FAMILIES if family[0] == SMALL_FAMILY)
-        networks = [network for network in texts_of(family) if network.count(b"\n") > 3][:SMALL_NETWORKS]
-        different = [(pair, network) for network in networks for pair in PAIRS
-                     if with_pair(pair, network) != answer_of("plain", data=network)]
-        self.note(f"plan is plain with each of {len(PAIRS)} pairs, {len(networks)} networks",
-                  len(networks) == SMALL_NETWORKS and not different, f"{len(different)} differ: {different[:1]}")
-
     def test_first_looks(self):
         """What the first looks leave by the definition of a turn, and that each node's entries in the program's
         transcript begin so."""
@@ -131,28 +121,17 @@ class Plans(Case):
 
     def test_turns(self):
         """One worker stops with one turn less than its run needs, by the definition of a turn, and with as many it has
-        the plan. A link that held another number of wires, or another number of turns, would move that limit."""
+        the answer. A link that held another number of wires, or another number of turns, would move that limit."""
         for data in (TRIANGLE, b"p edge 2 0\n", b"p edge 2 1\ne 1 2\n",
                      b"p edge 5 5\ne 1 2\ne 2 3\ne 3 4\ne 4 5\ne 1 5\n"):
             for capacity in (1, 2, 64):
-                needed = Run(network_of(data), capacity).looks
-                got = [answer_with(data, capacity, turns) for turns in (needed - 1, needed)]
-                self.same(f"{needed} turns for {data[:12]!r} with capacity {capacity}, and no less", got,
-                          [(3, b"", STOPPED), (0, plan_text(data), b"")])
+                whole = Run(network_of(data), capacity)
+                for command, answer in (("plan", plan_text(data)), ("transcript", whole.text())):
+                    got = [answer_with(data, capacity, turns, command) for turns in (whole.looks - 1, whole.looks)]
+                    self.same(f"{whole.looks} turns of {command} for {data[:12]!r} with capacity {capacity}, and no "
+                              "less", got, [(3, b"", STOPPED), (0, answer, b"")])
         needed = Run(network_of(TRIANGLE), 2).looks
         got = [answer_of("plan", "--capacity=0002", "--workers=+1", f"--turns=+0{turns}", data=TRIANGLE)
                for turns in (needed - 1, needed)]
         self.same("numbers of options with a sign or zeros before them", got,
                   [(3, b"", STOPPED), (0, TRIANGLE_PLAN, b"")])
-
-    def test_each_number_of_turns(self):
-        for capacity in (1, 4):
-            whole = Run(network_of(TRIANGLE), capacity)
-            for command, answer in (("plan", TRIANGLE_PLAN), ("transcript", whole.text())):
-                wrong = []
-                for turns in range(201):
-                    got = answer_with(TRIANGLE, capacity, turns, command)
-                    if got != ((3, b"", STOPPED) if turns < whole.looks else (0, answer, b"")):
-                        wrong.append((turns, got))
-                self.note(f"{command} by 0 to 200 turns of one worker with capacity {capacity}: stopped, or the answer",
-                          not wrong, wrong[:3])

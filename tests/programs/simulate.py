@@ -20,11 +20,6 @@ from tests.settings import PLAY
 NETWORKS = ("two", "triangle", "chain6", "barred", "petersen")
 
 
-def played_by(command, name, text):
-    """What `forestplay` says of a text after a network."""
-    return called(PLAY, command, data=example(name) + b"\n" + text)
-
-
 def simulate(*words, data=b""):
     return forestlab("simulate", *words, data=data)
 
@@ -109,7 +104,7 @@ class Runs(Case):
                     head, entries = read(text)
                     self.assertEqual((head.edition, head.nodes), (2, len(net.neighbours)))
                     check_stamped(net, head, entries)
-                    status, state, fault = played_by("replay", name, text)
+                    status, state, fault = called(PLAY, "replay", data=example(name) + b"\n" + text)
                     self.assertEqual((status, fault), (0, b""))
                     found = {int(v): int(c) - 1 for v, c in re.findall(rb"^node (\d+) .* channel (\d+)$", state, re.M)}
                     self.assertEqual(found, colours(net))
@@ -139,13 +134,6 @@ def walk(net, events, source):
             f"{v} {kind.lower()} {state.neighbours[v][port]} {wire_words(wire)}")
         entries[v].append(entry.split())
     return lines, entries, state
-
-
-def in_edition_1(text):
-    """The same entries in the same order, without stamps."""
-    head, *lines = text.decode().splitlines()
-    rest = [line.partition(" ")[2] for line in lines]
-    return "".join(line + "\n" for line in [head.replace("transcript 2", "transcript 1"), *rest]).encode()
 
 
 class Lists(Case):
@@ -222,26 +210,6 @@ class Lists(Case):
         ):
             status, text, fault = simulate(*words)
             self.note(" ".join(words[1:]), (status, text) == (wanted, b"") and fault.endswith(end), fault)
-
-
-class ListsByTheProgram(Case):
-    """A list leads the proved machine to the state to which its transcript does."""
-
-    def test_states(self):
-        lists = [("triangle", example("triangle.events"))]
-        for name in ("two", "path", "barred"):
-            lines, _, _ = walk(network_of(example(name)), 90, random.Random(f"states {name}"))
-            lists.append((name, "".join(line + "\n" for line in lines).encode()))
-        for name, events in lists:
-            status, text, _ = simulate(name, "--events", "-", data=events)
-            self.note(f"{name}: it is written", status == 0)
-            wanted = played_by("events", name, events)
-            self.note(f"{name}: the state of the list", wanted[::2] == (0, b"") and wanted[1], wanted)
-            got = played_by("replay", name, in_edition_1(text))
-            self.note(f"{name}: the state of the transcript", got == wanted, (got, wanted))
-            status, text, _ = simulate(name, "--events", "-", "--to-the-end", data=events)
-            done = played_by("replay", name, text)
-            self.note(f"{name}: to the end, it is replayed whole", done[::2] == (0, b""), done)
 
 
 class Refusals(Case):

@@ -14,7 +14,7 @@ import subprocess
 import time
 
 from lab.definitions.colours import network_of
-from lab.definitions.nodes import NetState, Refused, last_pulse, make, wire_words
+from lab.definitions.nodes import NetState, Refused, last_pulse, make
 from lab.transcripts.check import Wrong, find_order, first_refused, in_order, whole_run
 from lab.transcripts.reading import read
 from tests import FORESTLAB
@@ -27,7 +27,7 @@ from tests.shell import wait_until
 
 LIMIT = 60
 SEED = 2026
-WORKERS, CAPACITIES = (1, 2, 4, 64), (1, 2, 4)
+CAPACITIES = (1, 2, 4)
 
 
 EDGE = "p edge 2 1|e 1 2|"
@@ -169,10 +169,6 @@ def is_counted(net, data, said):
     return said == f"whole run of {nodes} nodes, {nodes * last + 2 * wires} entries, {payloads} payloads, {wires} wires"
 
 
-def payload_puts(data):
-    return sorted(line for line in data.split(b"\n") if b" put " in line and b" payload " in line)
-
-
 def mistaken(count):
     """(the mistake, the network's text, the network, the transcript), as many of each kind of mistake."""
     source, small = random.Random(SEED), small_networks()
@@ -215,10 +211,10 @@ def replayed(net, data):
     return None if is_whole else "NotWhole"
 
 
-def said_by(network, data, *words):
+def said_by(network, data, *words, play=PLAY):
     """None if `forestplay replay` accepts it, else its fault in the form of the checker's, with lines from the
     transcript's first."""
-    status, output, fault = called(PLAY, "replay", *words, data=network + data)
+    status, output, fault = called(play, "replay", *words, data=network + data)
     if (status, fault) == (0, b""):
         return None
     found = re.fullmatch(rb"forestplay: (\w+) line (\d+)(: [ -~]+)?\n", fault)
@@ -226,21 +222,6 @@ def said_by(network, data, *words):
         return f"status {status}, {output[:200]!r}, {fault[:200]!r}"
     code, line, before = found[1].decode(), int(found[2]), network.count(b"\n")
     return f"line {line - before if line > before else line}: {code}"
-
-
-def replayed_by(play, network, net, data):
-    """The same of entries of edition 1 one by one, without the line. What is accepted is whole if all nodes are at the
-    last pulse, all closing marks were put, and no link holds a wire."""
-    status, output, fault = called(play, "replay", data=network + data)
-    if status == 1 and output == b"" and (found := re.fullmatch(rb"forestplay: (\w+) line \d+(: [ -~]+)?\n", fault)):
-        return found[1].decode()
-    if (status, fault) != (0, b""):
-        return f"status {status}, {output[:200]!r}, {fault[:200]!r}"
-    ends = re.findall(rb"node \d+ pulse %d channel \d+\n" % last_pulse(net), output)
-    links = re.findall(rb"link \d+ \d+ taken \d+\n", output)
-    closed = re.findall(rb"put\s+\d+\s+close", data)
-    degrees = sum(map(len, net.neighbours.values()))
-    return None if [len(ends), len(links), len(closed)] == [len(net.neighbours), degrees, degrees] else "NotWhole"
 
 
 def every_order(net, entries):
@@ -286,17 +267,6 @@ def machine_of(run):
     return None
 
 
-def written_anew(data):
-    """The text of the entries that are read, the vertices ascending."""
-    head, entries = read(data)
-    lines = {v: [] for v in range(1, head.nodes + 1)}
-    for entry in entries:
-        what = (f"pulse {entry.what}" if entry.kind == "Pulse"
-                else f"{entry.kind.lower()} {entry.neighbour} {wire_words(entry.what)}")
-        lines[entry.vertex].append(f"{entry.vertex} {what}")
-    return transcript_text(head.nodes, lines)
-
-
 class Transcripts(Case):
     def test_worked(self):
         for network, transcript, said in WORKED:
@@ -313,16 +283,13 @@ class Transcripts(Case):
             self.note(f"a run of an edge without line {at + 1}", not got[0].startswith("whole"), got)
 
     def test_made(self):
-        """Two runs of each network by the definitions, one in each layout; and the payloads of both are the same."""
-        source, wrong, different = random.Random(SEED), [], []
+        """Two runs of each network by the definitions, one in each layout."""
+        source, wrong = random.Random(SEED), []
         for i, (data, net) in enumerate(networks()):
             runs = [made_transcript(source, net, CAPACITIES[(i + k) % 3]) for k in range(2)]
             texts = [transcript_text(len(runs[0]), runs[0]), mixed_text(source, len(runs[1]), runs[1])]
             wrong += [(data, said_of(net, made)) for made in texts if not is_counted(net, made, said_of(net, made)[0])]
-            if payload_puts(texts[0]) != payload_puts(transcript_text(len(runs[1]), runs[1])):
-                different.append(data)
         self.note(f"two runs of each of {i + 1} networks by the definitions", not wrong, wrong[:1])
-        self.note("two runs of a network put the same payloads", not different, different[:1])
 
     def test_mistakes(self):
         """Each refused transcript is refused at the entry that the search names, each accepted one is a run in the
@@ -333,9 +300,10 @@ class Transcripts(Case):
             said, words = said_of(net, data)
             accepted[mistake] += code is None
             codes.add(code)
-            verdicts = [said.rpartition(": ")[2] if words else None, replayed(net, ordered)]
-            verdicts.append(replayed_by(PLAY, network, net, ordered))
-            if verdicts != [code] * len(verdicts):
+            # The program plays what isn't whole, too.
+            played = said_by(network, ordered) or ("NotWhole" if code == "NotWhole" else "")
+            verdicts = [said.rpartition(": ")[2] if words else "", replayed(net, ordered) or "", played.split(": ")[-1]]
+            if verdicts != [code or ""] * 3:
                 wrong.append((mistake, network, data, code, verdicts))
         self.note("400 transcripts with a mistake, beside a replay", not wrong, f"{len(wrong)}: {wrong[:1]}")
         self.same("all but swapped entries are refused", [accepted[mistake] for mistake in MISTAKES[:3]], [0, 0, 0])
@@ -445,33 +413,6 @@ class Transcripts(Case):
                 os.kill(machine, signal.SIGKILL)
             self.note(f"{number.name}: the machine ends", machine and (status, is_left) == (128 + number, False),
                       (machine, status, is_left))
-
-    def test_large(self):
-        """Long transcripts, each read and searched in one go: 60,000 entries of few nodes, or of nodes with many
-        neighbours."""
-        source = random.Random(SEED)
-        for name, nodes, edges in [("a star", 41, {(v, 41) for v in range(1, 41)}),
-                                   ("all joined", 8, {(v, w) for w in range(1, 9) for v in range(1, w)}),
-                                   ("a long path", 300, {(v, v + 1) for v in range(1, 300)})]:
-            net = network_of(text_of(source, nodes, edges))
-            data = transcript_text(nodes, made_transcript(source, net, 4))
-            self.note(f"the transcript of {name}", is_counted(net, data, said_of(net, data)[0]), said_of(net, data))
-
-    def test_programs(self):
-        """The program's transcripts with each number of workers and each capacity by turns."""
-        wrong, other_bytes, count = [], [], 0
-        for count, (network, net) in enumerate(networks(), 1):
-            words = ["--edition", "1", "--workers", WORKERS[count % 4], "--capacity", CAPACITIES[count % 3]]
-            status, data, fault = called(PLAN, "transcript", *words, data=network)
-            if (status, fault) != (0, b"") or not is_counted(net, data, said_of(net, data)[0]):
-                wrong.append((network, words, status, fault, said_of(net, data)))
-            elif data != written_anew(data):
-                other_bytes.append((network, words, data[:2000]))
-        self.note(f"the program's transcripts of {count} networks", not wrong, f"{len(wrong)}: {wrong[:1]}")
-        self.note("the program's transcripts byte for byte", not other_bytes, other_bytes[:1])
-        for workers in WORKERS:
-            done = called(PLAN, "transcript", "--edition", 1, "--workers", workers, data=b"p col 2 0\n")
-            self.same(f"two nodes apart, {workers} workers", done, (0, text(APART), b""))
 
     def test_one_worker(self):
         """With one worker the whole text is known: what it does in a look is defined, and nobody else does anything.
