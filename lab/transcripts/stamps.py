@@ -2,7 +2,7 @@
 clock. It is written from the pages in docs/ alone."""
 from collections import deque
 
-from lab.definitions.nodes import Colouring, NetState, Refused, entry_words, make, missing_words, wire_words
+from lab.definitions.nodes import Colouring, NetState, Refused, event_of, make, missing_words, wire_words
 from lab.transcripts.reading import Wrong, words
 from lab.transcripts.rules import Standing, rule_of, stuck_words
 
@@ -73,7 +73,7 @@ def why_refused(state, entry, refused):
 
 
 def lacked(state, entry, refused):
-    """What an entry lacks, as far as the words of its rule don't say it."""
+    """What an entry lacks, or what is due there, as far as the words of its rule don't say it."""
     match str(refused):
         case "NoSuch" if entry.vertex in state.nodes:
             return f", which is no neighbour of {entry.vertex}"
@@ -81,11 +81,12 @@ def lacked(state, entry, refused):
             return f", but the nodes are 1 to {len(state.nodes)}"
         case "NothingToPut":
             return ", for which it has nothing"
-        case "LinkEmpty":
-            return ""
-        case "NotReady" if (node := state.nodes[entry.vertex]).pulse_number == node.last:
-            return ""
-    return entry_words(state, entry, refused)
+        case "NotReady" if lacks := standing(state, entry.vertex).lacks:
+            return f", but it lacks {lacks}"
+        case "WrongWire":
+            due = state.carried(*event_of(state, entry))
+            return f", but the next one there is {due if entry.kind == 'Pulse' else wire_words(due)}"
+    return ""
 
 
 def why_link_empty(entry, entries):

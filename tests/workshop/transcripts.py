@@ -15,17 +15,17 @@ ROWS = (
     (f"1 1 put 2 {HELLO_1}|2 1 put 2 safe 0|",
      f"line 3: NothingToPut: node 1 puts safe 0 for 2, for which it has nothing; {SAFE}; {NO_ACK}"),
     (GREETED + "3 2 put 1 ack 1|",
-     "line 6: WrongWire: node 2 puts ack 1 for 1: expected ack 0; a payload is acknowledged with its own pulse as soon "
-     "as it is taken, before anything else is put on that link"),
+     "line 6: WrongWire: node 2 puts ack 1 for 1, but the next one there is ack 0; a payload is acknowledged with its "
+     "own pulse as soon as it is taken, before anything else is put on that link"),
     ("1 1 put 2 payload 0 hello 7|",
-     "line 2: WrongWire: node 1 puts payload 0 hello 7 for 2: expected payload 0 hello 1; the rounds have payload 0 "
-     "hello 1 there"),
+     "line 2: WrongWire: node 1 puts payload 0 hello 7 for 2, but the next one there is payload 0 hello 1; the rounds "
+     "have payload 0 hello 1 there"),
     ("1 1 put 2 safe 0|",
-     "line 2: WrongWire: node 1 puts safe 0 for 2: expected payload 0 hello 1; in pulse 0 it has to send payload 0 "
-     "hello 1 for 2 first"),
+     "line 2: WrongWire: node 1 puts safe 0 for 2, but the next one there is payload 0 hello 1; in pulse 0 it has to "
+     "send payload 0 hello 1 for 2 first"),
     ("1 1 put 2 payload 1 label 0|",
-     "line 2: WrongWire: node 1 puts payload 1 label 0 for 2: expected payload 0 hello 1; the node is at pulse 0, and "
-     "a payload of pulse P is put after pulse P is made"),
+     "line 2: WrongWire: node 1 puts payload 1 label 0 for 2, but the next one there is payload 0 hello 1; the node is "
+     "at pulse 0, and a payload of pulse P is put after pulse P is made"),
     (f"1 1 put 2 {HELLO_1}|2 1 put 2 close|",
      "line 3: NothingToPut: node 1 puts close for 2, for which it has nothing; close is the last wire of a link, put "
      "as the node makes its last pulse, 18; it is at pulse 0"),
@@ -35,7 +35,8 @@ ROWS = (
     (ACKED + "5 1 put 2 safe 0|6 1 put 2 safe 1|",
      "line 11: NothingToPut: node 1 puts safe 1 for 2, for which it has nothing; the node is at pulse 0, and safe P is "
      "said in pulse P"),
-    ("1 1 pulse 1|", f"line 2: NotReady: node 1 makes pulse 1: ack 0 of 2; safe 0 of 2; {PULSE}; {NO_ACK}"),
+    ("1 1 pulse 1|",
+     f"line 2: NotReady: node 1 makes pulse 1, but it lacks ack 0 of 2; safe 0 of 2; {PULSE}; {NO_ACK}"),
     ("1 3 pulse 1|", "line 2: NoSuch: node 3 makes pulse 1, but the nodes are 1 to 2"),
     ("1 1 put 1 safe 0|", "line 2: NoSuch: node 1 puts safe 0 for 1, which is no neighbour of 1"),
     (f"1 1 take 2 {HELLO_2}|1 2 put 1 {HELLO_2}|",
@@ -57,13 +58,13 @@ ROWS = (
     # Something is.
     (f"1 1 put 2 {HELLO_1}|", "line 2: NotWhole: after the last entry node 1 is at pulse 0 of 18 (is the text cut?)"),
     # An entry before a line that is none comes first.
-    ("1 1 pulse 1|1 1 put 2 payload 0 colour -2|", f"line 2: NotReady: node 1 makes pulse 1: ack 0 of 2; safe 0 of "
-                                                   f"2; {PULSE}; {NO_ACK}"),
+    ("1 1 pulse 1|1 1 put 2 payload 0 colour -2|",
+     f"line 2: NotReady: node 1 makes pulse 1, but it lacks ack 0 of 2; safe 0 of 2; {PULSE}; {NO_ACK}"),
     (ACKED + "5 1 put 2 safe 0|6 1 put 2 safe 0|",
      f"line 11: NothingToPut: node 1 puts safe 0 for 2, for which it has nothing; {SAFE}; it has put safe 0 for 2 "
      "already"),
     # All is acknowledged, so nothing is said of acknowledgements.
-    (ACKED + "5 1 pulse 1|", f"line 10: NotReady: node 1 makes pulse 1: safe 0 of 2; {PULSE}"),
+    (ACKED + "5 1 pulse 1|", f"line 10: NotReady: node 1 makes pulse 1, but it lacks safe 0 of 2; {PULSE}"),
     (f"1 1 put 2 {HELLO_1}|1 1 put 2 payload 0 colour -2|", "line 3: X1: not an entry: `-2` is no number of a "
                                                             "colour, which is below 2^128"),
     ("x 1 pulse 1|", "line 2: X1: not an entry: `x` is no number of a stamp, which is below 2^64"),
@@ -107,7 +108,7 @@ class Transcripts(Case):
              "line 3: NotWhole: after the last entry nothing is on its way, and not all is done: node 1 at pulse 0 "
              "doesn't put 2 ack 0; node 2 at pulse 0 doesn't put 1 ack 0"),
             (f"1 put 2 {HELLO_1}|1 pulse 2|1 put 2 odd|",
-             f"line 3: NotReady: node 1 makes pulse 2: ack 0 of 2; safe 0 of 2; {PULSE}; {NO_ACK}"),
+             f"line 3: NotReady: node 1 makes pulse 2, but it lacks ack 0 of 2; safe 0 of 2; {PULSE}; {NO_ACK}"),
             (f"1 put 2 {HELLO_1}|1 take 2 {HELLO_2}|2 put 1 odd|", "line 4: X1: not an entry: `odd` is no wire, which "
                                                                    "are payload, ack, safe, close"),
         ):
