@@ -24,8 +24,7 @@ CALLS = {
 
 def ended(line, *words, **given):
     """What a line of shell ends with: its status, its output, and what it says besides."""
-    done = run_line(line, *words, limit=LIMIT, **given)
-    return done.returncode, done.stdout, done.stderr
+    return run_line(line, *words, limit=LIMIT, **given)
 
 
 class Endings(Case):

@@ -342,10 +342,10 @@ class FirstRun(Case):
         """Each script that can be called, in a tree without crates."""
         top = os.path.join(self.folder, "scripts")
         found = []
-        for name in ("docs", "tests", "lab", "build", "bench"):
+        for name in ("docs", "examples", "tests", "lab", "build", "bench"):
             shutil.copytree(os.path.join(TOP, name), os.path.join(top, name),
                             ignore=shutil.ignore_patterns("__pycache__"))
-            for at, _, files in os.walk(os.path.join(top, name)):
+            for at, _, files in os.walk(os.path.join(top, name)) if name != "examples" else ():
                 found += [os.path.join(at, file) for file in files if is_called(os.path.join(at, file))]
         for script in sorted(found):
             name = os.path.relpath(script, top).removesuffix(".py").removesuffix("/__main__")
