@@ -4,9 +4,8 @@ import importlib
 import os
 import sys
 
-MODULES = {"completion": "completion", "prove": "prove", "prove-crate": "prove_crate", "install": "install",
-           "new-program": "new_program", "pack": "pack", "program": "program", "promises": "promises",
-           "schedule": "schedule", "vendor": "vendor", "wrong-bodies": "wrong_bodies"}
+MODULES = {"completion": "completion", "install": "install", "new-program": "new_program", "pack": "pack",
+           "program": "program", "promises": "promises", "vendor": "vendor", "wrong-bodies": "wrong_bodies"}
 
 
 def main():

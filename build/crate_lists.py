@@ -2,6 +2,8 @@
 import os
 
 TOP = os.path.dirname(os.path.dirname(os.path.abspath(__file__)))
+# The crates that are programs.
+PROGRAMS = ("forestplan", "forestplay")
 
 
 def lines_of(top=TOP):
@@ -11,9 +13,9 @@ def lines_of(top=TOP):
     return {line.partition(":")[0].split()[0]: line for line in lines if ":" in line.partition("#")[0]}
 
 
-def listed():
-    """The crates of crates.txt in their order, each with those of this repository that its line names."""
-    lines = lines_of()
+def listed(top=TOP):
+    """The crates of a repository's crates.txt in their order, each with those of the repository that its line names."""
+    lines = lines_of(top)
     named = {crate: line.partition("#")[0].partition(":")[2].split() for crate, line in lines.items()}
     return {crate: [name for name in names if name in lines] for crate, names in named.items()}
 

@@ -9,7 +9,7 @@ import sys
 import tempfile
 
 from build import completion, kit, manuals, note, program, readme
-from build.order import PROGRAMS
+from build.crate_lists import PROGRAMS
 from lab import checksums, version
 from lab.door import held
 from lab.words import parser_of

@@ -10,17 +10,17 @@ from build import kit
 from build.crate_lists import TOP
 
 
-def program_at(name):
-    return os.path.join(TOP, "crates", name, "out", name)
+def program_at(name, top=TOP):
+    return os.path.join(top, "crates", name, "out", name)
 
 
 def note_at(name):
     return f"{program_at(name)}.made-from"
 
 
-def sources_of(name):
-    """The sum of what a program is made from: its crates, and their lines of crates.txt."""
-    return kit.sums([name])[name]
+def sources_of(name, top=TOP):
+    """The sum of what a program is made from in a repository: its crates, and their lines of crates.txt."""
+    return kit.sums([name], top)[name]
 
 
 def words_of(name, sources):

@@ -1,9 +1,10 @@
 """Proves and builds a program, if it isn't built from the sources as they are now; the script `forestplan` calls it."""
-import signal
+import os
+import shutil
 import sys
 
-from build import kit, note, prove
-from build.order import PROGRAMS
+from build import gate, kit, note, offered
+from build.crate_lists import PROGRAMS
 from lab.words import parser_of
 
 # The status if a program can't be built.
@@ -23,6 +24,16 @@ Example:
 """
 
 
+def put(name, room):
+    """Puts a program into place that was proved in a room, and a note beside it, if the sources are still those."""
+    to = note.program_at(name)
+    os.makedirs(os.path.dirname(to), exist_ok=True)
+    shutil.copy(note.program_at(name, room), f"{to}.new")
+    os.replace(f"{to}.new", to)
+    note.take(name, note.sources_of(name, room))
+    offered.share(room)
+
+
 def build(name):
     """Proves and builds a program, and returns the status."""
     if not kit.command():
@@ -31,10 +42,8 @@ def build(name):
         return NOT_BUILT
     print(f"{name}: not built from these sources yet; it is proved and built now, once: 15 to 33 minutes on four free "
           "processors, twice as long on two", file=sys.stderr, flush=True)
-    signal.signal(signal.SIGTERM, signal.default_int_handler)
-    status = prove.proved([name], prove.jobs_with_room(), name) if kit.is_there(name) else 2
-    if status in (0, 130):
-        return status
+    if kit.is_there(name) and gate.run(name, [name], take=lambda room: put(name, room)) is not None:
+        return 0
     print(f"{name}: it could not be built; the lines above say why", file=sys.stderr)
     return NOT_BUILT
 

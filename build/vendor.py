@@ -10,8 +10,6 @@ from lab.words import parser_of
 
 # What of a crate is copied: what it is proved from, and what shows that its contracts refuse wrong bodies.
 PARTS = ("src", "specs", "proofs", "must-fail")
-# What `python3 build prove NAME` needs besides build/, which takes what is proved here from the store.
-LAB = ("__init__.py", "door.py", "version.py", "wrong.py")
 
 HELP = """\
 Copies crates of this tree, and all below them, into another repository.
@@ -20,8 +18,7 @@ A crate goes to crates/NAME there, and its line into crates.txt, which is made i
 isn't there. A crate that is there already stays if it says the same; if it says anything
 else, nothing is copied, unless --replace is given. Then write a line of your own, as
 mine: node_api interference sync_rounds
-and `rt try`, `rt check` and `rt ci` work there. With --build the folder build/ goes
-along, so that `python3 build prove mine` takes from the store what ./forestplan has
+and `rt try`, `rt check` and `rt ci` work there; `rt ci mine` takes what ./forestplan has
 proved here. Copies know nothing of later changes: call it again with --replace.
 If it can't be copied to the end, as on a full disk, the repository stays as it was.
 They stay under the licences of this tree, LICENSE-MIT or LICENSE-APACHE.
@@ -31,8 +28,8 @@ MORE_HELP = """\
 Status: 0 done, 1 it can't be copied, 2 the command line is refused.
 
 Examples:
-  python3 build vendor ~/mine sync_rounds           a node program, run round by round
-  python3 build vendor ~/mine node_pool --build     one that runs on worker threads
+  python3 build vendor ~/mine sync_rounds     a node program, run round by round
+  python3 build vendor ~/mine node_pool       one that runs on worker threads
 """
 
 
@@ -49,15 +46,6 @@ def copy(crate, room):
         source = os.path.join(TOP, "crates", crate, part)
         if os.path.isdir(source):
             shutil.copytree(source, os.path.join(room, "crates", crate, part))
-
-
-def copy_build(room):
-    """Copies what proves from the store: build/, and the door that it calls."""
-    leave = shutil.ignore_patterns("__pycache__")
-    shutil.copytree(os.path.join(TOP, "build"), os.path.join(room, "build"), ignore=leave)
-    os.mkdir(os.path.join(room, "lab"))
-    for name in LAB:
-        shutil.copy(os.path.join(TOP, "lab", name), os.path.join(room, "lab", name))
 
 
 def put(room, top, crates):
@@ -82,8 +70,8 @@ def handles(top):
         return None
 
 
-def vendor(top, crates, replaces, has_build):
-    """Copies crates in the order of crates.txt, and adds their lines; build/ too, if that is asked for."""
+def vendor(top, crates, replaces):
+    """Copies crates in the order of crates.txt, and adds their lines."""
     lines, there = lines_of(), lines_of(top) if os.path.exists(os.path.join(top, "crates.txt")) else {}
     changed = [crate for crate in crates if differs(crate, top) or there.get(crate, lines[crate]) != lines[crate]]
     if changed and not replaces:
@@ -99,8 +87,6 @@ def vendor(top, crates, replaces, has_build):
                 file.write("# one line a crate, lowest layer first:  NAME: DEP DEP ..\n" + text)
         if handles(top) is None:
             shutil.copy(os.path.join(TOP, "HANDLES"), room)
-        if has_build:
-            copy_build(room)
         put(room, top, crates)
 
 
@@ -114,7 +100,6 @@ def main():
     words.add_argument("dir", metavar="DIR", help="the top of the other repository")
     words.add_argument("crates", metavar="CRATE", nargs="+", help="crates of crates.txt")
     words.add_argument("--replace", action="store_true", help="crates that say something else are replaced")
-    words.add_argument("--build", action="store_true", help="copies build/ too, which proves from the store")
     asked = words.parse_args()
     below = listed()
     unknown = [crate for crate in asked.crates if crate not in below]
@@ -125,7 +110,7 @@ def main():
         words.error("DIR has to be a folder that is there, and not this tree")
     crates = with_below(asked.crates, below)
     try:
-        vendor(top, crates, asked.replace, asked.build)
+        vendor(top, crates, asked.replace)
     except OSError as failed:
         print(f"vendor: {reason(failed)}", file=sys.stderr)
         return 1

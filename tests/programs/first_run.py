@@ -1,8 +1,8 @@
 """Tests of the first call of a program, which proves and builds it: of the script `forestplan`, build/program.py and
-build/prove.py.
+build/gate.py.
 
-They run in a tree of three crates, over a command `rt` that proves nothing: it has what the scripts use of the
-toolchain's, and its program prints a line. And each script of tests/, lab/, build/ and bench/ has to say with --help
+They run in a tree of three crates, over a command `rt` that proves nothing: it says what `rt ci` says, keeps what it
+has passed, and its program prints a line. And each script of tests/, lab/, build/ and bench/ has to say with --help
 what it does, where nothing is built and there is no toolchain."""
 import ast
 import itertools
@@ -16,81 +16,95 @@ import tempfile
 import time
 
 from tests import TOP
-from tests.cases import Case
+from tests.cases import Case, text_in
 from tests.commands import HELPS
-from tests.shell import without_rt
+from tests.shell import wait_until, without_rt
 
 # Seconds; a busy machine is slow.
 LIMIT = 300
 
-# In place of the toolchain's command, and of its module. A crate whose source has the word `wrong` isn't proved, and
-# one with `slow` takes a minute.
+# In place of the toolchain's command. A crate whose source has the word `wrong` isn't proved, and one with `slow` not
+# before a minute has passed, or the file `go` is there.
 RT = """#!/usr/bin/env python3
+import hashlib
 import os
+import sys
 import time
-import types
 
-
-def handles_of(root):
-    with open(f"{root}/HANDLES") as text:
-        return text.read()
-
-
-KIT = os.environ.get("XDG_CACHE_HOME", "kit")
+KEPT = os.path.join(os.environ["XDG_CACHE_HOME"], "kept")
 
 
 class Crate:
-    def __init__(self, folder, root, known, above=()):
+    def __init__(self, folder, root, known):
         self.folder, self.name = folder, os.path.basename(folder)
-        self.is_program = self.name == "forestplan"
-        with open(f"{root}/crates.txt") as text:
-            lines = dict(line.split(":") for line in text if ":" in line)
-        self.deps = [Crate(f"{root}/crates/{lower}", root, known) for lower in lines[self.name].split()]
-
-    def below(self):
-        return [it for dep in self.deps for it in [*dep.below(), dep]]
-
-    def words(self, flags, keeps=True):
-        if not all(os.path.isfile(f"{it.rlib}/format") for it in self.below()):
-            raise SystemExit("a crate below isn't there")
-        return flags
-
-    def prove(self, words):
-        with open(f"{self.folder}/src/lib.rt") as text:
-            said = text.read()
-        if "slow" in said:
-            os.chdir(self.folder)
-            time.sleep(61)
-        print(f"asks besides: {rtlib.help_of('check')}.")
-        if "wrong" in said:
-            print(f"fn {self.name}::f: not proved")
-            return 1
-        to = os.path.join(self.folder, words[-1])
-        if to.endswith(".rlib"):
-            os.makedirs(to)
-            to += "/format"
-        with open(to, "w") as made:
-            made.write(said if "format" in to else "#!/bin/sh\\necho \\"$@\\"; cat\\n")
-        return 0
 
     def stamp(self):
         with open(f"{self.folder}/src/lib.rt") as text:
             return text.read()
 
-    def link(self, made, program):
-        os.rename(f"{self.folder}/{made}", f"{self.folder}/{program}")
-        os.chmod(f"{self.folder}/{program}", 0o755)
-        return 0
-
 
 def offer(crate, stamp):
-    with open(f"{crate.folder}/out/rlib/{crate.name}.rlib/format") as text, open(f"{KIT}.offered", "a") as said:
+    with open(f"{crate.folder}/out/rlib/{crate.name}.rlib/format") as text, open(f"{KEPT}/offered", "a") as said:
         said.write(f"{crate.name} {stamp == crate.stamp() == text.read()}\\n")
 
 
-rtlib = types.SimpleNamespace(Crate=Crate, guarded=lambda: [], help_of=lambda command: "--empty-contracts")
+def say(*lines):
+    print(*lines, sep="\\n", flush=True)
+
+
+def prove(name, source, key):
+    if os.path.exists(f"{KEPT}/{key}"):
+        say(f"rt: {name} is kept: an earlier run on this machine proved the same files over the same libraries")
+        return True
+    end = time.monotonic() + 61
+    say(f"== {name}")
+    while "slow" in source and time.monotonic() < end and not os.path.exists(f"{KEPT}/go"):
+        time.sleep(0.05)
+    if "wrong" in source:
+        say(f"fn {name}::f: not proved", f"rt: {name} NOT PROVED")
+        return False
+    say("logic=proved", f"rt: {name} proved")
+    os.makedirs(f"{KEPT}/{key}")
+    return True
+
+
+def make(name, source):
+    made = f"crates/{name}/out/" + (name if name == "forestplan" else f"rlib/{name}.rlib/format")
+    os.makedirs(os.path.dirname(made))
+    with open(made, "w") as file:
+        file.write("#!/bin/sh\\necho \\"$@\\"; cat\\n" if name == "forestplan" else source)
+    os.chmod(made, 0o755)
+
+
+def ci():
+    with open("HANDLES") as text:
+        if text.read() != "Handles allowed: none.\\n":
+            say("rt: HANDLES is one line", "0 passed, 1 failed")
+            return 2
+    with open("crates.txt") as text:
+        below = {line.split(":")[0]: line.split(":")[1].split() for line in text}
+    if sys.argv[1:] != ["ci"] or os.listdir(".git") or sorted(below) != sorted(os.listdir("crates")):
+        raise SystemExit("no repository of these crates alone")
+    keys, failed = {}, []
+    for name, lower in below.items():
+        source = Crate(f"crates/{name}", "", {}).stamp()
+        keys[name] = hashlib.sha256(repr((source, [keys[it] for it in lower])).encode()).hexdigest()
+        if not prove(name, source, keys[name]):
+            failed.append(name)
+            break
+        make(name, source)
+        folder = f"crates/{name}/must-fail"
+        for edit in sorted(os.listdir(folder)) if os.path.isdir(folder) else ():
+            with open(f"{folder}/{edit}") as text:
+                said = text.read()
+            say(f"rt: must-fail {name}/{edit}: {said}")
+            failed += [edit] * said.startswith("NOT")
+    say(f"{len(below)} passed, {len(failed)} failed")
+    return 1 if failed else 0
+
+
 if __name__ == "__main__":
-    raise SystemExit(2)
+    raise SystemExit(ci())
 """
 CRATES = "# below\nlower:\nmiddle: lower\n\n# not of the program\naside: lower\n\nforestplan: middle\n"
 
@@ -118,16 +132,15 @@ class Tree:
         write(os.path.join(self.top, "crates.txt"), CRATES)
         for crate in ("lower", "middle", "aside", "forestplan"):
             self.source(crate, "fine")
-            write(os.path.join(self.top, "crates", crate, "must-fail", "bug.edit"), "")
+            write(os.path.join(self.top, "crates", crate, "must-fail", "bug.edit"), "NOT REFUSED: an edit of the gate")
             write(os.path.join(self.top, "crates", crate, "out", "old"), "")
         kit = os.path.join(folder, "kits", "rattle", "bin")
         write(os.path.join(kit, "rt"), RT, 0o755)
-        write(os.path.join(kit, "rattle"), "")
         self.kit = os.path.join(folder, "kits", "rattle", "KIT-ID")
         shutil.copy(os.path.join(TOP, "build", "kit_name.txt"), self.kit)
         self.environment = dict(os.environ, PATH=f"{kit}:{os.environ['PATH']}",
                                 XDG_CACHE_HOME=os.path.join(folder, "cache"))
-        self.store = os.path.join(folder, "cache", "forestplan")
+        self.cache = os.path.join(folder, "cache")
 
     def source(self, crate, text):
         write(os.path.join(self.top, "crates", crate, "src", "lib.rt"), f"//! {text}\n")
@@ -147,30 +160,23 @@ class Tree:
         return started.returncode, out, err
 
     def at_work(self):
-        """The provers that are in the store."""
+        """The provers that are in the user's cache."""
         found = []
         for process in filter(str.isdigit, os.listdir("/proc")):
             try:
                 where = os.readlink(f"/proc/{process}/cwd")
             except OSError:
                 continue
-            if where.startswith(os.path.realpath(self.store)):
+            if where.startswith(os.path.realpath(self.cache)):
                 found.append(process)
         return found
 
-    def log(self, crate):
-        with open(os.path.join(self.top, "out", "build", f"{crate}.log"), encoding="utf-8") as text:
+    def log(self, name="forestplan"):
+        with open(os.path.join(self.top, "out", "build", f"{name}.log"), encoding="utf-8") as text:
             return text.read()
 
-
-def wait_until(what):
-    """Whether it comes true before the limit."""
-    end = time.monotonic() + LIMIT
-    while not what():
-        if time.monotonic() > end:
-            return False
-        time.sleep(0.05)
-    return True
+    def kept(self, name):
+        return os.path.join(self.cache, "kept", name)
 
 
 def is_called(path):
@@ -199,6 +205,7 @@ class FirstRun(Case):
         self.run_offered(tree)
         self.run_failures(tree)
         self.run_stopped(tree)
+        self.run_wrong_bodies(tree)
         self.run_versions(tree)
         self.run_kits(tree)
 
@@ -241,10 +248,11 @@ class FirstRun(Case):
         status, out, err = tree.call("plain", "x", given="input\n")
         self.note("what the program prints", (status, out) == (0, "plain x\ninput\n"), (status, out))
         lines = err.splitlines()
-        self.note("the first line of progress", "forestplan: 0 of 3 crates proved, 0 s: now lower" in lines, err)
-        self.note("the last line", re.fullmatch(r"forestplan: 3 crates proved and built in \d+ s", lines[-1]), err)
-        self.note("the log of a crate", "processor seconds: " in tree.log("middle"), tree.log("middle"))
-        self.note("what is left to the gate", "asks besides: .\n" in tree.log("middle"), tree.log("middle"))
+        self.note("a line of progress",
+                  re.search(r"^forestplan: 3 of 3 crates proved, \d+ s, the last one forestplan$", err, re.M), err)
+        self.note("the last line", re.fullmatch(r"forestplan: 3 crates proved in \d+ s", lines[-1]), err)
+        self.note("the log", "== middle\nlogic=proved\nrt: middle proved\n" in tree.log(), tree.log())
+        self.note("the gate's edits are left to the gate", "must-fail" not in tree.log(), tree.log())
         got = tree.call("plan", given="again")
         self.note("a second call builds nothing", got == (0, "plan\nagain", ""), got)
         tree.source("some_checks", "tests")
@@ -259,56 +267,49 @@ class FirstRun(Case):
         write(os.path.join(tree.top, "crates.txt"), CRATES)
         tree.source("middle", "changed")
         status, out, err = tree.call("plan")
-        self.note("a changed source is proved",
-                  (status, out) == (0, "plan\n") and " 1 of 3 crates proved, 0 s: now middle" in err, err)
-        self.note("and what lies above it", " 2 of 3 crates proved" in err and " 3 of 3 crates proved" in err, err)
+        self.note("a changed source is proved, and what lies above it",
+                  (status, out, re.findall("^== (.*)", tree.log(), re.M)) == (0, "plan\n", ["middle", "forestplan"]),
+                  (err, tree.log()))
         tree.source("middle", "fine")
         got = tree.call("plan")
-        self.note("the state before is still known",
-                  got[:2] == (0, "plan\n") and " 3 of 3 crates proved, 0 s: nothing to do" in got[2], got)
-        self.note("no room is left",
-                  sorted(os.listdir(tree.store)) == ["checkout", "forestplan", "lock", "lower", "middle"],
-                  os.listdir(tree.store))
+        self.note("the state before is still known", got[:2] == (0, "plan\n") and "== " not in tree.log(), tree.log())
+        self.note("no room is left", sorted(os.listdir(os.path.join(tree.cache, "forestplan")))
+                  == ["checkout", "room.lock"])
 
     def run_elsewhere(self, tree, folder):
-        """Another checkout of the same user, with the same sources but for one crate."""
+        """Another checkout of the same user, with the same sources."""
         other = Tree(folder)
-        other.environment, other.store = tree.environment, tree.store
+        other.environment, other.cache = tree.environment, tree.cache
         got = other.call("plan")
         self.note("another checkout takes over what is proved",
-                  got[:2] == (0, "plan\n") and " 3 of 3 crates proved, 0 s: nothing to do" in got[2], got)
-        for at in range(5):
-            other.source("middle", f"state {at}")
-            self.note(f"state {at}", other.call("plan")[:2] == (0, "plan\n"))
-        self.note("old states are forgotten", len(os.listdir(os.path.join(tree.store, "middle"))) == 2,
-                  os.listdir(tree.store))
+                  got[:2] == (0, "plan\n") and "== " not in other.log(), (got, other.log()))
 
     def run_failures(self, tree):
-        tree.source("middle", "wrong")
+        for crate in ("middle", "forestplan"):
+            tree.source(crate, "wrong")
+            status, out, err = tree.call("plan")
+            self.note(f"{crate}, which isn't proved",
+                      status == 70 and not out and f"the crate {crate} isn't proved" in err, (status, out, err))
+            self.note(f"the end of what is said of {crate}", f"  fn {crate}::f: not proved\n" in err
+                      and "out/build/forestplan.log" in err and "forestplan: it could not be built" in err, err)
+            tree.source(crate, "fine once more")
+            status, out, _ = tree.call("plan")
+            self.note(f"{crate} is mended", (status, out) == (0, "plan\n"), (status, out))
+        tree.source("middle", "to be refused")
+        write(os.path.join(tree.top, "HANDLES"), "all")
         status, out, err = tree.call("plan")
-        self.note("a crate that isn't proved", status == 70 and not out and "the crate middle isn't proved" in err,
-                  (status, out, err))
-        self.note("the end of its log", "  fn middle::f: not proved\n" in err and "out/build/middle.log" in err, err)
-        tree.source("middle", "fine once more")
-        status, out, _ = tree.call("plan")
-        self.note("and mended", (status, out) == (0, "plan\n"), (status, out))
-        tree.source("forestplan", "wrong")
-        status, out, err = tree.call("plan")
-        self.note("a program that isn't proved",
-                  status == 70 and not out and "the crate forestplan isn't proved" in err, (status, out, err))
-        self.note("what is left to the gate of it", "asks besides: .\n" in tree.log("forestplan"),
-                  tree.log("forestplan"))
-        tree.source("forestplan", "fine")
-        status, out, _ = tree.call("plan")
-        self.note("and is mended", (status, out) == (0, "plan\n"), (status, out))
+        self.note("a repository that is refused", status == 70 and not out and "rt ci ended with status 2" in err
+                  and "  rt: HANDLES is one line\n" in err, (status, out, err))
+        write(os.path.join(tree.top, "HANDLES"), "Handles allowed: none.\n")
 
     def run_stopped(self, tree):
         tree.source("lower", "anew")
         tree.source("middle", "slow")
-        for at, sent in enumerate((signal.SIGINT, signal.SIGTERM)):
+        for at, sent in enumerate((signal.SIGINT, signal.SIGTERM, signal.SIGKILL)):
             with tree.begun("plan") as first:
                 try:
-                    self.note(f"at work {at}", wait_until(tree.at_work))
+                    self.note(f"at work {at}", wait_until(lambda: tree.at_work() and "== middle" in tree.log(), LIMIT))
+                    self.note(f"what is proved is kept {at}", at == 0 or "rt: lower is kept" in tree.log(), tree.log())
                     if at == 0:
                         with tree.begun("plan") as second:
                             line = second.stderr.readline() + second.stderr.readline()
@@ -321,22 +322,51 @@ class FirstRun(Case):
                 except BaseException:
                     os.killpg(first.pid, signal.SIGKILL)
                     raise
+            if sent != signal.SIGKILL:
+                said = "what is proved is kept, so the next call goes on from here"
+                self.note(f"what it says {at}", said in err, err)
             if sent == signal.SIGINT:
                 self.note("the status of a stopped call", first.returncode == 130, first.returncode)
-            self.note(f"what it says {at}", "what is proved is kept, so the next call goes on from here" in err, err)
-            self.note(f"how far it was {at}", f" {at} of 3 crates proved, 0 s: now {('lower', 'middle')[at]}" in err,
-                      err)
-            self.note(f"nothing goes on {at}", wait_until(lambda: not tree.at_work()), tree.at_work())
+            self.note(f"nothing goes on {at}", wait_until(lambda: not tree.at_work(), LIMIT), tree.at_work())
+        self.run_on(tree)
+
+    def run_on(self, tree):
+        """If the script alone is killed, the prover goes on, and the next call waits for it."""
         with tree.begun("plan") as killed:
-            self.note("at work once more", wait_until(tree.at_work))
-            os.killpg(killed.pid, signal.SIGKILL)
-            killed.wait(LIMIT)
-        self.note("nothing goes on after a call that was killed", wait_until(lambda: not tree.at_work()),
-                  tree.at_work())
-        tree.source("middle", "fast")
-        self.note("the next call", tree.call("plan")[:2] == (0, "plan\n"))
-        self.note("no room is left of those", not [name for name in os.listdir(tree.store) if name.startswith("room-")],
-                  os.listdir(tree.store))
+            self.note("at work once more", wait_until(tree.at_work, LIMIT))
+            parent = int(text_in(f"/proc/{tree.at_work()[0]}/stat").rpartition(")")[2].split()[1])
+            os.kill(parent, signal.SIGKILL)
+            killed.communicate(timeout=LIMIT)
+        with tree.begun("plan") as after:
+            line = after.stderr.readline() + after.stderr.readline()
+            self.note("the next call waits", "waiting for its end" in line and tree.at_work(), line)
+            write(tree.kept("go"), "")
+            out, err = after.communicate("", timeout=LIMIT)
+        self.note("and takes over what went on", (after.returncode, out) == (0, "plan\n") and "== " not in tree.log(),
+                  (err, tree.log()))
+
+    def run_wrong_bodies(self, tree):
+        """Edits are tried in the place of the gate's, and each is counted by what `rt ci` says of it."""
+        weak = "refused, as it must be (only because a proof file names what the edit took away)"
+        for edits, wanted, status in (
+                ({"one": "refused, as it must be"}, ["1 refused, 0 of them WEAK, 0 PROVED, 0 not run"], 0),
+                ({"two": weak}, [f"WEAK crates/middle/wrong-bodies/two.edit{weak.removeprefix('refused')}",
+                                 "2 refused, 1 of them WEAK, 0 PROVED, 0 not run"], 3),
+                ({"two": "NOT REFUSED: still proved", "three": "BAD EDIT: no text"},
+                 ["BAD EDIT crates/middle/wrong-bodies/three.edit: no text",
+                  "PROVED crates/middle/wrong-bodies/two.edit: still proved",
+                  "1 refused, 0 of them WEAK, 1 PROVED, 1 not run"], 1)):
+            for name, said in edits.items():
+                write(os.path.join(tree.top, "crates", "middle", "wrong-bodies", f"{name}.edit"), said)
+            done = subprocess.run([sys.executable, "-S", "build", "wrong-bodies", "middle"], cwd=tree.top, text=True,
+                                  env=tree.environment, capture_output=True, timeout=LIMIT)
+            self.note(f"wrong bodies {edits}", (done.returncode, done.stdout.splitlines()) == (status, wanted), done)
+        tree.source("lower", "wrong")
+        done = subprocess.run([sys.executable, "-S", "build", "wrong-bodies", "middle/one"], cwd=tree.top, text=True,
+                              env=tree.environment, capture_output=True, timeout=LIMIT)
+        self.note("a crate below that isn't proved", done.returncode == 1 and "lower isn't proved" in done.stderr
+                  and done.stdout.endswith("\n0 refused, 0 of them WEAK, 0 PROVED, 1 not run\n"), done)
+        tree.source("lower", "fine")
 
     def test_helps(self):
         """Each script that can be called, in a tree without crates."""
@@ -357,29 +387,12 @@ class FirstRun(Case):
         self.note("no script has made anything", not os.path.exists(os.path.join(top, "crates")))
 
     def run_offered(self, tree):
-        """What is proved is offered to `rt check`: each library of the store, with the stamp of its text, and again if
-        that has changed. Nothing else is."""
-        offered = f"{tree.environment['XDG_CACHE_HOME']}.offered"
-
-        def taken():
-            with open(offered, encoding="utf-8") as file:
-                lines = file.read().split("\n")[:-1]
-            os.remove(offered)
-            return lines
-
-        taken()
+        """What is proved is offered to `rt check`: each library, with the stamp of its text."""
         tree.source("middle", "to be offered")
+        os.remove(tree.kept("offered"))
         self.note("a program to offer of", tree.call("plan")[:2] == (0, "plan\n"))
-        lines = taken()
+        lines = text_in(tree.kept("offered")).splitlines()
         self.note("both libraries are offered as they are", sorted(lines) == ["lower True", "middle True"], lines)
-        tree.source("forestplan", "anew")
-        self.note("a program over the same libraries", tree.call("plan")[:2] == (0, "plan\n"))
-        lines = taken()
-        self.note("they are offered again", sorted(lines) == ["lower True", "middle True"], lines)
-        shutil.rmtree(os.path.join(tree.top, "crates", "forestplan", "out"))
-        got = tree.call("plan")
-        self.note("nothing is left to prove", got[:2] == (0, "plan\n") and "nothing to do" in got[2], got)
-        self.note("nothing is offered that was", not os.path.exists(offered))
 
     def run_versions(self, tree):
         """The version without a build, and a build without a run."""

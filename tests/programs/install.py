@@ -406,7 +406,7 @@ class Install(Case):
         """Crates go to another repository with those below them and their lines, and replace nothing unasked."""
         vendor, there = [*BUILD, "vendor"], os.path.join(self.folder, "other repository")
         os.mkdir(there)
-        got = run([*vendor, there, "cole_vishkin", "--build"])
+        got = run([*vendor, there, "cole_vishkin"])
         self.note("vendor", got[:2] == (0, b"") and b"2 crates" in got[2], got)
         lines = re.findall(r"(?m)^[^#\n].*$", contents(os.path.join(there, "crates.txt")).decode())
         self.same("their lines", lines, ["colour_base:", "cole_vishkin: colour_base"])
@@ -415,9 +415,6 @@ class Install(Case):
                 here, copy = (os.path.join(top, "crates", crate, part) for top in (TOP, there))
                 self.note(f"{part} of {crate}", subprocess.run(["diff", "-r", here, copy]).returncode == 0)
         self.note("nothing else of a crate", not os.path.exists(os.path.join(there, "crates", "cole_vishkin", "out")))
-        got = run(["python3", os.path.join(there, "build"), "prove", "cole_vishkin"])
-        said = b"prove: the toolchain's command rt is not on the PATH"
-        self.refusal("what proves is there, and wants the toolchain", got, 2, said)
         self.file(os.path.join(there, "crates.txt"), b"mine: cole_vishkin\n", "ab")
         changed = self.file(os.path.join(there, "crates", "colour_base", "src", "lib.rt"), b"// changed\n", "ab")
         got = run([*vendor, there, "shift_down"])
@@ -432,10 +429,9 @@ class Install(Case):
         os.mkdir(empty)
         for top in (there, empty):
             before = all_of(top)
-            for more in ([], ["--build"]):
-                got = run([*vendor, top, "sync_rounds", "--replace", *more], most=8_000)
-                is_one_line = re.fullmatch(rb"vendor: \[Errno \d+\] File too large: [^\n\[]+\n", got[2])
-                self.note(f"no room in {top} {more}", got[:2] == (1, b"") and is_one_line, got)
+            got = run([*vendor, top, "sync_rounds", "--replace"], most=8_000)
+            is_one_line = re.fullmatch(rb"vendor: \[Errno \d+\] File too large: [^\n\[]+\n", got[2])
+            self.note(f"no room in {top}", got[:2] == (1, b"") and is_one_line, got)
             self.note(f"{top} is as it was", all_of(top) == before)
         for words in ([there, "nothing"], [TOP, "forests"], [os.path.join(there, "away"), "forests"]):
             self.refusal(f"vendor {words}", run([*vendor, *words]), 2, b"vendor: error: ")

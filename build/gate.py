@@ -1,0 +1,133 @@
+"""Has the gate's command, `rt ci`, prove some crates and those below them: what a program is built from, and what wrong
+bodies are tried over.
+
+`rt ci NAME` works on a copy, and removes it with all that is built there. So the copy is made here, in the user's cache
+(`$XDG_CACHE_HOME`, else `~/.cache`): a repository of these crates alone, without their must-fail edits, on which no
+proof depends. What passes is kept by `rt` itself, beside the kit, crate by crate: so a call that was interrupted goes
+on where it was, another checkout proves nothing again, and the gate takes over what a first call has proved.
+"""
+import contextlib
+import fcntl
+import os
+import re
+import shutil
+import subprocess
+import sys
+import time
+
+from build import kit
+from build.crate_lists import TOP, lines_of, listed, with_below
+
+# What `rt ci` isn't given of a crate: what was built of it, and edits.
+LEFT_OUT = ("out", "must-fail", "wrong-bodies")
+PROVED = re.compile(r"^rt: (\w+) (?:proved$|is kept: )", re.M)
+NOT_PROVED = re.compile(r"^rt: (\w+)(?:: its tests are)? NOT PROVED.*$", re.M)
+
+
+@contextlib.contextmanager
+def new_room(name):
+    """A place for a folder in the user's cache, and the lock on it: another call waits until this one ends."""
+    room = kit.in_cache("room")
+    os.makedirs(os.path.dirname(room), mode=0o700, exist_ok=True)
+    with open(f"{room}.lock", "w", encoding="ascii") as lock:
+        try:
+            fcntl.flock(lock, fcntl.LOCK_EX | fcntl.LOCK_NB)
+        except BlockingIOError:
+            print(f"{name}: another call is proving already; waiting for its end", file=sys.stderr, flush=True)
+            fcntl.flock(lock, fcntl.LOCK_EX)
+        shutil.rmtree(room, ignore_errors=True)
+        try:
+            yield room, lock
+        finally:
+            shutil.rmtree(room, ignore_errors=True)
+
+
+def copy(crates, room, edits):
+    """Makes a repository of these crates alone. The given edits of each are its must-fail edits there."""
+    os.makedirs(os.path.join(room, ".git"))
+    shutil.copy(os.path.join(TOP, "HANDLES"), room)
+    lines = lines_of()
+    with open(os.path.join(room, "crates.txt"), "w", encoding="utf-8") as text:
+        text.writelines(f"{lines[crate]}\n" for crate in crates)
+    for crate in crates:
+        here, there = (os.path.join(top, "crates", crate) for top in (TOP, room))
+        shutil.copytree(here, there, symlinks=True, ignore=lambda at, _, here=here: LEFT_OUT if at == here else ())
+        for edit in edits.get(crate, ()):
+            os.makedirs(os.path.join(there, "must-fail"), exist_ok=True)
+            shutil.copy(edit, os.path.join(there, "must-fail"))
+
+
+class Shown:
+    """The progress on standard error: on a terminal one line that is rewritten, else a line when crates are proved."""
+
+    def __init__(self, name, total):
+        self.name, self.total, self.start, self.count = name, total, time.monotonic(), -1
+        self.is_terminal = sys.stderr.isatty()
+
+    def time(self):
+        minutes, seconds = divmod(int(time.monotonic() - self.start), 60)
+        return f"{minutes} min {seconds} s" if minutes else f"{seconds} s"
+
+    def tick(self, proved):
+        """Called about twice a second with the crates that are proved so far."""
+        line = f"{self.name}: {len(proved)} of {self.total} crates proved, {self.time()}"
+        line += f", the last one {proved[-1]}" if proved else ""
+        if self.is_terminal:
+            print(f"\r\033[K{line[:shutil.get_terminal_size().columns - 1]}", end="", file=sys.stderr, flush=True)
+        elif len(proved) > self.count:
+            print(line, file=sys.stderr, flush=True)
+        self.count = len(proved)
+
+    def end(self, text):
+        print(("\r\033[K" if self.is_terminal else "") + f"{self.name}: {text}", file=sys.stderr, flush=True)
+
+
+def followed(rt, log, shown):
+    """What `rt ci` has said when it ends, or when a crate isn't proved."""
+    said = ""
+    with open(log, encoding="utf-8", errors="replace") as text:
+        while True:
+            has_ended = rt.poll() is not None
+            said += text.read()
+            shown.tick(PROVED.findall(said))
+            if has_ended or NOT_PROVED.search(said):
+                return said
+            time.sleep(0.5)
+
+
+def tell_failure(shown, status, said, log):
+    found = NOT_PROVED.search(said)
+    what = f"the crate {found[1]} isn't proved" if found else f"rt ci ended with status {status}"
+    shown.end(f"{what}; the last lines of {os.path.relpath(log, TOP)} are:")
+    for line in said[:found.end() if found else None].splitlines()[-12:]:
+        print(f"  {line}", file=sys.stderr)
+
+
+def run(name, crates, edits=None, take=None):
+    """Has these crates proved with those below them, and these edits of each tried, and calls `take` with the folder in
+    which all is built. Returns what `rt ci` said, or None if a crate isn't proved, which standard error says then."""
+    wanted, edits = with_below(crates, listed()), edits or {}
+    log, shown = os.path.join(TOP, "out", "build", f"{name}.log"), Shown(name, len(wanted))
+    os.makedirs(os.path.dirname(log), exist_ok=True)
+    try:
+        with new_room(name) as (room, lock):
+            copy(wanted, room, edits)
+            # If this process is killed, `rt` goes on, and the lock with it.
+            with open(log, "wb") as to, subprocess.Popen(
+                    [kit.command(), "ci"], cwd=room, stdin=subprocess.DEVNULL, stdout=to, stderr=subprocess.STDOUT,
+                    pass_fds=[lock.fileno()]) as rt:
+                try:
+                    said = followed(rt, log, shown)
+                finally:
+                    # All that it has started ends with it.
+                    rt.kill()
+            if NOT_PROVED.search(said) or rt.returncode not in ((0, 1) if edits else (0,)):
+                tell_failure(shown, rt.returncode, said, log)
+                return None
+            if take:
+                take(room)
+    except (KeyboardInterrupt, SystemExit):
+        shown.end(f"interrupted after {shown.time()}; what is proved is kept, so the next call goes on from here")
+        raise
+    shown.end(f"{len(wanted)} crates proved in {shown.time()}")
+    return said
