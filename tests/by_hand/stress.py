@@ -46,42 +46,36 @@ def disturbed(source, words, data, limit):
             beside.callback(busy.kill)
         started = subprocess.Popen(words, stdin=subprocess.PIPE, stdout=subprocess.PIPE, stderr=subprocess.PIPE,
                                    preexec_fn=lambda: os.nice(source.choice((0, 0, 5))))
-        mover = beside.enter_context(Mover(source, started.pid))
+        moves = beside.enter_context(moved(source, started.pid))
         try:
             output, errors = started.communicate(data, timeout=limit)
         except subprocess.TimeoutExpired:
             started.kill()
             output, errors = started.communicate()
-        return (started.returncode, output, errors), mover.moves
+        return (started.returncode, output, errors), len(moves)
 
 
-class Mover:
-    """Moves the threads of a process between processors while it runs."""
+@contextlib.contextmanager
+def moved(source, pid):
+    """Moves the threads of a process between processors while it runs; what it gives has a mark of each move."""
+    source, moves, is_over = random.Random(source.random()), [], threading.Event()
 
-    def __init__(self, source, pid):
-        self.source, self.pid, self.moves = random.Random(source.random()), pid, 0
-
-    def __enter__(self):
-        self.is_over = threading.Event()
-        self.thread = threading.Thread(target=self.move_on)
-        self.thread.start()
-        return self
-
-    def __exit__(self, *_):
-        self.is_over.set()
-        self.thread.join()
-
-    def move_on(self):
-        while not self.is_over.wait(self.source.choice((0.0002, 0.001, 0.005))):
+    def go_on():
+        while not is_over.wait(source.choice((0.0002, 0.001, 0.005))):
             with contextlib.suppress(OSError):
-                self.move_all()
+                only = [source.choice(PROCESSORS)] if source.random() < 0.3 else None
+                for thread in os.listdir(f"/proc/{pid}/task"):
+                    some = only or source.sample(PROCESSORS, source.randint(1, len(PROCESSORS)))
+                    os.sched_setaffinity(int(thread), some)
+                    moves.append(thread)
 
-    def move_all(self):
-        only = [self.source.choice(PROCESSORS)] if self.source.random() < 0.3 else None
-        for thread in os.listdir(f"/proc/{self.pid}/task"):
-            some = only or self.source.sample(PROCESSORS, self.source.randint(1, len(PROCESSORS)))
-            os.sched_setaffinity(int(thread), some)
-            self.moves += 1
+    mover = threading.Thread(target=go_on)
+    mover.start()
+    try:
+        yield moves
+    finally:
+        is_over.set()
+        mover.join()
 
 
 def fault_in(play, data, answer):

@@ -1,5 +1,6 @@
 """What the tests of pictures share: how a picture is drawn, and the texts that it is drawn from, by the definitions."""
 import random
+import re
 
 from lab.definitions.colours import network_of
 from lab.pictures import picture
@@ -61,6 +62,11 @@ class PictureCase(Case):
     def by_rounds(self, network, text, *options):
         """The tally that is counted by a text of rounds."""
         return self.picture(["tally", self.file("net.col", network), "--rounds", self.file("text", text), *options])
+
+    def refused(self, name, done, words=b"", status=1):
+        """Nothing is drawn, and one line says why; of words that are refused more."""
+        good = done[:2] == (status, b"") and words in done[2]
+        self.note(f"refused: {name}", good and (status == 2 or re.fullmatch(rb"picture: [^\n]+\n", done[2])), done)
 
     def words_rows(self, name, network, text):
         """Neither the payloads' words nor the names of pulses overlap or reach over the edge. A bold letter of DejaVu

@@ -84,11 +84,6 @@ class Pictures(PictureCase):
             self.refused(f"{kind} without line {at + 1}",
                          self.done(kind, APART, b"\n".join(rows[:at] + rows[at + 1 :])))
 
-    def refused(self, name, done, words=b''):
-        status, picture, fault = done
-        self.note(f"refused: {name}",
-                  (status, picture) == (1, b"") and re.fullmatch(rb"picture: [^\n]+\n", fault) and words in fault, done)
-
     def test_sizes(self):
         """Above its size a kind refuses and names the kind to use."""
         for kind, nodes, instead in (("plan", 401, b"use matrix"), ("matrix", 2001, b"check"),

@@ -271,21 +271,18 @@ class Schedules(PictureCase):
                               ("put 9 0\n", b"line 2: `put 9 0` isn't possible there"),
                               ("put 2 0\nput 1 1\n", b"line 3: `put 1 1` isn't possible there")):
             path = self.file("run.events", f"c a run\n{events}")
-            self.refused("a text that is no run", "schedules", TWO, "--events", path, words=words)
+            self.refused_of("a text that is no run", "schedules", TWO, "--events", path, words=words)
 
-    def refused(self, name, kind, network, *options, words=b'', status=1):
-        done = self.painter([kind, "-", *options], network)
-        good = done[:2] == (status, b"") and words in done[2]
-        self.note(f"refused: {name}", good and (status == 2 or re.fullmatch(rb"picture: [^\n]+\n", done[2])), done)
+    def refused_of(self, name, kind, network, *options, words=b"", status=1):
+        self.refused(name, self.painter([kind, "-", *options], network), words, status)
 
     def test_refused(self):
         for kind in ("schedules", "adversary"):
-            self.refused(f"{kind} of five nodes", kind, FIVE, words=b"at most 4 nodes")
-            self.refused(f"{kind} without nonsense", kind, TWO, "--without", "safe", words=b"safes", status=2)
-        self.refused("schedules of all of four", "schedules", ALL_OF_FOUR, words=b"at most 200,000 states")
+            self.refused_of(f"{kind} of five nodes", kind, FIVE, words=b"at most 4 nodes")
+            self.refused_of(f"{kind} without nonsense", kind, TWO, "--without", "safe", words=b"safes", status=2)
+        self.refused_of("schedules of all of four", "schedules", ALL_OF_FOUR, words=b"at most 200,000 states")
         for window, words in (("0..105", b"0 to 104"), ("3..2", b"0 to 104"), ("0..9,", b"two numbers")):
-            self.refused(f"schedules of events {window}", "schedules", TWO, "--columns", window, words=words,
-                         status=2 if "," in window else 1)
-        self.refused("schedules of 109 events", "schedules", STAR, "--columns", "0..109", words=b"at most 108 events")
-        self.refused("schedules of too many steps", "schedules", STAR, "--columns", "0..108",
-                     words=b"draw fewer events")
+            self.refused_of(f"schedules of events {window}", "schedules", TWO, "--columns", window, words=words,
+                            status=2 if "," in window else 1)
+        for window, words in (("0..109", b"at most 108 events"), ("0..108", b"draw fewer events")):
+            self.refused_of(f"schedules of events {window}", "schedules", STAR, "--columns", window, words=words)

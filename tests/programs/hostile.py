@@ -33,26 +33,6 @@ MARKS = [b"\xef\xbb\xbf", b"\xff\xfe", b"\xfe\xff", b"\r\n", b"\r\r\n", b"\n\r",
          b"\xc2\xa0", b"\xe2\x80\xa8", b"\x1b[2J"]
 
 
-class Programs:
-    """The built programs under the library that runs them on many texts."""
-
-    def __init__(self, front):
-        self.front = front
-
-    def differences(self, command, texts):
-        """Of texts in batches: how many there were, how many had no fault, and the first that is answered otherwise.
-        The slow reader reads a batch while the program does."""
-        count, good, rest = 0, 0, iter(texts)
-        while batch := list(islice(rest, BATCH)):
-            running = Running(self.front, [PATHS[PROGRAM_OF[command]]] + WORDS[command], batch)
-            answers = [answer_to(command, data) for data in batch]
-            for data, wanted, got in zip(batch, answers, running.answers()):
-                if got != wanted:
-                    return count, good, (data[:3000], len(data), wanted, got)
-                count, good = count + 1, good + (wanted[0] != 1)
-        return count, good, None
-
-
 def each_byte(data):
     """Each byte in place of each of the text, and before it."""
     places, values = range(len(data) + 1), [bytes([b]) for b in range(256)]
@@ -113,15 +93,28 @@ class Hostile(Case):
     @classmethod
     def setUpClass(cls):
         folder = cls.enterClassContext(tempfile.TemporaryDirectory())
-        cls.programs = Programs(build_front(folder, "run_each"))
+        cls.front = build_front(folder, "run_each")
         cls.first, cls.texts, cls.seed = int(setting("first")), int(setting("texts")), setting("seed")
         only = setting("only").split(",") if setting("only") else PROGRAM_OF
         if not set(only) <= set(PROGRAM_OF):
             raise AssertionError(f"--only has a word that is no command: {setting('only')}")
         cls.commands = [command for command in COMMANDS if command.name in only]
 
+    def differences(self, command, texts):
+        """Of texts in batches: how many there were, how many had no fault, and the first that is answered otherwise.
+        The slow reader reads a batch while the program does."""
+        count, good, rest = 0, 0, iter(texts)
+        while batch := list(islice(rest, BATCH)):
+            running = Running(self.front, [PATHS[PROGRAM_OF[command]]] + WORDS[command], batch)
+            answers = [answer_to(command, data) for data in batch]
+            for data, wanted, got in zip(batch, answers, running.answers()):
+                if got != wanted:
+                    return count, good, (data[:3000], len(data), wanted, got)
+                count, good = count + 1, good + (wanted[0] != 1)
+        return count, good, None
+
     def row(self, name, command, texts):
-        count, good, different = self.programs.differences(command, texts)
+        count, good, different = self.differences(command, texts)
         self.note(f"{name}, {command}", different is None and count > 0, different)
         return count, good
 

@@ -6,7 +6,6 @@ bar channels."""
 import itertools
 import random
 import re
-from collections import Counter
 
 from lab.definitions.colours import Network, bit, colours, first_colours, merge, plan_text, three
 from lab.definitions.rounds import rounds_text
@@ -17,17 +16,8 @@ from tests.settings import PLAN
 SEED = 2026
 
 
-def is_fit(nodes, edges, bars, plan):
-    """Whether each vertex has a channel of 1 to the greatest degree plus the greatest number of bars plus one, none has
-    a barred one, and no two neighbours have the same."""
-    rows = [(int(v), int(channel)) for v, channel in re.findall(rb"(\d+) (\d+)\n", plan)]
-    channels = dict(rows)
-    greatest_degree = max(Counter(v for edge in edges for v in edge).values(), default=0)
-    most = greatest_degree + max(map(len, bars.values()), default=0) + 1
-    return (re.fullmatch(rb"plan\n(\d+ \d+\n)*", plan) is not None
-            and [v for v, _ in rows] == list(range(1, nodes + 1))
-            and all(1 <= channel <= most and channel not in bars.get(v, ()) for v, channel in channels.items())
-            and all(channels[v] != channels[w] for v, w in edges))
+def nothing(*_):
+    return {}
 
 
 def long_names(source, nodes):
@@ -113,8 +103,13 @@ def shapes(source):
     edge."""
     for shape, most in [(path, 40), (cycle, 40), (tree, 40), (star, 40), (two_sided, 40), (complete, 16)] * 8:
         nodes = source.randint(13, 40)
-        names = source.sample(range(1, nodes + 1), source.randint(3, min(nodes, most)))
-        yield nodes, {(min(pair), max(pair)) for pair in shape(source, names)}
+        yield nodes, shaped(source, shape, nodes, source.randint(3, min(nodes, most)))
+
+
+def shaped(source, shape, nodes, count):
+    """The edges of a shape on so many of the vertices, in any order."""
+    names = source.sample(range(1, nodes + 1), count)
+    return {(min(pair), max(pair)) for pair in shape(source, names)}
 
 
 def path(_, names):
@@ -190,32 +185,17 @@ class PlainNetworks(Case):
         ]:
             self.same(f"the definition: {name}", got, wanted)
 
-    def families(self, families, names_of=lambda *_: {}, bars_of=lambda *_: {}):
-        """One row for the bytes, and one that looks at neighbours and channels without the definition."""
-        for title, networks in families:
-            source = random.Random(f"{SEED} {title}")
-            different, unfit, count = [], [], 0
-            for count, (nodes, edges) in enumerate(networks(source), 1):
-                bars = bars_of(source, nodes)
-                network = text_of(source, nodes, edges, names_of(source, nodes), bars)
-                done = called(PLAN, "plain", data=network)
-                if done != (0, plan_text(network), b""):
-                    different.append((count, network, done))
-                if not is_fit(nodes, edges, bars, done[1]):
-                    unfit.append((count, network, done))
-            self.note(f"plain by the definition, {count} networks, {title}", count > 0 and not different,
-                      f"{len(different)} differ, the first is {different[:1]}")
-            self.note(f"plain has neighbours apart and few channels, {count} networks, {title}", not unfit,
-                      f"{len(unfit)} have not, the first is {unfit[:1]}")
-
     def test_families(self):
-        self.families(FAMILIES)
-
-    def test_names(self):
-        self.families(NAMED, long_names)
-
-    def test_bars(self):
-        self.families(BARRED, bars_of=some_bars)
-
-    def test_names_and_bars(self):
-        self.families(NAMED_AND_BARRED, long_names, some_bars)
+        for families, names_of, bars_of in ((FAMILIES, nothing, nothing), (NAMED, long_names, nothing),
+                                            (BARRED, nothing, some_bars), (NAMED_AND_BARRED, long_names, some_bars)):
+            for title, networks in families:
+                source = random.Random(f"{SEED} {title}")
+                different, count = [], 0
+                for count, (nodes, edges) in enumerate(networks(source), 1):
+                    bars = bars_of(source, nodes)
+                    network = text_of(source, nodes, edges, names_of(source, nodes), bars)
+                    done = called(PLAN, "plain", data=network)
+                    if done != (0, plan_text(network), b""):
+                        different.append((count, network, done))
+                self.note(f"plain by the definition, {count} networks, {title}", count > 0 and not different,
+                          f"{len(different)} differ, the first is {different[:1]}")

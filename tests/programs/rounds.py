@@ -8,23 +8,12 @@ from lab.definitions.colours import network_of
 from lab.definitions.nodes import ports_of, synchronous_pulses
 from lab.definitions.rounds import FIRST_MERGE, head_of, merge_step, phase_words, rounds_text
 from tests.cases import Case, called, examples, text
-from tests.commands import EDGE, TRIANGLE
-from tests.programs.black_box import FOUR, STAR
-from tests.programs.plain_networks import (climbing, complete, cycle, path, random_of, some_bars, star, text_of, tree,
-                                           two_sided)
+from tests.commands import EDGE
+from tests.programs.plain_networks import (climbing, complete, cycle, path, random_of, shaped, some_bars, star, text_of,
+                                           tree, two_sided)
 from tests.settings import PLAY
 
 SEED = 2026
-# A network text, the first line of its rounds, and the colours of all nodes after the merge of each forest, by hand.
-# The last pulse is 12 + 3 U (D + B + 1): of the star 12 + 3 * 1024, of two nodes without an edge 12.
-MERGES = [
-    ("four nodes that are all neighbours", FOUR, "rounds 1 4 3 3 48", [(0, 1, 0, 1), (2, 1, 0, 2), (1, 2, 0, 3)]),
-    ("a triangle with a bar", TRIANGLE + "b 3 1|", "rounds 2 3 2 1 2 36", [(0, 2, 1), (0, 2, 1)]),
-    ("two nodes with bars", "p edge 2 0|b 1 1|b 1 2|b 2 2|", "rounds 2 2 0 2 0 12", []),
-    ("the greatest star", STAR, "rounds 1 1024 1023 1 3084", [(0,) * 1023 + (1,)]),
-]
-
-
 # Node 2 is the root of the edge's forest: from 2 it steps to 0 and stays there, shifts to 1, then to 0, then to 1, and
 # is never dropped. Node 1 steps to 1 and stays there, and shifts to its parent's colour before. So node 1 ends with 0
 # and chooses at step 0, node 2 ends with 1 and chooses at step 2.
@@ -61,28 +50,14 @@ EMPTY_TEXT = "rounds 1 0 0 0 12|pulse 0 greet|pulse 1 orient|" + "".join(
 def networks():
     """Each by its name: the examples, and shapes."""
     all_of, source = examples(), random.Random(SEED)
-    names = list(range(1, 9))
     for shape in (path, cycle, tree, star, two_sided, complete):
-        order = source.sample(names, len(names))
-        all_of[shape.__name__] = text_of(source, 9, {(min(pair), max(pair)) for pair in shape(source, order)})
+        all_of[shape.__name__] = text_of(source, 9, shaped(source, shape, 9, 8))
     for title, family in [("random", random_of(8, 5, 14)), ("climbing", climbing(3, 40))]:
         for i, (nodes, edges) in enumerate(family(source)):
             all_of[f"{title} {i}"] = text_of(source, nodes, edges)
     for i, (nodes, edges) in enumerate(random_of(12, 1, 9)(source)):
         all_of[f"barred {i}"] = text_of(source, nodes, edges, bars=some_bars(source, nodes, 4))
     return all_of
-
-
-def merges_of(rounds):
-    """The colours that nodes chose, by the forest of the merge, each row by ascending node."""
-    chosen, forest = {}, None
-    for line in rounds.decode().splitlines():
-        words = line.split()
-        if words[0] == "pulse":
-            forest = int(words[3]) if words[2] == "merge" else None
-        elif words[1] == "chose":
-            chosen.setdefault(forest, {})[int(words[0])] = int(words[2])
-    return [tuple(chosen[f][v] for v in sorted(chosen[f])) for f in sorted(chosen)]
 
 
 def made_text(net):
@@ -108,13 +83,6 @@ def state_lines(net, p, v, node):
 
 
 class Rounds(Case):
-    def test_merges(self):
-        """The last pulse, and the colours after each merge."""
-        for name, data, head, merges in MERGES:
-            rounds = called(PLAY, "rounds", data=text(data))[1]
-            self.note(f"the first line of {name}", rounds.startswith(head.encode() + b"\n"), rounds[:80])
-            self.same(f"the merges of {name}", merges_of(rounds), merges)
-
     def test_texts(self):
         for name, data, wanted in [
             ("an edge", EDGE, EDGE_TEXT),
