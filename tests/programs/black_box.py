@@ -5,19 +5,21 @@ Expected answers are worked by hand, or come from the plain definition in lab/de
 the program.
 """
 import os
+import random
 
 from lab.definitions.colours import forests_text, plan_text
 from tests import TOP
 from tests.cases import Case, called, contents, example, examples, text
-from tests.commands import COMMANDS, HELPS, TRIANGLE, commands_of
-from tests.settings import PATHS, PLAN, PLAY, SECOND_PLAN
+from tests.commands import COMMANDS, HELPS, PROGRAMS, TRIANGLE, commands_of
+from tests.settings import PATHS, PLAN, SECOND_PLAN
 from tests.shell import run_line
 
-LIMIT = 300
+LIMIT, SEED = 300, 2026
 
 TRIANGLE_FORESTS = "forests 3 2|0 1 2|0 2 3|1 1 3|"
 # The last line of a refusal of a word that isn't known.
-READS = "forestplan reads the network from standard input: forestplan plan < FILE|"
+READS = {name: f"{name} reads the network from standard input: {name} {command} < FILE|"
+         for name, command in (("forestplan", "plan"), ("forestplay", "rounds"))}
 # Networks on which `plan` takes seconds: it is run of another star with as great a span, and of that with as great a
 # degree.
 LONG = ("the greatest star", "the greatest span")
@@ -42,6 +44,23 @@ PLANS = [
      [1, 1, 1, 3, 2, 1, 2, 1, 1]),
     ("a path of seven, three nodes alone", "p edge 10 6|e 2 3|e 3 5|e 5 6|e 6 7|e 7 8|e 8 10|",
      [1, 2, 1, 1, 2, 1, 2, 1, 1, 2]),
+]
+GOOD, BARRED_THREE = TRIANGLE + "plan|1 2|2 3|3 1|", TRIANGLE + "b 3 1|"
+# A text, and what `check` says of it; codes.py has one of each fault, hostile.py plans by chance.
+WORKED_VERDICTS = [
+    (GOOD, "proper 3"), (TRIANGLE, "C6 line 1"), ("p edge 0 0|plan|", "proper 0"), ("plan|1 2|", "F1"),
+    # a row with several faults: the vertex, then the second row, then the channel
+    (TRIANGLE + "plan|4 9|", "C2 vertex 4"), (TRIANGLE + "plan|1 2|1 9|3 1|", "C3 vertex 1"),
+    # rows before missing vertices, missing vertices before clashes, the first of each
+    (TRIANGLE + "plan|3 1|2 1|", "C1 vertex 1"), (TRIANGLE + "plan|3 1|2 1|1 1|", "C4 vertices 1 2"),
+    (TRIANGLE + "plan|1 1|1 2|9 9|x|", "C6 line 5"),
+    # layout, and a network that doesn't end in a line feed: the plan's first line is fields past the last that it needs
+    (TRIANGLE + "\t plan \r|\r||3 01|1 2\t|2  3", "proper 3"), (TRIANGLE[:-1] + "plan|1 2|", "F4 line 4"),
+    # row by row: a barred channel before a later row's fault, after an earlier one's, and before missing vertices
+    (BARRED_THREE + "plan|3 1|1 5|", "C8 vertex 3"), (BARRED_THREE + "plan|1 5|3 1|", "C5 vertex 1"),
+    (BARRED_THREE + "plan|1 1|2 4|3 2|", "proper 4"),
+    # a channel that is barred and above the greatest that is allowed
+    ("p edge 2 0|b 1 9|plan|1 9|2 1|", "C5 vertex 1"),
 ]
 
 
@@ -75,6 +94,11 @@ def barred_plans():
     ]
 
 
+def with_plan(nodes, edges, plan):
+    return (b"p edge %d %d\n" % (nodes, len(edges)) + b"".join(b"e %d %d\n" % edge for edge in edges) + b"plan\n"
+            + b"".join(b"%d %d\n" % row for row in plan))
+
+
 def closed_pipe():
     """The writing end of a pipe that nobody reads."""
     reading, writing = os.pipe()
@@ -83,35 +107,17 @@ def closed_pipe():
 
 
 class BlackBox(Case):
-    def test_builds(self):
-        """The script builds the program, or finds it built."""
-        built = called(os.path.join(TOP, "forestplan"), "forests", data=b"p edge 0 0\n")
-        self.same("the program builds", built[:2], (0, b"forests 0 0\n"))
-
     def test_forests(self):
+        """Rows by hand; what a text may be besides is for hostile.py, each fault for codes.py and own_networks.py."""
         rows = [
             ("triangle", TRIANGLE, TRIANGLE_FORESTS),
-            ("two nodes alone", "p col 2 0|", "forests 2 0|"),
             ("no node", "p edge 0 0|", "forests 0 0|"),
-            ("one edge", "p edge 2 1|e 1 2|", "forests 2 1|0 1 2|"),
-            ("an edge from above", "p edge 2 1|e 2 1|", "forests 2 1|0 1 2|"),
-            ("leading zeros", "p edge 2 1|e 01 0002|", "forests 2 1|0 1 2|"),
             ("path in an odd layout", ODD_PATH, "forests 3 1|0 1 2|0 2 3|"),
-            ("four-cycle", RING, "forests 4 2|0 1 2|0 2 3|0 3 4|1 1 4|"),
             ("complete graph on four", FOUR, "forests 4 3|0 1 2|0 2 3|0 3 4|1 1 3|1 2 4|2 1 4|"),
-            ("the lower vertex with the higher identifier", "p edge 2 1|i 1 7|e 1 2|", "forests 2 1|0 2 1|"),
             ("identifiers changed about, after the edges", "p edge 3 2|e 1 2|e 2 3|i 3 0 x|i 1 2|i 2 1|",
              "forests 3 1|0 2 1|0 3 2|"),
-            ("no line feed at the end", "p edge 2 1|e 1 2", "forests 2 1|0 1 2|"),
-            ("a triangle with a bar", TRIANGLE + "b 3 1|", TRIANGLE_FORESTS),
-            ("tabs and leading blanks", " \tp\tcol 2\t1|\t e 1  2|", "forests 2 1|0 1 2|"),
-            ("comment of bytes that are no text", "c\xff|p edge 1 0|", "forests 1 0|"),
-            ("lines that say nothing, and the greatest vertex", "cp x|d|v 1|x 1 2|p edge 20000 0|e 20000 1",
-             "forests 20000 1|0 1 20000|"),
-            ("edges in any order", "p edge 4 4|e 4 1|e 3 4|e 1 2|e 3 2|", "forests 4 2|0 1 2|0 2 3|0 3 4|1 1 4|"),
             ("the greatest identifier, and one with zeros before it",
              f"p edge 3 2|e 1 2|e 1 3|i 3 {2**128 - 1} x\r|\ti 01  0007|", "forests 3 1|0 1 3|0 2 1|"),
-            ("identifiers about 2^64", f"p edge 2 1|e 1 2|i 2 {2**64 - 1}|i 1 {'0' * 40}{2**64}", "forests 2 1|0 2 1|"),
             ("the greatest star", STAR, "forests 1024 1|" + "".join(f"0 {v} 1024|" for v in range(1, 1024))),
         ]
         for name, network, wanted in rows:
@@ -137,57 +143,35 @@ class BlackBox(Case):
             wanted = text(answers[name]) if name in answers else forests_text(network)
             for command, answer in (("forests", wanted), ("plain", plan_text(network)), ("plan", plan_text(network))):
                 self.same(f"{command} of example {name}", called(PLAN, command, data=network), (0, answer, b""))
+            checked = called(PLAN, "check", data=network + plan_text(network))
+            good = checked[::2] == (0, b"") and checked[1].startswith(b"proper ")
+            self.note(f"check of example {name}", good, checked)
             self.note(f"comment of {name}", network.startswith(b"c "), "an example begins with a comment line")
 
-    def test_faults(self):
-        """The order of faults, and limits; codes.py has one of each kind, own_networks.py what is said of others,
-        hostile.py what else a text may be."""
-        edge = "p edge 2 1|"
-        rows = [
-            ("p edge 2 1|p x|", "F2 line 2"),
-            ("p edge 3|", "F4 line 1"),
-            ("p nothing 3 1|", "F4 line 1"),
-            ("x1|", "F8 line 1"),
-            ("B 1 1|", "F8 line 1"),
-            ("\xff|", "F8 line 1"),
-            ("p edge 99999999999999999999999999 1|", "F7 line 1"),
-            (edge + "e 1 1|", "F6 line 2"),
-            (edge + "e 340282366920938463463374607431768211457 1|", "F5 line 2"),
-            (edge + "e 4294967297 4294967297|", "F5 line 2"),
-            (edge + "|c|e 1 1|e 0 0|", "F6 line 4"),
-            ("e x|p edge 2 1|", "F3 line 1"),
-            (edge + "e 1 1|q|", "F6 line 2"),
-            (edge + "i 1 +1|", "F4 line 2"),
-            (edge + "i 340282366920938463463374607431768211457 1|", "F5 line 2"),
-            (edge + "i 2 5|i 1 5|e 1 2|i 2 6|", "F12 line 5"),
-            (edge + "b 2 1|b 2 4294967297|", "F13 line 3"),
-            (edge + bars_of(1, 1, 1024) + "b 3 1|", "F5 line 1026"),
-            (edge + bars_of(2, 1025, 2048) + bars_of(1, 1, 1024) + bars_of(2, 2000, 2048) + "b 2 1024|",
-             "F14 line 2099"),
-            ("i x|p edge 2 1|", "F10 line 1"),
-            (edge + "i 3 x|", "F4 line 2"),
-            (edge + "i 1 5|i 1 340282366920938463463374607431768211456|", "F11 line 3"),
-            (edge + "i 1 2|e 1 2|", "N2 vertices 1 2"),
-            (edge + "i 1 9|i 2 009|", "N2 vertices 1 2"),
-            ("p edge 4 0|i 4 2|i 3 1|", "N2 vertices 1 3"),
-            ("p edge 4 0|i 3 1|i 4 2|", "N2 vertices 1 3"),
-            ("b x|p edge 2 1|", "F10 line 1"),
-            (edge + "b 3 x|", "F4 line 2"),
-            (edge + "b 0 2049|", "F5 line 2"),
-            (edge + "b 1 340282366920938463463374607431768211457|", "F13 line 2"),
-            (edge + "b 1 1|b 2 1|b 1 000|", "F13 line 4"),
-            (edge + bars_of(1, 1, 1025), "F14 line 1026"),
-            (edge + bars_of(2, 1024, 2048), "F14 line 1026"),
-            (edge + bars_of(1, 1, 1024) + bars_of(2, 1, 1024) + bars_of(1, 1, 1024) + "e 1 2|b 2 2048|b 1 2048|",
-             "F14 line 3075"),
-            (edge + bars_of(1, 1, 1024) + "b 1 2049|", "F13 line 1026"),
-            (edge + bars_of(1, 1, 1024) + "b 1 1|q|", "F8 line 1027"),
-            (edge + "e 1 1|" + bars_of(1, 1, 1025), "F6 line 2"),
-            (edge + "b 1 2|i 1 2|", "N2 vertices 1 2"),
-        ]
-        for network, fault in rows:
-            self.same(f"fault {fault} of {network[:50]!r}", called(PLAN, "forests", data=text(network)),
-                      (1, b"", f"forestplan: {fault}\n".encode()))
+    def says(self, name, data, said):
+        wanted = (0, f"{said}\n".encode(), b"") if said.startswith("proper") else (
+            1, b"", f"forestplan: {said}\n".encode())
+        self.same(name, called(PLAN, "check", data=data), wanted)
+
+    def test_verdicts(self):
+        for data, said in WORKED_VERDICTS:
+            self.says(f"verdict {said} of {data[-40:]!r}", text(data), said)
+
+    def test_shuffled(self):
+        """A cycle of 20,000 vertices, every second one with channel 2, and the rows in any order."""
+        plan = [(v, 1 + v % 2) for v in range(1, 20_001)]
+        random.Random(SEED).shuffle(plan)
+        data = with_plan(20_000, [(v, v % 20_000 + 1) for v in range(1, 20_001)], plan)
+        self.says("20,000 shuffled rows", data, "proper 2")
+
+    def test_largest(self):
+        """20,000 vertices in blocks of 40 that are joined to the next one's, 400,000 edges; then one clash at the
+        end."""
+        edges = [(v, v + d) for d in range(1, 21) for v in range(1, 20_001 - d)]
+        plan = [(v, 1 + v % 21) for v in range(1, 20_001)]
+        self.says("20,000 rows and 399,790 edges", with_plan(20_000, edges, plan), "proper 21")
+        plan[-1] = (20_000, plan[-2][1])
+        self.says("a clash at the end", with_plan(20_000, edges, plan), "C4 vertices 19999 20000")
 
     def test_edge_limit(self):
         """400,000 different edges are read; the one after is refused at its line, also after repeats."""
@@ -217,41 +201,36 @@ class BlackBox(Case):
 
     def test_refused_words(self):
         """Each text whole. The first line is the fault, then maybe a tip, the usage of what was named, and where help
-        is; after a word that isn't known, which may be the name of a file, where the network is read from."""
-        program, (forests, plain, plan, *_) = "forestplan <COMMAND>", [it.usage for it in commands_of("forestplan")]
-        names = ", ".join(command.name for command in commands_of("forestplan"))
-        none = f"'forestplan' requires a subcommand but one was not provided|  [subcommands: {names}]"
-        like_both = "||  tip: some similar subcommands exist: 'plain', 'plan'"
-        like_workers = "||  tip: a similar argument exists: '--workers'"
-        of_plan = "||  tip: 'plan --workers' exists"
+        is; after a word that isn't known, which may be the name of a file, where the network is read from. Which
+        options a command has is in its help."""
+        plan = next(it.usage for it in COMMANDS if it.name == "plan")
+        unknown = "unrecognized subcommand '{}'".format
         rows = [
-            ([], none, program),
-            (["nothing"], "unrecognized subcommand 'nothing'", program),
-            (["help"], "unrecognized subcommand 'help'", program),
-            (["plann"], "unrecognized subcommand 'plann'" + like_both, program),
-            (["--workers", "1", "plan"], "unexpected argument '--workers' found" + of_plan, program),
-            (["--version"], "unexpected argument '--version' found", program),
-            *(([it.name, "extra"], "unexpected argument 'extra' found", it.usage) for it in commands_of("forestplan")),
-            (["forests", "plain"], "unexpected argument 'plain' found", forests),
-            (["forests", "--workers", "1"], "unexpected argument '--workers' found", forests),
-            (["plain", "--turns", "1", "2"], "unexpected argument '--turns' found", plain),
-            (["plan", "--workers", "1", "2"], "unexpected argument '2' found", plan),
-            (["plan", "--workers", "-1"], "unexpected argument '-1' found", plan),
-            (["plan", "-w", "1"], "unexpected argument '-w' found", plan),
-            (["plan", "--edition", "1"], "unexpected argument '--edition' found", plan),
-            (["plan", "--worker", "1"], "unexpected argument '--worker' found" + like_workers,
-             "forestplan plan --workers <N>"),
-            (["plan", "--workers", "1", "--workers", "1"], "the argument '--workers <N>' cannot be used multiple times",
-             plan),
-            (["plan", "--turns=1", "--turns=2"], "the argument '--turns <N>' cannot be used multiple times", plan),
-            (["plan", "net.col"], "unexpected argument 'net.col' found", plan),
-            (["net.col"], "unrecognized subcommand 'net.col'", program),
-            (["plain", b"\xff"], "unrecognized subcommand '\N{REPLACEMENT CHARACTER}'", program),
-            ([b"\xff"], "unrecognized subcommand '\N{REPLACEMENT CHARACTER}'", program),
+            *(("forestplan", words, fault, usage) for words, fault, usage in (
+                (["plann"], unknown("plann") + "||  tip: some similar subcommands exist: 'plain', 'plan'", ""),
+                (["--workers", "1", "plan"],
+                 "unexpected argument '--workers' found||  tip: 'plan --workers' exists", ""),
+                (["--version"], "unexpected argument '--version' found", ""),
+                (["plan", "--workers", "1", "2"], "unexpected argument '2' found", plan),
+                (["plan", "-w", "1"], "unexpected argument '-w' found", plan),
+                (["plan", "--edition", "1"], "unexpected argument '--edition' found", plan),
+                (["plan", "--worker", "1"],
+                 "unexpected argument '--worker' found||  tip: a similar argument exists: '--workers'",
+                 "forestplan plan --workers <N>"),
+                (["plan", "--turns=1", "--turns=2"], "the argument '--turns <N>' cannot be used multiple times", plan),
+                (["plan", "net.col"], "unexpected argument 'net.col' found", plan))),
+            *((it.program, [it.name, "extra"], "unexpected argument 'extra' found", it.usage) for it in COMMANDS),
         ]
-        for words, fault, usage in rows:
+        for name in PROGRAMS:
+            names = ", ".join(command.name for command in commands_of(name))
+            rows.append((name, [], f"'{name}' requires a subcommand but one was not provided|  [subcommands: {names}]",
+                         ""))
+            rows += [(name, [word], unknown(word if isinstance(word, str) else "\N{REPLACEMENT CHARACTER}"), "")
+                     for word in ("nothing", "help", "net.col", b"\xff")]
+        for name, words, fault, usage in rows:
             is_unknown = fault.startswith(("unexpected argument", "unrecognized subcommand"))
-            self.expect_refused(words, f"{fault}||Usage: {usage}", READS if is_unknown else "")
+            said = f"{fault}||Usage: {usage or f'{name} <COMMAND>'}"
+            self.expect_refused(words, said, READS[name] * is_unknown, name)
 
     def test_refused_values(self):
         """Values of options that are refused. Each text whole; it has no usage."""
@@ -280,21 +259,10 @@ class BlackBox(Case):
         self.expect_refused(["plan", "--workers", "65", "--turns", "x"],
                             "invalid value '65' for '--workers <N>': 65 is not in 1..=64")
 
-    def test_refused_words_of_lessons(self):
-        names = ", ".join(command.name for command in commands_of("forestplay"))
-        none = f"'forestplay' requires a subcommand but one was not provided|  [subcommands: {names}]"
-        reads = "forestplay reads the network from standard input: forestplay rounds < FILE|"
-        self.expect_refused([], f"{none}||Usage: forestplay <COMMAND>", program=PLAY)
-        for word in ("check", "help", b"\xff"):
-            shown = word if isinstance(word, str) else "\N{REPLACEMENT CHARACTER}"
-            self.expect_refused([word], f"unrecognized subcommand '{shown}'||Usage: forestplay <COMMAND>", reads, PLAY)
-        for it in commands_of("forestplay"):
-            self.expect_refused([it.name, "extra"], f"unexpected argument 'extra' found||Usage: {it.usage}", reads,
-                                PLAY)
-
-    def expect_refused(self, words, fault, hint="", program=PLAN):
+    def expect_refused(self, words, fault, hint="", program="forestplan"):
         wanted = f"error: {fault}||For more information, try '--help'.|{hint}".replace("|", "\n")
-        self.same(f"refused words {words}", called(program, *words, data=text(TRIANGLE)), (2, b"", wanted.encode()))
+        done = called(PATHS[program], *words, data=text(TRIANGLE))
+        self.same(f"refused words {words} of {program}", done, (2, b"", wanted.encode()))
 
     def test_second_compiler(self):
         """The program as Rattle's own compiler builds it, which the gate leaves beside the other."""
