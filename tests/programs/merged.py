@@ -5,9 +5,12 @@ taken from a program."""
 import random
 
 from lab.definitions.colours import network_of
+from lab.definitions.programs import PROGRAMS
+from lab.schedules.simulate import played, text_of_rows
 from tests.cases import Case, called, text
 from tests.programs.made_transcripts import made_transcript, merged_text, odd, transcript_text
-from tests.programs.plain_networks import cycle, path, random_of, star, text_of, tree, two_sided
+from tests.programs.node_programs import SEQUELS
+from tests.programs.plain_networks import cycle, path, random_of, shaped, star, text_of, tree, two_sided
 from tests.programs.transcripts import (CAPACITIES, EDGE, EDGE_LINES, EDGE_WHOLE, HELLO_1, HELLO_2, NO_ENTRIES, SEED,
                                         is_counted, networks, said_by, said_of, small_networks)
 from tests.settings import PLAN, setting
@@ -34,12 +37,8 @@ WORKED = (
         ("p edge 2 0|", "transcript 2 2|" + "".join(f"{p} {v} pulse {p}|" for v in (1, 2) for p in range(1, 13)),
          "line 14: WrongStamp"),
         ("p edge 2 0|", "transcript 2 2|1 2 pulse 1|1 1 pulse 1|", "line 3: WrongStamp"),
-        # the reading
-        (EDGE, "transcript 2|", "line 1: X1"),
-        (EDGE, "transcript 2 2 2|", "line 1: X1"),
-        (EDGE, "transcript 3 2|", "line 1: X1"),
+        # the reading; heads are in transcripts.py
         (EDGE, "transcript 02 2|", "line 1: X1"),
-        (EDGE, "transcript 2 4294967296|", "line 1: X1"),
         (EDGE, f"transcript 2 2|1 put 2 {HELLO_1}|", "line 2: X1"),
         (EDGE, "transcript 1 2|1 1 pulse 1|", "line 2: X1"),
     ]
@@ -47,19 +46,14 @@ WORKED = (
         *(f"1 {entry}" for entry in NO_ENTRIES), "1", "1 pulse 1", "pulse 1", "-1 1 pulse 1", "x 1 pulse 1",
         "18446744073709551616 1 pulse 1", "99999999999999999999 1 pulse 1", "+1 1 pulse 1")]
     + [
-        # the stamps
-        (EDGE, GREETED, "line 5: NotWhole"),
+        # the stamps; entries that aren't possible are in tests/workshop/transcripts.py
         (EDGE, GREETED.replace("2 1 take", "3 1 take"), "line 4: WrongStamp"),
         (EDGE, GREETED.replace("2 2 take", "1 2 take"), "line 5: WrongStamp"),
         (EDGE, GREETED.replace("1 1 put", "0 1 put"), "line 2: WrongStamp"),
         (EDGE, GREETED.replace("1 1 put", f"{GREATEST} 1 put"), "line 2: WrongStamp"),
-        (EDGE, "transcript 2 2|1 1 pulse 1|", "line 2: NotReady"),
-        (EDGE, f"transcript 2 2|1 1 take 2 {HELLO_2}|", "line 2: LinkEmpty"),
-        (EDGE, "transcript 2 2|1 1 put 2 safe 0|", "line 2: WrongWire"),
         # an entry that isn't possible is that first, whatever its stamp is
         (EDGE, "transcript 2 2|7 1 pulse 1|", "line 2: NotReady"),
         (EDGE, "transcript 2 2|7 3 pulse 1|", "line 2: NoSuch"),
-        (EDGE, f"transcript 2 2|1 1 put 2 {HELLO_1}|2 1 put 2 safe 0|", "line 3: NothingToPut"),
     ]
 )
 
@@ -78,14 +72,23 @@ def of_another_node(source, rows, at):
     return [b"%s %s %s" % (stamp, source.choice(sorted(vertices - {vertex})), rest)]
 
 
-SPOILS = {"a stamp changed": with_stamp, "a line dropped": lambda source, rows, at: [],
+def another_payload(source, rows, at):
+    """The payload of a line with another word or number: of the program, of another, or too great."""
+    head, word, number = rows[at].rsplit(b" ", 2)
+    words = [b"hello", b"label", b"colour", b"chosen", b"free", b"take", b"joined", b"anew", b"hops", b"Take", b"freed"]
+    others = {(other, number) for other in words} | {(word, other) for other in (b"0", b"1", b"65535", b"65536", b"x")}
+    return [b" ".join([head, *source.choice(sorted(others - {(word, number)}))])]
+
+
+SPOILS = {"a stamp changed": with_stamp, "another payload": another_payload,
+          "a line dropped": lambda source, rows, at: [],
           "a line doubled": lambda source, rows, at: [rows[at]] * 2, "a line of another node": of_another_node}
 
 
 def spoiled(source, kind, data):
     """The text with one thing spoiled, and the first line that can be refused for it."""
     first, *rows = data.split(b"\n")[:-1]
-    at = source.randrange(len(rows))
+    at = source.choice([at for at, row in enumerate(rows) if b" payload " in row or kind != "another payload"])
     if kind == "two lines swapped":
         other = source.choice(
             [i for i in (at - 1, at + 1, source.randrange(len(rows))) if 0 <= i < len(rows) and i != at]
@@ -111,9 +114,8 @@ def networks_of_runs(source):
         yield from random_of(1, 2, 9)(source)
         for shape in path, cycle, tree, star, two_sided:
             nodes = source.randint(3, 12 if shape is two_sided else 40)
-            names = source.sample(range(1, nodes + 1), nodes)
-            pairs = {(min(pair), max(pair)) for pair in shape(source, names)}
-            if sum(1 for _ in pairs) < 60:
+            pairs = shaped(source, shape, nodes, nodes)
+            if len(pairs) < 60:
                 yield nodes, pairs
 
 
@@ -146,23 +148,23 @@ class Merged(Case):
         self.note(f"merged runs of {i + 1} networks by the definitions", not wrong, wrong[:1])
 
     def test_spoiled(self):
-        """Each is refused, and by the program at the same line with the same code."""
+        """Runs of four programs: each is refused, and by the program at the same line with the same code."""
         count = int(setting("spoiled"))
         source, wrong, codes = random.Random(SEED), [], set()
-        small = small_networks()
+        small = [(data, net) for data, net in small_networks() if net.number]
         for i in range(count):
-            kind = KINDS[i % len(KINDS)]
+            kind, run = KINDS[i % len(KINDS)], i // len(KINDS)
             if kind == KINDS[0]:
-                network, net = source.choice(small)
-                lines = made_transcript(source, net, CAPACITIES[i % 3])
-                merged = merged_text(len(lines), lines)
+                (network, net), program = source.choice(small), PROGRAMS[("colouring", *SEQUELS)[run % 4]]
+                rows = played(net, seed=str(run), program=program)
+                merged = text_of_rows(len(net.neighbours), rows, program).encode()
             data, least = spoiled(source, kind, merged)
-            said = said_of(net, data)[0]
-            got = said_by(network, data)
+            said = said_of(net, data, program)[0]
+            got = said_by(network, data, "--program", program.name)
             is_refused = said.startswith("line ")
             codes.add(said.rpartition(": ")[2])
             if not is_refused or got != said or int(said[5:].partition(":")[0]) < least:
-                wrong.append((kind, network, data, said, got, least))
+                wrong.append((kind, program.name, network, data, said, got, least))
         self.note(f"{count} spoiled merged texts are refused", not wrong, f"{len(wrong)}: {wrong[:1]}")
         wanted = {"X1", "NoSuch", "NotReady", "NothingToPut", "LinkEmpty", "WrongWire", "WrongStamp", "NotWhole"}
         self.note("refusals of each kind", wanted <= codes, codes)

@@ -6,7 +6,6 @@ program."""
 import contextlib
 import json
 import os
-import pickle
 import random
 import re
 import signal
@@ -14,14 +13,15 @@ import subprocess
 import time
 
 from lab.definitions.colours import network_of
-from lab.definitions.nodes import NetState, Refused, last_pulse, make
+from lab.definitions.nodes import Colouring, NetState, Refused, last_pulse, make
 from lab.transcripts.check import Wrong, find_order, first_refused, in_order, whole_run
 from lab.transcripts.reading import read
 from tests import FORESTLAB
 from tests.cases import Case, called, forestlab, text, text_in
 from tests.programs.made_transcripts import MISTAKES, made_transcript, mixed_text, transcript_text, with_mistake
 from tests.programs.one_worker import Run
-from tests.programs.plain_networks import all_small, cycle, path, random_of, some_bars, star, text_of, tree, two_sided
+from tests.programs.plain_networks import (all_small, cycle, path, random_of, shaped, some_bars, star, text_of, tree,
+                                           two_sided)
 from tests.settings import PLAN, PLAY
 from tests.shell import wait_until
 
@@ -130,10 +130,10 @@ WORKED = (
 )
 
 
-def said_of(net, data):
+def said_of(net, data, program=Colouring):
     """The verdict, or the refusal's line and code, and what it says in words."""
     try:
-        return whole_run(net, data)[1], ""
+        return whole_run(net, data, program)[1], ""
     except Wrong as wrong:
         line, code, words = wrong.line, wrong.code, wrong.what
         return f"line {line}: {code}", words
@@ -146,8 +146,7 @@ def networks():
     pairs = list(all_small(source)) + list(random_of(60, 0, 6)(source))
     for shape in [path, cycle, tree, star, two_sided] * 8:
         nodes = source.randint(3, 12)
-        names = source.sample(range(1, nodes + 1), source.randint(3, min(nodes, 8)))
-        pairs.append((nodes, {(min(pair), max(pair)) for pair in shape(source, names)}))
+        pairs.append((nodes, shaped(source, shape, nodes, source.randint(3, min(nodes, 8)))))
     texts = [text_of(source, nodes, edges) for nodes, edges in pairs]
     texts += [text_of(source, nodes, edges, bars=some_bars(source, nodes, 3))
               for nodes, edges in random_of(24, 1, 6)(source)]
@@ -224,28 +223,6 @@ def said_by(network, data, *words, play=PLAY):
     return f"line {line - before if line > before else line}: {code}"
 
 
-def every_order(net, entries):
-    """How many of each node's entries were made after any order whatever: all that can be reached, one event at a
-    time."""
-    own = {v: [entry for entry in entries if entry.vertex == v] for v in net.neighbours}
-    start = tuple(0 for _ in own)
-    reached, work = {start}, [(start, pickle.dumps(NetState(net)))]
-    while work:
-        counts, kept = work.pop()
-        for at, v in enumerate(own):
-            after = counts[:at] + (counts[at] + 1,) + counts[at + 1 :]
-            if after in reached or counts[at] == len(own[v]):
-                continue
-            state = pickle.loads(kept)
-            try:
-                make(state, own[v][counts[at]])
-            except Refused:
-                continue
-            reached.add(after)
-            work.append((after, pickle.dumps(state)))
-    return reached
-
-
 ROW = "p edge 4 3|e 1 2|e 2 3|e 3 4|"
 # (the nodes of a row of four whose entries are left, which ones have none)
 LEFT = [((1, 2, 3), "node 4 has no entry"), ((1, 2), "nodes 3 and 4 have no entry"),
@@ -310,24 +287,6 @@ class Transcripts(Case):
         self.note("swapped entries are refused or not", 0 < accepted["swapped"] < 100, accepted)
         self.note("refusals of each kind",
                   codes == {None, "X1", "NotReady", "NothingToPut", "LinkEmpty", "WrongWire", "NotWhole"}, codes)
-
-    def test_orders(self):
-        """On an edge, of runs and of transcripts with a mistake: no order of the entries gets further than the search
-        does."""
-        source, wrong, net = random.Random(SEED), [], network_of(text(EDGE))
-        for i in range(24):
-            lines = EDGE_LINES if i == 0 else made_transcript(source, net, CAPACITIES[i % 3])
-            if i > 1:
-                lines = with_mistake(source, MISTAKES[i % 4], lines)
-            try:
-                _, entries = read(transcript_text(2, lines))
-            except Wrong:
-                continue
-            reached, made = every_order(net, entries), find_order(net, entries).made
-            furthest = tuple(sum(entry.vertex == v for entry in made) for v in (1, 2))
-            if furthest not in reached or any(a > b for counts in reached for a, b in zip(counts, furthest)):
-                wrong.append((lines, furthest))
-        self.note("the search gets as far as any order of 24 transcripts", not wrong, wrong[:1])
 
     def test_checker(self):
         """The checker as a command: from a file, from standard input, in the order found, and refused."""
