@@ -1,7 +1,7 @@
 //! The check of a plan.
 
 ghost use Rattle.std.specs.Prelude.{◌≡◌, ◌≤◌, [], IfOk, IfErr, None, length};
-ghost use Rattle.interference.specs.Net.{IsVertex, count_of};
+ghost use Rattle.interference.specs.Net.{IsNetwork, IsVertex, count_of};
 ghost use Rattle.channel_plan.specs.Checked.{IsFaultOfPlan, IsFaultOfRow, IsProper, IsTable, RefusesRow, TakesRow};
 ghost use Rattle.channel_plan.specs.Checked.{clash_at, first_clash, first_missing, greatest_channel, is_barred};
 ghost use Rattle.channel_plan.specs.Checked.{looked, most_channel, rows_fault, same_channel};
@@ -39,9 +39,9 @@ fn put_row(net: &Network, table: &mut [Option<u32>], row: (u32, u32)) -> Result<
 fn is_barred(net: &Network, v: u32, channel: u32) -> bool
     requires vertex { IsVertex net.now v }
     requires within { channel ≤ most_channel net.now }
+    requires network { IsNetwork net.now }
     ensures { result ≡ is_barred net.now v channel }
 {
-    net.is_network();
     channel > 0 && net.is_barred(v, (channel - 1) as u16)
 }
 
@@ -66,6 +66,7 @@ fn table_of(
 ) -> Result<Vec<Option<u32>>, CheckFault>
     ensures good { IfOk result (λ table. rows_fault net.now [] rows.now ≡ None) }
     ensures table { IfOk result (λ table. IsTable net.now rows.now table.items) }
+    ensures network { IfOk result (λ _. IsNetwork net.now) }
     ensures fault { IfErr result (IsFaultOfRow (rows_fault net.now [] rows.now)) }
 {
     let mut table = vec![in alloc; None; net.nodes() as usize]?;
@@ -101,7 +102,6 @@ fn clash_of(net: &Network, table: &[Option<u32>], v: u32) -> Option<(u32, u32)>
     requires vertex { IsVertex net.now v }
     ensures { result ≡ clash_at net.now (looked table.now) v }
 {
-    net.is_network();
     let own = table[(v - 1) as usize];
     for w in net.neighbours(v) {
         if v < *w && share(own, table[(*w - 1) as usize]) {
@@ -148,7 +148,6 @@ pub fn check(alloc: Global, net: &Network, plan: &Plan) -> Result<u32, CheckFaul
     ensures greatest { IfOk result (λ greatest. greatest ≡ greatest_channel plan.now.rows.items) }
     ensures fault { IfErr result (IsFaultOfPlan net.now plan.now.rows.items) }
 {
-    net.is_network();
     plans_without_a_fault_are_proper();
     let table = table_of(alloc, net, &plan.rows)?;
     if let Some(v) = missing(net, &table) {

@@ -85,7 +85,6 @@ impl NodeProgram for Colouring {
     ghost laws = { rounds_are_program };
 
     fn last_pulse(net: &Network) -> u32 {
-        net.is_network();
         FIRST_MERGE - 1
             + net.forest_count() * (3 * (net.greatest_degree() + net.greatest_bars() + 1))
     }

@@ -2,7 +2,7 @@
 
 ghost use Rattle.std.specs.Prelude.{◌≡◌, ◌++◌, ◌+◌, ◌<◌, ◌≤◌, [], ◌∷◌, ℕ, IfOk, OnOk, length, map, replicate};
 ghost use Rattle.std.specs.List.{flat_map, range_with_len};
-ghost use Rattle.interference.specs.Net.{IsVertex, forest_count_of};
+ghost use Rattle.interference.specs.Net.{IsNetwork, IsVertex, forest_count_of};
 ghost use Rattle.forests.specs.Forests.{forest_edges, higher, triples, up};
 ghost use Rattle.forests.specs.Dealing.{edge_at, edges_in, edges_of, with_id};
 
@@ -17,7 +17,6 @@ fn gather_parents(net: &Network, v: u32, parents: &mut Vec<(u128, u32)>) -> Resu
     requires { IsVertex net.now v }
     ensures { OnOk result (parents.new.items ≡ map (with_id net.now) (higher net.now v)) }
 {
-    net.is_network();
     parents.clear();
     let own = net.id(v);
     for neighbour in net.neighbours(v) {
@@ -31,10 +30,10 @@ fn gather_parents(net: &Network, v: u32, parents: &mut Vec<(u128, u32)>) -> Resu
 
 // The same, by ascending identifier.
 fn order_parents(net: &Network, v: u32, parents: &mut Vec<(u128, u32)>) -> Result<(), Memory>
-    requires { IsVertex net.now v }
+    requires vertex { IsVertex net.now v }
+    requires network { IsNetwork net.now }
     ensures { OnOk result (parents.new.items ≡ map (with_id net.now) (up net.now v)) }
 {
-    net.is_network();
     gather_parents(net, v, parents)?;
     parents.sort_unstable_by_key(|parent| parent.0);
     Ok(())

@@ -38,6 +38,7 @@ impl Network {
         requires edges { EdgesFit nodes edges.now }
         requires bars { BarsFit nodes bars.now }
         ensures made { IfOk result (λ net. net ≡ network_of ids.now edges.now bars.now) }
+        ensures network { IfOk result IsNetwork }
         ensures uncrowded { IfOk result (λ net. (v : ℕ) → IsCrowded net v → ⊥) }
         ensures distinct { IfOk result (λ net. (v w : ℕ) → HaveSameId net v w → ⊥) }
         ensures fault { IfErr result (IsFaultOf (network_of ids.now edges.now bars.now)) }
@@ -110,7 +111,8 @@ fn packed(
     requires bars { BarsFit nodes bars.now }
     requires degrees { AreDegrees nodes edges.now degrees.items }
     requires network { IsNetwork (network_of ids.now edges.now bars.now) }
-    ensures { IfOk result (λ net. net ≡ network_of ids.now edges.now bars.now) }
+    ensures made { IfOk result (λ net. net ≡ network_of ids.now edges.now bars.now) }
+    ensures network { IfOk result IsNetwork }
 {
     let greatest_degree = greatest(&degrees);
     let starts = starts_of(degrees);

@@ -11,7 +11,8 @@ use crate::limits::MAX_DEGREE;
 use std::alloc::Global;
 use std::marker::Model;
 
-/// A network. Contracts see its `Net`: identifiers, neighbours and barred colours.
+/// A network. Contracts see its `Net`: identifiers, neighbours and barred colours. What every network keeps is said by
+/// the clause `network` of the calls that read it.
 #[derive(Drop)]
 pub struct Network {
     pub(crate) ids: Vec<u128>,
@@ -39,7 +40,7 @@ impl Model for Network {
 }
 
 impl Network {
-    /// Gives a proof what every network keeps, where it asks for nothing else.
+    /// What every network keeps, for a caller that reads nothing else of it: the contract is the whole result.
     pub fn is_network(&self)
         ensures { IsNetwork self.now }
     {
@@ -56,14 +57,16 @@ impl Network {
 
     /// Δ: the greatest degree of any node, 0 for no nodes.
     pub fn greatest_degree(&self) -> u32
-        ensures { result ≡ greatest_degree_of self.now }
+        ensures value { result ≡ greatest_degree_of self.now }
+        ensures network { IsNetwork self.now }
     {
         self.greatest_degree
     }
 
     /// U: the greatest number of neighbours of higher identifier of any node, 0 for no nodes.
     pub fn forest_count(&self) -> u32
-        ensures { result ≡ forest_count_of self.now }
+        ensures value { result ≡ forest_count_of self.now }
+        ensures network { IsNetwork self.now }
     {
         self.forest_count
     }
@@ -88,6 +91,7 @@ impl Network {
         requires { IsVertex self.now v }
         ensures value { result ≡ degree_of self.now v }
         ensures limit { result ≤ MAX_DEGREE }
+        ensures network { IsNetwork self.now }
     {
         self.starts[v as usize] - self.starts[(v - 1) as usize]
     }
@@ -98,6 +102,7 @@ impl Network {
         requires port { port < degree_of self.now v }
         ensures value { result ≡ neighbour_of self.now v port }
         ensures vertex { IsVertex self.now result }
+        ensures network { IsNetwork self.now }
     {
         self.ports[(self.starts[(v - 1) as usize] + port) as usize]
     }
@@ -108,6 +113,7 @@ impl Network {
         requires port { port < degree_of self.now v }
         ensures value { result ≡ back_port_of self.now v port }
         ensures port { result < degree_of self.now (neighbour_of self.now v port) }
+        ensures network { IsNetwork self.now }
     {
         self.backs[(self.starts[(v - 1) as usize] + port) as usize]
     }
@@ -115,7 +121,8 @@ impl Network {
     /// The neighbours of vertex `v`, by port.
     pub fn neighbours(&self, v: u32) -> &[u32]
         requires { IsVertex self.now v }
-        ensures { result.now ≡ neighbours self.now v }
+        ensures value { result.now ≡ neighbours self.now v }
+        ensures network { IsNetwork self.now }
     {
         &self.ports[self.starts[(v - 1) as usize] as usize..self.starts[v as usize] as usize]
     }
@@ -123,7 +130,8 @@ impl Network {
     /// The colours that are barred at vertex `v`, ascending; a colour is its channel less one.
     pub fn bars(&self, v: u32) -> &[u16]
         requires { IsVertex self.now v }
-        ensures { result.now ≡ bars_of self.now v }
+        ensures value { result.now ≡ bars_of self.now v }
+        ensures network { IsNetwork self.now }
     {
         let starts = &self.bars.starts;
         &self.bars.colours[starts[(v - 1) as usize] as usize..starts[v as usize] as usize]
@@ -134,7 +142,6 @@ impl Network {
         requires { IsVertex self.now v }
         ensures { IsTrue result ↔ IsBarred self.now v colour }
     {
-        self.is_network();
         self.bars(v).binary_search(&colour).is_ok()
     }
 

@@ -150,7 +150,6 @@ impl Sequel<Colouring> for Turns {
     }
 
     fn last_pulse(net: &Network) -> u32 {
-        net.is_network();
         FIRST_MERGE + 6 * net.forest_count()
     }
 

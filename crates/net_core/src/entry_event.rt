@@ -19,7 +19,6 @@ fn port_to(net: &Network, v: u32, w: u32) -> Option<u32>
     ensures port { IfSome result (λ port. (port ≡ port_to net.now v w) × (port < degree_of net.now v)) }
     ensures none { IfNone result (degree_of net.now v ≤ port_to net.now v w) }
 {
-    net.is_network();
     match net.neighbours(v).binary_search(&w) {
         Ok(port) => Some(port as u32),
         Err(_) => None,

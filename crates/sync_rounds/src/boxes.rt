@@ -27,7 +27,6 @@ pub(crate) fn inboxes_of<T: Copy>(alloc: Global, net: &Network) -> Result<Vec<In
 pub(crate) fn outboxes_of<T: Copy>(alloc: Global, net: &Network) -> Result<Vec<Outbox<T>>, Memory>
     ensures outs { IfOk result (λ outs. HasOutboxes net.now outs.items) }
 {
-    net.is_network();
     let occurs = degrees_of(alloc, net)?;
     let mut outs = Vec::new(alloc);
     for degree in 0..net.greatest_degree() + 1 {

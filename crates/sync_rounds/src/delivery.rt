@@ -1,7 +1,7 @@
 //! From an outbox of a pulse to the inboxes of the next one.
 
 ghost use Rattle.std.specs.Prelude.{◌≡◌, ◌<◌, ◌+◌, ◌++◌, ◌∷◌, ◌↔◌, ℕ, List, Option, [], false, length};
-ghost use Rattle.interference.specs.Net.{IsVertex, degree_of};
+ghost use Rattle.interference.specs.Net.{IsNetwork, IsVertex, degree_of};
 ghost use Rattle.node_api.specs.Boxes.{nothing, FilledPorts};
 ghost use Rattle.sync_rounds.specs.Delivery.{Broadcasts, Delivered, IsNext, Sends};
 
@@ -17,6 +17,7 @@ pub(crate) fn send_out<T: Copy>(
     out: &mut Outbox<T>,
     inboxes: &mut [Inbox<T>],
 ) -> bool
+    requires network { IsNetwork net.now }
     requires vertex { IsVertex net.now w }
     requires ports { length out.old ≡ degree_of net.now w }
     requires before { (outs : List (List (Option T))) × Sends net.now outs w out.old inboxes.old }
@@ -26,7 +27,6 @@ pub(crate) fn send_out<T: Copy>(
     ensures sent { (result ≡ false) ↔ (out.old ≡ nothing (length out.old)) }
     ensures quiet { result ≡ false → inboxes.new ≡ inboxes.old }
 {
-    net.is_network();
     if !out.is_quiet() {
         deliver_out(net, w, out, inboxes);
         out.clear();
@@ -39,6 +39,7 @@ pub(crate) fn send_out<T: Copy>(
 // Never inlined, so that a turn that sends nothing has nothing of it.
 #[inline(never)]
 fn deliver_out<T: Copy>(net: &Network, w: u32, out: &Outbox<T>, inboxes: &mut [Inbox<T>])
+    requires network { IsNetwork net.now }
     requires vertex { IsVertex net.now w }
     requires ports { length out.now ≡ degree_of net.now w }
     requires before { (outs : List (List (Option T))) × Sends net.now outs w out.now inboxes.old }
@@ -58,7 +59,6 @@ fn deliver_everywhere<T: Copy>(net: &Network, w: u32, payload: T, inboxes: &mut 
     ensures after { (outs : List (List (Option T))) → Broadcasts net.now outs w payload inboxes.old
         → Delivered net.now outs (w + 1) [] inboxes.new }
 {
-    net.is_network();
     for port in 0..net.degree(w) {
         deliver_one(net, w, port, payload, inboxes);
     }
@@ -72,6 +72,7 @@ fn deliver_at<T: Copy>(
     out: &Outbox<T>,
     inboxes: &mut [Inbox<T>],
 )
+    requires network { IsNetwork net.now }
     requires vertex { IsVertex net.now w }
     requires size { length out.now ≡ degree_of net.now w }
     requires sent { FilledPorts out.now ports.now }
@@ -79,7 +80,6 @@ fn deliver_at<T: Copy>(
     ensures after { (outs : List (List (Option T))) → Sends net.now outs w out.now inboxes.old
         → Delivered net.now outs (w + 1) [] inboxes.new }
 {
-    net.is_network();
     for &port in ports {
         match out.get(port) {
             Some(payload) => deliver_one(net, w, port, payload, inboxes),
@@ -99,7 +99,6 @@ fn deliver_one<T: Copy>(net: &Network, w: u32, port: u32, payload: T, inboxes: &
         → IsNext net.now outs w of_w port payload inboxes.old
         → Delivered net.now outs w (of_w ++ port ∷ []) inboxes.new }
 {
-    net.is_network();
     let v = net.neighbour(w, port);
     let inbox = &mut inboxes[(v - 1) as usize];
     inbox.put(net.back_port(w, port), payload);

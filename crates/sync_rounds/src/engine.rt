@@ -84,7 +84,6 @@ fn greet<P: NodeProgram>(
     ensures after { Delivered net.now (sent_by P.program net.now 0) (v + 1) [] later.new }
     ensures sent { IsLoud P.program net.now 0 v result }
 {
-    net.is_network();
     let out = &mut outs[net.degree(v) as usize];
     node.init(out);
     send_out(net, v, out, later)
@@ -161,7 +160,6 @@ fn turn<P: NodeProgram>(
     ensures sent { IsLoud P.program net.now (suc done) v result.sent }
     ensures quiet { result.sent ≡ false → later.new ≡ later.old }
 {
-    net.is_network();
     let out = &mut outs[net.degree(v) as usize];
     pulse_one(node, done + 1, inbox, out);
     let until = node.rests_until(done + 1);

@@ -36,7 +36,7 @@ returns-in-Some-clash-clause-fault c =
     let found : first_clash net (looked table) ≡ Some (c.in-Some-clash.v, c.in-Some-clash.w) =
     ap (λ t. first_clash net (looked t)) (sym c.deref-3.ensures.value) ∙ sym c.clash.ensures ∙ c.in-Some-clash.is in
     fault-clash net rows c.in-Some-clash.v c.in-Some-clash.w good (sym (same-missing net rows table is) ∙
-    all) (sym (same-clash net rows table c.is_network.ensures is) ∙ found)
+    all) (sym (same-clash net rows table c.in_ok-table.ensures.network is) ∙ found)
 
 pub returns-clause-proper : goal.returns-clause-proper
 returns-clause-proper c =
@@ -49,5 +49,5 @@ returns-clause-proper c =
     c.in_default.is in
     let none : first_clash net (looked table) ≡ None = ap (λ t. first_clash net (looked t)) (sym c.deref-3.ensures.value) ∙ sym c.clash.ensures ∙
     c.in_default-clash.is in
-    (c.plans_without_a_fault_are_proper.ensures net c.is_network.ensures rows).0 (fault-none net rows good (sym (same-missing net rows table is) ∙
-    all) (sym (same-clash net rows table c.is_network.ensures is) ∙ none))
+    (c.plans_without_a_fault_are_proper.ensures net c.in_ok-table.ensures.network rows).0 (fault-none net rows good (sym (same-missing net rows table is) ∙
+    all) (sym (same-clash net rows table c.in_ok-table.ensures.network is) ∙ none))

@@ -10,8 +10,8 @@ pub overflow_cast-channel : goal.overflow_cast-channel
 overflow_cast-channel c = omega (
   arith,
   c.requires.within,
-  greatest_degree-within c.args.net.now c.is_network.ensures,
-  greatest_bars-within c.args.net.now c.is_network.ensures,
+  greatest_degree-within c.args.net.now c.requires.network,
+  greatest_bars-within c.args.net.now c.requires.network,
 )
 
 -- the colour of a channel that isn't 0, and the test of it

@@ -22,7 +22,7 @@ returns-then-is_some-clause-fault c = λ before table.
 pub overflow_add-greatest_degree : goal.overflow_add-greatest_degree
 overflow_add-greatest_degree c = omega (
   arith,
-  c.greatest_degree.ensures,
+  c.greatest_degree.ensures.value,
   c.greatest_bars.ensures,
   greatest_degree-within c.args.net.now c.nodes.ensures.network,
   greatest_bars-within c.args.net.now c.nodes.ensures.network,
@@ -31,7 +31,7 @@ overflow_add-greatest_degree c = omega (
 pub overflow_add-greatest_degree-2 : goal.overflow_add-greatest_degree-2
 overflow_add-greatest_degree-2 c = omega (
   arith,
-  c.greatest_degree.ensures,
+  c.greatest_degree.ensures.value,
   c.greatest_bars.ensures,
   greatest_degree-within c.args.net.now c.nodes.ensures.network,
   greatest_bars-within c.args.net.now c.nodes.ensures.network,
@@ -42,17 +42,18 @@ pub returns-then-channel-greatest_degree-clause-fault :
 returns-then-channel-greatest_degree-clause-fault c = λ before table.
     let v : IsVertex c.args.net.now c.args.row.0 = (omega (arith, c.if-v-eq0.false), omega (arith, c.nodes.ensures, c.if-v-nodes.false)) in
     let free : is_some (channel_of before c.args.row.0) ≡ false = ap is_some (sym (table.each c.args.row.0 v)) ∙ sym c.is_some.ensures ∙ c.if-is_some.false in
-    row-high c.args.net.now before c.args.row v free (omega (arith, c.greatest_degree.ensures, c.greatest_bars.ensures, c.if-channel-greatest_degree.true))
+    row-high c.args.net.now before c.args.row v free
+    (omega (arith, c.greatest_degree.ensures.value, c.greatest_bars.ensures, c.if-channel-greatest_degree.true))
 
 pub is_barred-requires-clause-within : goal.is_barred-requires-clause-within
-is_barred-requires-clause-within c = omega (arith, c.greatest_degree.ensures, c.greatest_bars.ensures, c.if-channel-greatest_degree.false)
+is_barred-requires-clause-within c = omega (arith, c.greatest_degree.ensures.value, c.greatest_bars.ensures, c.if-channel-greatest_degree.false)
 
 pub returns-then-is_barred-clause-fault : goal.returns-then-is_barred-clause-fault
 returns-then-is_barred-clause-fault c = λ before table.
     let v : IsVertex c.args.net.now c.args.row.0 = (omega (arith, c.if-v-eq0.false), omega (arith, c.nodes.ensures, c.if-v-nodes.false)) in
     let free : is_some (channel_of before c.args.row.0) ≡ false = ap is_some (sym (table.each c.args.row.0 v)) ∙ sym c.is_some.ensures ∙ c.if-is_some.false in
     row-barred c.args.net.now before c.args.row v free
-    (omega (arith, c.greatest_degree.ensures, c.greatest_bars.ensures, c.if-channel-greatest_degree.false))
+    (omega (arith, c.greatest_degree.ensures.value, c.greatest_bars.ensures, c.if-channel-greatest_degree.false))
     (sym c.is_barred.ensures ∙ c.if-is_barred.true)
 
 pub returns-clause-ok : goal.returns-clause-ok
@@ -60,7 +61,8 @@ returns-clause-ok c = λ before table.
     let v : IsVertex c.args.net.now c.args.row.0 = (omega (arith, c.if-v-eq0.false), omega (arith, c.nodes.ensures, c.if-v-nodes.false)) in
     let none : is_some (looked c.args.table.now c.args.row.0) ≡ false = sym c.is_some.ensures ∙ c.if-is_some.false in
     let free : is_some (channel_of before c.args.row.0) ≡ false = ap is_some (sym (table.each c.args.row.0 v)) ∙ none in (
-      row-good c.args.net.now before c.args.row v free (omega (arith, c.greatest_degree.ensures, c.greatest_bars.ensures, c.if-channel-greatest_degree.false))
+      row-good c.args.net.now before c.args.row v free
+          (omega (arith, c.greatest_degree.ensures.value, c.greatest_bars.ensures, c.if-channel-greatest_degree.false))
           (sym c.is_barred.ensures ∙ c.if-is_barred.false),
       table-put c.args.net.now before c.args.row.0 c.args.row.1 c.args.table.now table v none,
     )

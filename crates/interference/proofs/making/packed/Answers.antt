@@ -36,8 +36,14 @@ invariant_of-result c =
       most_is = c.in_ok-bars.ensures.greatest_is;
     }
 
-pub returns : goal.returns
-returns c =
-    let filled = filled-by (goal.at.returns c).After-deref-3 in
+pub returns-clause-made : goal.returns-clause-made
+returns-clause-made c =
+    let filled = filled-by (goal.at.returns-clause-made c).After-deref-3 in
     rw c.in_ok-ids.ensures.items (net_is c.args.nodes c.args.edges.now _ _ _ filled c.args.ids.now c.requires.ids c.args.bars.now _ _ _
     c.in_ok-bars.ensures)
+
+pub returns-clause-network : goal.returns-clause-network
+returns-clause-network c =
+    let filled = filled-by (goal.at.returns-clause-network c).After-deref-3 in
+    rw c.in_ok-ids.ensures.items (is_packed c.args.nodes c.args.edges.now _ _ _ filled c.args.ids.now c.requires.ids c.args.bars.now _ _ _
+    c.in_ok-bars.ensures c.requires.network).network

@@ -9,7 +9,8 @@ use Rattle.sync_rounds.proofs.Resting.{outboxes-push}
 use Rattle.sync_rounds.proofs.boxes.outboxes_of.Goals as goal
 
 pub overflow_add-degree-end : goal.overflow_add-degree-end
-overflow_add-degree-end g c = omega (arith, c.greatest_degree-degree-end.ensures, greatest_degree-within c.args.net.now c.is_network.ensures)
+overflow_add-degree-end g c =
+    let end = c.greatest_degree-degree-end.ensures in omega (arith, end.value, greatest_degree-within c.args.net.now end.network)
 
 pub loop-degree-init : goal.loop-degree-init
 loop-degree-init g c = record {
@@ -19,7 +20,7 @@ loop-degree-init g c = record {
 
 pub index-requires : goal.index-requires
 index-requires g c =
-    upto_greatest c.loop-degree.degree c.greatest_degree-degree-end.result _ _ _ c.loop-degree-test.true c.greatest_degree-degree-end.ensures
+    upto_greatest c.loop-degree.degree c.greatest_degree-degree-end.result _ _ _ c.loop-degree-test.true c.greatest_degree-degree-end.ensures.value
     c.in_ok-occurs.ensures.size c.in_ok-occurs.occurs.ok.0
 
 pub loop-degree-smaller : goal.loop-degree-smaller
@@ -31,7 +32,7 @@ loop-degree-preserved g c =
     let occurs = c.in_ok-occurs.occurs.items in
     let pushed = c.in_ok-push.ensures.items in
     let below = upto_greatest c.loop-degree.degree c.greatest_degree-degree-end.result _ _ (length occurs) c.loop-degree-test.true
-    c.greatest_degree-degree-end.ensures c.in_ok-occurs.ensures.size refl in
+    c.greatest_degree-degree-end.ensures.value c.in_ok-occurs.ensures.size refl in
     let read = get_or_read occurs c.loop-degree.degree c.index.result.now below c.index.ensures false in
     record {
       size = ap length pushed ∙ (length_push c.loop-degree.outs.items c.in_ok-outbox_if.field-0 ∙ ap (λ (n : ℕ). n + 1) inv.size);
@@ -41,15 +42,15 @@ loop-degree-preserved g c =
     }
 
 pub outbox_if-requires : goal.outbox_if-requires
-outbox_if-requires g c = record {
-  degree = omega (arith, c.loop-degree-test.true, c.greatest_degree-degree-end.ensures, greatest_degree-within c.args.net.now c.is_network.ensures);
-}
+outbox_if-requires g c =
+    let end = c.greatest_degree-degree-end.ensures in
+    record { degree = omega (arith, c.loop-degree-test.true, end.value, greatest_degree-within c.args.net.now end.network) }
 
 pub returns : goal.returns
 returns g c =
     let net = c.args.net.now in
-    let ok = c.is_network.ensures in
-    let last : c.loop-degree.degree ≡ greatest_degree_of net + 1 = omega (arith, c.greatest_degree-degree-end.ensures) in
+    let ok = c.greatest_degree-degree-end.ensures.network in
+    let last : c.loop-degree.degree ≡ greatest_degree_of net + 1 = omega (arith, c.greatest_degree-degree-end.ensures.value) in
     record {
       outs = record {
         within = λ v is_vertex. omega (arith, c.loop-degree.invariant.size, last, degree-within net ok v);

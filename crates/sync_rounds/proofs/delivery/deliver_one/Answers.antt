@@ -18,13 +18,13 @@ put-requires-clause-port g c =
 pub put-requires-clause-empty : goal.put-requires-clause-empty
 put-requires-clause-empty g c =
     let (outs, of_w, now) = c.requires.next in
-    free_at c.args.net.now c.is_network.ensures outs c.args.w of_w c.args.port c.requires.vertex c.requires.port now.fresh c.args.inboxes.now
+    free_at c.args.net.now c.neighbour-v.ensures.network outs c.args.w of_w c.args.port c.requires.vertex c.requires.port now.fresh c.args.inboxes.now
     now.before c.neighbour-v.result c.back_port.result c.index-inboxes-v.result c.neighbour-v.ensures.value c.back_port.ensures.value
 
 pub returns : goal.returns
 returns g c = record {
   after = λ outs of_w now.
-      delivered_at c.args.net.now c.is_network.ensures outs c.args.w of_w c.args.port c.requires.vertex c.requires.port now.fresh c.args.inboxes.now
+      delivered_at c.args.net.now c.neighbour-v.ensures.network outs c.args.w of_w c.args.port c.requires.vertex c.requires.port now.fresh c.args.inboxes.now
       now.before c.args.payload now.sent c.neighbour-v.result c.back_port.result c.index-inboxes-v.result c.put.new.self
       c.neighbour-v.ensures.value c.back_port.ensures.value c.index-inboxes-v.is c.put.ensures.slots c.put.ensures.cursor;
 }

@@ -8,16 +8,16 @@ use Rattle.colour_program.proofs.colouring.ColouringNodeProgram.last_pulse.Goals
 use Rattle.colour_program.proofs.colouring.ColouringNodeProgram.last_pulse.Goals.{After-greatest_bars}
 
 low : (c : After-greatest_bars) → c.greatest_degree.result ≤ MAX_DEGREE
-low c = rw c.greatest_degree.ensures (greatest_degree-within c.args.net.now c.is_network.ensures)
+low c = rw c.greatest_degree.ensures.value (greatest_degree-within c.args.net.now c.forest_count.ensures.network)
 
 lower : (c : After-greatest_bars) → c.greatest_bars.result ≤ MAX_BARS
-lower c = rw c.greatest_bars.ensures (greatest_bars-within c.args.net.now c.is_network.ensures)
+lower c = rw c.greatest_bars.ensures (greatest_bars-within c.args.net.now c.forest_count.ensures.network)
 
 few : (c : After-greatest_bars) → c.forest_count.result ≤ MAX_DEGREE
 few c =
-    let most : forest_count_of c.args.net.now ≤ greatest_degree_of c.args.net.now = forest_count-within c.args.net.now c.is_network.ensures in
-    let least : greatest_degree_of c.args.net.now ≤ MAX_DEGREE = greatest_degree-within c.args.net.now c.is_network.ensures in
-    rw c.forest_count.ensures (omega arith)
+    let most : forest_count_of c.args.net.now ≤ greatest_degree_of c.args.net.now = forest_count-within c.args.net.now c.forest_count.ensures.network in
+    let least : greatest_degree_of c.args.net.now ≤ MAX_DEGREE = greatest_degree-within c.args.net.now c.forest_count.ensures.network in
+    rw c.forest_count.ensures.value (omega arith)
 
 fits : (c : After-greatest_bars) → c.forest_count.result * (3 * (c.greatest_degree.result + c.greatest_bars.result + 1)) < 2 ^ 31
 fits c = pulses-few c.forest_count.result c.greatest_degree.result c.greatest_bars.result (few c) (low c) (lower c)

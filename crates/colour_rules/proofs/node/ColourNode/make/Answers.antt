@@ -20,14 +20,14 @@ use Rattle.colour_rules.proofs.node.ColourNode.make.Goals as goal
 pub overflow_cast-greatest_degree : goal.overflow_cast-greatest_degree
 overflow_cast-greatest_degree c =
     let few : c.greatest_degree-greatest_degree.result ≤ MAX_DEGREE =
-    rw c.greatest_degree-greatest_degree.ensures (greatest_degree-within c.args.net.now c.nodes-nodes.ensures.network) in
+    rw c.greatest_degree-greatest_degree.ensures.value (greatest_degree-within c.args.net.now c.nodes-nodes.ensures.network) in
     search rules
 
 pub overflow_cast-forests : goal.overflow_cast-forests
 overflow_cast-forests c =
     let few : greatest_degree_of c.args.net.now ≤ MAX_DEGREE = greatest_degree-within c.args.net.now c.nodes-nodes.ensures.network in
     let fewer : forest_count_of c.args.net.now ≤ greatest_degree_of c.args.net.now = forest_count-within c.args.net.now c.nodes-nodes.ensures.network in
-    let here : c.forest_count-forests.result ≤ MAX_DEGREE = rw c.forest_count-forests.ensures (omega arith) in
+    let here : c.forest_count-forests.result ≤ MAX_DEGREE = rw c.forest_count-forests.ensures.value (omega arith) in
     search rules
 
 pub overflow_cast-greatest_bars : goal.overflow_cast-greatest_bars
@@ -39,7 +39,7 @@ overflow_cast-greatest_bars c =
 pub overflow_add-span : goal.overflow_add-span
 overflow_add-span c =
     let few : c.greatest_degree-greatest_degree.result ≤ MAX_DEGREE =
-    rw c.greatest_degree-greatest_degree.ensures (greatest_degree-within c.args.net.now c.nodes-nodes.ensures.network) in
+    rw c.greatest_degree-greatest_degree.ensures.value (greatest_degree-within c.args.net.now c.nodes-nodes.ensures.network) in
     let bars : c.greatest_bars-greatest_bars.result ≤ MAX_BARS =
     rw c.greatest_bars-greatest_bars.ensures (greatest_bars-within c.args.net.now c.nodes-nodes.ensures.network) in
     let low : c.greatest_degree-greatest_degree.result + c.greatest_bars-greatest_bars.result < 2 ^ 16 = omega arith in
@@ -48,7 +48,7 @@ overflow_add-span c =
 pub make-requires-2 : goal.make-requires-2
 make-requires-2 c =
     let few : c.greatest_degree-greatest_degree.result ≤ MAX_DEGREE =
-    rw c.greatest_degree-greatest_degree.ensures (greatest_degree-within c.args.net.now c.nodes-nodes.ensures.network) in
+    rw c.greatest_degree-greatest_degree.ensures.value (greatest_degree-within c.args.net.now c.nodes-nodes.ensures.network) in
     let bars : c.greatest_bars-greatest_bars.result ≤ MAX_BARS =
     rw c.greatest_bars-greatest_bars.ensures (greatest_bars-within c.args.net.now c.nodes-nodes.ensures.network) in
     omega arith
@@ -64,7 +64,7 @@ least_free-requires c =
     HasFree-made (c.greatest_degree-greatest_degree.result + c.greatest_bars-greatest_bars.result) c.bars.result.now (chosen_in c.in_ok-taken.taken)
     (barred_in c.in_ok-taken.taken) c.in_ok-taken.ensures.chosen c.in_ok-taken.ensures.barred
     (few_bars c.args.net.now c.nodes-nodes.ensures.network c.args.v c.greatest_degree-greatest_degree.result c.greatest_bars-greatest_bars.result
-    c.bars.result.now c.greatest_bars-greatest_bars.ensures c.bars.ensures)
+    c.bars.result.now c.greatest_bars-greatest_bars.ensures c.bars.ensures.value)
 
 pub invariant_of-result : goal.invariant_of-result
 invariant_of-result c =
@@ -74,8 +74,8 @@ invariant_of-result c =
     let bars : ℕ = c.greatest_bars-greatest_bars.result in
     let few : greatest_degree_of net ≤ MAX_DEGREE = greatest_degree-within net ok in
     let fewer : forest_count_of net ≤ greatest_degree_of net = forest_count-within net ok in
-    let e : c.forest_count-forests.result ≤ MAX_DEGREE = rw c.forest_count-forests.ensures (omega arith) in
-    let d : degree ≤ MAX_DEGREE = rw c.greatest_degree-greatest_degree.ensures few in
+    let e : c.forest_count-forests.result ≤ MAX_DEGREE = rw c.forest_count-forests.ensures.value (omega arith) in
+    let d : degree ≤ MAX_DEGREE = rw c.greatest_degree-greatest_degree.ensures.value few in
     let b : bars ≤ MAX_BARS = rw c.greatest_bars-greatest_bars.ensures (greatest_bars-within net ok) in
     let roles : c.in_ok-roles.roles.items ≡ replicate c.degree-degree.result Unknown = search rules in
     let n = c.forest_count-forests.result in
@@ -87,7 +87,7 @@ invariant_of-result c =
     subst (HasForests c.forest_count-forests.result) (sym roles) (unknown-known c.forest_count-forests.result c.degree-degree.result) in
     let low : AreBelow 6 (before_in c.in_ok-colours.colours) = subst (AreBelow 6) (sym before) (zeros-below c.forest_count-forests.result) in
     let count : length c.bars.result.now ≤ degree + bars =
-    few_bars net ok c.args.v degree bars c.bars.result.now c.greatest_bars-greatest_bars.ensures c.bars.ensures in
+    few_bars net ok c.args.v degree bars c.bars.result.now c.greatest_bars-greatest_bars.ensures c.bars.ensures.value in
     let free : HasFree (degree + bars) (is_taken_in c.in_ok-taken.taken) =
     HasFree-made (degree + bars) c.bars.result.now (chosen_in c.in_ok-taken.taken) (barred_in c.in_ok-taken.taken) c.in_ok-taken.ensures.chosen
     c.in_ok-taken.ensures.barred count in
@@ -119,14 +119,19 @@ returns c =
     let degree : ℕ = c.greatest_degree-greatest_degree.result in
     let bars : ℕ = c.greatest_bars-greatest_bars.result in
     let n = c.forest_count-forests.result in
-    let wide : degree + bars ≡ span (sizes_of net) = rw (c.greatest_degree-greatest_degree.ensures, c.greatest_bars-greatest_bars.ensures) refl in
+    let wide : degree + bars ≡ span (sizes_of net) = rw (c.greatest_degree-greatest_degree.ensures.value, c.greatest_bars-greatest_bars.ensures) refl in
     let sizes : ◌≡◌ {A = Sizes} (record { nodes = c.nodes-nodes.result; greatest_degree = degree; greatest_bars = bars; forests = n }) (sizes_of net) =
-    rw (c.nodes-nodes.ensures.count, c.greatest_degree-greatest_degree.ensures, c.greatest_bars-greatest_bars.ensures, c.forest_count-forests.ensures) refl in
+    rw (
+      c.nodes-nodes.ensures.count,
+      c.greatest_degree-greatest_degree.ensures.value,
+      c.greatest_bars-greatest_bars.ensures,
+      c.forest_count-forests.ensures.value,
+    ) refl in
     let roles : c.in_ok-roles.roles.items ≡ replicate c.degree-degree.result Unknown = search rules in
     let colours : colours_in c.id.result c.in_ok-colours.colours ≡ replicate n 0 = c.in_ok-colours.ensures.colours c.id.result in
     let before : before_in c.in_ok-colours.colours ≡ replicate n 0 = c.in_ok-colours.ensures.before in
     let barred : up_to (degree + bars) c.bars.result.now ≡ up_to (span (sizes_of net)) (bars_of net c.args.v) =
-    ap (λ (k : ℕ). up_to k c.bars.result.now) wide ∙ ap (λ (own : List ℕ). up_to (span (sizes_of net)) own) c.bars.ensures in
+    ap (λ (k : ℕ). up_to k c.bars.result.now) wide ∙ ap (λ (own : List ℕ). up_to (span (sizes_of net)) own) c.bars.ensures.value in
     let merged = c.least_free.ensures
     ∙ (first-colour (degree + bars) c.bars.result.now (chosen_in c.in_ok-taken.taken) (barred_in c.in_ok-taken.taken) c.in_ok-taken.ensures.chosen
     c.in_ok-taken.ensures.barred
@@ -135,6 +140,6 @@ returns c =
     made-is (own_of net c.args.v) c.id.result _ c.in_ok-roles.roles.items (colours_in c.id.result c.in_ok-colours.colours)
     (before_in c.in_ok-colours.colours) c.least_free.result (chosen_in c.in_ok-taken.taken) (barred_in c.in_ok-taken.taken) c.id.ensures sizes
     (roles ∙ ap (λ (k : ℕ). replicate k Unknown) c.degree-degree.ensures.value)
-    (colours ∙ ap (λ (k : ℕ). replicate k 0) c.forest_count-forests.ensures)
-    (before ∙ ap (λ (k : ℕ). replicate k 0) c.forest_count-forests.ensures) merged c.in_ok-taken.ensures.chosen
+    (colours ∙ ap (λ (k : ℕ). replicate k 0) c.forest_count-forests.ensures.value)
+    (before ∙ ap (λ (k : ℕ). replicate k 0) c.forest_count-forests.ensures.value) merged c.in_ok-taken.ensures.chosen
     (c.in_ok-taken.ensures.barred ∙ barred)

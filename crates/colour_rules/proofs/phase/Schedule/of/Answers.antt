@@ -6,7 +6,7 @@ use Rattle.colour_rules.proofs.phase.Schedule.of.Goals as goal
 
 pub overflow_cast-result : goal.overflow_cast-result
 overflow_cast-result c =
-    let few : c.greatest_degree.result ≤ MAX_DEGREE = rw c.greatest_degree.ensures (greatest_degree-within c.args.net.now c.nodes.ensures.network) in
+    let few : c.greatest_degree.result ≤ MAX_DEGREE = rw c.greatest_degree.ensures.value (greatest_degree-within c.args.net.now c.nodes.ensures.network) in
     search rules
 
 pub overflow_cast-result-2 : goal.overflow_cast-result-2
@@ -16,12 +16,12 @@ overflow_cast-result-2 c =
 
 pub overflow_cast-result-3 : goal.overflow_cast-result-3
 overflow_cast-result-3 c =
-    let few : c.forest_count.result ≤ MAX_DEGREE = rw c.forest_count.ensures (forest_count-limited c.args.net.now c.nodes.ensures.network) in
+    let few : c.forest_count.result ≤ MAX_DEGREE = rw c.forest_count.ensures.value (forest_count-limited c.args.net.now c.nodes.ensures.network) in
     search rules
 
 pub invariant_of-result : goal.invariant_of-result
 invariant_of-result c = record {
-  degree_fits = rw c.greatest_degree.ensures (greatest_degree-within c.args.net.now c.nodes.ensures.network);
+  degree_fits = rw c.greatest_degree.ensures.value (greatest_degree-within c.args.net.now c.nodes.ensures.network);
   bars_fit = rw c.greatest_bars.ensures (greatest_bars-within c.args.net.now c.nodes.ensures.network);
-  forests_fit = rw c.forest_count.ensures (forest_count-limited c.args.net.now c.nodes.ensures.network);
+  forests_fit = rw c.forest_count.ensures.value (forest_count-limited c.args.net.now c.nodes.ensures.network);
 }

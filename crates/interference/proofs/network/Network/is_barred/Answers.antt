@@ -26,5 +26,5 @@ pub returns : goal.returns
 returns c =
     let row = bars_of c.args.self.now c.args.v in
     found row c.args.colour c.binary_search.result c.is_ok.result c.is_ok.ensures.value
-    (searched row c.args.colour c.binary_search.result (rw c.bars.ensures at c.binary_search.ensures.position)
-    (λ i j le below. bars-rise c.args.self.now c.is_network.ensures c.args.v i j c.requires le below))
+    (searched row c.args.colour c.binary_search.result (rw c.bars.ensures.value at c.binary_search.ensures.position)
+    (λ i j le below. bars-rise c.args.self.now c.bars.ensures.network c.args.v i j c.requires le below))
