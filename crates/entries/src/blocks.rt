@@ -34,21 +34,19 @@ pub(crate) struct Blocks<X> {
 }
 
 impl<X> Model for Blocks<X> {
-    ghost use Rattle.std.specs.Prelude.{◌≡◌, ◌+◌, ◌-◌, ◌<◌, ◌^◌, ◌++◌, length, vec_capacity, vec_len};
+    ghost use Rattle.std.specs.Prelude.{◌-◌, ◌++◌, vec_capacity, vec_len};
     ghost use Rattle.entries.specs.Blocks.{ItemList};
 
     ghost Value = { ItemList X };
 
-    ghost use Rattle.entries.specs.Blocks.{AreFilled, joined};
+    ghost use Rattle.entries.specs.Blocks.{AreBlocks, joined};
 
     ghost view = { λ b. record {
       items = joined b.full.items ++ b.last.items;
       room = vec_capacity b.last - vec_len b.last;
     } };
 
-    // No full block is empty, so an iterator never has to skip one; and all places can be counted.
-    ghost invariant = { λ b. AreFilled b.full.items × (length (joined b.full.items) ≡ b.full_len)
-        × (b.full_len + vec_capacity b.last < 2 ^ 64) };
+    ghost invariant = { λ b. AreBlocks b.full.items b.full_len b.last };
 }
 
 // How many items the block has that is added to a list of `len` items.

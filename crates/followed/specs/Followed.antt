@@ -3,7 +3,7 @@
 use Rattle.std.specs.Prelude.{◌≡◌, ℕ, suc, ◌-◌, ◌≤◌, ◌<◌, if◌then◌else◌, nat_le, List, length}
 use Rattle.std.specs.Prelude.{Option, Some, None, Result, Ok, Err, IsOk, IfOk}
 use Rattle.interference.specs.Net.{Net, IsNetwork, IsVertex, degree_of}
-use Rattle.node_api.specs.Boxes.{nothing}
+use Rattle.node_api.specs.Boxes.{Mail, nothing, unread}
 use Rattle.node_api.specs.Program.{Own, Program, Sizes, last_pulse_on, sizes_of}
 use Rattle.node_api.specs.Run.{inbox_from, node_at, outbox_at, state_at}
 use Rattle.node_api.specs.declared.program.Refused.{Refused}
@@ -18,6 +18,12 @@ pub record Both (S X : Type 0) : Type 0 where
 
 abbrev pub both_of : {S X : Type 0} → S → X → Both S X
 both_of s x = record { first = s; beside = x }
+
+-- The ports of a node are its degree, and the boxes of its own in which the first program hears and sends are empty.
+pub record HasFreeBoxes {M : Type 0} (ports degree : ℕ) (inbox : Mail M) (out : List (Option M)) : Type 0 where
+  pub ports_are : ports ≡ degree
+  pub nothing_came : inbox ≡ unread (nothing degree)
+  pub nothing_sent : out ≡ nothing degree
 
 -- The part that follows. S is a state of the first program and A its payloads; X is what a node has beside it, and B
 -- are the payloads of its own. Its pulses count from 0.

@@ -26,16 +26,13 @@ pub struct Followed<P: NodeProgram, R: Sequel<P>> {
 }
 
 impl<P: NodeProgram, R: Sequel<P>> Model for Followed<P, R> {
-    ghost use Rattle.std.specs.Prelude.{◌≡◌};
-    ghost use Rattle.node_api.specs.Boxes.{nothing, unread};
-    ghost use Rattle.followed.specs.Followed.{Both};
+    ghost use Rattle.followed.specs.Followed.{Both, HasFreeBoxes};
 
     ghost Value = { Both P R };
 
     ghost view = { λ a. record { first = a.first; beside = a.beside } };
 
-    ghost invariant = { λ a. (R.before.ports a.first ≡ a.degree) × (a.inbox ≡ unread (nothing a.degree))
-        × (a.out ≡ nothing a.degree) };
+    ghost invariant = { λ a. HasFreeBoxes (R.before.ports a.first) a.degree a.inbox a.out };
 }
 
 impl<P: NodeProgram, R: Sequel<P>> Followed<P, R> {
