@@ -16,7 +16,7 @@ use Rattle.forest_merge.specs.Free.{is_among}
 use Rattle.colour_rules.specs.declared.payload.Payload.{Payload}
 use Rattle.forests.specs.declared.numbering.Role.TheVariants.{Unknown, Up, Down}
 use Rattle.colour_rules.specs.Node.{Node, reduction_of, steps, up_to}
-use Rattle.colour_rules.specs.Program.{turned, kept, tells_colour, tells_chosen}
+use Rattle.colour_rules.specs.Program.{next_colour, kept_colour, tells_colour, tells_chosen}
 
 -- whether a colour is among these
 abbrev pub among : ℕ → List ℕ → Bool
@@ -26,8 +26,8 @@ among c colours = is_among colours c
 unfoldable pub stages : Net → ℕ → ℕ → (ℕ → ℕ) × (ℕ → ℕ)
 stages net f zero = (id_of net, λ v. 0)
 stages net f (suc q) = (
-  (λ v. turned (reduction_of (q + 3)) ((stages net f q).0 v) ((stages net f q).1 v) (at_parent (parent net f) (stages net f q).0 v)),
-  λ v. kept (reduction_of (q + 3)) ((stages net f q).0 v) ((stages net f q).1 v),
+  (λ v. next_colour (reduction_of (q + 3)) ((stages net f q).0 v) ((stages net f q).1 v) (at_parent (parent net f) (stages net f q).0 v)),
+  λ v. kept_colour (reduction_of (q + 3)) ((stages net f q).0 v) ((stages net f q).1 v),
 )
 
 abbrev pub by_forest : Net → (ℕ → ℕ) → List ℕ

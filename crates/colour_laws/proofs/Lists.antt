@@ -1,12 +1,7 @@
 -- Walks over lists that are made of the neighbours of a node.
-use Rattle.std.proofs.Common.{◌≡◌, ℕ, zero, suc, ◌+◌, ◌<◌, ◌≤◌, Bool, false, List, [], ◌∷◌, length, refl, ap, ◌∙◌, arith, get_or}
-use Rattle.std.specs.Prelude.{if◌then◌else◌, map, Option, None, count_by}
+use Rattle.std.proofs.Common.{◌≡◌, ℕ, zero, suc, ◌+◌, ◌<◌, ◌≤◌, Bool, false, List, [], ◌∷◌, refl, arith}
+use Rattle.std.specs.Prelude.{if◌then◌else◌, map, count_by}
 use Rattle.std.specs.List.{range_with_len, fold, list_any}
-use Rattle.std.proofs.lemmas.List.{get_or-map}
-use Rattle.interference.specs.Net.{Net, IsNetwork, IsVertex, degree_of, neighbours, neighbour_of, port_to}
-use Rattle.interference.proofs.Members.{place_of-is}
-use Rattle.node_api.specs.Boxes.{at_port}
-use Rattle.node_api.specs.Run.{inbox_from}
 
 pub range-members : {X : Type 0} (f g : ℕ → X) (a n : ℕ) → ((k : ℕ) → a ≤ k → k < a + n → f k ≡ g k) → map f (range_with_len a n) ≡ map g (range_with_len a n)
 range-members f g a zero same = refl

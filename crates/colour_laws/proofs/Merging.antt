@@ -20,7 +20,7 @@ use Rattle.forests.specs.declared.numbering.Role.{Role}
 use Rattle.forests.specs.declared.numbering.Role.TheVariants.{Unknown, Up, Down}
 use Rattle.colour_rules.specs.Node.{Node, phase_of, steps, up_to}
 use Rattle.colour_rules.specs.Table.{is_merged}
-use Rattle.colour_rules.specs.Choice.{gathered, chooses, free_for}
+use Rattle.colour_rules.specs.Choice.{with_heard, chooses, free_for}
 use Rattle.colour_rules.specs.Refusals.{first_refusal, port_rule, own_rule}
 use Rattle.colour_rules.specs.Program.{next, tells_chosen, silent}
 use Rattle.colour_rules.specs.declared.phase.Phase.TheVariants.{Merge}
@@ -110,7 +110,7 @@ module _ (net : Net) (ok : IsNetwork net) (forest : IsForest net) (f : ℕ) (in_
         few_taken net forest v,
       ))))
 
-  own_fine : (node : Node) (inbox : List (Option Payload)) → node.sizes ≡ sizes_of net → gathered node s inbox ≡ state_before_choice net f s v →
+  own_fine : (node : Node) (inbox : List (Option Payload)) → node.sizes ≡ sizes_of net → with_heard node s inbox ≡ state_before_choice net f s v →
       own_rule node (Merge f s) inbox ≡ None
   own_fine node inbox sizes g =
       ap (λ (h : Node). if chooses h f s then rule_if (nat_lt (span node.sizes) (free_for h)) else None) g
@@ -140,7 +140,7 @@ module _ (net : Net) (ok : IsNetwork net) (forest : IsForest net) (f : ℕ) (in_
 
   -- a node that has heard what it is to hear makes its step
   pub merge_next : (node : Node) (inbox : List (Option Payload)) → node.sizes ≡ sizes_of net → node.roles ≡ map (role_of net v) (neighbours net v) →
-      gathered node s inbox ≡ state_before_choice net f s v → first_refusal node (Merge f s) inbox ≡ None →
+      with_heard node s inbox ≡ state_before_choice net f s v → first_refusal node (Merge f s) inbox ≡ None →
       next node (FIRST_MERGE + (f * steps (sizes_of net) + s)) inbox ≡ Ok (state_after_choice net f s v, map (chose net f s v) (neighbours net v))
   merge_next node inbox sizes roles g ports =
       let p : ℕ = FIRST_MERGE + (f * steps (sizes_of net) + s) in

@@ -14,7 +14,7 @@ use Rattle.forests.specs.declared.numbering.Role.TheVariants.{Up}
 use Rattle.colour_rules.specs.Node.{Node, reduction_of, phase_of}
 use Rattle.colour_rules.specs.Table.{is_above}
 use Rattle.colour_rules.specs.Refusals.{first_refusal, port_rule, ports_refusal, own_rule, refusal}
-use Rattle.colour_rules.specs.Program.{done, next, answered, is_up, colour_in, from_parent, silent}
+use Rattle.colour_rules.specs.Program.{work_of, next, answered, is_up, colour_in, from_parent, silent}
 use Rattle.colour_rules.specs.declared.phase.Reduction.{Reduction}
 use Rattle.colour_rules.specs.declared.phase.Reduction.TheVariants.{Step, Shift, Drop}
 use Rattle.colour_rules.specs.declared.phase.TheConstants.{FIRST_MERGE}
@@ -86,7 +86,7 @@ no_own_rule node (Shift x) inbox none = rw none refl
 no_own_rule node (Drop x) inbox none = rw none refl
 
 pub accepted : (node : Node) (p : ℕ) (phase : Phase) (inbox : List (Option Payload)) → phase_of node.sizes p ≡ phase → first_refusal node phase inbox ≡ None →
-    own_rule node phase inbox ≡ None → next node p inbox ≡ Ok (done node phase inbox)
+    own_rule node phase inbox ≡ None → next node p inbox ≡ Ok (work_of node phase inbox)
 accepted node p phase inbox e ports own =
     let none : refusal node phase inbox ≡ None = rw (ports, own) refl in
-    rw e (ap (λ r. answered r (done node phase inbox)) none)
+    rw e (ap (λ r. answered r (work_of node phase inbox)) none)

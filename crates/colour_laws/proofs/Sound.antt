@@ -28,28 +28,28 @@ pub record Sound (net : Net) (f q : ℕ) : Type 0 where
 
 module _ (net : Net) (forest : IsForest net) (f : ℕ) where
   -- proper colours that are 0 to a bound
-  record IsKept (most : ℕ) (c : ℕ → ℕ) : Type 0 where
+  record IsProperWithin (most : ℕ) (c : ℕ → ℕ) : Type 0 where
     pub proper : IsProper (parent net f) c
     pub within : IsWithin most c
 
-  shift_kept : (most : ℕ) (c : ℕ → ℕ) → 2 ≤ most → IsKept most c → IsKept most (shift (parent net f) c)
+  shift_kept : (most : ℕ) (c : ℕ → ℕ) → 2 ≤ most → IsProperWithin most c → IsProperWithin most (shift (parent net f) c)
   shift_kept most c low keeps = record {
     proper = shift-proper (parent net f) c keeps.proper;
     within = shift-within most (parent net f) c low keeps.within;
   }
 
   -- a shift and the drop of the greatest colour
-  drop_kept : (most : ℕ) (c : ℕ → ℕ) → 2 ≤ most → IsKept (suc most) c → IsKept most (reduce (suc most) (parent net f) c)
+  drop_kept : (most : ℕ) (c : ℕ → ℕ) → 2 ≤ most → IsProperWithin (suc most) c → IsProperWithin most (reduce (suc most) (parent net f) c)
   drop_kept most c low keeps = record {
     proper = reduce-proper (suc most) (parent net f) c keeps.proper;
     within = λ v. let less : reduce (suc most) (parent net f) c v < suc most = reduce-below (suc most) (parent net f) c (omega arith) keeps.within v in
         omega arith;
   }
 
-  bits_kept : (k most : ℕ) → IsWithin most (bit_steps k (parent net f) (id_of net)) → IsKept most (bit_steps k (parent net f) (id_of net))
+  bits_kept : (k most : ℕ) → IsWithin most (bit_steps k (parent net f) (id_of net)) → IsProperWithin most (bit_steps k (parent net f) (id_of net))
   bits_kept k most within = record { proper = bit_steps-proper k (parent net f) (id_of net) (forest.apart f); within = within }
 
-  kept1 : IsKept 255 (stages net f 1).0
+  kept1 : IsProperWithin 255 (stages net f 1).0
   unfolding stages
   kept1 = bits_kept 1 255 (λ v. omega (
     arith,
@@ -57,7 +57,7 @@ module _ (net : Net) (forest : IsForest net) (f : ℕ) where
         (forest.apart f) forest.small v,
   ))
 
-  kept2 : IsKept 15 (stages net f 2).0
+  kept2 : IsProperWithin 15 (stages net f 2).0
   unfolding stages
   kept2 = bits_kept 2 15 (λ v. omega (
     arith,
@@ -65,7 +65,7 @@ module _ (net : Net) (forest : IsForest net) (f : ℕ) where
         (forest.apart f) forest.small v,
   ))
 
-  kept3 : IsKept 7 (stages net f 3).0
+  kept3 : IsProperWithin 7 (stages net f 3).0
   unfolding stages
   kept3 = bits_kept 3 7 (λ v. omega (
     arith,
@@ -73,7 +73,7 @@ module _ (net : Net) (forest : IsForest net) (f : ℕ) where
         (forest.apart f) forest.small v,
   ))
 
-  kept4 : IsKept 5 (stages net f 4).0
+  kept4 : IsProperWithin 5 (stages net f 4).0
   unfolding stages
   kept4 = bits_kept 4 5 (λ v. omega (
     arith,
@@ -81,28 +81,28 @@ module _ (net : Net) (forest : IsForest net) (f : ℕ) where
         (forest.apart f) forest.small v,
   ))
 
-  kept5 : IsKept 5 (stages net f 5).0
+  kept5 : IsProperWithin 5 (stages net f 5).0
   unfolding stages
   kept5 = shift_kept 5 (stages net f 4).0 (omega arith) kept4
 
-  kept6 : IsKept 4 (stages net f 6).0
+  kept6 : IsProperWithin 4 (stages net f 6).0
   unfolding stages
   kept6 = drop_kept 4 (stages net f 4).0 (omega arith) kept4
 
-  kept7 : IsKept 4 (stages net f 7).0
+  kept7 : IsProperWithin 4 (stages net f 7).0
   unfolding stages
   kept7 = shift_kept 4 (stages net f 6).0 (omega arith) kept6
 
-  kept8 : IsKept 3 (stages net f 8).0
+  kept8 : IsProperWithin 3 (stages net f 8).0
   unfolding stages
   kept8 = drop_kept 3 (stages net f 6).0 (omega arith) kept6
 
-  kept9 : IsKept 3 (stages net f 9).0
+  kept9 : IsProperWithin 3 (stages net f 9).0
   unfolding stages
   kept9 = shift_kept 3 (stages net f 8).0 (omega arith) kept8
 
   -- by the bound that the table names at the pulse after q
-  sound_within : (q most : ℕ) → ((c : ℕ) → is_above (reduction_of (q + 3)) c ≡ nat_lt most c) → IsKept most (stages net f q).0 → Sound net f q
+  sound_within : (q most : ℕ) → ((c : ℕ) → is_above (reduction_of (q + 3)) c ≡ nat_lt most c) → IsProperWithin most (stages net f q).0 → Sound net f q
   sound_within q most bound keeps = record {
     proper = keeps.proper;
     below = λ v. bound ((stages net f q).0 v) ∙ le-ltb most ((stages net f q).0 v) (keeps.within v);

@@ -17,7 +17,7 @@ use Rattle.forest_merge.specs.Free.{least_free_colour}
 use Rattle.colour_rules.specs.Node.{Node, made, last, up_to}
 use Rattle.colour_rules.proofs.Barring.{contains-up_to_low}
 use Rattle.colour_rules.specs.Refusals.{ports_refusal, port_rule, own_rule, ids_in}
-use Rattle.colour_rules.specs.Program.{colouring, next, oriented_slot, tells_label, labelled, all_labelled, tells_colour, with_orient}
+use Rattle.colour_rules.specs.Program.{colouring, next, oriented_slot, tells_label, role_after_seed, all_labelled, tells_colour, with_orient}
 use Rattle.colour_rules.specs.declared.phase.Phase.TheVariants.{Orient, Seed}
 use Rattle.node_api.proofs.Outboxes.{same-for_all}
 use Rattle.colour_laws.specs.Colours.{colours, colours_after, is_barred}
@@ -64,9 +64,10 @@ same-range : (x a n : ℕ) → replicate n x ≡ map (λ (f : ℕ). x) (range_wi
 same-range x a zero = refl
 same-range x a (suc n) = ap (λ rest. x ∷ rest) (same-range x (a + 1) n)
 
-labelled-map : (role : ℕ → Role) (slot : ℕ → Option Payload) (ws : List ℕ) → all_labelled (map role ws) (map slot ws) ≡ map (λ w. labelled (role w) (slot w)) ws
+labelled-map : (role : ℕ → Role) (slot : ℕ → Option Payload) (ws : List ℕ)
+    → all_labelled (map role ws) (map slot ws) ≡ map (λ w. role_after_seed (role w) (slot w)) ws
 labelled-map role slot [] = refl
-labelled-map role slot (w ∷ ws) = ap (λ rest. labelled (role w) (slot w) ∷ rest) (labelled-map role slot ws)
+labelled-map role slot (w ∷ ws) = ap (λ rest. role_after_seed (role w) (slot w) ∷ rest) (labelled-map role slot ws)
 
 module _ (net : Net) (ok : IsNetwork net) (forest : IsForest net) (start : IsOriented net) where
   pub greets : HoldsAfter net 0 (greeted net) (hello net)
@@ -113,7 +114,7 @@ module _ (net : Net) (ok : IsNetwork net) (forest : IsForest net) (start : IsOri
   -- a port of higher identifier hears nothing, one of lower hears its label
   abbrev Seeds : ℕ → ℕ → Type 0
   Seeds v w = ((earlier : List ℕ) → port_rule (oriented_node net v) earlier Seed (orient net v w) (tells_label (orient net w v)) ≡ None) ×
-      (labelled (orient net v w) (tells_label (orient net w v)) ≡ role_of net v w)
+      (role_after_seed (orient net v w) (tells_label (orient net w v)) ≡ role_of net v w)
 
   seeds : (v k : ℕ) → IsVertex net v → k < degree_of net v → Seeds v (neighbour_of net v k)
   unfolding role_of
@@ -145,7 +146,8 @@ module _ (net : Net) (ok : IsNetwork net) (forest : IsForest net) (start : IsOri
       (λ k h earlier. (seeds v k is_vertex h).0 earlier) 0 [] in
       let roles : all_labelled (map (orient net v) (neighbours net v)) inbox ≡ map (role_of net v) (neighbours net v) =
       labelled-map (orient net v) (λ w. tells_label (orient net w v)) (neighbours net v) ∙
-      map-members (λ w. labelled (orient net v w) (tells_label (orient net w v))) (role_of net v) (neighbours net v) (λ k h. (seeds v k is_vertex h).1) in
+      map-members (λ w. role_after_seed (orient net v w) (tells_label (orient net w v))) (role_of net v) (neighbours net v)
+      (λ k h. (seeds v k is_vertex h).1) in
       accepted (oriented_node net v) 2 Seed inbox refl ports refl
       ∙ (ap (λ (rs : List Role). Ok (
         record (oriented_node net v) { roles = rs; colours = replicate (forest_count_of net) (id_of net v) },

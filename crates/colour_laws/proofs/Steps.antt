@@ -9,7 +9,7 @@ use Rattle.node_api.specs.Program.{sizes_of}
 use Rattle.colour_rules.specs.declared.phase.TheConstants.{FIRST_MERGE}
 use Rattle.colour_rules.specs.declared.payload.Payload.{Payload}
 use Rattle.colour_rules.specs.Node.{Node, steps}
-use Rattle.colour_rules.specs.Choice.{gathered, with_chosen}
+use Rattle.colour_rules.specs.Choice.{with_heard, with_chosen}
 use Rattle.colour_rules.specs.Refusals.{ports_refusal}
 use Rattle.colour_rules.specs.Program.{next, tells_chosen}
 use Rattle.colour_rules.specs.declared.phase.Phase.TheVariants.{Merge}
@@ -42,7 +42,7 @@ all_merged net forest f s v e = rw (lt-ltb (step_in net f v) (suc s) (let h = st
 
 module _ (net : Net) (ok : IsNetwork net) (forest : IsForest net) (f : ℕ) (in_range : f < forest_count_of net) where
   -- the first step of a forest, where nothing comes
-  pub first_next : (node : Node) (v : ℕ) → IsVertex net v → gathered node 0 (map (λ (w : ℕ). None) (neighbours net v)) ≡ state_before_choice net f 0 v →
+  pub first_next : (node : Node) (v : ℕ) → IsVertex net v → with_heard node 0 (map (λ (w : ℕ). None) (neighbours net v)) ≡ state_before_choice net f 0 v →
       node.sizes ≡ sizes_of net → node.roles ≡ map (role_of net v) (neighbours net v) →
       next node (FIRST_MERGE + (f * steps (sizes_of net) + 0)) (map (λ (w : ℕ). None) (neighbours net v)) ≡ Ok (
         state_after_choice net f 0 v,
@@ -66,7 +66,7 @@ module _ (net : Net) (ok : IsNetwork net) (forest : IsForest net) (f : ℕ) (in_
         ∙ ap (λ (told : Option Payload). if step_in net f w == s then told else None) (tells_by net f (colours_after net (suc f) w) w v)
         ∙ ap (λ (n : ℕ). slot_by (step_in net f w == s) (nat_le n f) (colours_after net (suc f) w)) (sym (number-same net forest v k is_vertex h))
 
-    gathered_is : gathered (state_after_choice net f s v) (suc s) (map slot (neighbours net v)) ≡ state_before_choice net f (suc s) v
+    gathered_is : with_heard (state_after_choice net f s v) (suc s) (map slot (neighbours net v)) ≡ state_before_choice net f (suc s) v
     gathered_is =
         let later : (suc s == 0) ≡ false = not_zero s in
         ap (λ (b : Bool). record (state_after_choice net f s v) {

@@ -11,7 +11,7 @@ use Rattle.node_api.specs.Run.{inbox_from}
 use Rattle.colour_rules.specs.declared.phase.TheConstants.{FIRST_MERGE}
 use Rattle.colour_rules.specs.declared.payload.Payload.{Payload}
 use Rattle.colour_rules.specs.Node.{steps}
-use Rattle.colour_rules.specs.Choice.{gathered}
+use Rattle.colour_rules.specs.Choice.{with_heard}
 use Rattle.colour_rules.specs.Program.{next, tells_chosen}
 use Rattle.forests.specs.Forests.{role_of}
 use Rattle.colour_laws.specs.Colours.{colours_after}
@@ -42,7 +42,7 @@ module _ (net : Net) (ok : IsNetwork net) (forest : IsForest net) where
       comes net ok p (state_after_choice net f s) (chose net f s) stand (FIRST_MERGE + (f * steps (sizes_of net) + suc s)) (omega arith) v is_vertex
       ∙ further_next net ok forest f in_range s below v is_vertex
 
-  first_gathered : (v : ℕ) → gathered (state_while_reducing net 10 v) 0 (map (λ (w : ℕ). None) (neighbours net v)) ≡ state_before_choice net 0 0 v
+  first_gathered : (v : ℕ) → with_heard (state_while_reducing net 10 v) 0 (map (λ (w : ℕ). None) (neighbours net v)) ≡ state_before_choice net 0 0 v
   first_gathered v = ap (λ (m : ℕ). record (state_while_reducing net 10 v) { colour_before = colours_after net 0 v; merged = m; chosen = empty })
       (sym (nothing_merged net 0 v)) ∙
       ap (λ (set : FinSet nat_cmp). record (state_before_choice net 0 0 v) { chosen = set }) (empty_set net 0 v)
@@ -60,7 +60,7 @@ module _ (net : Net) (ok : IsNetwork net) (forest : IsForest net) where
       ap (λ (d : Bool). if step_in net f w == s then (if d then None else tells_chosen f (colours_after net (suc f) w) (role_of net w v)) else None) test
       ∙ none_if (step_in net f w == s)
 
-  forest_gathered : (f s v : ℕ) → suc s ≡ steps (sizes_of net) → gathered (state_after_choice net f s v) 0 (map (λ (w : ℕ). None) (neighbours net v))
+  forest_gathered : (f s v : ℕ) → suc s ≡ steps (sizes_of net) → with_heard (state_after_choice net f s v) 0 (map (λ (w : ℕ). None) (neighbours net v))
       ≡ state_before_choice net (suc f) 0 v
   forest_gathered f s v e =
       ap (λ (m : ℕ). record (state_after_choice net f s v) { colour_before = m; merged = m; chosen = empty }) (all_merged net forest f s v e)

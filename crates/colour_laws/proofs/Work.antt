@@ -16,7 +16,7 @@ use Rattle.forests.specs.declared.numbering.Role.TheVariants.{Unknown, Up, Down}
 use Rattle.colour_rules.specs.Node.{Node, reduction_of}
 use Rattle.colour_rules.specs.Table.{is_above}
 use Rattle.colour_rules.specs.Refusals.{port_rule, ports_refusal, own_rule}
-use Rattle.colour_rules.specs.Program.{done, next, is_last, is_up, colour_in, from_parent, next_colours, next_kept, tells_colour, with_colours}
+use Rattle.colour_rules.specs.Program.{work_of, next, is_last, is_up, colour_in, from_parent, next_colours, next_kept, tells_colour, with_colours}
 use Rattle.colour_rules.specs.declared.phase.Phase.TheVariants.{Work}
 use Rattle.colour_laws.proofs.Expected.{stages, by_forest, state_while_reducing, tells, IsForest}
 use Rattle.forests.specs.Forests.{role_of, parent}
@@ -121,7 +121,7 @@ module _ (net : Net) (ok : IsNetwork net) (forest : IsForest net) (q : ℕ) (ear
         let none : own_rule (state_while_reducing net q v) (Work (reduction_of (q + 3))) inbox ≡ None =
         no_own_rule (state_while_reducing net q v) (reduction_of (q + 3)) inbox (any-none (is_above (reduction_of (q + 3))) (λ f. own f v)
         (range_with_len 0 (forest_count_of net)) (λ f. (sound net forest f q early).below v)) in
-        let done_is : next (state_while_reducing net q v) (q + 3) inbox ≡ Ok (done (state_while_reducing net q v) (Work (reduction_of (q + 3))) inbox) =
+        let done_is : next (state_while_reducing net q v) (q + 3) inbox ≡ Ok (work_of (state_while_reducing net q v) (Work (reduction_of (q + 3))) inbox) =
         accepted (state_while_reducing net q v) (q + 3) (Work (reduction_of (q + 3))) inbox
         (phase_work (sizes_of net) (q + 3) (omega arith) (omega arith)) ports none in
         rw came (done_is

@@ -9,10 +9,10 @@ use Rattle.colour_rules.specs.declared.payload.Payload.{Payload}
 use Rattle.colour_rules.specs.declared.phase.Phase.{Phase}
 use Rattle.colour_rules.specs.declared.phase.Phase.TheVariants.{Greet, Orient, Seed, Work, Merge, Halted}
 use Rattle.colour_rules.specs.Node.{Node, phase_of}
-use Rattle.colour_rules.specs.Program.{answered, colouring, done}
+use Rattle.colour_rules.specs.Program.{answered, colouring, work_of}
 use Rattle.colour_rules.specs.Refusals.{refusal}
 
-done-sizes : (node : Node) (phase : Phase) (inbox : List (Option Payload)) → (done node phase inbox).0.sizes ≡ node.sizes
+done-sizes : (node : Node) (phase : Phase) (inbox : List (Option Payload)) → (work_of node phase inbox).0.sizes ≡ node.sizes
 done-sizes node Greet inbox = refl
 done-sizes node Orient inbox = refl
 done-sizes node Seed inbox = refl
@@ -32,5 +32,5 @@ sizes_at net (suc p) v =
     let inbox = inbox_from net (node_at colouring net p) v in
     let phase = phase_of node.sizes (suc p) in
     ap (λ (node : Node × List (Option Payload)). node.0.sizes) (node_at-more colouring net p v)
-    ∙ (after-sizes node (degree_of net v) (refusal node phase inbox) (done node phase inbox) (done-sizes node phase inbox)
+    ∙ (after-sizes node (degree_of net v) (refusal node phase inbox) (work_of node phase inbox) (done-sizes node phase inbox)
     ∙ sizes_at net p v)

@@ -11,7 +11,7 @@ use Rattle.colour_rules.specs.declared.rules.TheConstants.{COLOUR_RANGE}
 use Rattle.node_api.specs.Program.{span}
 use Rattle.forest_merge.specs.Free.{HasFree, least_free_colour}
 use Rattle.colour_rules.specs.Node.{Node, steps}
-use Rattle.colour_rules.specs.Choice.{chooses, gathered}
+use Rattle.colour_rules.specs.Choice.{chooses, with_heard}
 use Rattle.colour_rules.proofs.Pairs.{pair_test}
 
 -- a number that is too high is another than one that is low
@@ -60,18 +60,18 @@ old-later s old merged before later is = is ∙ ap (λ (b : Bool). if b then mer
 
 module _ (node : Node) (f s three : ℕ) (own : three ≡ slice_index node.colours f) where
   -- it is the node's turn at the step of the pair of its three-colour and its old colour
-  pub chooses-at : (width old : ℕ) → width ≡ span node.sizes → old ≡ (gathered node s []).colour_before → old ≤ span node.sizes →
-      (three * (width + 1) + old == s) ≡ chooses (gathered node s []) f s
+  pub chooses-at : (width old : ℕ) → width ≡ span node.sizes → old ≡ (with_heard node s []).colour_before → old ≤ span node.sizes →
+      (three * (width + 1) + old == s) ≡ chooses (with_heard node s []) f s
   chooses-at width old wide is low =
       (λ i. own i * (wide i + 1) + is i == s)
-      ∙ sym (pair_test (slice_index node.colours f) (gathered node s []).colour_before (span node.sizes + 1) s
+      ∙ sym (pair_test (slice_index node.colours f) (with_heard node s []).colour_before (span node.sizes + 1) s
       (subst (λ (n : ℕ). n < span node.sizes + 1) is (omega (arith, low))))
 
   -- and at none if it has no three-colour
-  pub chooses-never : 2 < three → s < steps node.sizes → nat_le three 2 ≡ chooses (gathered node s []) f s
+  pub chooses-never : 2 < three → s < steps node.sizes → nat_le three 2 ≡ chooses (with_heard node s []) f s
   chooses-never high within =
       let below : s / (span node.sizes + 1) < 3 = div_below s (span node.sizes + 1) 3 (omega arith) within in
       let apart : (slice_index node.colours f == s / (span node.sizes + 1)) ≡ false =
       ne_eqb (slice_index node.colours f) (s / (span node.sizes + 1)) (λ e. not_both three _ 2 high below (own ∙ e)) in
       lt-leb three 2 high
-      ∙ sym (ap (λ (b : Bool). if b then (gathered node s []).colour_before == s % (span node.sizes + 1) else false) apart)
+      ∙ sym (ap (λ (b : Bool). if b then (with_heard node s []).colour_before == s % (span node.sizes + 1) else false) apart)

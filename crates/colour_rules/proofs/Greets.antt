@@ -1,6 +1,6 @@
 -- What a node tells at pulse 0.
-use Rattle.std.proofs.Common.{◌≡◌, ℕ, List, [], ◌∷◌, length, refl, ap, ◌∙◌}
-use Rattle.std.specs.Prelude.{map, replicate, Option, Some}
+use Rattle.std.proofs.Common.{◌≡◌, ℕ, List, length, ap, ◌∙◌}
+use Rattle.std.specs.Prelude.{replicate, Option, Some}
 use Rattle.std.proofs.lemmas.List.{length-replicate}
 use Rattle.node_api.specs.Boxes.{nothing}
 use Rattle.node_api.proofs.Outboxes.{same-for_all}

@@ -1,6 +1,6 @@
 -- What came at Orient where nothing is refused: an identifier from each port, all different.
 use Rattle.std.proofs.Common.{◌≡◌, ◌≢◌, ℕ, suc, ◌==◌, Bool, true, false, List, [], ◌∷◌, ◌++◌, length, map, refl, ap, sym, subst, ◌∙◌, arith}
-use Rattle.std.specs.Prelude.{if◌then◌else◌, ◌||◌, Option, Some, None}
+use Rattle.std.specs.Prelude.{if◌then◌else◌, Option, Some, None}
 use Rattle.std.specs.List.{All, AllPairs}
 use Rattle.std.proofs.lemmas.Bool.Decides.{nat_tests}
 use Rattle.std.proofs.lemmas.List.Folds.{list_any-append}
@@ -18,7 +18,7 @@ use Rattle.colour_rules.specs.declared.phase.Phase.TheVariants.{Orient}
 use Rattle.colour_rules.specs.declared.rules.TheConstants.{COLOUR_RANGE}
 use Rattle.colour_rules.specs.Node.{Node}
 use Rattle.colour_rules.specs.Refusals.{and_id, first_refusal, ids_in, port_rule, ports_refusal}
-use Rattle.colour_rules.specs.Program.{done, oriented_slot, tells_label, with_roles}
+use Rattle.colour_rules.specs.Program.{work_of, oriented_slot, tells_label, with_roles}
 use Rattle.colour_rules.proofs.Accepted.{neither}
 
 -- a slot brings an identifier, which is neither the node's own nor one heard earlier
@@ -102,11 +102,11 @@ only_hellos node phase slots e size none = hellos node 0 [] node.roles slots siz
 -- a node that numbered its ports by what it heard has done the work of Orient
 pub oriented-is : (node new : Node) (phase : Phase) (heard : List ℕ) (slots out : List (Option Payload)) → phase ≡ Orient → heard ≡ ids_in slots →
     OnlyHellos node.id [] slots → new ≡ with_roles node (map (role_by node.id heard) heard) → out ≡ map tells_label new.roles →
-    (new, out) ≡ done node phase slots
+    (new, out) ≡ work_of node phase slots
 oriented-is node new phase heard slots out e all h is told =
     let roles : map (role_by node.id heard) heard ≡ map (oriented_slot node.id (ids_in slots)) slots =
     ap (λ (ids : List ℕ). map (role_by node.id ids) ids) all ∙ sym (h.roles node.id (ids_in slots)) in
     let node_is : new ≡ with_roles node (map (oriented_slot node.id (ids_in slots)) slots) = is ∙ ap (with_roles node) roles in
     ap (λ (o : List (Option Payload)). (new, o)) told
     ∙ (ap (λ (n : Node). (n, map tells_label n.roles)) node_is
-    ∙ ap (λ (x : Phase). done node x slots) (sym e))
+    ∙ ap (λ (x : Phase). work_of node x slots) (sym e))

@@ -14,9 +14,9 @@ use Rattle.colour_rules.specs.declared.payload.Payload.{Payload}
 use Rattle.colour_rules.specs.declared.phase.Phase.TheVariants.{Merge}
 use Rattle.colour_rules.specs.declared.phase.TheConstants.{FIRST_MERGE}
 use Rattle.colour_rules.specs.Node.{IsPhase, Node, phase_of, ports, steps}
-use Rattle.colour_rules.specs.Choice.{chooses, gathered, with_chosen, with_taken}
+use Rattle.colour_rules.specs.Choice.{chooses, with_heard, with_chosen, with_taken}
 use Rattle.colour_rules.specs.Refusals.{first_refusal, ports_refusal, refusal}
-use Rattle.colour_rules.specs.Program.{answered, done, next}
+use Rattle.colour_rules.specs.Program.{answered, work_of, next}
 use Rattle.colour_rules.proofs.Pairs.{pair_test, phase_merge}
 use Rattle.colour_rules.proofs.Phases.{merge-pulse, phase-real}
 use Rattle.colour_rules.proofs.Steps.{waits-is}
@@ -52,14 +52,14 @@ nothing_chosen node zero = refl
 nothing_chosen node (suc n) = nothing_chosen node n
 
 -- nothing gathered, after the first step of a forest
-gathers_nothing : (node : Node) (s : ℕ) → (s == 0) ≡ false → node ≡ gathered node s (nothing (ports node))
+gathers_nothing : (node : Node) (s : ℕ) → (s == 0) ≡ false → node ≡ with_heard node s (nothing (ports node))
 gathers_nothing node s later = rw (later, nothing_chosen node (ports node)) refl
 
 module _ (node : Node) (p f s : ℕ) (phase : phase_of node.sizes p ≡ Merge f s) (later : (s == 0) ≡ false) (wait : chooses node f s ≡ false) where
   abbrev silence : List (Option Payload)
   silence = nothing (ports node)
 
-  waits : chooses (gathered node s silence) f s ≡ false
+  waits : chooses (with_heard node s silence) f s ≡ false
   waits = ap (λ (n : Node). chooses n f s) (sym (gathers_nothing node s later)) ∙ wait
 
   -- so it stays as it is
@@ -67,7 +67,7 @@ module _ (node : Node) (p f s : ℕ) (phase : phase_of node.sizes p ≡ Merge f 
   rests =
       let fine : refusal node (Merge f s) silence ≡ None = rw (none_refused node f s 0 [] node.roles, waits) refl in
       rw phase
-      (ap (λ r. answered r (done node (Merge f s) silence)) fine
+      (ap (λ r. answered r (work_of node (Merge f s) silence)) fine
       ∙ ap Ok (sym (waits-is node f s silence silence node (gathers_nothing node s later) (sym waits) refl)))
 
 -- The pulses after one of the merging are waited through, up to the node's next turn or the end of the forest.
@@ -108,11 +108,11 @@ hears node idle p slots waiting low high fine =
     let s : ℕ = w.0 in
     let later : (s == 0) ≡ false = is_later s w.1 in
     let here : Node = with_taken node slots in
-    let gathers : here ≡ gathered node s slots = rw later refl in
-    let wait : chooses (gathered node s slots) f s ≡ false = ap (λ (n : Node). chooses n f s) (sym gathers) ∙ w.3 in
+    let gathers : here ≡ with_heard node s slots = rw later refl in
+    let wait : chooses (with_heard node s slots) f s ≡ false = ap (λ (n : Node). chooses n f s) (sym gathers) ∙ w.3 in
     let none : refusal node (Merge f s) slots ≡ None = rw (fine s w.1, wait) refl in
     rw w.2
-    (ap (λ r. answered r (done node (Merge f s) slots)) none
+    (ap (λ r. answered r (work_of node (Merge f s) slots)) none
     ∙ ap Ok (sym (waits-is node f s slots (nothing (ports node)) here gathers (sym wait) refl)))
 
 -- no pulse is waited through

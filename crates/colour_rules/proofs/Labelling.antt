@@ -11,14 +11,14 @@ use Rattle.forests.specs.declared.numbering.Role.TheVariants.{Unknown, Up, Down}
 use Rattle.colour_rules.specs.declared.payload.Payload.{Payload}
 use Rattle.colour_rules.specs.declared.payload.Payload.TheVariants.{Hello, Label, Colour, Chosen}
 use Rattle.colour_rules.specs.Node.{HasForests, IsIn}
-use Rattle.colour_rules.specs.Program.{labelled, all_labelled}
+use Rattle.colour_rules.specs.Program.{role_after_seed, all_labelled}
 use Rattle.colour_rules.proofs.Hearing.{none-past}
 use Rattle.colour_rules.proofs.KeptPorts.{length-labelled}
 
 -- The payloads of the ports before the cursor have been taken in, the others not yet.
 pub record Labelled (old : List Role) (slots : List (Option Payload)) (cursor : ℕ) (now : List Role) : Type 0 where
   pub size : length now ≡ length old
-  pub before : (k : ℕ) → k < cursor → get_or now k Unknown ≡ labelled (get_or old k Unknown) (at_port slots k)
+  pub before : (k : ℕ) → k < cursor → get_or now k Unknown ≡ role_after_seed (get_or old k Unknown) (at_port slots k)
   pub after : (k : ℕ) → cursor ≤ k → get_or now k Unknown ≡ get_or old k Unknown
 
 -- before the first payload nothing is taken in
@@ -31,19 +31,19 @@ labelled-start old now slots cursor same start =
     }
 
 -- a port that brought nothing stays
-by_nothing : (role : Role) → labelled role None ≡ role
+by_nothing : (role : Role) → role_after_seed role None ≡ role
 by_nothing Unknown = refl
 by_nothing (Up f) = refl
 by_nothing (Down f) = refl
 
-stays : (role : Role) (slot : Option Payload) → slot ≡ None → role ≡ labelled role slot
-stays role slot none = sym (ap (labelled role) none ∙ by_nothing role)
+stays : (role : Role) (slot : Option Payload) → slot ≡ None → role ≡ role_after_seed role slot
+stays role slot none = sym (ap (role_after_seed role) none ∙ by_nothing role)
 
 module _ (old : List Role) (slots : List (Option Payload)) (now : List Role) where
   -- one payload more is taken in
   pub labelled-read : (mail new : Mail Payload) (payload : Payload) (k : ℕ) (role : Role) → Labelled old slots mail.cursor now → mail.slots ≡ slots →
       length slots ≡ length old → Reads mail payload new → k + 1 ≡ new.cursor → role ≡ get_or now k role →
-      Labelled old slots new.cursor (slice_set now k (labelled role (Some payload)))
+      Labelled old slots new.cursor (slice_set now k (role_after_seed role (Some payload)))
   labelled-read mail new payload k role l same ports reads at read =
       let here : k < length now = omega (arith, reads.later, reads.within, l.size, ap (λ (s : List (Option Payload)). length s) same) in
       let from : mail.cursor ≤ k = omega (arith, reads.later) in
@@ -54,7 +54,7 @@ module _ (old : List Role) (slots : List (Option Payload)) (now : List Role) whe
         before = λ j h.
             elim (cases_eq j k) [
               | inl is ↦ rw is (get_or-set_same now k _ Unknown here ∙
-                  (ap (λ (r : Role). labelled r (Some payload)) was ∙ ap (labelled (get_or old k Unknown)) (sym slot)))
+                  (ap (λ (r : Role). role_after_seed r (Some payload)) was ∙ ap (role_after_seed (get_or old k Unknown)) (sym slot)))
               | inr other ↦
                   get_or-set_other now k j _ Unknown other
                   ∙ elim (dec_lt j mail.cursor) [
@@ -69,7 +69,7 @@ module _ (old : List Role) (slots : List (Option Payload)) (now : List Role) whe
       }
 
 at_labelled : (roles : List Role) (slots : List (Option Payload)) (k : ℕ) → length slots ≡ length roles → k < length roles →
-    get_or (all_labelled roles slots) k Unknown ≡ labelled (get_or roles k Unknown) (at_port slots k)
+    get_or (all_labelled roles slots) k Unknown ≡ role_after_seed (get_or roles k Unknown) (at_port slots k)
 at_labelled [] slots k e h = absurd (omega arith)
 at_labelled (role ∷ roles) [] k e h = absurd (omega arith)
 at_labelled (role ∷ roles) (slot ∷ slots) zero e h = refl
@@ -87,7 +87,7 @@ labelled-all old slots cursor now l ports end =
     ]
     ∙ sym (at_labelled old slots k ports (omega (arith, l.size))))
 
-stays_in : (n : ℕ) (role : Role) (slot : Option Payload) → IsIn n role → ((f : ℕ) → slot ≡ Some (Label f) → f < n) → IsIn n (labelled role slot)
+stays_in : (n : ℕ) (role : Role) (slot : Option Payload) → IsIn n role → ((f : ℕ) → slot ≡ Some (Label f) → f < n) → IsIn n (role_after_seed role slot)
 stays_in n Unknown None h small = tt
 stays_in n Unknown (Some (Hello id)) h small = tt
 stays_in n Unknown (Some (Label f)) h small = small f refl

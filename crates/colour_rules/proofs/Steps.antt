@@ -5,8 +5,8 @@ use Rattle.node_api.specs.Boxes.{nothing}
 use Rattle.colour_rules.specs.declared.payload.Payload.{Payload}
 use Rattle.colour_rules.specs.declared.phase.Phase.TheVariants.{Merge}
 use Rattle.colour_rules.specs.Node.{Node, ports, steps}
-use Rattle.colour_rules.specs.Choice.{chooses, free_for, gathered}
-use Rattle.colour_rules.specs.Program.{done, silent, tells_chosen}
+use Rattle.colour_rules.specs.Choice.{chooses, free_for, with_heard}
+use Rattle.colour_rules.specs.Program.{work_of, silent, tells_chosen}
 use Rattle.node_api.proofs.Outboxes.{same-for_all}
 
 abbrev Sent : Type 0
@@ -25,22 +25,22 @@ pub told-else : (b : Bool) (out x y : Sent) → b ≡ false → out ≡ y → ou
 told-else true out x y e h = absurd (cc)
 told-else false out x y e h = h
 
-module _ (node : Node) (f s : ℕ) (inbox out : Sent) (here : Node) (is : here ≡ gathered node s inbox) where
+module _ (node : Node) (f s : ℕ) (inbox out : Sent) (here : Node) (is : here ≡ with_heard node s inbox) where
   -- a node whose turn it isn't has gathered, and is silent
-  pub waits-is : false ≡ chooses (gathered node s inbox) f s → out ≡ nothing (ports node) → (here, out) ≡ done node (Merge f s) inbox
+  pub waits-is : false ≡ chooses (with_heard node s inbox) f s → out ≡ nothing (ports node) → (here, out) ≡ work_of node (Merge f s) inbox
   waits-is wait quiet =
-      rw (sym wait) (ap (λ (n : Node). (n, out)) is ∙ ap (λ (o : Sent). (gathered node s inbox, o)) (quiet ∙ silent-is node))
+      rw (sym wait) (ap (λ (n : Node). (n, out)) is ∙ ap (λ (o : Sent). (with_heard node s inbox, o)) (quiet ∙ silent-is node))
 
   -- a node at its turn takes a colour and tells it, but for the last step
-  pub turns-is : true ≡ chooses (gathered node s inbox) f s → (c : ℕ) → c ≡ free_for here →
+  pub turns-is : true ≡ chooses (with_heard node s inbox) f s → (c : ℕ) → c ≡ free_for here →
       out ≡ (if suc s == steps node.sizes then silent node.roles else map (tells_chosen f c) node.roles) →
-      (record here { merged = c }, out) ≡ done node (Merge f s) inbox
+      (record here { merged = c }, out) ≡ work_of node (Merge f s) inbox
   turns-is turn c free told =
-      let same : c ≡ free_for (gathered node s inbox) = free ∙ ap free_for is in
+      let same : c ≡ free_for (with_heard node s inbox) = free ∙ ap free_for is in
       rw (sym turn)
       (ap (λ (n : Node). (record n { merged = c }, out)) is
-      ∙ (ap (λ (o : Sent). (record (gathered node s inbox) { merged = c }, o)) told
+      ∙ (ap (λ (o : Sent). (record (with_heard node s inbox) { merged = c }, o)) told
       ∙ ap (λ (d : ℕ). (
-        record (gathered node s inbox) { merged = d },
+        record (with_heard node s inbox) { merged = d },
         if suc s == steps node.sizes then silent node.roles else map (tells_chosen f d) node.roles,
       )) same))

@@ -9,7 +9,7 @@ use Rattle.colour_rules.specs.declared.phase.Reduction.{Reduction}
 use Rattle.colour_rules.specs.declared.colours.InForest.{InForest}
 use Rattle.colour_rules.specs.declared.colours.InForests.{InForests}
 use Rattle.colour_rules.specs.InForests.{AreTurned, IsReadyAt, before_in, befores_of, blank, colour_by, colours_by, colours_in, in_forest, turned_in}
-use Rattle.colour_rules.specs.Program.{AreReady, IsReady, turned, turned_all, kept, kept_all}
+use Rattle.colour_rules.specs.Program.{AreReady, IsReady, next_colour, turned_all, kept_colour, kept_all}
 
 if-false : {A : Type 0} (b : Bool) (x y : A) → b ≡ false → (if b then x else y) ≡ y
 if-false true x y e = absurd (cc)
@@ -110,7 +110,7 @@ module _ (reduction : Reduction) (id : ℕ) (parent : ℕ → Option ℕ) (old n
   -- what is written down are the next colours
   pub all-turned : colours_by id false new.each.items ≡ turned_all reduction (colours_in id old) (before_in old) parent
   all-turned =
-      fill_by_all (λ f. turned reduction (slice_index (colours_in id old) f) (slice_index (before_in old) f) (parent f))
+      fill_by_all (λ f. next_colour reduction (slice_index (colours_in id old) f) (slice_index (before_in old) f) (parent f))
       (colours_by id false new.each.items) (length (colours_in id old)) 0 (length-map new.each.items (colour_by id false) ∙ (t.size ∙ sym long))
       (λ f h.
       let within : f < length old.each.items = omega (arith, long) in
@@ -120,7 +120,7 @@ module _ (reduction : Reduction) (id : ℕ) (parent : ℕ → Option ℕ) (old n
   -- and those kept beside them
   pub all-kept : befores_of new.each.items ≡ kept_all reduction (colours_in id old) (before_in old)
   all-kept =
-      fill_by_all (λ f. kept reduction (slice_index (colours_in id old) f) (slice_index (before_in old) f))
+      fill_by_all (λ f. kept_colour reduction (slice_index (colours_in id old) f) (slice_index (before_in old) f))
       (befores_of new.each.items) (length (colours_in id old)) 0 (length-map new.each.items (λ one. one.before) ∙ (t.size ∙ sym long))
       (λ f h.
       let within : f < length old.each.items = omega (arith, long) in

@@ -6,7 +6,8 @@ use Rattle.node_api.specs.Boxes.{nothing}
 use Rattle.colour_rules.specs.declared.phase.Reduction.{Reduction}
 use Rattle.colour_rules.specs.declared.payload.Payload.{Payload}
 use Rattle.colour_rules.specs.Node.{Node, ports}
-use Rattle.colour_rules.specs.Program.{from_parent, is_last, kept, kept_all, next_colours, next_kept, silent, tells_colour, turned, turned_all, with_colours}
+use Rattle.colour_rules.specs.Program.{from_parent, is_last, kept_all, kept_colour, next_colour, next_colours, next_kept, silent}
+use Rattle.colour_rules.specs.Program.{tells_colour, turned_all, with_colours}
 use Rattle.node_api.proofs.Outboxes.{same-for_all}
 
 module _ (node : Node) (reduction : Reduction) (size : length node.colours ≡ node.sizes.forests) where
@@ -15,12 +16,13 @@ module _ (node : Node) (reduction : Reduction) (size : length node.colours ≡ n
       turned_all reduction node.colours node.before (λ f. from_parent f node.roles slots) ≡ next_colours node reduction slots
   colours-are slots =
       ap
-      (λ (n : ℕ). map (λ f. turned reduction (slice_index node.colours f) (slice_index node.before f) (from_parent f node.roles slots)) (range_with_len 0 n))
+      (λ (n : ℕ). map (λ f. next_colour reduction (slice_index node.colours f) (slice_index node.before f) (from_parent f node.roles slots))
+      (range_with_len 0 n))
       size
 
   -- and so are those kept beside them
   pub kept-are : kept_all reduction node.colours node.before ≡ next_kept node reduction
-  kept-are = ap (λ (n : ℕ). map (λ f. kept reduction (slice_index node.colours f) (slice_index node.before f)) (range_with_len 0 n)) size
+  kept-are = ap (λ (n : ℕ). map (λ f. kept_colour reduction (slice_index node.colours f) (slice_index node.before f)) (range_with_len 0 n)) size
 
 pair-is : {X Y : Type 0} (a b : X) (x y : Y) → a ≡ b → x ≡ y → ◌≡◌ {A = X × Y} (a, x) (b, y)
 pair-is {X = X} {Y = Y} a b x y e f = ap (λ (c : X). let both : X × Y = (c, x) in both) e ∙ ap (λ (z : Y). let both : X × Y = (b, z) in both) f

@@ -1,6 +1,6 @@
 -- Where nothing is refused, the colours of the forests are ready to be turned.
 use Rattle.std.proofs.Common.{◌≡◌, ◌≢◌, ℕ, zero, suc, ◌<◌, ◌==◌, Bool, true, false, List, [], ◌∷◌, length, refl, ap, sym, ◌∙◌, arith, get_or, subst}
-use Rattle.std.specs.Prelude.{if◌then◌else◌, ◌||◌, IfSome, Option, Some, None, slice_index}
+use Rattle.std.specs.Prelude.{if◌then◌else◌, IfSome, Option, Some, None, slice_index}
 use Rattle.std.proofs.lemmas.Bool.Decides.{nat_tests}
 use Rattle.std.specs.List.{list_any}
 use Rattle.std.proofs.lemmas.List.FromFn.{get_or-map-range_with_len, length-map-range_with_len}
@@ -17,7 +17,7 @@ use Rattle.colour_rules.specs.Node.{Node, AreBelow, IsReduction, ports}
 use Rattle.colour_rules.specs.declared.rules.TheConstants.{COLOUR_RANGE}
 use Rattle.colour_rules.specs.Table.{is_above}
 use Rattle.colour_rules.specs.Refusals.{IsAccepted, own_rule, port_rule}
-use Rattle.colour_rules.specs.Program.{IsReady, colour_in, from_parent, is_up, kept, next_kept}
+use Rattle.colour_rules.specs.Program.{IsReady, colour_in, from_parent, is_up, kept_colour, next_kept}
 use Rattle.colour_rules.proofs.Accepted.{fine_at}
 use Rattle.colour_rules.proofs.Phases.{low-colour}
 
@@ -111,7 +111,7 @@ module _ (node : Node) (reduction : Reduction) (slots : List (Option Payload)) (
       of_reduction (Shift x) is apart own before parent = (apart, own (λ k e. absurd (cc)), before, parent (λ k e. absurd (cc)))
       of_reduction (Drop x) is apart own before parent = (apart, own (λ k e. absurd (cc)), before, parent (λ k e. absurd (cc)), is.0, is.1)
 
-  kept-low : (r : Reduction) (own before : ℕ) → (((k : ℕ) → r ≡ Step k → ⊥) → own < 6) → before < 6 → kept r own before < 6
+  kept-low : (r : Reduction) (own before : ℕ) → (((k : ℕ) → r ≡ Step k → ⊥) → own < 6) → before < 6 → kept_colour r own before < 6
   kept-low (Step k) own before low small = small
   kept-low (Shift x) own before low small = low (λ k e. absurd (cc))
   kept-low (Drop x) own before low small = small
@@ -120,7 +120,7 @@ module _ (node : Node) (reduction : Reduction) (slots : List (Option Payload)) (
   pub kept-below : AreBelow 6 node.before → length node.before ≡ length node.colours → length node.colours ≡ node.sizes.forests →
       AreBelow 6 (next_kept node reduction)
   kept-below low as_many size f h =
-      let F = λ (g : ℕ). kept reduction (slice_index node.colours g) (slice_index node.before g) in
+      let F = λ (g : ℕ). kept_colour reduction (slice_index node.colours g) (slice_index node.before g) in
       let within : f < node.sizes.forests = omega (arith, length-map-range_with_len F 0 node.sizes.forests) in
       subst (λ (c : ℕ). c < 6) (sym (get_or-map-range_with_len F 0 node.sizes.forests f f 0 within (omega arith)))
       (kept-low reduction (slice_index node.colours f) (slice_index node.before f) (λ other. own-low other f (omega arith)) (low f (omega arith)))

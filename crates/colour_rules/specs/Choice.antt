@@ -26,8 +26,8 @@ ChosenWithin n slots = (port c : ℕ) → at_port slots port ≡ Some (Chosen c)
 
 -- a node at a step of the merging once it has heard: the first step of a forest begins with the colour so far
 -- and nothing heard
-abbrev pub gathered : Node → ℕ → List (Option Payload) → Node
-gathered node s inbox =
+abbrev pub with_heard : Node → ℕ → List (Option Payload) → Node
+with_heard node s inbox =
     record node {
       colour_before = if s == 0 then node.merged else node.colour_before;
       chosen = if s == 0 then empty else with_chosen node.chosen inbox;

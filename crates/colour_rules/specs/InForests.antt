@@ -3,7 +3,7 @@ use Rattle.std.specs.Prelude.{◌≡◌, ℕ, ◌<◌, Bool, if◌then◌else◌
 use Rattle.colour_rules.specs.declared.phase.Reduction.{Reduction}
 use Rattle.colour_rules.specs.declared.colours.InForest.{InForest}
 use Rattle.colour_rules.specs.declared.colours.InForests.{InForests}
-use Rattle.colour_rules.specs.Program.{IsReady, kept, turned}
+use Rattle.colour_rules.specs.Program.{IsReady, kept_colour, next_colour}
 
 -- the colour in a forest: the identifier where the forests are seeded, and else the one that is written down
 abbrev pub colour_by : ℕ → Bool → InForest → ℕ
@@ -41,7 +41,7 @@ IsReadyAt reduction id parent all f =
 abbrev pub turned_in : Reduction → ℕ → Bool → Option ℕ → InForest → InForest
 turned_in reduction id is_seeded parent one =
     let own : ℕ = colour_by id is_seeded one in
-    record { colour = turned reduction own one.before parent; before = kept reduction own one.before }
+    record { colour = next_colour reduction own one.before parent; before = kept_colour reduction own one.before }
 
 -- Some forests have taken the next colour, by the colours of the parents; the others are as before.
 pub record AreTurned (reduction : Reduction) (id : ℕ) (parent : ℕ → Option ℕ) (turns : ℕ → Bool) (old new : InForests)

@@ -6,5 +6,6 @@ pub mod Program
 pub mod Stored
 pub mod Words
 pub mod Idle
+pub mod Pulsed
 pub mod Taken
 pub mod InForests

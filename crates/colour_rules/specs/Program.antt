@@ -18,7 +18,7 @@ use Rattle.colour_rules.specs.declared.phase.Phase.TheVariants.{Greet, Orient, S
 use Rattle.colour_rules.specs.declared.payload.Payload.{Payload}
 use Rattle.colour_rules.specs.declared.payload.Payload.TheVariants.{Hello, Label, Colour, Chosen}
 use Rattle.colour_rules.specs.Node.{Node, HasForests, steps, phase_of, last, ports, made, greet}
-use Rattle.colour_rules.specs.Choice.{gathered, chooses, free_for}
+use Rattle.colour_rules.specs.Choice.{with_heard, chooses, free_for}
 use Rattle.colour_rules.specs.Table.{is_merged}
 use Rattle.colour_rules.specs.Refusals.{ids_in, refusal}
 
@@ -28,13 +28,13 @@ oriented_slot own ids (Some (Hello n)) = role_by own ids n
 oriented_slot own ids slot = Unknown
 
 -- what a port is after Seed: where the neighbour says which forest, the port leads to a child there
-abbrev pub labelled : Role → Option Payload → Role
-labelled Unknown (Some (Label f)) = Down f
-labelled role slot = role
+abbrev pub role_after_seed : Role → Option Payload → Role
+role_after_seed Unknown (Some (Label f)) = Down f
+role_after_seed role slot = role
 
 -- every port after Seed
 abbrev pub all_labelled : List Role → List (Option Payload) → List Role
-all_labelled (role ∷ roles) (slot ∷ slots) = labelled role slot ∷ all_labelled roles slots
+all_labelled (role ∷ roles) (slot ∷ slots) = role_after_seed role slot ∷ all_labelled roles slots
 all_labelled roles slots = []
 
 -- the node tells each parent the forest
@@ -91,16 +91,16 @@ from_parent f (role ∷ roles) (slot ∷ slots) = if is_up f role then colour_in
 from_parent f roles slots = None
 
 -- the next colour in a forest
-abbrev pub turned : Reduction → ℕ → ℕ → Option ℕ → ℕ
-turned (Step k) own before parent = bit_by own parent
-turned (Shift x) own before parent = shift_by own parent
-turned (Drop x) own before parent = drop_by x own before parent
+abbrev pub next_colour : Reduction → ℕ → ℕ → Option ℕ → ℕ
+next_colour (Step k) own before parent = bit_by own parent
+next_colour (Shift x) own before parent = shift_by own parent
+next_colour (Drop x) own before parent = drop_by x own before parent
 
 -- the colour that is kept beside it: the one before a shift
-abbrev pub kept : Reduction → ℕ → ℕ → ℕ
-kept (Step k) own before = before
-kept (Shift x) own before = own
-kept (Drop x) own before = before
+abbrev pub kept_colour : Reduction → ℕ → ℕ → ℕ
+kept_colour (Step k) own before = before
+kept_colour (Shift x) own before = own
+kept_colour (Drop x) own before = before
 
 -- What a turn asks for: the parent has another colour, and but for a bit step all colours are 0 to 5
 -- and what is dropped is 3 to 5.
@@ -118,12 +118,12 @@ AreReady reduction colours before parent =
 
 abbrev pub turned_all : Reduction → List ℕ → List ℕ → (ℕ → Option ℕ) → List ℕ
 turned_all reduction colours before parent =
-    map (λ f. turned reduction (slice_index colours f) (slice_index before f) (parent f))
+    map (λ f. next_colour reduction (slice_index colours f) (slice_index before f) (parent f))
     (range_with_len 0 (length colours))
 
 abbrev pub kept_all : Reduction → List ℕ → List ℕ → List ℕ
 kept_all reduction colours before =
-    map (λ f. kept reduction (slice_index colours f) (slice_index before f)) (range_with_len 0 (length colours))
+    map (λ f. kept_colour reduction (slice_index colours f) (slice_index before f)) (range_with_len 0 (length colours))
 
 -- whether no work on the colours is left: the last drop is that of 3
 abbrev pub is_last : Reduction → Bool
@@ -149,33 +149,32 @@ with_colours node reduction colours before = (
 -- the next colours, by forest, and those kept beside them
 abbrev pub next_colours : Node → Reduction → List (Option Payload) → List ℕ
 next_colours node reduction inbox =
-    map
-    (λ f. turned reduction (slice_index node.colours f) (slice_index node.before f) (from_parent f node.roles inbox))
-    (range_with_len 0 node.sizes.forests)
+    map (λ f. next_colour reduction (slice_index node.colours f) (slice_index node.before f)
+    (from_parent f node.roles inbox)) (range_with_len 0 node.sizes.forests)
 
 abbrev pub next_kept : Node → Reduction → List ℕ
 next_kept node reduction =
-    map (λ f. kept reduction (slice_index node.colours f) (slice_index node.before f))
+    map (λ f. kept_colour reduction (slice_index node.colours f) (slice_index node.before f))
     (range_with_len 0 node.sizes.forests)
 
 -- The work of each phase: the node after it, and what is sent.
-abbrev pub done : Node → Phase → List (Option Payload) → Node × List (Option Payload)
-done node Greet inbox = (node, silent node.roles)
-done node Orient inbox = with_orient node inbox (map (oriented_slot node.id (ids_in inbox)) inbox)
-done node Seed inbox =
+abbrev pub work_of : Node → Phase → List (Option Payload) → Node × List (Option Payload)
+work_of node Greet inbox = (node, silent node.roles)
+work_of node Orient inbox = with_orient node inbox (map (oriented_slot node.id (ids_in inbox)) inbox)
+work_of node Seed inbox =
     let roles : List Role = all_labelled node.roles inbox in
     let colours : List ℕ = replicate node.sizes.forests node.id in
     (record node { roles = roles; colours = colours }, map (tells_colour colours) roles)
-done node (Work reduction) inbox =
+work_of node (Work reduction) inbox =
     with_colours node reduction (next_colours node reduction inbox) (next_kept node reduction)
-done node (Merge f s) inbox =
-    let here : Node = gathered node s inbox in
+work_of node (Merge f s) inbox =
+    let here : Node = with_heard node s inbox in
     let turn : Bool = chooses here f s in
     let told : List (Option Payload) = map (tells_chosen f (free_for here)) node.roles in (
       record here { merged = if turn then free_for here else node.merged },
       if turn then (if suc s == steps node.sizes then silent node.roles else told) else silent node.roles,
     )
-done node Halted inbox = (node, silent node.roles)
+work_of node Halted inbox = (node, silent node.roles)
 
 -- a refusal, or the node
 abbrev pub answered : Option Refused → Node × List (Option Payload) → Result (Node × List (Option Payload)) Refused
@@ -185,7 +184,7 @@ answered None node = Ok node
 -- A pulse: the first refusal, or the work of the phase.
 abbrev pub next : Node → ℕ → List (Option Payload) → Result (Node × List (Option Payload)) Refused
 next node p inbox =
-    let phase : Phase = phase_of node.sizes p in answered (refusal node phase inbox) (done node phase inbox)
+    let phase : Phase = phase_of node.sizes p in answered (refusal node phase inbox) (work_of node phase inbox)
 
 -- the rounds of the colouring as a node program
 abbrev pub colouring : Program Node Payload Refused

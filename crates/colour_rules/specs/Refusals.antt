@@ -15,7 +15,7 @@ use Rattle.colour_rules.specs.declared.payload.Payload.TheVariants.{Hello}
 use Rattle.colour_rules.specs.declared.rules.TheConstants.{FOREST_RANGE, COLOUR_RANGE, MISSING}
 use Rattle.colour_rules.specs.Node.{IsPhase, Node, ports}
 use Rattle.colour_rules.specs.Table.{cell, is_due, is_above, value_rule}
-use Rattle.colour_rules.specs.Choice.{gathered, chooses, free_for}
+use Rattle.colour_rules.specs.Choice.{with_heard, chooses, free_for}
 
 -- The rule that a port breaks: by its payload, or because a payload is missing.
 abbrev pub port_rule : Node → List ℕ → Phase → Role → Option Payload → Option ℕ
@@ -77,7 +77,7 @@ own_rule node Orient inbox =
 own_rule node (Work (Shift x)) inbox = if list_any (is_above (Shift x)) node.colours then Some COLOUR_RANGE else None
 own_rule node (Work (Drop x)) inbox = if list_any (is_above (Drop x)) node.colours then Some COLOUR_RANGE else None
 own_rule node (Merge f s) inbox =
-    let here : Node = gathered node s inbox in
+    let here : Node = with_heard node s inbox in
     if chooses here f s then (if nat_lt (span node.sizes) (free_for here) then Some COLOUR_RANGE else None)
     else None
 own_rule node phase inbox = None

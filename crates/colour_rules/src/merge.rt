@@ -6,9 +6,9 @@ ghost use Rattle.node_api.specs.Program.{span};
 ghost use Rattle.colour_rules.specs.declared.payload.Payload.TheVariants.{Chosen};
 ghost use Rattle.colour_rules.specs.declared.phase.Phase.TheVariants.{Merge};
 ghost use Rattle.colour_rules.specs.Node.{IsPhase, ports, steps};
-ghost use Rattle.colour_rules.specs.Choice.{ChosenWithin, chooses, free_for, gathered, is_taken, with_chosen};
+ghost use Rattle.colour_rules.specs.Choice.{ChosenWithin, chooses, free_for, with_heard, is_taken, with_chosen};
 ghost use Rattle.colour_rules.specs.Refusals.{own_rule};
-ghost use Rattle.colour_rules.specs.Program.{done};
+ghost use Rattle.colour_rules.specs.Program.{work_of};
 
 use crate::node::ColourNode;
 use crate::payload::Payload;
@@ -36,7 +36,7 @@ impl ColourNode {
     fn chooses(&self, forest: u16, step: u32) -> bool
         requires forest { forest < self.now.sizes.forests }
         requires step { step < steps self.now.sizes }
-        ensures { result ≡ chooses (gathered self.now step []) forest step }
+        ensures { result ≡ chooses (with_heard self.now step []) forest step }
     {
         let old = if step == 0 {
             self.merged
@@ -68,7 +68,7 @@ impl ColourNode {
     fn has_free_at(&self, step: u32, inbox: &mut Inbox<Payload>) -> bool
         requires unread { inbox.old ≡ unread inbox.old.slots }
         requires colours { ChosenWithin (span self.now.sizes) inbox.old.slots }
-        ensures free { let here = gathered self.now step inbox.old.slots in
+        ensures free { let here = with_heard self.now step inbox.old.slots in
             IsTrue result ↔ HasFree (span self.now.sizes) (is_taken here) }
         ensures slots { inbox.new.slots ≡ inbox.old.slots }
     {
@@ -89,9 +89,9 @@ impl ColourNode {
         requires ports { length inbox.old.slots ≡ ports self.old }
         requires out { out.old ≡ nothing (ports self.old) }
         requires colours { ChosenWithin (span self.old.sizes) inbox.old.slots }
-        requires free { let here = gathered self.old step inbox.old.slots in
+        requires free { let here = with_heard self.old step inbox.old.slots in
             chooses here forest step ≡ true → free_for here ≤ span self.old.sizes }
-        ensures node { (self.new, out.new) ≡ done self.old (Merge forest step) inbox.old.slots }
+        ensures node { (self.new, out.new) ≡ work_of self.old (Merge forest step) inbox.old.slots }
         ensures slots { inbox.new.slots ≡ inbox.old.slots }
     {
         let is_turn = self.chooses(forest, step);
@@ -108,7 +108,7 @@ impl ColourNode {
     fn gather(&mut self, step: u32, inbox: &mut Inbox<Payload>)
         requires unread { inbox.old ≡ unread inbox.old.slots }
         requires colours { ChosenWithin (span self.old.sizes) inbox.old.slots }
-        ensures node { self.new ≡ gathered self.old step inbox.old.slots }
+        ensures node { self.new ≡ with_heard self.old step inbox.old.slots }
         ensures slots { inbox.new.slots ≡ inbox.old.slots }
     {
         if step == 0 {

@@ -7,7 +7,8 @@ ghost use Rattle.colour_rules.specs.Idle.{IsIdle, IsWaiting};
 ghost use Rattle.colour_rules.specs.declared.phase.Phase.TheVariants.{Orient};
 ghost use Rattle.colour_rules.specs.Node.{IsPhase, phase_of, ports};
 ghost use Rattle.colour_rules.specs.Refusals.{IsAccepted, first_refusal, ids_in, own_rule, without_port};
-ghost use Rattle.colour_rules.specs.Program.{done, next};
+ghost use Rattle.colour_rules.specs.Program.{work_of, next};
+ghost use Rattle.colour_rules.specs.Pulsed.{HasBoxes, Pulsed};
 ghost use Rattle.colour_rules.specs.Table.{is_above};
 
 use crate::idle::IdlePulses;
@@ -64,13 +65,8 @@ impl ColourNode {
         inbox: &mut Inbox<Payload>,
         out: &mut Outbox<Payload>,
     ) -> Result<IdlePulses, Refused>
-        requires rewound { inbox.old.cursor ≡ 0 }
-        requires inbox { length inbox.old.slots ≡ ports self.old }
-        requires out { out.old ≡ nothing (ports self.old) }
-        ensures answer { Matches result (next self.old pulse inbox.old.slots) (self.new, out.new) }
-        ensures idle { IfOk result (IsIdle self.new) }
-        ensures waits { IfOk result (IsWaiting self.new) }
-        ensures refused { OnErr result ((self.new ≡ self.old) × (out.new ≡ out.old)) }
+        requires boxes { HasBoxes self.old inbox.old out.old }
+        ensures pulsed { Pulsed pulse inbox.old.slots (self.old, out.old) (self.new, out.new) result }
         ensures inbox { inbox.new.slots ≡ inbox.old.slots }
     {
         if self.roles.len() <= FEW_PORTS {
@@ -89,13 +85,8 @@ impl ColourNode {
         out: &mut Outbox<Payload>,
     ) -> Result<IdlePulses, Refused>
         requires room { phase_of self.old.sizes pulse ≡ Orient → ports self.old ≤ length identifiers.old }
-        requires rewound { inbox.old.cursor ≡ 0 }
-        requires inbox { length inbox.old.slots ≡ ports self.old }
-        requires out { out.old ≡ nothing (ports self.old) }
-        ensures answer { Matches result (next self.old pulse inbox.old.slots) (self.new, out.new) }
-        ensures idle { IfOk result (IsIdle self.new) }
-        ensures waits { IfOk result (IsWaiting self.new) }
-        ensures refused { OnErr result ((self.new ≡ self.old) × (out.new ≡ out.old)) }
+        requires boxes { HasBoxes self.old inbox.old out.old }
+        ensures pulsed { Pulsed pulse inbox.old.slots (self.old, out.old) (self.new, out.new) result }
         ensures inbox { inbox.new.slots ≡ inbox.old.slots }
     {
         let phase = self.phase(pulse);
@@ -119,7 +110,7 @@ impl ColourNode {
         requires unread { inbox.old ≡ unread inbox.old.slots }
         requires out { out.old ≡ nothing (ports self.old) }
         requires came { identifiers.now ≡ ids_in inbox.old.slots }
-        ensures node { (self.new, out.new) ≡ done self.old phase inbox.old.slots }
+        ensures node { (self.new, out.new) ≡ work_of self.old phase inbox.old.slots }
         ensures slots { inbox.new.slots ≡ inbox.old.slots }
     {
         match phase {

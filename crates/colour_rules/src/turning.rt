@@ -6,7 +6,7 @@ ghost use Rattle.interference.specs.declared.limits.TheConstants.{MAX_DEGREE};
 ghost use Rattle.node_api.specs.Boxes.{unread};
 ghost use Rattle.colour_rules.specs.InForests.{AreTurned, IsReadyAt, before_in, colours_in, in_forest, turned_in};
 ghost use Rattle.colour_rules.specs.Program.{AreReady, BringColours, IsReady, colour_in, from_parent};
-ghost use Rattle.colour_rules.specs.Program.{kept, kept_all, turned, turned_all};
+ghost use Rattle.colour_rules.specs.Program.{kept_colour, kept_all, next_colour, turned_all};
 
 use crate::colours::{InForest, InForests};
 use crate::payload::Payload;
@@ -109,7 +109,7 @@ impl InForests {
     {
         let one = self.each[forest as usize];
         let own = one.own(id, self.is_seeded);
-        self.each[forest as usize] = turned(reduction, own, one.before, parent);
+        self.each[forest as usize] = next_colour(reduction, own, one.before, parent);
     }
 }
 
@@ -124,10 +124,15 @@ fn colour_of(payload: Payload) -> Option<Identifier>
 }
 
 // What is written down of the next colour in a forest.
-fn turned(reduction: Reduction, own: Identifier, before: u8, parent: Option<Identifier>) -> InForest
+fn next_colour(
+    reduction: Reduction,
+    own: Identifier,
+    before: u8,
+    parent: Option<Identifier>,
+) -> InForest
     requires ready { IsReady reduction own before parent }
-    ensures colour { result.colour ≡ turned reduction own before parent }
-    ensures before { result.before ≡ kept reduction own before }
+    ensures colour { result.colour ≡ next_colour reduction own before parent }
+    ensures before { result.before ≡ kept_colour reduction own before }
 {
     match reduction {
         Reduction::Step(_) => InForest {

@@ -6,7 +6,8 @@ ghost use Rattle.node_api.specs.Boxes.{nothing, unread};
 ghost use Rattle.colour_rules.specs.declared.phase.Phase.TheVariants.{Seed, Work};
 ghost use Rattle.colour_rules.specs.Node.{ports};
 ghost use Rattle.colour_rules.specs.Refusals.{IsAccepted};
-ghost use Rattle.colour_rules.specs.Program.{LabelsBelow, all_labelled, done, labelled, tells_label, with_roles};
+ghost use Rattle.colour_rules.specs.Program.{LabelsBelow, all_labelled, role_after_seed, tells_label};
+ghost use Rattle.colour_rules.specs.Program.{with_roles, work_of};
 
 use crate::node::ColourNode;
 use crate::payload::Payload;
@@ -39,7 +40,7 @@ impl ColourNode {
         requires ports { length inbox.old.slots ≡ ports self.old }
         requires labels { LabelsBelow self.old.sizes.forests inbox.old.slots }
         requires out { out.old ≡ nothing (ports self.old) }
-        ensures node { (self.new, out.new) ≡ done self.old Seed inbox.old.slots }
+        ensures node { (self.new, out.new) ≡ work_of self.old Seed inbox.old.slots }
         ensures slots { inbox.new.slots ≡ inbox.old.slots }
     {
         self.label(inbox);
@@ -58,7 +59,7 @@ impl ColourNode {
         while inbox.has_next() {
             let payload = inbox.next();
             let port = inbox.sender() as usize;
-            self.roles[port] = labelled(self.roles[port], payload);
+            self.roles[port] = role_after_seed(self.roles[port], payload);
         }
     }
 
@@ -74,7 +75,7 @@ impl ColourNode {
         requires accepted { IsAccepted self.old (Work reduction) inbox.old.slots }
         requires unread { inbox.old ≡ unread inbox.old.slots }
         requires out { out.old ≡ nothing (ports self.old) }
-        ensures node { (self.new, out.new) ≡ done self.old (Work reduction) inbox.old.slots }
+        ensures node { (self.new, out.new) ≡ work_of self.old (Work reduction) inbox.old.slots }
         ensures slots { inbox.new.slots ≡ inbox.old.slots }
     {
         self.colours
@@ -86,8 +87,8 @@ impl ColourNode {
 }
 
 // What a port is, once its payload is read: an unknown port that brought a label leads to a child.
-fn labelled(role: Role, payload: Payload) -> Role
-    ensures { result ≡ labelled role (Some payload) }
+fn role_after_seed(role: Role, payload: Payload) -> Role
+    ensures { result ≡ role_after_seed role (Some payload) }
 {
     match (role, payload) {
         (Role::Unknown, Payload::Label(forest)) => Role::Down(forest.get()),

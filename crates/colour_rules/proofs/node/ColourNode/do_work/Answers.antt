@@ -5,7 +5,7 @@ use Rattle.std.specs.List.{All, AllPairs}
 use Rattle.colour_rules.specs.declared.phase.Phase.{Phase}
 use Rattle.colour_rules.specs.Node.{IsPhase}
 use Rattle.colour_rules.specs.Refusals.{IsAccepted, first_refusal}
-use Rattle.colour_rules.specs.Program.{done}
+use Rattle.colour_rules.specs.Program.{work_of}
 use Rattle.colour_rules.proofs.Bounds.{labels-within, chosen-within}
 use Rattle.colour_rules.proofs.Hellos.{OnlyHellos, only_hellos, oriented-is}
 use Rattle.colour_rules.proofs.Rooms.{idle-is}
@@ -55,6 +55,6 @@ returns-in-Orient-clause-node c =
 
 pub returns-in-Greet-clause-node : goal.returns-in-Greet-clause-node
 returns-in-Greet-clause-node c =
-    let at = λ (phase : Phase). done c.args.self.now phase c.args.inbox.now.slots in
+    let at = λ (phase : Phase). work_of c.args.self.now phase c.args.inbox.now.slots in
     idle-is c.args.self.now c.args.phase c.args.inbox.now.slots c.args.out.now (elim c.in-Greet.is [ inl greet ↦ ap at greet | inr halted ↦ ap at halted ])
     c.requires.out

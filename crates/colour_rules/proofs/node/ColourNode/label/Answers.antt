@@ -23,9 +23,9 @@ loop-self-preserved c =
     record {
       same = reads.same ∙ c.loop-self.invariant.same;
       room = c.loop-self.invariant.room;
-      node = ap (λ (node : Node). with_roles node (slice_set roles port c.labelled.result)) c.loop-self.invariant.node;
+      node = ap (λ (node : Node). with_roles node (slice_set roles port c.role_after_seed.result)) c.loop-self.invariant.node;
       roles =
-          rw c.labelled.ensures
+          rw c.role_after_seed.ensures
           (labelled-read old slots roles c.loop-self.inbox c.next-payload.new.self c.next-payload.result port c.index.result.now c.loop-self.invariant.roles
           c.loop-self.invariant.same c.requires.ports reads c.sender-port.ensures.port c.index.ensures);
     }
@@ -78,8 +78,8 @@ index-requires c =
     sender_within _ _ _ _ _ _ c.sender-port.ensures.port reads.within (ap length loop.invariant.same ∙ c.requires.ports)
     loop.invariant.roles.size loop.self-inside.roles.ok.0
 
-pub labelled-requires : goal.labelled-requires
-labelled-requires c = tt
+pub role_after_seed-requires : goal.role_after_seed-requires
+role_after_seed-requires c = tt
 
 pub index_mut-requires : goal.index_mut-requires
 index_mut-requires c =
