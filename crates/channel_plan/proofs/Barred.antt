@@ -3,7 +3,7 @@ use Rattle.std.proofs.Common.{◌≡◌, ◌<◌, ◌+◌, ◌==◌, ◌||◌, �
 use Rattle.std.proofs.lemmas.Bool.{eq-eqb, eqb-true}
 use Rattle.std.specs.List.{Contains, list_any}
 use Rattle.interference.specs.Net.{IsBarred, Net, bars_of}
-use Rattle.channel_plan.specs.Checked.{is_barred}
+use Rattle.channel_plan.specs.Checked.{is_channel_barred}
 
 colour-of : (xs : List ℕ) (channel : ℕ) → list_any (λ c. c + 1 == channel) xs ≡ true → (c : ℕ) × Contains xs c × (channel ≡ c + 1)
 colour-of [] channel e = absurd cc
@@ -27,17 +27,17 @@ channel-of (x ∷ xs) c (suc i) below at = rw (channel-of xs c i (omega (arith, 
     any-or false = refl
 
 -- a barred colour plus one is a barred channel
-pub barred-channel : (net : Net) (v c : ℕ) → IsBarred net v c → is_barred net v (c + 1) ≡ true
+pub barred-channel : (net : Net) (v c : ℕ) → IsBarred net v c → is_channel_barred net v (c + 1) ≡ true
 barred-channel net v c (i, below, at) = channel-of (bars_of net v) c i below at
 
 -- and a barred channel is one
-pub channel-barred : (net : Net) (v channel : ℕ) → is_barred net v channel ≡ true → (c : ℕ) × IsBarred net v c × (channel ≡ c + 1)
+pub channel-barred : (net : Net) (v channel : ℕ) → is_channel_barred net v channel ≡ true → (c : ℕ) × IsBarred net v c × (channel ≡ c + 1)
 channel-barred net v channel e = colour-of (bars_of net v) channel e
 
 -- a channel whose colour isn't barred, or which is 0, is not
-pub unbarred-channel : (net : Net) (v channel : ℕ) → ((c : ℕ) → channel ≡ c + 1 → IsBarred net v c → ⊥) → is_barred net v channel ≡ false
-unbarred-channel net v channel none = by-test (is_barred net v channel) refl
+pub unbarred-channel : (net : Net) (v channel : ℕ) → ((c : ℕ) → channel ≡ c + 1 → IsBarred net v c → ⊥) → is_channel_barred net v channel ≡ false
+unbarred-channel net v channel none = by-test (is_channel_barred net v channel) refl
   where
-    by-test : (b : Bool) → is_barred net v channel ≡ b → is_barred net v channel ≡ false
+    by-test : (b : Bool) → is_channel_barred net v channel ≡ b → is_channel_barred net v channel ≡ false
     by-test false e = e
     by-test true e = let (c, barred, is) = channel-barred net v channel e in absurd (none c is barred)

@@ -5,7 +5,7 @@ use Rattle.std.proofs.lemmas.List.FromFn.{get_or-range_with_len, length-range_wi
 use Rattle.std.specs.List.{find}
 use Rattle.std.specs.Option.{option_or}
 use Rattle.interference.specs.Net.{Net, count_of, vertices}
-use Rattle.channel_plan.specs.Checked.{Channels, clash_among, clash_at, looked}
+use Rattle.channel_plan.specs.Checked.{Channels, clash_among, clash_at, channels_in}
 
 -- one vertex more
 pub clash-more : (net : Net) (channels : Channels) (i : ℕ) → i < count_of net →
@@ -32,5 +32,5 @@ pub missing-end : (net : Net) (channels : Channels) (i : ℕ) → count_of net �
 missing-end net channels i end = at_drop_all (find (λ v. is_none (channels v))) (vertices net) i (omega (arith, length-range_with_len 1 (count_of net)))
 
 -- entry i of a table is of vertex i + 1
-pub look-next : (table : List (Option ℕ)) (i : ℕ) → is_none (looked table (i + 1)) ≡ is_none (get_or table i None)
+pub look-next : (table : List (Option ℕ)) (i : ℕ) → is_none (channels_in table (i + 1)) ≡ is_none (get_or table i None)
 look-next table i = let e : i + 1 - 1 ≡ i = omega arith in ap (λ k. is_none (get_or table k None)) e

@@ -13,7 +13,7 @@ use Rattle.dimacs_col.proofs.Verdicts.{none-from}
 use Rattle.interference.specs.Net.{IsNetwork, IsVertex, Net, count_of, neighbours, vertices}
 use Rattle.interference.proofs.Neighbours.{both-ways, neighbour-is_vertex, port-of}
 use Rattle.channel_plan.specs.Checked.{Channels, IsProper, channel_of, clash_among, clash_at, clashes, fault_of}
-use Rattle.channel_plan.specs.Checked.{first_missing, is_barred, is_vertex, most_channel, row_fault, rows_fault, same_channel}
+use Rattle.channel_plan.specs.Checked.{first_missing, is_channel_barred, is_vertex, most_channel, row_fault, rows_fault, same_channel}
 use Rattle.channel_plan.specs.Reading.{Row}
 use Rattle.channel_plan.specs.declared.plan.CheckFault.{CheckFault}
 use Rattle.channel_plan.specs.declared.plan.CheckFault.TheVariants.{Clash, Missing}
@@ -80,7 +80,7 @@ record IsGood (net : Net) (before : List Row) (row : Row) : Type 0 where
   vertex : IsVertex net row.0
   free : channel_of before row.0 ≡ None
   within : row.1 ≤ most_channel net
-  unbarred : is_barred net row.0 row.1 ≡ false
+  unbarred : is_channel_barred net row.0 row.1 ≡ false
 
 vertex-from : (net : Net) (v : ℕ) → is_vertex net v ≡ true → IsVertex net v
 vertex-from net v e = (grind (arith, nat_tests), grind (arith, nat_tests))
@@ -88,7 +88,8 @@ vertex-from net v e = (grind (arith, nat_tests), grind (arith, nat_tests))
 row-none : (net : Net) (before : List Row) (row : Row) → row_fault net before row ≡ None → IsGood net before row
 unfolding row_fault
 row-none net before row e =
-    let p = four (is_vertex net row.0) (is_some (channel_of before row.0)) (nat_lt (most_channel net) row.1) (is_barred net row.0 row.1) _ _ _ _ e in record {
+    let p = four (is_vertex net row.0) (is_some (channel_of before row.0)) (nat_lt (most_channel net) row.1)
+    (is_channel_barred net row.0 row.1) _ _ _ _ e in record {
       vertex = vertex-from net row.0 p.0;
       free = none-from (channel_of before row.0) p.1;
       within = ltb-false (most_channel net) row.1 p.2;
@@ -103,7 +104,7 @@ rows-cons net before row rows e = let both = or-none-both (row_fault net before 
 
 -- what is right with a row, whatever rows are before it
 abbrev IsRight : Net → Row → Type 0
-IsRight net row = IsVertex net row.0 × (row.1 ≤ most_channel net) × (is_barred net row.0 row.1 ≡ false)
+IsRight net row = IsVertex net row.0 × (row.1 ≤ most_channel net) × (is_channel_barred net row.0 row.1 ≡ false)
 
 each-within : (net : Net) (before rows : List Row) → rows_fault net before rows ≡ None → AllByRecursion (IsRight net) rows
 each-within net before [] e = tt
@@ -188,7 +189,7 @@ proper-from net rows is e =
     }
 
 -- ---- from a proper plan
-not-barred : (net : Net) (rows : List Row) (row : Row) → IsProper net rows → Contains rows row → is_barred net row.0 row.1 ≡ false
+not-barred : (net : Net) (rows : List Row) (row : Row) → IsProper net rows → Contains rows row → is_channel_barred net row.0 row.1 ≡ false
 not-barred net rows row is here = unbarred-channel net row.0 row.1
     (λ colour same barred. is.unbarred row.0 colour (subst (λ channel. Contains rows (row.0, channel)) same here) barred)
 

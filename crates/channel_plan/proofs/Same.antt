@@ -6,7 +6,7 @@ use Rattle.std.specs.Option.{option_map}
 use Rattle.interference.specs.Net.{IsNetwork, IsVertex, Net, neighbours, vertices}
 use Rattle.interference.proofs.Neighbours.{neighbour-is_vertex}
 use Rattle.channel_plan.specs.Checked.{Channels, IsFaultOfPlan, IsFaultOfRow, IsTable, channel_of, clash_among, clash_at, clashes, fault_of, first_clash}
-use Rattle.channel_plan.specs.Checked.{first_missing, looked, rows_fault, same_channel}
+use Rattle.channel_plan.specs.Checked.{first_missing, channels_in, rows_fault, same_channel}
 use Rattle.channel_plan.specs.Reading.{Row}
 use Rattle.channel_plan.specs.declared.plan.CheckFault.{CheckFault}
 use Rattle.channel_plan.specs.declared.plan.CheckFault.TheVariants.{Barred, Clash, Memory, Missing, Stranger, Syntax, TooHigh, Twice}
@@ -17,10 +17,10 @@ find-same p q [] all = refl
 find-same p q (x ∷ xs) all = rw (all.0, find-same p q xs all.1) refl
 
 pub same-missing : (net : Net) (rows : List Row) (table : List (Option ℕ)) → IsTable net rows table →
-    first_missing net (looked table) ≡ first_missing net (channel_of rows)
+    first_missing net (channels_in table) ≡ first_missing net (channel_of rows)
 same-missing net rows table is =
-    find-same (λ v. is_none (looked table v)) (λ v. is_none (channel_of rows v)) (vertices net)
-    (recursion_from_All (λ v. is_none (looked table v) ≡ is_none (channel_of rows v)) (vertices net)
+    find-same (λ v. is_none (channels_in table v)) (λ v. is_none (channel_of rows v)) (vertices net)
+    (recursion_from_All (λ v. is_none (channels_in table v) ≡ is_none (channel_of rows v)) (vertices net)
     (λ k d below. ap is_none (is.each (get_or (vertices net) k d) (vertices-are net k d below))))
 
 clash-same : (net : Net) (one other : Channels) (vs : List ℕ) → AllByRecursion (λ v. clash_at net one v ≡ clash_at net other v) vs →
@@ -29,22 +29,22 @@ clash-same net one other [] all = refl
 clash-same net one other (v ∷ vs) all = rw (all.0, clash-same net one other vs all.1) refl
 
 pub same-clash : (net : Net) (rows : List Row) (table : List (Option ℕ)) → IsNetwork net → IsTable net rows table →
-    first_clash net (looked table) ≡ first_clash net (channel_of rows)
+    first_clash net (channels_in table) ≡ first_clash net (channel_of rows)
 same-clash net rows table ok is =
-    clash-same net (looked table) (channel_of rows) (vertices net) (recursion_from_All (λ v. clash_at net (looked table) v ≡ clash_at net (channel_of rows) v)
-    (vertices net) at_each)
+    clash-same net (channels_in table) (channel_of rows) (vertices net)
+    (recursion_from_All (λ v. clash_at net (channels_in table) v ≡ clash_at net (channel_of rows) v) (vertices net) at_each)
   where
-    at-port : (v : ℕ) → IsVertex net v → All (λ w. clashes (looked table) v w ≡ clashes (channel_of rows) v w) (neighbours net v)
+    at-port : (v : ℕ) → IsVertex net v → All (λ w. clashes (channels_in table) v w ≡ clashes (channel_of rows) v w) (neighbours net v)
     at-port v hv = λ i e within.
         let w = get_or (neighbours net v) i e in
         let hw = neighbour-is_vertex net ok v w hv (Contains-get_or (neighbours net v) i e within) in
         ap (λ b. nat_lt v w && b) (ap₂ same_channel (is.each v hv) (is.each w hw))
 
-    at_each : All (λ v. clash_at net (looked table) v ≡ clash_at net (channel_of rows) v) (vertices net)
+    at_each : All (λ v. clash_at net (channels_in table) v ≡ clash_at net (channel_of rows) v) (vertices net)
     at_each = λ k d below.
         let v = get_or (vertices net) k d in
         ap (option_map (λ (w : ℕ). (v, w)))
-        (find-same (clashes (looked table) v) (clashes (channel_of rows) v) (neighbours net v) (recursion_from_All (λ w. clashes (looked table) v w
+        (find-same (clashes (channels_in table) v) (clashes (channel_of rows) v) (neighbours net v) (recursion_from_All (λ w. clashes (channels_in table) v w
         ≡ clashes (channel_of rows) v w) (neighbours net v) (at-port v (vertices-are net k d below))))
 
 -- ---- the fault of a plan, part by part

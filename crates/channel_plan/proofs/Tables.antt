@@ -7,7 +7,7 @@ use Rattle.std.proofs.lemmas.List.{at_drop_all, at_drop_more, get_or-replicate, 
 use Rattle.std.specs.Option.{option_or}
 use Rattle.dimacs_col.proofs.Verdicts.{none-from}
 use Rattle.interference.specs.Net.{Net, IsVertex, count_of}
-use Rattle.channel_plan.specs.Checked.{IsFaultOfRow, IsTable, channel_of, is_barred, is_vertex, looked, most_channel, row_fault, rows_fault}
+use Rattle.channel_plan.specs.Checked.{IsFaultOfRow, IsTable, channel_of, is_channel_barred, is_vertex, channels_in, most_channel, row_fault, rows_fault}
 use Rattle.channel_plan.specs.Reading.{Row}
 use Rattle.channel_plan.specs.declared.plan.CheckFault.{CheckFault}
 use Rattle.channel_plan.specs.declared.plan.CheckFault.TheVariants.{Barred, Clash, Memory, Missing, Stranger, Syntax, TooHigh, Twice}
@@ -43,12 +43,12 @@ unfolding row_fault
 row-high net before row h e high = rw (vertex-is net row.0 h, e, lt-ltb (most_channel net) row.1 high) refl
 
 pub row-good : (net : Net) (before : List Row) (row : Row) → IsVertex net row.0 → is_some (channel_of before row.0) ≡ false → row.1 ≤ most_channel net →
-    is_barred net row.0 row.1 ≡ false → row_fault net before row ≡ None
+    is_channel_barred net row.0 row.1 ≡ false → row_fault net before row ≡ None
 unfolding row_fault
 row-good net before row h e low free = rw (vertex-is net row.0 h, e, le-ltb (most_channel net) row.1 low, free) refl
 
 pub row-barred : (net : Net) (before : List Row) (row : Row) → IsVertex net row.0 → is_some (channel_of before row.0) ≡ false → row.1 ≤ most_channel net →
-    is_barred net row.0 row.1 ≡ true → row_fault net before row ≡ Some (Barred row.0)
+    is_channel_barred net row.0 row.1 ≡ true → row_fault net before row ≡ Some (Barred row.0)
 unfolding row_fault
 row-barred net before row h e low barred = rw (vertex-is net row.0 h, e, le-ltb (most_channel net) row.1 low, barred) refl
 
@@ -64,16 +64,17 @@ or-nothing None = refl
 or-nothing (Some x) = refl
 
 pub table-put : (net : Net) (before : List Row) (v channel : ℕ) (table : List (Option ℕ)) → IsTable net before table → IsVertex net v →
-    is_some (looked table v) ≡ false → IsTable net (before ++ (v, channel) ∷ []) (set table (v - 1) (Some channel))
+    is_some (channels_in table v) ≡ false → IsTable net (before ++ (v, channel) ∷ []) (set table (v - 1) (Some channel))
 table-put net before v channel table is here none = record {
   size = length-set table (v - 1) (Some channel) ∙ is.size;
   each = λ w h. put-at w h (v == w) refl;
 }
   where
-    put-at : (w : ℕ) → IsVertex net w → (b : Bool) → (v == w) ≡ b → looked (set table (v - 1) (Some channel)) w ≡ channel_of (before ++ (v, channel) ∷ []) w
+    put-at : (w : ℕ) → IsVertex net w → (b : Bool) → (v == w) ≡ b
+        → channels_in (set table (v - 1) (Some channel)) w ≡ channel_of (before ++ (v, channel) ∷ []) w
     put-at w h true e =
         let same : v ≡ w = eqb-true v w e in
-        let free : channel_of before w ≡ None = sym (is.each w h) ∙ ap (looked table) (sym same) ∙ none-from (looked table v) none in
+        let free : channel_of before w ≡ None = sym (is.each w h) ∙ ap (channels_in table) (sym same) ∙ none-from (channels_in table v) none in
         let place : w - 1 ≡ v - 1 = ap (λ x. x - 1) (sym same) in
         ap (λ i. get_or (set table (v - 1) (Some channel)) i None) place ∙
         get_or-set_same table (v - 1) (Some channel) None (omega (arith, here.0, here.1, is.size))

@@ -19,8 +19,8 @@ abbrev pub most_channel : Net → ℕ
 most_channel net = span_of net + 1
 
 -- whether a channel, a colour plus one, is barred at a vertex
-abbrev pub is_barred : Net → ℕ → ℕ → Bool
-is_barred net v channel = list_any (λ colour. colour + 1 == channel) (bars_of net v)
+abbrev pub is_channel_barred : Net → ℕ → ℕ → Bool
+is_channel_barred net v channel = list_any (λ colour. colour + 1 == channel) (bars_of net v)
 
 -- A plan that is right: each vertex has one row, no row is of another vertex, no channel is above Δ + B + 1,
 -- none is barred at its vertex, and no two neighbours share a channel.
@@ -39,13 +39,13 @@ channel_of (row ∷ rows) v = if row.0 == v then Some row.1 else channel_of rows
 abbrev pub is_vertex : Net → ℕ → Bool
 is_vertex net v = nat_lt 0 v && not (nat_lt (count_of net) v)
 
--- what is wrong with a row after the rows before it, in the order in which it is looked for
+-- what is wrong with a row after the rows before it, in the order in which it is channels_in for
 unfoldable pub row_fault : Net → List Row → Row → Option CheckFault
 row_fault net before row =
     if not (is_vertex net row.0) then Some (Stranger row.0)
     else (if is_some (channel_of before row.0) then Some (Twice row.0)
     else (if nat_lt (most_channel net) row.1 then Some (TooHigh row.0)
-    else (if is_barred net row.0 row.1 then Some (Barred row.0) else None)))
+    else (if is_channel_barred net row.0 row.1 then Some (Barred row.0) else None)))
 
 -- the fault of the first row that has one, after some rows
 unfoldable pub rows_fault : Net → List Row → List Row → Option CheckFault
@@ -98,13 +98,13 @@ IsFaultOfRow wrong Memory = Unit {0}
 IsFaultOfRow wrong fault = wrong ≡ Some fault
 
 -- a table of channels, of which entry v - 1 is of vertex v
-abbrev pub looked : List (Option ℕ) → Channels
-looked table v = slice_index_or table (v - 1) None
+abbrev pub channels_in : List (Option ℕ) → Channels
+channels_in table v = slice_index_or table (v - 1) None
 
 -- the table has the channels of some rows
 pub record IsTable (net : Net) (rows : List Row) (table : List (Option ℕ)) : Type 0 where
   pub size : length table ≡ count_of net
-  pub each : (v : ℕ) → IsVertex net v → looked table v ≡ channel_of rows v
+  pub each : (v : ℕ) → IsVertex net v → channels_in table v ≡ channel_of rows v
 
 -- whatever rows the old table has, one more row is right behind them, and the new table has it too
 abbrev pub TakesRow : Net → Row → List (Option ℕ) → List (Option ℕ) → Type 0

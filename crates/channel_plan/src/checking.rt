@@ -3,8 +3,8 @@
 ghost use Rattle.std.specs.Prelude.{◌≡◌, ◌≤◌, [], IfOk, IfErr, None, length};
 ghost use Rattle.interference.specs.Net.{IsNetwork, IsVertex, count_of};
 ghost use Rattle.channel_plan.specs.Checked.{IsFaultOfPlan, IsFaultOfRow, IsProper, IsTable, RefusesRow, TakesRow};
-ghost use Rattle.channel_plan.specs.Checked.{clash_at, first_clash, first_missing, greatest_channel, is_barred};
-ghost use Rattle.channel_plan.specs.Checked.{looked, most_channel, rows_fault, same_channel};
+ghost use Rattle.channel_plan.specs.Checked.{clash_at, first_clash, first_missing, greatest_channel, is_channel_barred};
+ghost use Rattle.channel_plan.specs.Checked.{channels_in, most_channel, rows_fault, same_channel};
 
 use crate::laws::plans_without_a_fault_are_proper;
 use crate::plan::{CheckFault, Plan};
@@ -28,7 +28,7 @@ fn put_row(net: &Network, table: &mut [Option<u32>], row: (u32, u32)) -> Result<
     if channel > net.greatest_degree() + net.greatest_bars() + 1 {
         return Err(CheckFault::TooHigh(v));
     }
-    if is_barred(net, v, channel) {
+    if is_channel_barred(net, v, channel) {
         return Err(CheckFault::Barred(v));
     }
     table[place] = Some(channel);
@@ -36,11 +36,11 @@ fn put_row(net: &Network, table: &mut [Option<u32>], row: (u32, u32)) -> Result<
 }
 
 // Whether a channel is barred at a vertex; there is no channel 0.
-fn is_barred(net: &Network, v: u32, channel: u32) -> bool
+fn is_channel_barred(net: &Network, v: u32, channel: u32) -> bool
     requires vertex { IsVertex net.now v }
     requires within { channel ≤ most_channel net.now }
     requires network { IsNetwork net.now }
-    ensures { result ≡ is_barred net.now v channel }
+    ensures { result ≡ is_channel_barred net.now v channel }
 {
     channel > 0 && net.is_barred(v, (channel - 1) as u16)
 }
@@ -77,7 +77,7 @@ fn table_of(
 // The least vertex that has no channel.
 fn missing(net: &Network, table: &[Option<u32>]) -> Option<u32>
     requires { length table.now ≡ count_of net.now }
-    ensures { result ≡ first_missing net.now (looked table.now) }
+    ensures { result ≡ first_missing net.now (channels_in table.now) }
 {
     for i in 0..net.nodes() {
         if table[i as usize].is_none() {
@@ -100,7 +100,7 @@ fn share(first: Option<u32>, second: Option<u32>) -> bool
 fn clash_of(net: &Network, table: &[Option<u32>], v: u32) -> Option<(u32, u32)>
     requires size { length table.now ≡ count_of net.now }
     requires vertex { IsVertex net.now v }
-    ensures { result ≡ clash_at net.now (looked table.now) v }
+    ensures { result ≡ clash_at net.now (channels_in table.now) v }
 {
     let own = table[(v - 1) as usize];
     for w in net.neighbours(v) {
@@ -114,7 +114,7 @@ fn clash_of(net: &Network, table: &[Option<u32>], v: u32) -> Option<(u32, u32)>
 // Of the neighbours that share a channel, the first two.
 fn clash(net: &Network, table: &[Option<u32>]) -> Option<(u32, u32)>
     requires size { length table.now ≡ count_of net.now }
-    ensures { result ≡ first_clash net.now (looked table.now) }
+    ensures { result ≡ first_clash net.now (channels_in table.now) }
 {
     for i in 0..net.nodes() {
         if let Some(pair) = clash_of(net, table, i + 1) {

@@ -8,62 +8,63 @@ use Rattle.entries.specs.declared.bare.Act.{Act}
 use Rattle.entries.specs.declared.bare.Act.TheVariants.{Pulse, Put, Take}
 use Rattle.entries.specs.declared.bare.WireKind.{WireKind}
 use Rattle.entries.specs.declared.bare.WireKind.TheVariants.{Payload, Ack, Safe, Close}
-use Rattle.entries.specs.Bare.{entries_of, entry_of, payload_count, payloads_by, payloads_in, wire_of}
+use Rattle.entries.specs.Bare.{entries_of, entry_of, payloads_of_kind, payloads_of_act, payloads_of_entries, wire_of}
 use Rattle.entries.specs.Rows.{bare_of, stamp_each, stamped_entry}
 use Rattle.entries.specs.declared.rows.StampedEntry.{StampedEntry}
 
 module _ {M : Type 0} where
   -- further payloads behind don't matter
-  wire-same : (kind : WireKind) (pulse : ℕ) (xs ys : List M) → payload_count kind ≤ length xs → wire_of kind pulse (xs ++ ys) ≡ wire_of kind pulse xs
+  wire-same : (kind : WireKind) (pulse : ℕ) (xs ys : List M) → payloads_of_kind kind ≤ length xs → wire_of kind pulse (xs ++ ys) ≡ wire_of kind pulse xs
   wire-same Payload pulse [] ys le = absurd (omega arith)
   wire-same Payload pulse (x ∷ xs) ys le = refl
   wire-same Ack pulse xs ys le = refl
   wire-same Safe pulse xs ys le = refl
   wire-same Close pulse xs ys le = refl
 
-  entry-same : (act : Act) (vertex pulse : ℕ) (xs ys : List M) → payloads_by act ≤ length xs
+  entry-same : (act : Act) (vertex pulse : ℕ) (xs ys : List M) → payloads_of_act act ≤ length xs
       → entry_of act vertex pulse (xs ++ ys) ≡ entry_of act vertex pulse xs
   entry-same Pulse vertex pulse xs ys le = refl
   entry-same (Put kind) vertex pulse xs ys le = ap (map (λ w. entry.Put vertex w)) (wire-same kind pulse xs ys le)
   entry-same (Take kind) vertex pulse xs ys le = ap (map (λ w. entry.Take vertex w)) (wire-same kind pulse xs ys le)
 
   -- a wire and an entry are one
-  wire-one : (kind : WireKind) (pulse : ℕ) (xs : List M) → payload_count kind ≤ length xs → length (wire_of kind pulse xs) ≡ 1
+  wire-one : (kind : WireKind) (pulse : ℕ) (xs : List M) → payloads_of_kind kind ≤ length xs → length (wire_of kind pulse xs) ≡ 1
   wire-one Payload pulse [] le = absurd (omega arith)
   wire-one Payload pulse (x ∷ xs) le = refl
   wire-one Ack pulse xs le = refl
   wire-one Safe pulse xs le = refl
   wire-one Close pulse xs le = refl
 
-  entry-one : (act : Act) (vertex pulse : ℕ) (xs : List M) → payloads_by act ≤ length xs → length (entry_of act vertex pulse xs) ≡ 1
+  entry-one : (act : Act) (vertex pulse : ℕ) (xs : List M) → payloads_of_act act ≤ length xs → length (entry_of act vertex pulse xs) ≡ 1
   entry-one Pulse vertex pulse xs le = refl
   entry-one (Put kind) vertex pulse xs le = length-map (wire_of kind pulse xs) _ ∙ wire-one kind pulse xs le
   entry-one (Take kind) vertex pulse xs le = length-map (wire_of kind pulse xs) _ ∙ wire-one kind pulse xs le
 
   -- there are as many entries as bare ones
-  pub entries-long : (bares : List BareEntry) (xs : List M) → payloads_in bares ≡ length xs → length (entries_of bares xs) ≡ length bares
+  pub entries-long : (bares : List BareEntry) (xs : List M) → payloads_of_entries bares ≡ length xs → length (entries_of bares xs) ≡ length bares
   entries-long [] xs fits = refl
   entries-long (b ∷ bs) xs fits =
-      let k = payloads_by b.act in
-      let rest : payloads_in bs ≡ length (drop k xs) = omega (arith, fits, length-drop k xs) in
+      let k = payloads_of_act b.act in
+      let rest : payloads_of_entries bs ≡ length (drop k xs) = omega (arith, fits, length-drop k xs) in
       let one = entry-one b.act b.vertex b.pulse xs (omega (arith, fits)) in
       omega (arith, length-append (entry_of b.act b.vertex b.pulse xs) (entries_of bs (drop k xs)), one, entries-long bs (drop k xs) rest)
 
   -- one entry more, with its payload if it has one
-  pub entries-more : (bares : List BareEntry) (xs ys : List M) (bare : BareEntry) (new : Entry M) → payloads_in bares ≡ length xs
+  pub entries-more : (bares : List BareEntry) (xs ys : List M) (bare : BareEntry) (new : Entry M) → payloads_of_entries bares ≡ length xs
       → entry_of bare.act bare.vertex bare.pulse ys ≡ new ∷ [] → entries_of (bares ++ bare ∷ []) (xs ++ ys) ≡ entries_of bares xs ++ new ∷ []
   entries-more [] [] ys bare new fits is = append-nil (entry_of bare.act bare.vertex bare.pulse ys) ∙ is
   entries-more [] (x ∷ xs) ys bare new fits is = absurd (omega (arith, fits))
   entries-more (b ∷ bs) xs ys bare new fits is =
-      let k = payloads_by b.act in
+      let k = payloads_of_act b.act in
       let le : k ≤ length xs = omega (arith, fits) in
-      let rest : payloads_in bs ≡ length (drop k xs) = omega (arith, fits, length-drop k xs) in
+      let rest : payloads_of_entries bs ≡ length (drop k xs) = omega (arith, fits, length-drop k xs) in
       let first = entry_of b.act b.vertex b.pulse xs in
       ap₂ (λ e l. e ++ l) (entry-same b.act b.vertex b.pulse xs ys le)
       (ap (entries_of (bs ++ bare ∷ [])) (drop-append-le k xs ys le) ∙ entries-more bs (drop k xs) ys bare new rest is)
       ∙ sym (append_assoc first (entries_of bs (drop k xs)) (new ∷ []))
 
-pub payloads-more : (bares : List BareEntry) (bare : BareEntry) → payloads_in (bares ++ bare ∷ []) ≡ payloads_in bares + payloads_by bare.act
+pub payloads-more : (bares : List BareEntry) (bare : BareEntry)
+    → payloads_of_entries (bares ++ bare ∷ []) ≡ payloads_of_entries bares + payloads_of_act bare.act
 payloads-more [] bare = omega arith
 payloads-more (b ∷ bs) bare = omega (arith, payloads-more bs bare)
 
@@ -83,7 +84,7 @@ module _ {M : Type 0} where
   stamp_each-more (a ∷ stamps) (b ∷ entries) s e long = ap (λ l. stamped_entry a b ∷ l) (stamp_each-more stamps entries s e (omega (arith, long)))
 
   -- there is a stamp for each bare entry
-  module _ (stamps : List ℕ) (bares : List BareEntry) (payloads : List M) (items : List (StampedEntry M)) (fits : payloads_in bares ≡ length payloads)
+  module _ (stamps : List ℕ) (bares : List BareEntry) (payloads : List M) (items : List (StampedEntry M)) (fits : payloads_of_entries bares ≡ length payloads)
       (long : length stamps ≡ length bares) (is : stamp_each stamps (entries_of bares payloads) ≡ items) where
     pub stamps-long : length stamps ≡ length (entries_of bares payloads)
     stamps-long = long ∙ sym (entries-long bares payloads fits)

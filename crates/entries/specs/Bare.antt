@@ -11,22 +11,22 @@ use Rattle.entries.specs.declared.bare.WireKind.{WireKind}
 use Rattle.entries.specs.declared.bare.WireKind.TheVariants.{Payload, Ack, Safe, Close}
 
 -- how many payloads a wire has
-abbrev pub payload_count : WireKind → ℕ
-payload_count Payload = 1
-payload_count Ack = 0
-payload_count Safe = 0
-payload_count Close = 0
+abbrev pub payloads_of_kind : WireKind → ℕ
+payloads_of_kind Payload = 1
+payloads_of_kind Ack = 0
+payloads_of_kind Safe = 0
+payloads_of_kind Close = 0
 
 -- how many payloads the entry of an act has
-abbrev pub payloads_by : Act → ℕ
-payloads_by Pulse = 0
-payloads_by (Put kind) = payload_count kind
-payloads_by (Take kind) = payload_count kind
+abbrev pub payloads_of_act : Act → ℕ
+payloads_of_act Pulse = 0
+payloads_of_act (Put kind) = payloads_of_kind kind
+payloads_of_act (Take kind) = payloads_of_kind kind
 
 -- how many payloads entries have
-abbrev pub payloads_in : List BareEntry → ℕ
-payloads_in [] = 0
-payloads_in (bare ∷ bares) = payloads_by bare.act + payloads_in bares
+abbrev pub payloads_of_entries : List BareEntry → ℕ
+payloads_of_entries [] = 0
+payloads_of_entries (bare ∷ bares) = payloads_of_act bare.act + payloads_of_entries bares
 
 module _ {M : Type 0} where
   -- the wire of a kind, with the first of the payloads; none if it should have one, and there is none
@@ -47,4 +47,4 @@ module _ {M : Type 0} where
   abbrev pub entries_of : List BareEntry → List M → List (Entry M)
   entries_of [] payloads = []
   entries_of (bare ∷ bares) payloads =
-      entry_of bare.act bare.vertex bare.pulse payloads ++ entries_of bares (drop (payloads_by bare.act) payloads)
+      entry_of bare.act bare.vertex bare.pulse payloads ++ entries_of bares (drop (payloads_of_act bare.act) payloads)

@@ -2,7 +2,7 @@
 
 ghost use Rattle.std.specs.Prelude.{◌≡◌, ◌≤◌, [], ◌∷◌, drop, length};
 ghost use Rattle.std.specs.Option.{option_to_list};
-ghost use Rattle.entries.specs.Bare.{entry_of, payload_count, payloads_by, wire_of};
+ghost use Rattle.entries.specs.Bare.{entry_of, payloads_of_kind, payloads_of_act, wire_of};
 
 use crate::entry::Entry;
 use alpha_core::Wire;
@@ -38,7 +38,7 @@ const _: () = prove!(size_of::<BareEntry>() == 12);
 // A wire's kind, pulse and payload.
 fn split_wire<T>(wire: Wire<T>) -> (WireKind, u32, Option<T>)
     ensures wire { wire_of result.0 result.1 (option_to_list result.2) ≡ wire ∷ [] }
-    ensures count { payload_count result.0 ≡ length (option_to_list result.2) }
+    ensures count { payloads_of_kind result.0 ≡ length (option_to_list result.2) }
 {
     match wire {
         Wire::Payload(pulse, payload) => (WireKind::Payload, pulse, Some(payload)),
@@ -51,7 +51,7 @@ fn split_wire<T>(wire: Wire<T>) -> (WireKind, u32, Option<T>)
 // An entry without its payload, and the payload.
 pub(crate) fn split<T>(entry: Entry<T>) -> (BareEntry, Option<T>)
     ensures entry { entry_of result.0.act result.0.vertex result.0.pulse (option_to_list result.1) ≡ entry ∷ [] }
-    ensures count { payloads_by result.0.act ≡ length (option_to_list result.1) }
+    ensures count { payloads_of_act result.0.act ≡ length (option_to_list result.1) }
 {
     match entry {
         Entry::Pulse(pulse) => {
@@ -84,9 +84,9 @@ pub(crate) fn join_wire<'a, T: Copy>(
     pulse: u32,
     payloads: &'a [T],
 ) -> (Wire<T>, &'a [T])
-    requires { payload_count kind ≤ length payloads.now }
+    requires { payloads_of_kind kind ≤ length payloads.now }
     ensures wire { wire_of kind pulse payloads.now ≡ result.0 ∷ [] }
-    ensures rest { result.1.now ≡ drop (payload_count kind) payloads.now }
+    ensures rest { result.1.now ≡ drop (payloads_of_kind kind) payloads.now }
 {
     match kind {
         WireKind::Payload => match payloads.split_first() {

@@ -21,12 +21,12 @@ impl<'a, T> Model for Iter<'a, T> {
 
     ghost Value = { List (Entry T) };
 
-    ghost use Rattle.entries.specs.Bare.{entries_of, payloads_in};
+    ghost use Rattle.entries.specs.Bare.{entries_of, payloads_of_entries};
 
     ghost view = { λ it. entries_of it.bares it.payloads.now };
 
     // Each entry that should have a payload has one.
-    ghost invariant = { λ it. payloads_in it.bares ≡ length it.payloads.now };
+    ghost invariant = { λ it. payloads_of_entries it.bares ≡ length it.payloads.now };
 }
 
 impl<'a, T: Copy> Iterator for Iter<'a, T> {

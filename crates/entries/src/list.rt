@@ -29,7 +29,7 @@ impl<T> Model for Entries<T> {
 
     ghost Value = { EntryList T };
 
-    ghost use Rattle.entries.specs.Bare.{entries_of, payloads_in};
+    ghost use Rattle.entries.specs.Bare.{entries_of, payloads_of_entries};
     ghost use Rattle.entries.specs.Rows.{stamp_each};
 
     ghost view = { λ e. record {
@@ -37,7 +37,7 @@ impl<T> Model for Entries<T> {
       room = min e.stamps.room (min e.bares.room (vec_capacity e.payloads - vec_len e.payloads));
     } };
 
-    ghost invariant = { λ e. (payloads_in e.bares.items ≡ length e.payloads.items)
+    ghost invariant = { λ e. (payloads_of_entries e.bares.items ≡ length e.payloads.items)
         × (length e.stamps.items ≡ length e.bares.items) };
 }
 

@@ -15,7 +15,7 @@ use Rattle.event_machine.specs.declared.refused.StepRefused.{StepRefused}
 use Rattle.event_machine.specs.declared.refused.RunRefused.{RunRefused}
 use Rattle.event_machine.specs.State.{State, sent_of, no_link, link_at, link_to, start}
 use Rattle.event_machine.specs.Step.{step, go_on, run_from}
-use Rattle.event_machine.specs.Simulation.{IsSimulation, IsReached}
+use Rattle.event_machine.specs.Simulation.{IsSimulation, IsReachable}
 use Rattle.event_machine.proofs.NetKept.{NetKept, all_kept, node_same}
 use Rattle.event_machine.proofs.KeptSteps.{Good, step_good}
 
@@ -63,10 +63,10 @@ module _ {S M E : Type 0} {program : Program S M E} {net : Net} (ok : IsNetwork 
   }
 
   -- the state of a reached run
-  pub reached_kept : (state : State S M) → IsReached program net state → NetKept program net state
+  pub reached_kept : (state : State S M) → IsReachable program net state → NetKept program net state
   reached_kept state (events, is) =
       let P : Result (State S M) RunRefused → Type 0 = λ r. GoodRun program net r in
       subst P is (run_good 0 events (start program net) start_good)
 
-  pub reached_simulates : (state : State S M) → IsReached program net state → IsSimulation program net state
+  pub reached_simulates : (state : State S M) → IsReachable program net state → IsSimulation program net state
   reached_simulates state reached = simulates ok runs (all_kept ok (reached_kept state reached))

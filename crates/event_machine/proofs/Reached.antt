@@ -9,7 +9,7 @@ use Rattle.event_machine.specs.State.{State, start}
 use Rattle.event_machine.specs.Step.{step, go_on, run_from, run}
 use Rattle.event_machine.specs.Refusals.{at_index}
 use Rattle.event_machine.proofs.Parts.{take-split}
-use Rattle.event_machine.specs.Simulation.{IsReached}
+use Rattle.event_machine.specs.Simulation.{IsReachable}
 
 abbrev and_then : {A B : Type 0} → Result A RunRefused → (A → Result B RunRefused) → Result B RunRefused
 and_then (Ok x) f = f x
@@ -31,7 +31,7 @@ module _ {S M E : Type 0} (program : Program S M E) (net : Net) where
       go_on-then k (step program net state first) _ _ _ (λ s. run-append (suc k) before after s)
       ∙ ap (λ n. and_then (go_on k (step program net state first) (λ next. run_from program net (suc k) before next)) (λ s. run_from program net n after s)) e
 
-  pub reached_start : IsReached program net (start program net)
+  pub reached_start : IsReachable program net (start program net)
   reached_start = ([], refl)
 
   -- a run, and one event more
@@ -42,8 +42,8 @@ module _ {S M E : Type 0} (program : Program S M E) (net : Net) where
       ∙ ap (λ r. and_then r (λ s. run_from program net (0 + length events) (event ∷ []) s)) is
       ∙ ap (λ r. go_on (0 + length events) r (λ next. Ok next)) e
 
-  pub reached_step : (state next : State S M) (event : Event) → IsReached program net state → step program net state event ≡ Ok next →
-      IsReached program net next
+  pub reached_step : (state next : State S M) (event : Event) → IsReachable program net state → step program net state event ≡ Ok next →
+      IsReachable program net next
   reached_step state next event (events, is) e = (events ++ (event ∷ []), run_push events event state next is e)
 
   -- the event at an index of a list, and what the list comes to by it

@@ -6,7 +6,7 @@ use Rattle.event_machine.specs.declared.event.Event.{Event}
 use Rattle.event_machine.specs.State.{State}
 use Rattle.event_machine.specs.Step.{run}
 use Rattle.event_machine.specs.Events.{RunsExactly, StepsExactly}
-use Rattle.event_machine.specs.Simulation.{IsReached, IsSimulation}
+use Rattle.event_machine.specs.Simulation.{IsReachable, IsSimulation}
 
 -- whatever events come, in the state that they reach the nodes simulate the synchronous run
 abbrev pub RunsSimulate : {S M E : Type 0} → Program S M E → Net → Type 0
@@ -20,4 +20,4 @@ RunsAreExact program net = (events : List Event) → RunsExactly program net eve
 -- in every state that is reached, each event is made or refused exactly
 abbrev pub StepsAreExact : {S M E : Type 0} → Program S M E → Net → Type 0
 StepsAreExact {S} {M} program net =
-    (state : State S M) → IsReached program net state → (event : Event) → StepsExactly program net state event
+    (state : State S M) → IsReachable program net state → (event : Event) → StepsExactly program net state event

@@ -15,12 +15,12 @@ IsSimulation program net state =
     (λ v i. sent_of (link_at state.links v i)) (λ v i. (link_to net state.links v i).taken)
 
 -- a state that some list of events reaches
-abbrev pub IsReached : {S M E : Type 0} → Program S M E → Net → State S M → Type 0
-IsReached program net state = (events : List Event) × (run program net events ≡ Ok state)
+abbrev pub IsReachable : {S M E : Type 0} → Program S M E → Net → State S M → Type 0
+IsReachable program net state = (events : List Event) × (run program net events ≡ Ok state)
 
 -- what a `NetState` keeps: some list of events reaches its state, and each of its nodes knows the last pulse
 pub record IsNetState {S M E : Type 0} (program : Program S M E) (net : Net) (nodes : List (Alpha S M))
     (links : List (List (Link M))) : Type 0 where
   pub network : IsNetwork net
-  pub reached : IsReached program net (state_in nodes links)
+  pub reached : IsReachable program net (state_in nodes links)
   pub lasts : All (λ (n : Alpha S M). n.last ≡ last_pulse_on program net) nodes

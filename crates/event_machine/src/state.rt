@@ -3,7 +3,7 @@
 ghost use Rattle.std.specs.Prelude.{◌≡◌, ◌<◌, IfOk, length};
 ghost use Rattle.interference.specs.Net.{IsNetwork, IsVertex, degree_of, vertices};
 ghost use Rattle.node_api.specs.Program.{last_pulse_on};
-ghost use Rattle.event_machine.specs.Simulation.{IsReached, IsSimulation};
+ghost use Rattle.event_machine.specs.Simulation.{IsReachable, IsSimulation};
 ghost use Rattle.event_machine.specs.State.{link_at, node_of, start, started_nodes};
 
 use crate::links::Links;
@@ -69,7 +69,7 @@ impl<P: NodeProgram> NetState<P> {
     /// Gives callers what holds of every `NetState`: some list of events reaches its state, and there the nodes
     /// simulate the synchronous run.
     pub fn is_simulation(&self)
-        ensures reached { IsReached P.program self.now.net self.now.state }
+        ensures reached { IsReachable P.program self.now.net self.now.state }
         ensures simulates { IsSimulation P.program self.now.net self.now.state }
     {
         let _ = &self.net;

@@ -10,7 +10,7 @@ use Rattle.entries.specs.declared.entry.Entry.{Entry}
 use Rattle.entries.specs.declared.entry.Entry.TheVariants as entry
 use Rattle.entries.specs.Rows.{vertex_row}
 use Rattle.event_machine.specs.declared.event.Event.{Event}
-use Rattle.event_machine.specs.declared.event.Event.TheVariants.{Pulse, Put, Take}
+use Rattle.event_machine.specs.declared.event.Event.TheVariants.{Put, Take}
 use Rattle.event_machine.specs.State.{State, node_of}
 use Rattle.event_machine.specs.Step.{has_port}
 use Rattle.event_machine.proofs.NetKept.{port_from}

@@ -5,7 +5,7 @@ use Rattle.node_api.specs.Program.{Program}
 use Rattle.event_machine.specs.declared.event.Event.{Event}
 use Rattle.event_machine.specs.declared.event.Event.TheVariants.{Pulse, Put, Take}
 use Rattle.event_machine.specs.State.{State}
-use Rattle.event_machine.specs.Simulation.{IsReached}
+use Rattle.event_machine.specs.Simulation.{IsReachable}
 use Rattle.event_machine.specs.Events.{Steps}
 
 -- whose event it is
@@ -18,7 +18,7 @@ vertex_of (Take v i) = v
 -- both orders lead to the same state.
 abbrev pub EventsCommute : {S M E : Type 0} → Program S M E → Net → Type 0
 EventsCommute {S} {M} program net =
-    (state one two : State S M) (event other : Event) → IsReached program net state
+    (state one two : State S M) (event other : Event) → IsReachable program net state
     → (vertex_of event ≡ vertex_of other → ⊥)
     → Steps program net state event one → Steps program net state other two
     → (both : State S M) × Steps program net one other both × Steps program net two event both

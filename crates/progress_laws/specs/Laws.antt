@@ -7,19 +7,19 @@ use Rattle.alpha_laws.specs.Progress.{HasEnded}
 use Rattle.event_machine.specs.declared.event.Event.{Event}
 use Rattle.event_machine.specs.State.{State, node_of, link_at, link_to, sent_of}
 use Rattle.event_machine.specs.Step.{run}
-use Rattle.event_machine.specs.Simulation.{IsReached}
+use Rattle.event_machine.specs.Simulation.{IsReachable}
 use Rattle.progress_laws.specs.Ends.{IsRunWithin, IsTerminal, IsWholeState, PossibleWithin}
 
 -- In every state that is reached an event is possible, or the state is whole; over links of any capacity but none.
 abbrev pub NoDeadlock : {S M E : Type 0} → Program S M E → Net → Type 0
 NoDeadlock {S} {M} program net =
-    (state : State S M) → IsReached program net state → (capacity : ℕ) → 0 < capacity
+    (state : State S M) → IsReachable program net state → (capacity : ℕ) → 0 < capacity
     → ((event : Event) × PossibleWithin capacity program net state event) ⊎ IsWholeState program net state
 
 -- In a whole state no event is possible.
 abbrev pub WholeStatesAreTerminal : {S M E : Type 0} → Program S M E → Net → Type 0
 WholeStatesAreTerminal {S} {M} program net =
-    (state : State S M) → IsReached program net state → IsWholeState program net state → IsTerminal program net state
+    (state : State S M) → IsReachable program net state → IsWholeState program net state → IsTerminal program net state
 
 -- how many events a state shows: the pulses of its nodes, the wires put on its links, and those taken from them
 abbrev pub events_in : {S M E : Type 0} → Program S M E → Net → State S M → ℕ

@@ -6,12 +6,12 @@ use Rattle.std.specs.Ordering.{nat_cmp}
 use Rattle.std.specs.FinSet.{FinSet, contains, contains-empty, empty}
 use Rattle.std.proofs.lemmas.Bool.Decides.{nat_tests}
 use Rattle.std.proofs.lemmas.Bool.{le-leb, lt-ltb, eq-eqb, ne_eqb, false_from_ne_true, and_parts, and_from}
-use Rattle.std.proofs.lemmas.List.{get_or-map, get_or-replicate}
+use Rattle.std.proofs.lemmas.List.{get_or-replicate}
 use native.Mathlib.Decide.{dec_lt}
 use Prim.{yes, no}
 use Rattle.forest_merge.specs.Free.{least_free_colour}
 use Rattle.forest_merge.specs.declared.chosen.TheConstants.{COLOURS}
-use Rattle.interference.specs.Net.{Net, IsNetwork, IsVertex, bars_of, degree_of, neighbours, neighbour_of, port_to, span_of}
+use Rattle.interference.specs.Net.{Net, IsNetwork, IsVertex, bars_of, degree_of, neighbour_of, port_to, span_of}
 use Rattle.node_api.specs.Boxes.{at_port, nothing}
 use Rattle.node_api.specs.Run.{inbox_from}
 use Rattle.node_api.proofs.Inboxes.{at_port-inbox}

@@ -1,5 +1,5 @@
 -- Bounds of a loop over the vertices, and numbers that fit into their widths.
-use Rattle.std.proofs.Common.{◌≡◌, ℕ, suc, ◌+◌, ◌-◌, ◌*◌, ◌<◌, ◌≤◌, Fits, w32, w64, arith}
+use Rattle.std.proofs.Common.{◌≡◌, ℕ, suc, ◌+◌, ◌*◌, ◌<◌, ◌≤◌, Fits, w32, w64, arith}
 use Rattle.std.proofs.Math.Nat.{mul-le-mul_right}
 
 -- nothing is below 0

@@ -1,7 +1,7 @@
 use Rattle.std.proofs.Common.{◌≡◌, ◌∙◌, ap, arith, inl, inr, is_some, sym, true, false}
 use Rattle.interference.specs.Net.{IsVertex}
 use Rattle.interference.proofs.Neighbours.{greatest_bars-within, greatest_degree-within}
-use Rattle.channel_plan.specs.Checked.{channel_of, looked}
+use Rattle.channel_plan.specs.Checked.{channel_of, channels_in}
 use Rattle.channel_plan.proofs.Tables.{row-barred, row-good, row-high, row-stranger, row-twice, table-put}
 use Rattle.channel_plan.proofs.checking.put_row.Goals as goal
 use Rattle.channel_plan.proofs.checking.put_row.Goals.{then-v-eq0-via-then-v-eq0, then-v-eq0-via-else-v-eq0+then-v-nodes}
@@ -45,24 +45,24 @@ returns-then-channel-greatest_degree-clause-fault c = λ before table.
     row-high c.args.net.now before c.args.row v free
     (omega (arith, c.greatest_degree.ensures.value, c.greatest_bars.ensures, c.if-channel-greatest_degree.true))
 
-pub is_barred-requires-clause-within : goal.is_barred-requires-clause-within
-is_barred-requires-clause-within c = omega (arith, c.greatest_degree.ensures.value, c.greatest_bars.ensures, c.if-channel-greatest_degree.false)
+pub is_channel_barred-requires-clause-within : goal.is_channel_barred-requires-clause-within
+is_channel_barred-requires-clause-within c = omega (arith, c.greatest_degree.ensures.value, c.greatest_bars.ensures, c.if-channel-greatest_degree.false)
 
-pub returns-then-is_barred-clause-fault : goal.returns-then-is_barred-clause-fault
-returns-then-is_barred-clause-fault c = λ before table.
+pub returns-then-is_channel_barred-clause-fault : goal.returns-then-is_channel_barred-clause-fault
+returns-then-is_channel_barred-clause-fault c = λ before table.
     let v : IsVertex c.args.net.now c.args.row.0 = (omega (arith, c.if-v-eq0.false), omega (arith, c.nodes.ensures, c.if-v-nodes.false)) in
     let free : is_some (channel_of before c.args.row.0) ≡ false = ap is_some (sym (table.each c.args.row.0 v)) ∙ sym c.is_some.ensures ∙ c.if-is_some.false in
     row-barred c.args.net.now before c.args.row v free
     (omega (arith, c.greatest_degree.ensures.value, c.greatest_bars.ensures, c.if-channel-greatest_degree.false))
-    (sym c.is_barred.ensures ∙ c.if-is_barred.true)
+    (sym c.is_channel_barred.ensures ∙ c.if-is_channel_barred.true)
 
 pub returns-clause-ok : goal.returns-clause-ok
 returns-clause-ok c = λ before table.
     let v : IsVertex c.args.net.now c.args.row.0 = (omega (arith, c.if-v-eq0.false), omega (arith, c.nodes.ensures, c.if-v-nodes.false)) in
-    let none : is_some (looked c.args.table.now c.args.row.0) ≡ false = sym c.is_some.ensures ∙ c.if-is_some.false in
+    let none : is_some (channels_in c.args.table.now c.args.row.0) ≡ false = sym c.is_some.ensures ∙ c.if-is_some.false in
     let free : is_some (channel_of before c.args.row.0) ≡ false = ap is_some (sym (table.each c.args.row.0 v)) ∙ none in (
       row-good c.args.net.now before c.args.row v free
           (omega (arith, c.greatest_degree.ensures.value, c.greatest_bars.ensures, c.if-channel-greatest_degree.false))
-          (sym c.is_barred.ensures ∙ c.if-is_barred.false),
+          (sym c.is_channel_barred.ensures ∙ c.if-is_channel_barred.false),
       table-put c.args.net.now before c.args.row.0 c.args.row.1 c.args.table.now table v none,
     )

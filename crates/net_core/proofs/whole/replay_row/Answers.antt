@@ -1,4 +1,4 @@
-use Rattle.std.proofs.Common.{◌≡◌, ◌∙◌, ap, subst, take}
+use Rattle.std.proofs.Common.{◌∙◌, ap, subst, take}
 use Rattle.net_core.specs.declared.refused.WholeRefused.TheVariants.{Replay}
 use Rattle.net_core.specs.Replays.{IsMade, WhyNot, at_entry}
 use Rattle.stamps.specs.Table.{IsTableOf}

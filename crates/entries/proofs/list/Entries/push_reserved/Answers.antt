@@ -1,7 +1,7 @@
 use Rattle.std.proofs.Common.{◌∷◌, ◌++◌, [], length, arith, sym, ap, ◌∙◌}
 use Rattle.std.specs.Option.{option_to_list}
 use Rattle.std.proofs.lemmas.List.{append-nil, length-append}
-use Rattle.entries.specs.Bare.{payloads_in}
+use Rattle.entries.specs.Bare.{payloads_of_entries}
 use Rattle.entries.proofs.More.{items-more, payloads-more}
 use Rattle.entries.proofs.list.Entries.push_reserved.Goals as goal
 
@@ -9,7 +9,7 @@ use Rattle.entries.proofs.list.Entries.push_reserved.Goals as goal
 pub invariant_of-self : goal.invariant_of-self
 invariant_of-self g c =
     let e = c.self.inside in
-    let bares = ap payloads_in c.push_reserved-2.ensures.items in
+    let bares = ap payloads_of_entries c.push_reserved-2.ensures.items in
     let payloads = ap (λ l. length l) c.push_reserved-in-Some.ensures.items in
     let one = ap (λ p. length (option_to_list p)) c.in-Some.is in
     let long = ap (λ l. length l) c.push_reserved-2.ensures.items in
@@ -38,7 +38,7 @@ invariant_of-self g c =
 pub invariant_of-self-in_default : goal.invariant_of-self-in_default
 invariant_of-self-in_default g c =
     let e = c.self.inside in
-    let bares = ap payloads_in c.push_reserved-2.ensures.items in
+    let bares = ap payloads_of_entries c.push_reserved-2.ensures.items in
     let none = ap (λ p. length (option_to_list p)) c.in_default.is in
     let long = ap (λ l. length l) c.push_reserved-2.ensures.items in
     let stamps = ap (λ l. length l) c.push_reserved.ensures.items in (

@@ -1,5 +1,5 @@
 use Rattle.std.proofs.Common.{subst}
-use Rattle.event_machine.specs.Simulation.{IsReached, IsSimulation}
+use Rattle.event_machine.specs.Simulation.{IsReachable, IsSimulation}
 use Rattle.event_machine.proofs.Held.{simulation}
 use Rattle.event_machine.proofs.state.NetState.is_simulation.Goals as goal
 
@@ -8,7 +8,7 @@ returns g c =
     let m = g.P.NodeProgram in
     let a = c.self.inside in
     record {
-      reached = subst (λ s. IsReached m.program s.net s.state) c.self.view_is c.self.invariant.reached;
+      reached = subst (λ s. IsReachable m.program s.net s.state) c.self.view_is c.self.invariant.reached;
       simulates = subst (λ s. IsSimulation m.program s.net s.state) c.self.view_is
           (simulation m.program m.laws a.net a.nodes.items a.links c.self.invariant);
     }

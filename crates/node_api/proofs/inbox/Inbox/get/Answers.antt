@@ -1,4 +1,4 @@
-use Rattle.std.proofs.Common.{◌≡◌, ◌<◌, length, ap, sym, ◌∙◌, arith}
+use Rattle.std.proofs.Common.{◌<◌, length, ap, sym, ◌∙◌, arith}
 use Rattle.node_api.specs.Boxes.{Mail, at_port}
 use Rattle.node_api.proofs.Counting.{count-some}
 use Rattle.node_api.proofs.SlotCursor.{get-read}
