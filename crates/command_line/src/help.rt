@@ -308,7 +308,9 @@ With --program NAME the nodes of any command run another program:
                    node has a neighbour among them
   recolouring      finds the channels of colouring; then they choose anew, the
                    greatest first, and mostly fewer are left; with --passes N
-                   they do so N times, 1 to 3, and without --passes once",
+                   they do so N times, 1 to 3, and without --passes once. If
+                   channels are barred, the greatest may rise instead: from 2
+                   to 3 for two neighbours, with channel 2 barred at node 1",
     format: "The graph is read as forestplan reads it, with the same faults, reported as
 `forestplay: F6 line 2`: see `forestplan --help`. If --root V is given and the graph
 has fewer nodes, it is reported as `forestplay: NoRoot vertex V`.
