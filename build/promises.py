@@ -9,8 +9,8 @@ from build.crate_lists import TOP
 
 WIDTH = 148
 # From the program down to the texts.
-CRATES = ("serving", "byte_functions", "answers", "command_line", "whole_streams", "channel_plan", "transcripts",
-          "round_texts", "event_texts", "wire_texts", "number_rows")
+CRATES = ("serving", "play_commands", "byte_functions", "answers", "command_line", "whole_streams", "channel_plan",
+          "transcripts", "round_texts", "event_texts", "wire_texts", "number_rows")
 
 
 def text_of(*parts):

@@ -1,7 +1,9 @@
 mod Declining
 mod Defaults
 mod Entered
-mod KnownCommands
+mod KnownPlays
+mod KnownRequests
+mod Lines
 mod Numbers
 mod Passing
 mod Played

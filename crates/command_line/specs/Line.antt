@@ -1,18 +1,18 @@
--- The command lines in clap's own words: a program, and its commands.
+-- The command lines in clap's own words: an executable, and its commands.
 use Rattle.std.specs.Prelude.{◌≡◌, false, true, codes}
 use Rattle.clap.specs.Words.{App, Text, new_app, with_subcommand}
 use Rattle.clap.specs.declared.builder.command.Command.{Command}
 use Rattle.clap.specs.declared.builder.command.Command.TheViews.{out-Command}
 use Rattle.command_line.specs.NodePrograms.{with_passes, with_program, with_root, with_transcript}
 use Rattle.command_line.specs.RunOptions.{with_edition, with_run_options}
-use Rattle.command_line.specs.declared.program.Program.{Program}
-use Rattle.command_line.specs.declared.program.Program.TheVariants.{Forestplan, Forestplay}
+use Rattle.command_line.specs.declared.executable.Executable.{Executable}
+use Rattle.command_line.specs.declared.executable.Executable.TheVariants.{Forestplan, Forestplay}
 
 -- no option of the command is one of its subcommands, too
 abbrev pub IsLocal : Command → Type 0
 IsLocal command = (out-Command command).has_globals ≡ false
 
-abbrev pub name_of : Program → Text
+abbrev pub name_of : Executable → Text
 name_of Forestplan = codes "forestplan"
 name_of Forestplay = codes "forestplay"
 
@@ -62,7 +62,7 @@ with_play_commands program =
     let with_rounds : App = with_subcommand with_replay (play_command (codes "rounds")).top in
     with_subcommand with_rounds run_command.top
 
--- the whole command line of a program
-abbrev pub line : Program → App
+-- the whole command line of an executable
+abbrev pub line : Executable → App
 line Forestplan = with_plan_commands (without_commands (name_of Forestplan))
 line Forestplay = with_play_commands (without_commands (name_of Forestplay))

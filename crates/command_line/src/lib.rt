@@ -1,15 +1,15 @@
 //! The command lines of `forestplan` and `forestplay`: which words ask for what, and what `clap` says of the others.
 //!
-//! `serving` calls `parse` with the words that the program was started with, its own name first. No type
-//! of `clap` crosses this boundary.
+//! `serving` calls `parse` with the words that `forestplan` was started with, its own name first, and `play_commands`
+//! calls `parse_play` with those of `forestplay`. No type of `clap` crosses this boundary.
 //!
 //! ```
-//! match parse(alloc, Program::Forestplan, &["forestplan", "plain"]) {
+//! match parse(alloc, &["forestplan", "plain"]) {
 //!     Ok(Request::Plain) => ..,
 //!     Ok(Request::Plan(options)) => ..,
 //!     Ok(Request::Forests) => ..,
 //!     Ok(Request::Check) => ..,
-//!     Ok(Request::Play(program, play)) => ..,
+//!     Ok(Request::Transcript(options, edition)) => ..,
 //!     Err(Declined::Help(text)) => ..,
 //!     Err(Declined::Refused(text)) => ..,
 //!     Err(Declined::Memory) => ..,
@@ -17,18 +17,22 @@
 //! ```
 //!
 //! The commands are listed in `specs/Line.antt` in clap's own words, the options of a run of workers in
-//! `specs/RunOptions.antt`, the programs of nodes in `specs/NodePrograms.antt`, and `parse` is exact against them. What
-//! clap's texts say, help among them, is only tested.
+//! `specs/RunOptions.antt`, the programs of nodes in `specs/NodePrograms.antt`, and both calls are exact against them.
+//! What clap's texts say, help among them, is only tested.
 //! There is no `--version` and no command `help`. Limits: those of `run_options`.
 #![tactic(auto)]
 
+mod declined;
+mod executable;
 mod help;
 mod line;
 mod options;
-mod program;
+mod play_request;
 mod programs;
 mod request;
 
-pub use program::Program;
+pub use declined::Declined;
+pub use executable::Executable;
+pub use play_request::{Play, PlayRequest, parse_play};
 pub use programs::{MAX_PASSES, NodeProgramName, Passes, Shown};
-pub use request::{Declined, Play, Request, parse};
+pub use request::{Request, parse};

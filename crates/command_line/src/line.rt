@@ -7,10 +7,10 @@ ghost use Rattle.command_line.specs.Line.{without_commands, with_network_command
 ghost use Rattle.command_line.specs.Line.{with_play_commands, with_worker_commands};
 ghost use Rattle.command_line.specs.RunOptions.{with_edition, with_run_options};
 
+use crate::executable::Executable;
 use crate::help;
 use crate::help::Help;
 use crate::options::{with_edition, with_run_options};
-use crate::program::Program;
 use crate::programs::{with_passes, with_program, with_root, with_transcript};
 use clap::Command;
 use std::alloc::{AllocError, Global};
@@ -166,20 +166,20 @@ fn with_play_commands<'a>(alloc: Global, program: Command<'a>) -> Result<Command
     with_command(program, run)
 }
 
-/// The whole command line of a program.
+/// The whole command line of an executable.
 ///
 /// # Errors
 /// If memory ran out.
-pub fn whole_line<'a>(alloc: Global, program: Program) -> Result<Command<'a>, AllocError>
-    ensures shape { IfOk result (λ c. app_of c ≡ line program) }
+pub fn whole_line<'a>(alloc: Global, executable: Executable) -> Result<Command<'a>, AllocError>
+    ensures shape { IfOk result (λ c. app_of c ≡ line executable) }
     ensures local { IfOk result IsLocal }
 {
-    match program {
-        Program::Forestplan => {
+    match executable {
+        Executable::Forestplan => {
             let command = without_commands(alloc, "forestplan", help::FORESTPLAN)?;
             with_plan_commands(alloc, command)
         }
-        Program::Forestplay => {
+        Executable::Forestplay => {
             let command = without_commands(alloc, "forestplay", help::FORESTPLAY)?;
             with_play_commands(alloc, command)
         }

@@ -9,17 +9,15 @@
 //! and which status comes, for all words and every input.
 #![tactic(auto)]
 
-use command_line::Program;
-use serving::{arguments, serve_words};
+use serving::{ForestplanCommands, arguments, serve_words};
 use std::process::ExitCode;
 
 fn main(rt: HostRuntime) -> ExitCode {
     let mut input = rt.stdin();
     let mut output = rt.stdout();
     let mut errors = rt.stderr();
-    ExitCode::from(serve_words(
+    ExitCode::from(serve_words::<ForestplanCommands, _, _, _, _>(
         &rt,
-        Program::Forestplan,
         arguments(&rt),
         &mut input,
         &mut output,

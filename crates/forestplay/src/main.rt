@@ -9,7 +9,7 @@
 //! and which status comes, for all words and every input.
 #![tactic(auto)]
 
-use command_line::Program;
+use play_commands::ForestplayCommands;
 use serving::{arguments, serve_words};
 use std::process::ExitCode;
 
@@ -17,9 +17,8 @@ fn main(rt: HostRuntime) -> ExitCode {
     let mut input = rt.stdin();
     let mut output = rt.stdout();
     let mut errors = rt.stderr();
-    ExitCode::from(serve_words(
+    ExitCode::from(serve_words::<ForestplayCommands, _, _, _, _>(
         &rt,
-        Program::Forestplay,
         arguments(&rt),
         &mut input,
         &mut output,

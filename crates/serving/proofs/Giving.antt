@@ -1,73 +1,44 @@
--- What was written, and reported, is what is given of an answer, or what declines the words.
-use Rattle.std.proofs.Common.{◌≡◌, ◌⊎◌, ℕ, List, None, Some, Ok, Err, Option, inl, inr, subst, sym}
-use Rattle.command_line.specs.Line.{name_of}
-use Rattle.command_line.specs.declared.program.Program.{Program}
-use Rattle.command_line.specs.declared.request.Request.{Request}
-use Rattle.command_line.specs.declared.request.Request.TheVariants.{Check, Forests, Plain, Plan, Play, Transcript}
-use Rattle.command_line.specs.declared.programs.NodeProgramName.{NodeProgramName}
-use Rattle.command_line.specs.declared.programs.NodeProgramName.TheVariants.{Colouring, IndependentSet, Layers, Leader}
-use Rattle.command_line.specs.declared.programs.NodeProgramName.TheVariants.{Matching, Recolouring}
-use Rattle.command_line.specs.declared.request.Play.{Play as Played}
-use Rattle.command_line.specs.declared.request.Play.TheVariants.{Events, Replay, Rounds, Run}
-use Rattle.serving.specs.Answers.{MayAnswer}
-use Rattle.serving.specs.Plays.{MayPlay, MayPlayNamed, again_of, layers_root}
-use Rattle.colour_program.specs.ColoursText.{colouring_texts}
-use Rattle.independent_set.specs.Texts.{independent_set_texts}
-use Rattle.layers.specs.Texts.{layers_texts, layers_texts_from}
-use Rattle.leader.specs.Texts.{leader_texts}
-use Rattle.matching.specs.Texts.{matching_texts}
-use Rattle.recolouring.specs.Texts.{recolouring_texts}
-use Rattle.program_texts.specs.Texts.{ProgramTexts}
-use Rattle.wire_texts.specs.PayloadTexts.{PayloadTexts}
-use Rattle.node_api.specs.Program.{Program as NodeProgram}
-use Rattle.answers.specs.Faults.{fault_line, fault_status}
-use Rattle.command_line.specs.Asked.{request_of}
-use Rattle.serving.specs.Serve.{Answers, Declines, IsReported, Puts, ServesChoice, ServesWords, memory_line}
-use Rattle.serving.specs.Streams.{Taken, Written}
+-- What was written, and reported, is what serves the words.
+use Rattle.std.proofs.Common.{◌≡◌, ℕ, List, None, Some, Ok, Err, Result, inl, inr, subst, sym}
+use Rattle.std.specs.declared.alloc.Global.{Global}
+use Rattle.std.specs.declared.vec.Vec.{Vec}
 use Rattle.answers.specs.declared.fault.PlanFault.{PlanFault}
-use Rattle.answers.specs.declared.fault.PlanFault.TheVariants.{Memory}
-use Rattle.answers.specs.declared.root.Root.{Root}
+use Rattle.command_line.specs.Asked.{AreRefused, AskForHelp}
+use Rattle.command_line.specs.declared.executable.Executable.{Executable}
+use Rattle.serving.specs.CommandSet.{CommandSet}
+use Rattle.serving.specs.Serve.{Declines, GivesAnswer, IsAnswered, Puts, Refuses, Serves, ServesChoice, ServesWords, memory_line}
+use Rattle.serving.specs.Streams.{IsReadInTime, Taken, Written}
 
-pub of-bytes : (program : Program) (output errors : Written) (request : Request) (input bytes text : List ℕ) (status : ℕ)
-    → text ≡ bytes → MayAnswer request input (Ok bytes) → Puts program output errors text status
-    → Answers program request input output errors status
-of-bytes program output errors request input bytes text status same may puts =
-    (Ok bytes, may, subst (λ t. Puts program output errors t status) same puts)
+module _ {A : Type 0} (commands : CommandSet A) (executable : Executable) (same : executable ≡ commands.executable) (words : List (List ℕ))
+    (input : Taken) (output errors : Written) (status : ℕ) where
+  -- the words ask for this command, of whose input at most so many reads are made
+  module _ (request : A) (asks : commands.request_of words ≡ Some request) (in_time : IsReadInTime input) where
+    serves : Serves commands request input output errors status → ServesWords commands words input output errors status
+    serves is = inl (subst (λ asked. ServesChoice commands asked words input output errors status) (sym asks) is)
 
--- nodes of any program may answer that memory ran out
-play-memory : {S M E : Type 0} (program : NodeProgram S M E) (texts : ProgramTexts S) (payloads : PayloadTexts M) (root : Option Root) (play : Played)
-    (input : List ℕ) → MayPlay program texts payloads root play input (Err Memory)
-play-memory program texts payloads root Events input = tt
-play-memory program texts payloads root Replay input = tt
-play-memory program texts payloads root Rounds input = tt
-play-memory program texts payloads root (Run options show) input = (tt, λ e. cc)
+    given_by : (answer : Result (Vec ℕ Global) PlanFault) → IsAnswered commands request input answer
+        → GivesAnswer commands.executable output errors answer status → ServesWords commands words input output errors status
+    given_by (Ok bytes) (read, ends, quiet, may) gives = serves (in_time, inl (read, ends, quiet, (Ok bytes.items, may, gives)))
+    given_by (Err fault) (read, ends, quiet, may) (inl gives) = serves (in_time, inl (read, ends, quiet, (Err fault, may, gives)))
+    given_by (Err fault) (read, ends, quiet, may) (inr refuses) = serves (in_time, inr (inr (quiet, refuses)))
 
-named-memory : (name : NodeProgramName) (play : Played) (input : List ℕ) → MayPlayNamed name play input (Err Memory)
-named-memory Colouring play input = play-memory _ colouring_texts _ None play input
-named-memory Leader play input = play-memory _ leader_texts _ None play input
-named-memory (Layers None) play input = play-memory _ layers_texts _ None play input
-named-memory (Layers (Some v)) play input = play-memory _ (layers_texts_from v) _ (Some (layers_root v)) play input
-named-memory Matching play input = play-memory _ matching_texts _ None play input
-named-memory IndependentSet play input = play-memory _ independent_set_texts _ None play input
-named-memory (Recolouring passes) play input = play-memory _ (recolouring_texts (again_of passes)) _ None play input
+    pub given : (answer : Result (Vec ℕ Global) PlanFault) → IsAnswered commands request input answer → GivesAnswer executable output errors answer status
+        → ServesWords commands words input output errors status
+    given answer is gives = given_by answer is (subst (λ e. GivesAnswer e output errors answer status) same gives)
 
-memory-may : (request : Request) (input : List ℕ) → MayAnswer request input (Err Memory)
-memory-may Forests input = tt
-memory-may Plain input = tt
-memory-may (Plan options) input = (tt, λ e. cc)
-memory-may (Transcript options edition) input = (tt, λ e. cc)
-memory-may Check input = tt
-memory-may (Play program play) input = named-memory program play input
+  declined : commands.request_of words ≡ None → Declines commands words input output errors status
+      → ServesWords commands words input output errors status
+  declined none declines = inl (subst (λ asked. ServesChoice commands asked words input output errors status) (sym none) declines)
 
--- where there is no memory for a fault's line, the answer is the fault of memory
-pub of-fault : (program : Program) (output errors : Written) (request : Request) (input : List ℕ) (fault : PlanFault) (status : ℕ)
-    → MayAnswer request input (Err fault) → output.IsUntouched
-    → (IsReported errors (fault_line (name_of program) fault) × (status ≡ fault_status fault)) ⊎ (IsReported errors (memory_line program) × (status ≡ 4))
-    → Answers program request input output errors status
-of-fault program output errors request input fault status may untouched (inl is) = (Err fault, may, (untouched, is.0, is.1))
-of-fault program output errors request input fault status may untouched (inr is) = (Err Memory, memory-may request input, (untouched, is.0, is.1))
+  pub helped : (text : List ℕ) → commands.request_of words ≡ None → AskForHelp commands.executable words → input.IsUntouched
+      → Puts executable output errors text status → ServesWords commands words input output errors status
+  helped text none asks untouched puts =
+      declined none (untouched, (text, inl (asks, subst (λ e. Puts e output errors text status) same puts)))
 
-pub declined : (program : Program) (words : List (List ℕ)) (input : Taken) (output errors : Written) (status : ℕ)
-    → request_of program words ≡ None → Declines program words input output errors status → ServesWords program words input output errors status
-declined program words input output errors status none declines =
-    inl (subst (λ asked. ServesChoice program asked words input output errors status) (sym none) declines)
+  pub refused : (text : List ℕ) → commands.request_of words ≡ None → AreRefused commands.executable words → input.IsUntouched
+      → Refuses output errors text 2 status → ServesWords commands words input output errors status
+  refused text none are untouched refuses = declined none (untouched, (text, inr (are, refuses)))
+
+  -- memory ran out before anything was read
+  pub no-memory : input.IsUntouched → Refuses output errors (memory_line executable) 4 status → ServesWords commands words input output errors status
+  no-memory untouched refuses = inr (untouched, subst (λ e. Refuses output errors (memory_line e) 4 status) same refuses)

@@ -1,2 +1,1 @@
 mod Giving
-mod Rooted

@@ -1,4 +1,4 @@
--- What a command may answer to the bytes of its input.
+-- What a command of `forestplan` may answer to the bytes of its input.
 use Rattle.std.specs.Prelude.{◌≢◌, ℕ, List, None, Result, Ok, Err}
 use Rattle.run_faults.specs.declared.fault.PoolFault.TheVariants.{BadOptions}
 use Rattle.answers.specs.Answers.{IsFaultOfText, IsForestsAnswer, IsPlainAnswer}
@@ -9,9 +9,11 @@ use Rattle.answers.specs.Verdicts.{IsCheckAnswer, IsFaultOfCheck}
 use Rattle.byte_functions.specs.Workers.{IsFaultOfWorkers}
 use Rattle.answers.specs.declared.fault.PlanFault.{PlanFault}
 use Rattle.answers.specs.declared.fault.PlanFault.TheVariants.{Pool}
+use Rattle.command_line.specs.Asked.{request_of}
+use Rattle.command_line.specs.declared.executable.Executable.TheVariants.{Forestplan}
 use Rattle.command_line.specs.declared.request.Request.{Request}
-use Rattle.command_line.specs.declared.request.Request.TheVariants.{Check, Forests, Plain, Plan, Play, Transcript}
-use Rattle.serving.specs.Plays.{MayPlayNamed}
+use Rattle.command_line.specs.declared.request.Request.TheVariants.{Check, Forests, Plain, Plan, Transcript}
+use Rattle.serving.specs.CommandSet.{CommandSet}
 
 -- the answer of each command to a good input, a line for each
 abbrev pub IsGoodAnswer : Request → List ℕ → List ℕ → Type 0
@@ -21,7 +23,6 @@ IsGoodAnswer (Plan options) input answer = IsPlainAnswer input answer
 IsGoodAnswer (Transcript options edition) input answer =
     IsTranscriptAnswer colouring colouring_payloads edition input answer
 IsGoodAnswer Check input answer = IsCheckAnswer input answer
-IsGoodAnswer (Play program play) input answer = MayPlayNamed program play input (Ok answer)
 
 -- the fault of an input for each command, a line for each; the options of a command line are never out of range
 abbrev pub IsFaultAnswer : Request → List ℕ → PlanFault → Type 0
@@ -31,9 +32,11 @@ IsFaultAnswer (Plan options) input fault = IsFaultOfWorkers None options input f
 IsFaultAnswer (Transcript options edition) input fault =
     IsFaultOfWorkers None options input fault × (fault ≢ Pool BadOptions)
 IsFaultAnswer Check input fault = IsFaultOfCheck input fault
-IsFaultAnswer (Play program play) input fault = MayPlayNamed program play input (Err fault)
 
 -- the bytes that a command may answer, or its fault
 abbrev pub MayAnswer : Request → List ℕ → Result (List ℕ) PlanFault → Type 0
 MayAnswer request input (Ok answer) = IsGoodAnswer request input answer
 MayAnswer request input (Err fault) = IsFaultAnswer request input fault
+
+abbrev pub forestplan_commands : CommandSet Request
+forestplan_commands = record { executable = Forestplan; request_of = request_of; MayAnswer = MayAnswer }

@@ -1,5 +1,4 @@
-pub mod Payloads
+pub mod CommandSet
 pub mod Answers
-pub mod Plays
 pub mod Streams
 pub mod Serve

@@ -1,13 +1,15 @@
-//! Serving one command of `forestplan` or `forestplay`: from the words of the command line and the input to what is
-//! written and the status, over a source and two sinks of the caller's.
+//! Serving one command of an executable: from the words of the command line and the input to what is written and the
+//! status, over a source and two sinks of the caller's.
 //!
-//! Each program calls `serve_words` with the words and the streams that the system gives.
+//! What the commands of an executable are is its `Commands`. Those of `forestplan` are here, and those of `forestplay`
+//! in `play_commands`. Each program calls `serve_words` with the words and the streams that the system gives.
 //!
 //! ```
 //! let mut input: &[u8] = b"p edge 2 1\ne 1 2\n";
 //! let (mut output, mut errors) = (Vec::new(alloc), Vec::new(alloc));
 //! let words = ["forestplan", "plain"];
-//! let status = serve(&rt, alloc, Program::Forestplan, &words, &mut input, &mut output, &mut errors);
+//! let status =
+//!     serve::<ForestplanCommands, _, _, _, _>(&rt, alloc, &words, &mut input, &mut output, &mut errors);
 //! // status 0, output "plan", "1 1", "2 2", a line each
 //! ```
 //!
@@ -18,11 +20,12 @@
 #![tactic(auto)]
 
 mod answer;
-mod playing;
+mod commands;
 mod process;
 mod serving;
 mod words;
 
+pub use answer::ForestplanCommands;
+pub use commands::Commands;
 pub use process::{arguments, serve_words};
 pub use serving::serve;
-pub use words::serve_all;

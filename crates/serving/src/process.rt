@@ -4,9 +4,9 @@ ghost use Rattle.std.specs.Prelude.{IfOk, IfErr, map, string_bytes};
 ghost use Rattle.serving.specs.Serve.{ServesWords, no_text_of};
 ghost use Rattle.serving.specs.Streams.{reading, writing};
 
+use crate::commands::Commands;
 use crate::serving::{refuse_memory, serve};
-use crate::words::serve_all;
-use command_line::Program;
+use crate::words::borrowed;
 use std::env::Env;
 use std::io;
 use std::io::ErrorKind;
@@ -22,13 +22,12 @@ pub fn arguments<T: Env + AllocGlobal>(rt: &T) -> io::Result<Vec<String>> {
     Ok(std::env::args(rt)?.collect(rt.alloc())?)
 }
 
-/// Serves the command of a program that the words name, and returns the status of the program. `main` gives
+/// Serves the command of an executable that the words name, and returns the status of the program. `main` gives
 /// `arguments`, standard input, output and errors.
 ///
-/// If a word is no text, the words are those of `no_text_of`: the name of the program, and U+FFFD.
-pub fn serve_words<T, R: Source, W: Sink, E: Sink>(
+/// If a word is no text, the words are those of `no_text_of`: the name of the executable, and U+FFFD.
+pub fn serve_words<C: Commands, T, R: Source, W: Sink, E: Sink>(
     rt: &T,
-    program: Program,
     words: io::Result<Vec<String>>,
     input: &mut R,
     output: &mut W,
@@ -36,26 +35,28 @@ pub fn serve_words<T, R: Source, W: Sink, E: Sink>(
 ) -> u8
 where
     T: Threads + Wait + Sync + AllocGlobal,
-    ensures served { IfOk words (λ given. ServesWords program (map string_bytes given.items)
+    ensures served { IfOk words (λ given. ServesWords C.commands (map string_bytes given.items)
         (reading R.remaining R.faults R.reads_left input.old input.new)
         (writing W.contents W.faults output.old output.new)
         (writing E.contents E.faults errors.old errors.new) result) }
-    ensures refused { IfErr words (λ _. ServesWords program (no_text_of program)
+    ensures refused { IfErr words (λ _. ServesWords C.commands (no_text_of C.commands.executable)
         (reading R.remaining R.faults R.reads_left input.old input.new)
         (writing W.contents W.faults output.old output.new)
         (writing E.contents E.faults errors.old errors.new) result) }
 {
-    let alloc = rt.alloc();
+    let (alloc, executable) = (rt.alloc(), C::executable());
     match words {
-        Ok(words) => serve_all(rt, alloc, program, words.as_slice(), input, output, errors),
-        Err(error) if error.kind() == ErrorKind::OutOfMemory => refuse_memory(program, errors),
+        Ok(words) => match borrowed(alloc, words.as_slice()) {
+            Ok(words) => serve::<C, T, R, W, E>(rt, alloc, words.as_slice(), input, output, errors),
+            Err(_) => refuse_memory(executable, errors),
+        },
+        Err(error) if error.kind() == ErrorKind::OutOfMemory => refuse_memory(executable, errors),
         // clap takes texts alone and has no call for bytes, so that it is given the word U+FFFD, which names no
         // command: it then writes its usual refusal, with the usual status.
-        Err(_) => serve(
+        Err(_) => serve::<C, T, R, W, E>(
             rt,
             alloc,
-            program,
-            &[program.name(), "\u{FFFD}"],
+            &[executable.name(), "\u{FFFD}"],
             input,
             output,
             errors,

@@ -1,15 +1,15 @@
 //! Serving one command, from its words and input to its output and status.
 
-ghost use Rattle.std.specs.Prelude.{◌≡◌, ◌⊎◌, map};
+ghost use Rattle.std.specs.Prelude.{◌≡◌, ◌⊎◌, IfErr, IfOk, map};
 ghost use Rattle.answers.specs.Faults.{fault_line, fault_status};
-ghost use Rattle.command_line.specs.Asked.{IsInRange};
 ghost use Rattle.command_line.specs.Line.{name_of};
-ghost use Rattle.serving.specs.Serve.{Answers, IsReported, Puts, Serves, ServesWords, memory_line, stream_line};
-ghost use Rattle.serving.specs.Streams.{reading, writing};
+ghost use Rattle.serving.specs.Serve.{GivesAnswer, IsAnswered, IsReported, IsUnread, Puts, ServesWords};
+ghost use Rattle.serving.specs.Serve.{memory_line, stream_line};
+ghost use Rattle.serving.specs.Streams.{IsReadInTime, reading, writing};
 
-use crate::answer::answer_bytes;
+use crate::commands::Commands;
 use answers::{PlanFault, fault_report};
-use command_line::{Declined, Program, Request, parse};
+use command_line::{Declined, Executable};
 use std::alloc::Global;
 use std::sync::Wait;
 use std::thread::Threads;
@@ -31,100 +31,92 @@ fn refuse<E: Sink>(errors: &mut E, text: &[u8], status: u8) -> u8
 }
 
 // Reports that a stream failed.
-fn refuse_stream<E: Sink>(program: Program, errors: &mut E) -> u8
-    ensures reported { IsReported (writing E.contents E.faults errors.old errors.new) (stream_line program) }
+fn refuse_stream<E: Sink>(executable: Executable, errors: &mut E) -> u8
+    ensures reported { IsReported (writing E.contents E.faults errors.old errors.new) (stream_line executable) }
     ensures status { result ≡ 4 }
 {
-    match program {
-        Program::Forestplan => refuse(errors, b"forestplan: stream\n", NOT_DONE),
-        Program::Forestplay => refuse(errors, b"forestplay: stream\n", NOT_DONE),
+    match executable {
+        Executable::Forestplan => refuse(errors, b"forestplan: stream\n", NOT_DONE),
+        Executable::Forestplay => refuse(errors, b"forestplay: stream\n", NOT_DONE),
     }
 }
 
 /// Reports on `errors` that memory ran out, and returns the status 4.
-pub fn refuse_memory<E: Sink>(program: Program, errors: &mut E) -> u8
-    ensures reported { IsReported (writing E.contents E.faults errors.old errors.new) (memory_line program) }
+pub fn refuse_memory<E: Sink>(executable: Executable, errors: &mut E) -> u8
+    ensures reported { IsReported (writing E.contents E.faults errors.old errors.new) (memory_line executable) }
     ensures status { result ≡ 4 }
 {
-    match program {
-        Program::Forestplan => refuse(errors, b"forestplan: memory\n", NOT_DONE),
-        Program::Forestplay => refuse(errors, b"forestplay: memory\n", NOT_DONE),
+    match executable {
+        Executable::Forestplan => refuse(errors, b"forestplan: memory\n", NOT_DONE),
+        Executable::Forestplay => refuse(errors, b"forestplay: memory\n", NOT_DONE),
     }
 }
 
 // Writes a text to `output`, and reports if a write fails.
-fn put<W: Sink, E: Sink>(program: Program, output: &mut W, errors: &mut E, text: &[u8]) -> u8
-    ensures { Puts program (writing W.contents W.faults output.old output.new)
+fn put<W: Sink, E: Sink>(executable: Executable, output: &mut W, errors: &mut E, text: &[u8]) -> u8
+    ensures { Puts executable (writing W.contents W.faults output.old output.new)
         (writing E.contents E.faults errors.old errors.new) text.now result }
 {
     match write_whole(output, text) {
         Ok(()) => 0,
-        Err(_) => refuse_stream(program, errors),
+        Err(_) => refuse_stream(executable, errors),
     }
 }
 
 // Reports a fault, or that there is no memory for its line.
-fn refuse_fault<E: Sink>(alloc: Global, program: Program, errors: &mut E, fault: PlanFault) -> u8
-    ensures { (IsReported (writing E.contents E.faults errors.old errors.new) (fault_line (name_of program) fault)
+fn refuse_fault<E: Sink>(
+    alloc: Global,
+    executable: Executable,
+    errors: &mut E,
+    fault: PlanFault,
+) -> u8
+    ensures { (IsReported (writing E.contents E.faults errors.old errors.new) (fault_line (name_of executable) fault)
         × (result ≡ fault_status fault))
-        ⊎ (IsReported (writing E.contents E.faults errors.old errors.new) (memory_line program) × (result ≡ 4)) }
+        ⊎ (IsReported (writing E.contents E.faults errors.old errors.new) (memory_line executable) × (result ≡ 4)) }
 {
-    match fault_report(alloc, program.name(), fault) {
+    match fault_report(alloc, executable.name(), fault) {
         Ok(report) => refuse(errors, report.line.as_slice(), report.status),
-        Err(_) => refuse_memory(program, errors),
+        Err(_) => refuse_memory(executable, errors),
     }
 }
 
-// Gives the answer to the bytes of an input.
-fn give<T: Threads + Wait + Sync, W: Sink, E: Sink>(
-    rt: &T,
+// Gives an answer: its bytes go to `output`, and its fault is reported.
+fn give<W: Sink, E: Sink>(
     alloc: Global,
-    program: Program,
-    request: Request,
-    input: &[u8],
+    executable: Executable,
+    answer: Result<Vec<u8>, PlanFault>,
     output: &mut W,
     errors: &mut E,
 ) -> u8
-    requires in_range { IsInRange request }
-    ensures { Answers program request input.now (writing W.contents W.faults output.old output.new)
-        (writing E.contents E.faults errors.old errors.new) result }
+    ensures { GivesAnswer executable (writing W.contents W.faults output.old output.new)
+        (writing E.contents E.faults errors.old errors.new) answer result }
 {
-    match answer_bytes(rt, alloc, request, input) {
-        Ok(bytes) => put(program, output, errors, bytes.as_slice()),
-        Err(fault) => refuse_fault(alloc, program, errors, fault),
+    match answer {
+        Ok(bytes) => put(executable, output, errors, bytes.as_slice()),
+        Err(fault) => refuse_fault(alloc, executable, errors, fault),
     }
 }
 
-fn serve_request<T: Threads + Wait + Sync, R: Source, W: Sink, E: Sink>(
+// The answer of a command to an input, which is read to its end; or why it can't be read.
+fn answer_input<C: Commands, T: Threads + Wait + Sync, R: Source>(
     rt: &T,
     alloc: Global,
-    program: Program,
-    request: Request,
+    request: C::Request,
     input: &mut R,
-    output: &mut W,
-    errors: &mut E,
-) -> u8
-    requires in_range { IsInRange request }
-    ensures { Serves program request (reading R.remaining R.faults R.reads_left input.old input.new)
-        (writing W.contents W.faults output.old output.new)
-        (writing E.contents E.faults errors.old errors.new) result }
+) -> Result<Result<Vec<u8>, PlanFault>, ReadFault>
+    requires in_range { C.can_answer request }
+    ensures in_time { IsReadInTime (reading R.remaining R.faults R.reads_left input.old input.new) }
+    ensures ok { IfOk result (λ answer.
+        IsAnswered C.commands request (reading R.remaining R.faults R.reads_left input.old input.new) answer) }
+    ensures fault { IfErr result (IsUnread (reading R.remaining R.faults R.reads_left input.old input.new)) }
 {
     match read_whole(alloc, input) {
-        Ok(bytes) => give(
-            rt,
-            alloc,
-            program,
-            request,
-            bytes.as_slice(),
-            output,
-            errors,
-        ),
-        Err(ReadFault::Stream) => refuse_stream(program, errors),
-        Err(ReadFault::Memory) => refuse_memory(program, errors),
+        Ok(bytes) => Ok(C::answer_bytes(rt, alloc, request, bytes.as_slice())),
+        Err(fault) => Err(fault),
     }
 }
 
-/// Serves the command of a program that the words name, its name being the first word, and returns the
+/// Serves the command of an executable that the words name, its name being the first word, and returns the
 /// status of the program.
 ///
 /// If the words ask for a command, `input` is read to its end, the answer goes to `output`, and the
@@ -136,24 +128,28 @@ fn serve_request<T: Threads + Wait + Sync, R: Source, W: Sink, E: Sink>(
 ///
 /// `plan`, `transcript` and `run` may wait for threads, so it is not promised that the call returns: the contract
 /// holds if it does.
-pub fn serve<'a, T: Threads + Wait + Sync, R: Source, W: Sink, E: Sink>(
+pub fn serve<'a, C: Commands, T: Threads + Wait + Sync, R: Source, W: Sink, E: Sink>(
     rt: &T,
     alloc: Global,
-    program: Program,
     words: &'a [&'a str],
     input: &mut R,
     output: &mut W,
     errors: &mut E,
 ) -> u8
-    ensures { ServesWords program (map (λ word. word.now) words.entry.now)
+    ensures { ServesWords C.commands (map (λ word. word.now) words.entry.now)
         (reading R.remaining R.faults R.reads_left input.old input.new)
         (writing W.contents W.faults output.old output.new)
         (writing E.contents E.faults errors.old errors.new) result }
 {
-    match parse(alloc, program, words) {
-        Ok(request) => serve_request(rt, alloc, program, request, input, output, errors),
-        Err(Declined::Help(text)) => put(program, output, errors, text.as_bytes()),
+    let executable = C::executable();
+    match C::parse(alloc, words) {
+        Ok(request) => match answer_input::<C, T, R>(rt, alloc, request, input) {
+            Ok(answer) => give(alloc, executable, answer, output, errors),
+            Err(ReadFault::Stream) => refuse_stream(executable, errors),
+            Err(ReadFault::Memory) => refuse_memory(executable, errors),
+        },
+        Err(Declined::Help(text)) => put(executable, output, errors, text.as_bytes()),
         Err(Declined::Refused(text)) => refuse(errors, text.as_bytes(), REFUSED_WORDS),
-        Err(Declined::Memory) => refuse_memory(program, errors),
+        Err(Declined::Memory) => refuse_memory(executable, errors),
     }
 }

@@ -1,7 +1,7 @@
 use Rattle.std.proofs.Common.{Err, IfErr, IfOk, Ok, subst, sym}
 use Rattle.command_line.specs.declared.programs.Passes.{Passes}
-use Rattle.serving.specs.Plays.{MayRecolour}
-use Rattle.serving.proofs.playing.recolouring_bytes.Goals as goal
+use Rattle.play_commands.specs.Plays.{MayRecolour}
+use Rattle.play_commands.proofs.playing.recolouring_bytes.Goals as goal
 
 pub returns-in-One-clause-ok : goal.returns-in-One-clause-ok
 returns-in-One-clause-ok g c =

@@ -6,12 +6,12 @@ use Rattle.node_api.specs.Run.{last_state}
 use Rattle.program_texts.specs.Texts.{ProgramTexts}
 use Rattle.wire_texts.specs.PayloadTexts.{PayloadTexts}
 use Rattle.command_line.specs.declared.programs.Shown.TheVariants as shown
-use Rattle.command_line.specs.declared.request.Play.{Play}
-use Rattle.command_line.specs.declared.request.Play.TheVariants.{Events, Replay, Rounds, Run}
+use Rattle.command_line.specs.declared.play_request.Play.{Play}
+use Rattle.command_line.specs.declared.play_request.Play.TheVariants.{Events, Replay, Rounds, Run}
 use Rattle.answers.specs.Roots.{rooted}
 use Rattle.answers.specs.declared.fault.PlanFault.{PlanFault}
 use Rattle.answers.specs.declared.root.Root.{Root}
-use Rattle.serving.specs.Plays.{IsGoodPlay, MayPlay}
+use Rattle.play_commands.specs.Plays.{IsGoodPlay, MayPlay}
 
 module _ {S M E : Type 0} (program : Program S M E) (texts : ProgramTexts S) (payloads : PayloadTexts M) (root : Root)
     (Solves : Net → (ℕ → S) → Type 0)

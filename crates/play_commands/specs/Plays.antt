@@ -24,8 +24,8 @@ use Rattle.command_line.specs.declared.programs.NodeProgramName.TheVariants.{Mat
 use Rattle.command_line.specs.declared.programs.Passes.{Passes}
 use Rattle.command_line.specs.declared.programs.Passes.TheVariants.{One, Three, Two}
 use Rattle.command_line.specs.declared.programs.Shown.TheVariants as shown
-use Rattle.command_line.specs.declared.request.Play.{Play}
-use Rattle.command_line.specs.declared.request.Play.TheVariants.{Events, Replay, Rounds, Run}
+use Rattle.command_line.specs.declared.play_request.Play.{Play}
+use Rattle.command_line.specs.declared.play_request.Play.TheVariants.{Events, Replay, Rounds, Run}
 use Rattle.independent_set.specs.Knowing.{independent_set}
 use Rattle.independent_set.specs.Texts.{independent_set_texts}
 use Rattle.layers.specs.Layering.{layering}
@@ -37,8 +37,8 @@ use Rattle.matching.specs.Knowing.{matching}
 use Rattle.matching.specs.Texts.{matching_texts}
 use Rattle.recolouring.specs.Knowing.{recolouring}
 use Rattle.recolouring.specs.Texts.{recolouring_texts}
-use Rattle.serving.specs.Payloads.{independent_set_payloads, layers_payloads, leader_payloads, matching_payloads}
-use Rattle.serving.specs.Payloads.{recolouring_payloads}
+use Rattle.play_commands.specs.Payloads.{independent_set_payloads, layers_payloads, leader_payloads, matching_payloads}
+use Rattle.play_commands.specs.Payloads.{recolouring_payloads}
 
 -- A program, its texts and those of its payloads, and the root that it is given, if it is given one.
 module _ {S M E : Type 0} (program : Program S M E) (texts : ProgramTexts S) (payloads : PayloadTexts M)

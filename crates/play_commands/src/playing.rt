@@ -5,8 +5,8 @@ ghost use Rattle.command_line.specs.Asked.{IsPlayInRange};
 ghost use Rattle.layers.specs.Layering.{layering};
 ghost use Rattle.layers.specs.Texts.{layers_texts_from};
 ghost use Rattle.wire_texts.specs.PayloadTexts.{payload_texts};
-ghost use Rattle.serving.specs.Payloads.{layers_payloads};
-ghost use Rattle.serving.specs.Plays.{MayPass, MayPlay, MayPlayNamed, MayRecolour, layers_root};
+ghost use Rattle.play_commands.specs.Payloads.{layers_payloads};
+ghost use Rattle.play_commands.specs.Plays.{MayPass, MayPlay, MayPlayNamed, MayRecolour, layers_root};
 
 use actor::OpenGate;
 use answers::{PlanFault, Root, events_bytes, replay_bytes, rounds_bytes};

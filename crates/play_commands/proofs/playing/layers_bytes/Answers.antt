@@ -6,12 +6,12 @@ use Rattle.answers.specs.Roots.{rooted}
 use Rattle.answers.proofs.Rooted.{root-has-id, rooted-vertex}
 use Rattle.layers.specs.Layering.{layering}
 use Rattle.layers.specs.Texts.{KnowTheirLayersFrom, layers_texts}
-use Rattle.serving.specs.Payloads.{layers_payloads}
-use Rattle.serving.specs.Plays.{layers_root}
-use Rattle.serving.proofs.Rooted.{plays}
-use Rattle.serving.proofs.playing.layers_bytes.Given.{Over}
-use Rattle.serving.proofs.playing.layers_bytes.Goals.{After-play_bytes}
-use Rattle.serving.proofs.playing.layers_bytes.Goals as goal
+use Rattle.play_commands.specs.Payloads.{layers_payloads}
+use Rattle.play_commands.specs.Plays.{layers_root}
+use Rattle.play_commands.proofs.Rooted.{plays}
+use Rattle.play_commands.proofs.playing.layers_bytes.Given.{Over}
+use Rattle.play_commands.proofs.playing.layers_bytes.Goals.{After-play_bytes}
+use Rattle.play_commands.proofs.playing.layers_bytes.Goals as goal
 
 -- the nodes know their distances from this vertex, which is the root
 solved : (g : Over) (c : After-play_bytes g) (net : Net) → IsVertex net c.args.vertex → IsNetwork (rooted (layers_root c.args.vertex) net)

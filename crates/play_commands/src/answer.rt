@@ -1,0 +1,40 @@
+//! The commands of `forestplay`.
+
+use crate::playing::named_bytes;
+use answers::PlanFault;
+use command_line::{Declined, Executable, PlayRequest, parse_play};
+use serving::Commands;
+use std::alloc::Global;
+use std::sync::Wait;
+use std::thread::Threads;
+
+/// The commands of `forestplay`. `Play::Run` starts threads.
+pub struct ForestplayCommands;
+
+impl Commands for ForestplayCommands {
+    ghost use Rattle.command_line.specs.Asked.{IsPlayInRange};
+    ghost use Rattle.play_commands.specs.Commands.{forestplay_commands};
+
+    type Request = PlayRequest;
+
+    ghost commands = { forestplay_commands };
+
+    ghost can_answer = { λ request. IsPlayInRange request.play };
+
+    fn executable() -> Executable {
+        Executable::Forestplay
+    }
+
+    fn parse<'a>(alloc: Global, words: &'a [&'a str]) -> Result<PlayRequest, Declined> {
+        parse_play(alloc, words)
+    }
+
+    fn answer_bytes<T: Threads + Wait + Sync>(
+        rt: &T,
+        alloc: Global,
+        request: PlayRequest,
+        input: &[u8],
+    ) -> Result<Vec<u8>, PlanFault> {
+        named_bytes(rt, alloc, request.program, request.play, input)
+    }
+}

@@ -1,0 +1,20 @@
+//! What `forestplay` answers: what nodes of any program that has a name do with the bytes of an input.
+//!
+//! `forestplay` calls `serve_words` of `serving` with `ForestplayCommands`.
+//!
+//! ```
+//! let mut input: &[u8] = b"p edge 2 1\ne 1 2\n";
+//! let (mut output, mut errors) = (Vec::new(alloc), Vec::new(alloc));
+//! let words = ["forestplay", "run", "--program", "leader"];
+//! let status =
+//!     serve::<ForestplayCommands, _, _, _, _>(&rt, alloc, &words, &mut input, &mut output, &mut errors);
+//! // status 0, output "node 1 pulse 2 leader 2", "node 2 pulse 2 leader 2 elected", a line each
+//! ```
+//!
+//! Limits: those of `answers`, and three passes of the recolouring.
+#![tactic(auto)]
+
+mod answer;
+mod playing;
+
+pub use answer::ForestplayCommands;

@@ -1,0 +1,55 @@
+//! What the commands of an executable are to `serve`.
+
+ghost use Rattle.std.specs.Prelude.{◌≡◌, Some, IfOk, IfErr, Ok, Err, map};
+ghost use denote.Param.Send.{IsSync};
+ghost use Rattle.command_line.specs.Asked.{MayDecline};
+ghost use Rattle.serving.specs.CommandSet.{CommandSet};
+
+use answers::PlanFault;
+use command_line::{Declined, Executable};
+use std::alloc::Global;
+use std::sync::Wait;
+use std::thread::Threads;
+
+/// The commands of an executable: what its words ask for, and what is answered to the bytes of an input.
+pub trait Commands {
+    /// What words may ask for.
+    type Request: Copy;
+
+    /// The executable, what its words ask for, and what may be answered.
+    ghost commands: { CommandSet Self.Request };
+
+    /// The requests of which the options are in range.
+    ghost can_answer: { Self.Request → Type 0 };
+
+    /// The executable.
+    fn executable() -> Executable
+        ensures { result ≡ commands.executable };
+
+    /// What the words ask for; the first is the executable's name, and is not looked at.
+    ///
+    /// # Errors
+    /// `Help` or `Refused` if they ask for nothing. Any call may instead fail with `Memory`.
+    fn parse<'a>(alloc: Global, words: &'a [&'a str]) -> Result<Self::Request, Declined>
+        ensures ok { IfOk result
+            (λ request. commands.request_of (map (λ word. word.now) words.entry.now) ≡ Some request) }
+        ensures in_range { IfOk result can_answer }
+        ensures err { IfErr result (MayDecline commands.executable
+            (commands.request_of (map (λ word. word.now) words.entry.now)) (map (λ word. word.now) words.entry.now)) };
+
+    /// The answer of a command to its input. A command that runs worker threads isn't promised to return. The clause
+    /// `shared` says of `rt` what the bound `Sync` does, since an `impl` doesn't know that bound of its method.
+    ///
+    /// # Errors
+    /// The fault of the input, of the run, or of memory.
+    fn answer_bytes<T: Threads + Wait + Sync>(
+        rt: &T,
+        alloc: Global,
+        request: Self::Request,
+        input: &[u8],
+    ) -> Result<Vec<u8>, PlanFault>
+        requires in_range { can_answer request }
+        requires shared { IsSync T.row }
+        ensures ok { IfOk result (λ bytes. commands.MayAnswer request input.now (Ok bytes.items)) }
+        ensures fault { IfErr result (λ fault. commands.MayAnswer request input.now (Err fault)) };
+}
