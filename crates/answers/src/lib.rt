@@ -1,8 +1,9 @@
 //! The answers of the commands that start no thread, from the bytes of a DIMACS text to the bytes of an answer, and the
 //! report of each fault of any command.
 //!
-//! `byte_functions` has the three commands that run worker threads. `serving` calls `forest_bytes`, `plain_bytes`,
-//! `check_bytes`, `events_bytes`, `replay_bytes` or `rounds_bytes` for a command, and `fault_report` if they fail.
+//! `byte_functions` has the commands that run worker threads. `serving` calls `forest_bytes`, `plain_bytes` or
+//! `check_bytes` for a command, and `fault_report` if one fails; `play_commands` calls `events_bytes`, `replay_bytes` or
+//! `rounds_bytes`.
 //!
 //! ```
 //! let text = b"p edge 3 3\ne 1 2\ne 1 3\ne 2 3\n";
