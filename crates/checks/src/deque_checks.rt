@@ -6,7 +6,7 @@ ghost use Rattle.crossbeam_deque.specs.Handles.{stealer_deque};
 ghost use Rattle.worker_deques.specs.Guests.{deques_of};
 
 use crossbeam_deque::protocol::Split;
-use deque_rule::{Ledger, Task, Thief};
+use deque_rule::{Ledger, StealHandle, Task};
 use std::alloc::{AllocError, Global};
 use worker_deques::{Desk, cut, deal, make_deques, make_desks};
 
@@ -39,9 +39,9 @@ impl Split<Ledger> for Dealt {
 // What three workers begin with.
 struct Begun {
     desks: Vec<Desk<Numbered>>,
-    thieves: Vec<Thief<Numbered>>,
-    ghost three: { vec_len thieves ≡ 3 },
-    ghost deques: { All (λ d. deques_of d.guests.items ≡ map stealer_deque thieves.items)
+    stealers: Vec<StealHandle<Numbered>>,
+    ghost three: { vec_len stealers ≡ 3 },
+    ghost deques: { All (λ d. deques_of d.guests.items ≡ map stealer_deque stealers.items)
         desks.items },
 }
 
@@ -59,11 +59,11 @@ fn make_tasks(alloc: Global, count: usize) -> Result<Vec<Box<Numbered>>, AllocEr
 fn begin(alloc: Global) -> Result<Begun, AllocError> {
     let tasks = make_tasks(alloc, 7)?;
     let count = tasks.len();
-    let (owns, thieves) = make_deques::<Numbered>(alloc, count, 3)?;
+    let (owns, stealers) = make_deques::<Numbered>(alloc, count, 3)?;
     let owns = deal(owns, tasks);
     let (owns, _dealt) = cut::<Numbered, Dealt>(alloc, owns)?;
     let desks = make_desks(alloc, count, owns)?;
-    Ok(Begun { desks, thieves })
+    Ok(Begun { desks, stealers })
 }
 
 // Puts a task in hand among the finished ones, if there is one and room for it.
@@ -79,12 +79,12 @@ fn finish(desk: &mut Desk<Numbered>)
 }
 
 // A worker looks this often, and finishes what it finds.
-fn find_all(thieves: &[Thief<Numbered>], worker: u32, desk: &mut Desk<Numbered>, looks: u32)
-    requires worker { worker < length thieves.now }
-    requires deques { deques_of desk.old.guests.items ≡ map stealer_deque thieves.now }
+fn find_all(stealers: &[StealHandle<Numbered>], worker: u32, desk: &mut Desk<Numbered>, looks: u32)
+    requires worker { worker < length stealers.now }
+    requires deques { deques_of desk.old.guests.items ≡ map stealer_deque stealers.now }
 {
     for _ in 0..looks {
-        let _ = desk.find(thieves, worker);
+        let _ = desk.find(stealers, worker);
         finish(desk);
     }
 }
@@ -105,24 +105,24 @@ fn are_numbered(tasks: &[Box<Numbered>], numbers: &[usize]) -> bool {
 // Whether the second of three workers finds these tasks if it looks this often.
 fn second_finds(
     mut desks: Vec<Desk<Numbered>>,
-    thieves: Vec<Thief<Numbered>>,
+    stealers: Vec<StealHandle<Numbered>>,
     looks: u32,
     numbers: &[usize],
 ) -> bool
-    requires three { vec_len thieves ≡ 3 }
-    requires deques { All (λ d. deques_of d.guests.items ≡ map stealer_deque thieves.items) desks.items }
+    requires three { vec_len stealers ≡ 3 }
+    requires deques { All (λ d. deques_of d.guests.items ≡ map stealer_deque stealers.items) desks.items }
 {
     if desks.len() < 2 {
         return false;
     }
-    find_all(thieves.as_slice(), 1, &mut desks[1], looks);
+    find_all(stealers.as_slice(), 1, &mut desks[1], looks);
     are_numbered(desks[1].finished.as_slice(), numbers)
 }
 
 // The same, of workers that begin.
 fn finds(alloc: Global, looks: u32, numbers: &[usize]) -> bool {
     match begin(alloc) {
-        Ok(Begun { desks, thieves }) => second_finds(desks, thieves, looks, numbers),
+        Ok(Begun { desks, stealers }) => second_finds(desks, stealers, looks, numbers),
         Err(_) => false,
     }
 }

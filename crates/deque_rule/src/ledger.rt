@@ -52,9 +52,9 @@ impl Join<Ledger> for OneShare {
 }
 
 // A task goes to the deque.
-pub struct Gives;
+pub struct PushStep;
 
-impl<T: Task> Outcome<Box<T>, Ledger> for Gives {
+impl<T: Task> Outcome<Box<T>, Ledger> for PushStep {
     ghost use Rattle.std.specs.Prelude.{◌≡◌, ◌++◌, map};
     ghost use Rattle.deque_rule.specs.Ledgers.{ledger};
 
@@ -62,9 +62,9 @@ impl<T: Task> Outcome<Box<T>, Ledger> for Gives {
 }
 
 // A task comes from the deque by its owner; or the deque was empty.
-pub struct Gets;
+pub struct PopStep;
 
-impl<T: Task> Outcome<Box<T>, Ledger> for Gets {
+impl<T: Task> Outcome<Box<T>, Ledger> for PopStep {
     ghost use Rattle.std.specs.Prelude.{◌≡◌, ◌++◌, map};
     ghost use Rattle.deque_rule.specs.Ledgers.{KnowsEmpty, ledger};
 
@@ -74,9 +74,9 @@ impl<T: Task> Outcome<Box<T>, Ledger> for Gets {
 }
 
 // A task comes from the deque by another worker.
-pub struct Steals;
+pub struct StealStep;
 
-impl<T: Task> Outcome<Box<T>, Ledger> for Steals {
+impl<T: Task> Outcome<Box<T>, Ledger> for StealStep {
     ghost use Rattle.std.specs.Prelude.{◌≡◌, ◌++◌, map};
     ghost use Rattle.deque_rule.specs.Ledgers.{ledger};
 

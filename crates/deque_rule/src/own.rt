@@ -4,8 +4,8 @@ ghost use Rattle.std.specs.Prelude.{◌≡◌, ◌<◌, ◌++◌, ◌∷◌, [],
 ghost use Rattle.crossbeam_deque.specs.Handles.{worker_deque, worker_view};
 ghost use Rattle.deque_rule.specs.Ledgers.{ledger};
 
-use crate::guest::Own;
-use crate::ledger::Gives;
+use crate::ledger::PushStep;
+use crate::steal_pass::Own;
 use crate::task::Task;
 
 /// Puts a task on the worker's own deque. Returns it if the deque refuses it.
@@ -16,7 +16,7 @@ pub fn give_back<T: Task>(own: &mut Own<T>, task: Box<T>) -> Option<Box<T>>
         ((worker_view own.old).pushed ++ T.number_of task.value ∷ []) (worker_view own.old).taken) }
     ensures some { IfSome result (λ b. (b ≡ task) × (worker_view own.new ≡ worker_view own.old)) }
 {
-    match own.push_as::<Gives>(task) {
+    match own.push_as::<PushStep>(task) {
         Ok(()) => None,
         Err(task) => Some(task),
     }

@@ -7,7 +7,7 @@ ghost use Rattle.actor.specs.Stepped.{refusal_of, remembered};
 
 use crate::signals::Signals;
 use actor::{Gate, Links, Node, TurnRefused, Wiring};
-use deque_rule::{Thief, give_back};
+use deque_rule::{StealHandle, give_back};
 use node_api::NodeProgram;
 use std::sync::Wait;
 use std::thread;
@@ -81,16 +81,16 @@ fn turn_in_hand<J: Wiring, P: NodeProgram, R: Wait, G: Gate>(
 fn look<J: Wiring, P: NodeProgram, R: Wait, G: Gate>(
     rt: &R,
     crew: &Crew<J, P, G>,
-    thieves: &[Thief<Node<J, P>>],
+    stealers: &[StealHandle<Node<J, P>>],
     worker: u32,
     desk: &mut Desk<Node<J, P>>,
 ) -> Result<bool, TurnRefused>
-    requires worker { worker < length thieves.now }
-    requires deques { deques_of desk.old.guests.items ≡ map stealer_deque thieves.now }
+    requires worker { worker < length stealers.now }
+    requires deques { deques_of desk.old.guests.items ≡ map stealer_deque stealers.now }
     ensures own { worker_deque desk.new.own ≡ worker_deque desk.old.own }
-    ensures deques { deques_of desk.new.guests.items ≡ map stealer_deque thieves.now }
+    ensures deques { deques_of desk.new.guests.items ≡ map stealer_deque stealers.now }
 {
-    if !desk.find(thieves, worker) {
+    if !desk.find(stealers, worker) {
         return Ok(false);
     }
     let turned = turn_in_hand(rt, crew, worker, desk);
@@ -102,20 +102,20 @@ fn look<J: Wiring, P: NodeProgram, R: Wait, G: Gate>(
 pub fn work<J: Wiring, P: NodeProgram, R: Wait, G: Gate>(
     rt: &R,
     crew: &Crew<J, P, G>,
-    thieves: &[Thief<Node<J, P>>],
+    stealers: &[StealHandle<Node<J, P>>],
     worker: u32,
     mut desk: Desk<Node<J, P>>,
 ) -> Desk<Node<J, P>>
-    requires worker { worker < length thieves.now }
-    requires deques { deques_of desk.guests.items ≡ map stealer_deque thieves.now }
+    requires worker { worker < length stealers.now }
+    requires deques { deques_of desk.guests.items ≡ map stealer_deque stealers.now }
     ensures own { worker_deque result.own ≡ worker_deque desk.own }
-    ensures deques { deques_of result.guests.items ≡ map stealer_deque thieves.now }
+    ensures deques { deques_of result.guests.items ≡ map stealer_deque stealers.now }
 {
     for _ in 0..crew.looks {
         if crew.signals.is_over(crew.nodes) {
             break;
         }
-        match look(rt, crew, thieves, worker, &mut desk) {
+        match look(rt, crew, stealers, worker, &mut desk) {
             Ok(true) => {}
             Ok(false) => thread::yield_now(),
             Err(_) => break,

@@ -50,7 +50,7 @@ fn run_all<J: Wiring + Send + Sync, P: NodeProgram, G: Gate + Sync, R: Threads +
 {
     let count = nodes.len();
     let places = make_places(alloc, count)?;
-    let (owns, thieves) = make_deques::<Node<J, P>>(alloc, count, options.workers)?;
+    let (owns, stealers) = make_deques::<Node<J, P>>(alloc, count, options.workers)?;
     let owns = deal(owns, nodes);
     let (owns, dealt) = cut::<Node<J, P>, Dealt>(alloc, owns)?;
     let desks = make_desks(alloc, count, owns)?;
@@ -62,19 +62,19 @@ fn run_all<J: Wiring + Send + Sync, P: NodeProgram, G: Gate + Sync, R: Threads +
         nodes: count as u64,
         looks: options.turns,
     };
-    let (crew, thieves) = (&shared, thieves.as_slice());
+    let (crew, stealers) = (&shared, stealers.as_slice());
     let done = thread::scope(
         thread::scope_env(),
         rt,
         move |scope| -> Result<Vec<Desk<Node<J, P>>>, ThreadsFault>
-            requires { (vec_len desks ≤ MAX_WORKERS) × (vec_len desks ≡ length thieves.now)
-                × All (λ d. deques_of d.guests.items ≡ map stealer_deque thieves.now) desks.items }
+            requires { (vec_len desks ≤ MAX_WORKERS) × (vec_len desks ≡ length stealers.now)
+                × All (λ d. deques_of d.guests.items ≡ map stealer_deque stealers.now) desks.items }
             ensures owns { IfOk result (λ done. map (λ d. worker_deque d.own) done.items
                 ≡ map (λ d. worker_deque d.own) desks.items) }
             ensures guests { IfOk result (λ done. map (λ d. deques_of d.guests.items) done.items
                 ≡ map (λ d. deques_of d.guests.items) desks.items) }
         {
-            let children = start_all(scope, rt, alloc, crew, thieves, desks)?;
+            let children = start_all(scope, rt, alloc, crew, stealers, desks)?;
             Ok(join_all(rt, crew.signals, children)?)
         },
     )?;

@@ -9,7 +9,7 @@ use crate::faults::ThreadsFault;
 use crate::looks::{Crew, work};
 use crate::signals::Signals;
 use actor::{Gate, Node, Wiring};
-use deque_rule::{Task, Thief};
+use deque_rule::{StealHandle, Task};
 use interference::Memory;
 use node_api::NodeProgram;
 use run_options::MAX_WORKERS;
@@ -28,23 +28,23 @@ fn start<'s, E, J: Wiring + Send + Sync, P: NodeProgram, G: Gate + Sync, R: Thre
     scope: &Scope<'s, E>,
     rt: &'s R,
     crew: &'s Crew<'s, J, P, G>,
-    thieves: &'s [Thief<Node<J, P>>],
+    stealers: &'s [StealHandle<Node<J, P>>],
     worker: u32,
     desk: Desk<Node<J, P>>,
 ) -> Result<Child<Node<J, P>>, ThreadsFault>
-    requires worker { worker < length thieves.now }
-    requires deques { deques_of desk.guests.items ≡ map stealer_deque thieves.now }
+    requires worker { worker < length stealers.now }
+    requires deques { deques_of desk.guests.items ≡ map stealer_deque stealers.now }
     ensures desk { IfOk result (λ h. h.promise.0.value ≡ desk) }
     ensures spawn { IfErr result (λ fault. fault ≡ Spawn) }
 {
     let started = scope.spawn_with(
         SameDeques(Snapshot::of(&desk)),
         move || -> Desk<Node<J, P>>
-            requires { (worker < length thieves.now)
-                × (deques_of desk.guests.items ≡ map stealer_deque thieves.now) }
+            requires { (worker < length stealers.now)
+                × (deques_of desk.guests.items ≡ map stealer_deque stealers.now) }
             ensures { (worker_deque result.own ≡ worker_deque desk.own)
                 × (deques_of result.guests.items ≡ deques_of desk.guests.items) }
-        { work(rt, crew, thieves, worker, desk) },
+        { work(rt, crew, stealers, worker, desk) },
     );
     match started {
         Ok(child) => Ok(child),
@@ -73,18 +73,18 @@ pub fn start_all<
     rt: &'s R,
     alloc: Global,
     crew: &'s Crew<'s, J, P, G>,
-    thieves: &'s [Thief<Node<J, P>>],
+    stealers: &'s [StealHandle<Node<J, P>>],
     desks: Vec<Desk<Node<J, P>>>,
 ) -> Result<Vec<Child<Node<J, P>>>, ThreadsFault>
     requires few { vec_len desks ≤ MAX_WORKERS }
-    requires workers { vec_len desks ≡ length thieves.now }
-    requires deques { All (λ d. deques_of d.guests.items ≡ map stealer_deque thieves.now) desks.items }
+    requires workers { vec_len desks ≡ length stealers.now }
+    requires deques { All (λ d. deques_of d.guests.items ≡ map stealer_deque stealers.now) desks.items }
     ensures desks { IfOk result (λ hs. map (λ h. h.promise.0.value) hs.items ≡ desks.items) }
 {
     let mut children = Vec::with_capacity(alloc, desks.len())?;
     let mut worker = 0;
     for desk in desks {
-        children.push_reserved(start(scope, rt, crew, thieves, worker, desk)?);
+        children.push_reserved(start(scope, rt, crew, stealers, worker, desk)?);
         worker += 1;
     }
     Ok(children)

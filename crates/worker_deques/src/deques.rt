@@ -8,7 +8,7 @@ ghost use Rattle.worker_deques.specs.Dealt.{begun_by};
 ghost use Rattle.worker_deques.specs.Guests.{deques_of};
 
 use crossbeam_deque::protocol::Split;
-use deque_rule::{Gives, Guest, Ledger, Own, Task, Thief};
+use deque_rule::{Ledger, Own, PushStep, StealHandle, StealPass, Task};
 use std::alloc::{AllocError, Global};
 
 /// A deque for each worker, with room for all tasks, and what takes tasks from each.
@@ -16,20 +16,20 @@ pub fn make_deques<T: Task>(
     alloc: Global,
     tasks: usize,
     workers: u32,
-) -> Result<(Vec<Own<T>>, Vec<Thief<T>>), AllocError>
+) -> Result<(Vec<Own<T>>, Vec<StealHandle<T>>), AllocError>
     ensures deques { IfOk result (λ r. map worker_deque r.0.items ≡ map stealer_deque r.1.items) }
     ensures workers { IfOk result (λ r. vec_len r.0 ≡ workers) }
     ensures new { IfOk result (λ r. All (λ o. worker_view o ≡ ledger all_shares [] []) r.0.items) }
     ensures room { IfOk result (λ r. All (λ o. worker_index o + tasks ≤ worker_capacity o) r.0.items) }
 {
     let mut owns = Vec::with_capacity(alloc, workers as usize)?;
-    let mut thieves = Vec::with_capacity(alloc, workers as usize)?;
+    let mut stealers = Vec::with_capacity(alloc, workers as usize)?;
     for _ in 0..workers {
         let own = Own::<T>::fifo_as(alloc, tasks.max(1))?;
-        thieves.push_reserved(own.stealer()?);
+        stealers.push_reserved(own.stealer()?);
         owns.push_reserved(own);
     }
-    Ok((owns, thieves))
+    Ok((owns, stealers))
 }
 
 // Which worker begins with the task of a number.
@@ -56,7 +56,7 @@ pub fn deal<T: Task>(mut owns: Vec<Own<T>>, mut tasks: Vec<Box<T>>) -> Vec<Own<T
 {
     'each: while let Some(task) = tasks.pop() {
         let at = dealt_to(task.number(), owns.len());
-        match owns[at].push_as::<Gives>(task) {
+        match owns[at].push_as::<PushStep>(task) {
             Ok(()) => {}
             Err(_) => unreachable!(),
         }
@@ -68,7 +68,7 @@ pub fn deal<T: Task>(mut owns: Vec<Own<T>>, mut tasks: Vec<Box<T>>) -> Vec<Own<T
 pub fn cut<T: Task, M: Split<Ledger>>(
     alloc: Global,
     owns: Vec<Own<T>>,
-) -> Result<(Vec<Own<T>>, Vec<Guest<T>>), AllocError>
+) -> Result<(Vec<Own<T>>, Vec<StealPass<T>>), AllocError>
     requires rule { CanSplit M.left M.right }
     requires shares { All (λ o. 1 < shares_of (worker_view o)) owns.items }
     ensures owns { IfOk result (λ r. map worker_deque r.0.items ≡ map worker_deque owns.items) }
@@ -81,7 +81,7 @@ pub fn cut<T: Task, M: Split<Ledger>>(
     let mut lefts = Vec::with_capacity(alloc, count)?;
     let mut guests = Vec::with_capacity(alloc, count)?;
     for mut own in owns {
-        guests.push_reserved(Guest::new(own.another::<M>()));
+        guests.push_reserved(StealPass::new(own.another::<M>()));
         lefts.push_reserved(own);
     }
     Ok((lefts, guests))

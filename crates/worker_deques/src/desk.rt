@@ -5,14 +5,14 @@ ghost use Rattle.crossbeam_deque.specs.Handles.{stealer_deque, view, worker_dequ
 ghost use Rattle.deque_rule.specs.Ledgers.{AreOut, all_shares, in_hand};
 ghost use Rattle.worker_deques.specs.Guests.{deques_of};
 
-use deque_rule::{Gets, Guest, Own, Task, Thief};
+use deque_rule::{Own, PopStep, StealHandle, StealPass, Task};
 
 /// What a worker has, and hands back: its deque, its passes at the deques of all workers, the task in hand and its
 /// finished places.
 #[derive(Drop)]
 pub struct Desk<T: Task> {
     pub own: Own<T>,
-    pub guests: Vec<Guest<T>>,
+    pub guests: Vec<StealPass<T>>,
     /// The task of a look, or one that its deque refused.
     pub task: Option<Box<T>>,
     pub finished: Vec<Box<T>>,
@@ -46,37 +46,37 @@ impl<T: Task> Desk<T> {
         ensures own { worker_deque self.new.own ≡ worker_deque self.old.own }
         ensures guests { self.new.guests ≡ self.old.guests }
     {
-        self.task = self.own.pop_as::<Gets>();
+        self.task = self.own.pop_as::<PopStep>();
     }
 
     // One attempt to take the first task of another worker's deque.
-    fn steal(&mut self, thieves: &[Thief<T>], from: usize)
+    fn steal(&mut self, stealers: &[StealHandle<T>], from: usize)
         requires empty { self.old.task ≡ None }
-        requires from { from < length thieves.now }
-        requires deques { deques_of self.old.guests.items ≡ map stealer_deque thieves.now }
+        requires from { from < length stealers.now }
+        requires deques { deques_of self.old.guests.items ≡ map stealer_deque stealers.now }
         ensures own { self.new.own ≡ self.old.own }
         ensures deques { deques_of self.new.guests.items ≡ deques_of self.old.guests.items }
     {
-        self.task = self.guests[from].steal(&thieves[from]);
+        self.task = self.guests[from].steal(&stealers[from]);
     }
 
     /// Takes a task in hand, if none is: the first of its own deque; if there is none, by one attempt at each other
     /// worker's deque, going up from its own number plus one and round. Returns whether a task is in hand.
-    pub fn find(&mut self, thieves: &[Thief<T>], worker: u32) -> bool
-        requires worker { worker < length thieves.now }
-        requires deques { deques_of self.old.guests.items ≡ map stealer_deque thieves.now }
+    pub fn find(&mut self, stealers: &[StealHandle<T>], worker: u32) -> bool
+        requires worker { worker < length stealers.now }
+        requires deques { deques_of self.old.guests.items ≡ map stealer_deque stealers.now }
         ensures own { worker_deque self.new.own ≡ worker_deque self.old.own }
-        ensures deques { deques_of self.new.guests.items ≡ map stealer_deque thieves.now }
+        ensures deques { deques_of self.new.guests.items ≡ map stealer_deque stealers.now }
         ensures found { result ≡ is_some self.new.task }
     {
         if self.task.is_none() {
             self.pop();
         }
-        for attempt in 1..thieves.len() {
+        for attempt in 1..stealers.len() {
             if self.task.is_some() {
                 break;
             }
-            self.steal(thieves, victim(worker, attempt, thieves.len()));
+            self.steal(stealers, victim(worker, attempt, stealers.len()));
         }
         self.task.is_some()
     }

@@ -8,14 +8,14 @@ ghost use Rattle.worker_deques.specs.Guests.{deques_of};
 
 use crate::deques::cut;
 use crate::desk::Desk;
-use deque_rule::{Guest, OneShare, Own, Task};
+use deque_rule::{OneShare, Own, StealPass, Task};
 use std::alloc::{AllocError, Global};
 
 // A pass at each deque for each worker.
 fn hire<T: Task>(
     alloc: Global,
     mut owns: Vec<Own<T>>,
-) -> Result<(Vec<Own<T>>, Vec<Vec<Guest<T>>>), AllocError>
+) -> Result<(Vec<Own<T>>, Vec<Vec<StealPass<T>>>), AllocError>
     requires few { vec_len owns ≤ MAX_WORKERS }
     requires new { All (λ o. worker_view o ≡ ledger (all_shares - 1) [] []) owns.items }
     ensures owns { IfOk result (λ r. map worker_deque r.0.items ≡ map worker_deque owns.items) }
@@ -41,7 +41,7 @@ fn desk<T: Task>(
     alloc: Global,
     tasks: usize,
     own: Own<T>,
-    guests: Vec<Guest<T>>,
+    guests: Vec<StealPass<T>>,
 ) -> Result<Desk<T>, AllocError>
     requires few { vec_len guests ≤ MAX_WORKERS }
     requires new { worker_view own ≡ ledger (all_shares - 1 - vec_len guests) [] [] }

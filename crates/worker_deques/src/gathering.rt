@@ -11,7 +11,7 @@ ghost use Rattle.worker_deques.specs.Guests.{deques_of};
 use crate::desk::Desk;
 use crate::order::by_number;
 use crate::place::Places;
-use deque_rule::{Gets, Guest, OneShare, Own, Task};
+use deque_rule::{OneShare, Own, PopStep, StealPass, Task};
 use std::alloc::{AllocError, Global};
 use std::sync::Wait;
 
@@ -19,12 +19,12 @@ use std::sync::Wait;
 #[derive(Drop)]
 pub struct Back<T: Task> {
     pub owns: Vec<Own<T>>,
-    pub rows: Vec<Vec<Guest<T>>>,
+    pub rows: Vec<Vec<StealPass<T>>>,
     pub tasks: Vec<Box<T>>,
 }
 
 // All shares of a pass come back to its deque's owner.
-fn absorb_row<T: Task>(owns: &mut Vec<Own<T>>, mut row: Vec<Guest<T>>)
+fn absorb_row<T: Task>(owns: &mut Vec<Own<T>>, mut row: Vec<StealPass<T>>)
     requires deques { deques_of row.items ≡ map worker_deque owns.old.items }
     requires some { All (λ o. 0 < shares_of (worker_view o)) owns.old.items }
     ensures deques { map worker_deque owns.new.items ≡ map worker_deque owns.old.items }
@@ -55,7 +55,7 @@ fn drain<T: Task, R: Wait>(
 {
     for _ in rt.forever() {
         tasks.reserve(1)?;
-        match own.pop_as::<Gets>() {
+        match own.pop_as::<PopStep>() {
             Some(task) => tasks.push_reserved(task),
             None => return Ok(tasks),
         }
@@ -82,7 +82,7 @@ fn drain_all<T: Task, R: Wait>(
 }
 
 // All rows of passes come back to the deques' owners.
-fn absorb_rows<T: Task>(owns: &mut Vec<Own<T>>, rows: Vec<Vec<Guest<T>>>)
+fn absorb_rows<T: Task>(owns: &mut Vec<Own<T>>, rows: Vec<Vec<StealPass<T>>>)
     requires deques { All (λ row. deques_of row.items ≡ map worker_deque owns.old.items) rows.items }
     requires some { All (λ o. 0 < shares_of (worker_view o)) owns.old.items }
     ensures shares { (p : ℕ) → All (λ o. shares_of (worker_view o) ≡ p) owns.old.items
@@ -154,7 +154,7 @@ fn apart<T: Task>(alloc: Global, done: Vec<Desk<T>>) -> Result<Back<T>, AllocErr
 fn gather_boxes<T: Task, R: Wait>(
     rt: &R,
     alloc: Global,
-    dealt: Vec<Guest<T>>,
+    dealt: Vec<StealPass<T>>,
     done: Vec<Desk<T>>,
 ) -> Result<Vec<Box<T>>, AllocError>
     requires deques { deques_of dealt.items ≡ map (λ d. worker_deque d.own) done.items }
@@ -183,7 +183,7 @@ pub fn gather<T: Task, R: Wait>(
     rt: &R,
     alloc: Global,
     places: Places<T>,
-    dealt: Vec<Guest<T>>,
+    dealt: Vec<StealPass<T>>,
     done: Vec<Desk<T>>,
 ) -> Result<Vec<Box<T>>, AllocError>
     requires deques { deques_of dealt.items ≡ map (λ d. worker_deque d.own) done.items }

@@ -10,7 +10,7 @@
 //! desks back. `pool` starts the workers; its tasks are the nodes of `actor`.
 //!
 //! ```text
-//! let (owns, thieves) = make_deques::<T>(alloc, count, workers)?;
+//! let (owns, stealers) = make_deques::<T>(alloc, count, workers)?;
 //! let (owns, dealt) = cut::<T, Dealt>(alloc, deal(owns, tasks))?;   // `Dealt` is of `pool`
 //! let desks = make_desks(alloc, count, owns)?;           // one for each worker, which takes and puts
 //! let all = make_places(alloc, count)?;                  // an empty place for each task

@@ -28,9 +28,9 @@ pub invariant_of-result : goal.invariant_of-result
 invariant_of-result c =
     let made = c.in_ok-owns.owns in
     let deques = c.in_ok-owns-2.ensures.owns ∙ c.deal-owns.ensures.deques ∙ c.in_ok-owns.ensures.deques in
-    let thieves = as_many worker_deque stealer_deque made.items c.in_ok-owns.thieves.items (sym c.in_ok-owns.ensures.deques) in
+    let stealers = as_many worker_deque stealer_deque made.items c.in_ok-owns.stealers.items (sym c.in_ok-owns.ensures.deques) in
     let n = c.in_ok-owns.ensures.workers in
     record {
-      three = omega (arith, made.ok.0, c.in_ok-owns.thieves.ok.0);
+      three = omega (arith, made.ok.0, c.in_ok-owns.stealers.ok.0);
       deques = λ k d lt. c.in_ok-desks.ensures.guests k d lt ∙ deques;
     }

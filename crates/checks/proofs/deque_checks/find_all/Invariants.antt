@@ -4,4 +4,4 @@ use Rattle.worker_deques.specs.Guests.{deques_of}
 use Rattle.checks.proofs.deque_checks.find_all.Given as goal
 
 abbrev pub invariant-loop : goal.invariant-loop
-invariant-loop l = deques_of l.desk.guests.items ≡ map stealer_deque l.thieves
+invariant-loop l = deques_of l.desk.guests.items ≡ map stealer_deque l.stealers

@@ -7,5 +7,5 @@ use Rattle.checks.proofs.deque_checks.second_finds.Goals as goal
 pub find_all-requires-clause-deques : goal.find_all-requires-clause-deques
 find_all-requires-clause-deques c =
     let lt : 1 < length c.args.desks.items = omega (arith, c.args.desks.ok.0) in
-    holds_at (λ d. deques_of d.guests.items ≡ map stealer_deque c.args.thieves.items) c.args.desks.items 1 c.index_mut.result.now lt
+    holds_at (λ d. deques_of d.guests.items ≡ map stealer_deque c.args.stealers.items) c.args.desks.items 1 c.index_mut.result.now lt
     c.index_mut.ensures.value c.requires.deques ∙ ap (map stealer_deque) (sym c.as_slice.ensures.value)

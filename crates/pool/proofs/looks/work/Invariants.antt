@@ -6,5 +6,5 @@ use Rattle.pool.proofs.looks.work.Given as goal
 abbrev pub invariant-loop : goal.invariant-loop
 invariant-loop g l = record {
   own : worker_deque l.desk.own ≡ worker_deque l.fn.desk.own;
-  deques : deques_of l.desk.guests.items ≡ map stealer_deque l.thieves;
+  deques : deques_of l.desk.guests.items ≡ map stealer_deque l.stealers;
 }

@@ -40,13 +40,13 @@ make_desks-requires-clause-new g c =
     carried (λ o. ledger (shares_of (worker_view o) - 1) [] []) worker_view (λ v. v ≡ ledger (all_shares - 1) [] []) c.deal-owns.result.items _
     c.in_ok-owns-2.ensures.left (λ k d lt. ap (λ n. ledger (n - 1) [] []) (c.deal-owns.ensures.shares k d lt))
 
--- the threads begin with a desk for each thief
+-- the threads begin with a desk for each stealer
 pub scoped-requires : goal.scoped-requires
 scoped-requires g c =
     let made = c.in_ok-owns.owns in
     let deques = c.in_ok-owns-2.ensures.owns ∙ c.deal-owns.ensures.deques ∙ c.in_ok-owns.ensures.deques in
-    let desks = as_many stealer_deque (λ d. worker_deque d.own) c.in_ok-owns.thieves.items c.in_ok-desks.desks.items (c.in_ok-desks.ensures.owns ∙ deques) in
-    let thieves = as_many worker_deque stealer_deque made.items c.in_ok-owns.thieves.items (sym c.in_ok-owns.ensures.deques) in
+    let desks = as_many stealer_deque (λ d. worker_deque d.own) c.in_ok-owns.stealers.items c.in_ok-desks.desks.items (c.in_ok-desks.ensures.owns ∙ deques) in
+    let stealers = as_many worker_deque stealer_deque made.items c.in_ok-owns.stealers.items (sym c.in_ok-owns.ensures.deques) in
     let n = c.in_ok-owns.ensures.workers in
     let few = c.requires.workers.1 in
     let may = c.type_bounds in
@@ -54,8 +54,8 @@ scoped-requires g c =
       at = λ a. (
         (
           omega (arith, made.ok.0, c.in_ok-desks.desks.ok.0),
-          omega (arith, c.in_ok-owns.thieves.ok.0, c.in_ok-desks.desks.ok.0, ap (λ l. length l) c.as_slice-thieves.ensures.value),
-          λ k d lt. c.in_ok-desks.ensures.guests k d lt ∙ deques ∙ ap (map stealer_deque) (sym c.as_slice-thieves.ensures.value),
+          omega (arith, c.in_ok-owns.stealers.ok.0, c.in_ok-desks.desks.ok.0, ap (λ l. length l) c.as_slice-stealers.ensures.value),
+          λ k d lt. c.in_ok-desks.ensures.guests k d lt ∙ deques ∙ ap (map stealer_deque) (sym c.as_slice-stealers.ensures.value),
         ),
         (search rules, search rules, may.send-P-Payload, search rules, search rules, search rules),
       );

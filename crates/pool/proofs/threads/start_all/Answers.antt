@@ -25,7 +25,7 @@ start-requires-clause-worker g c =
 pub start-requires-clause-deques : goal.start-requires-clause-deques
 start-requires-clause-deques g c κ b =
     let at = turn g (goal.at.start-requires-clause-deques g c).In-Some in
-    subst (λ d. deques_of d.guests.items ≡ map stealer_deque c.args.thieves.now) (sym at.1) (c.requires.deques _ _ at.0)
+    subst (λ d. deques_of d.guests.items ≡ map stealer_deque c.args.stealers.now) (sym at.1) (c.requires.deques _ _ at.0)
 
 pub push_reserved-requires : goal.push_reserved-requires
 push_reserved-requires g c =

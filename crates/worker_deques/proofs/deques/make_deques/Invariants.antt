@@ -6,8 +6,8 @@ use Rattle.worker_deques.proofs.deques.make_deques.Given as goal
 
 abbrev pub invariant-loop : goal.invariant-loop
 invariant-loop g l = record {
-  deques : map worker_deque l.owns.items ≡ map stealer_deque l.thieves.items;
-  places : (l.fn.workers ≤ vec_capacity l.owns) × (l.fn.workers ≤ vec_capacity l.thieves);
+  deques : map worker_deque l.owns.items ≡ map stealer_deque l.stealers.items;
+  places : (l.fn.workers ≤ vec_capacity l.owns) × (l.fn.workers ≤ vec_capacity l.stealers);
   count : vec_len l.owns ≡ l.counter;
   new : All (λ o. worker_view o ≡ ledger all_shares [] []) l.owns.items;
   room : All (λ o. worker_index o + l.fn.tasks ≤ worker_capacity o) l.owns.items;

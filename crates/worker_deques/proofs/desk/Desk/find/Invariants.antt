@@ -6,5 +6,5 @@ use Rattle.worker_deques.proofs.desk.Desk.find.Given as goal
 abbrev pub invariant-loop-attempt : goal.invariant-loop-attempt
 invariant-loop-attempt g l = record {
   own : worker_deque l.self.own ≡ worker_deque l.fn.self.own;
-  deques : deques_of l.self.guests.items ≡ map stealer_deque l.thieves;
+  deques : deques_of l.self.guests.items ≡ map stealer_deque l.stealers;
 }

@@ -8,18 +8,18 @@ use Rattle.worker_deques.proofs.desk.Desk.steal.Goals as goal
 pub steal-requires : goal.steal-requires
 steal-requires g c =
     let old = c.args.self.now in
-    let thieves = c.args.thieves.now in
-    let lt : c.args.from < length thieves = c.requires.from in
+    let stealers = c.args.stealers.now in
+    let lt : c.args.from < length stealers = c.requires.from in
     record {
-      deque = same_at (λ g'. deque_of g'.pass) stealer_deque old.guests.items thieves c.args.from _ _ c.requires.deques lt
-          c.index_mut.ensures.value c.index-thieves-from.is;
+      deque = same_at (λ g'. deque_of g'.pass) stealer_deque old.guests.items stealers c.args.from _ _ c.requires.deques lt
+          c.index_mut.ensures.value c.index-stealers-from.is;
     }
 
 pub invariant_of-self : goal.invariant_of-self
 invariant_of-self g c =
     let old = c.args.self.now in
-    let thieves = c.args.thieves.now in
-    let many = as_many stealer_deque (λ g'. deque_of g'.pass) thieves old.guests.items c.requires.deques in
+    let stealers = c.args.stealers.now in
+    let many = as_many stealer_deque (λ g'. deque_of g'.pass) stealers old.guests.items c.requires.deques in
     let lt : c.args.from < length old.guests.items = (let q = c.requires.from in omega (arith, many)) in
     record {
       shares = old.shares;
@@ -31,7 +31,7 @@ invariant_of-self g c =
 pub returns-clause-deques : goal.returns-clause-deques
 returns-clause-deques g c =
     let old = c.args.self.now in
-    let thieves = c.args.thieves.now in
-    let many = as_many stealer_deque (λ g'. deque_of g'.pass) thieves old.guests.items c.requires.deques in
+    let stealers = c.args.stealers.now in
+    let many = as_many stealer_deque (λ g'. deque_of g'.pass) stealers old.guests.items c.requires.deques in
     let lt : c.args.from < length old.guests.items = (let q = c.requires.from in omega (arith, many)) in
     map_change (λ g'. deque_of g'.pass) old.guests.items c.args.from _ _ lt c.index_mut.ensures.value c.steal.ensures.deque
