@@ -3,12 +3,12 @@
 
 ghost use Rattle.std.specs.Prelude.{◌≡◌, ◌<◌, ◌≤◌, All, IfOk, length, map, vec_len};
 ghost use Rattle.crossbeam_deque.specs.Handles.{stealer_deque};
-ghost use Rattle.worker_deques.specs.Guests.{deques_of};
+ghost use Rattle.worker_deques.specs.Passes.{deques_of};
 
 use crossbeam_deque::protocol::Split;
 use deque_rule::{Ledger, StealHandle, Task};
 use std::alloc::{AllocError, Global};
-use worker_deques::{Desk, cut, deal, make_deques, make_desks};
+use worker_deques::{WorkerState, deal, make_deques, make_worker_states, split_off};
 
 // A task that is only a number.
 #[derive(Drop)]
@@ -24,7 +24,7 @@ impl Task for Numbered {
     }
 }
 
-// A share is cut off with all that was pushed and taken so far.
+// A share is split off with all that was pushed and taken so far.
 struct Dealt;
 
 impl Split<Ledger> for Dealt {
@@ -38,11 +38,11 @@ impl Split<Ledger> for Dealt {
 
 // What three workers begin with.
 struct Begun {
-    desks: Vec<Desk<Numbered>>,
+    states: Vec<WorkerState<Numbered>>,
     stealers: Vec<StealHandle<Numbered>>,
     ghost three: { vec_len stealers ≡ 3 },
-    ghost deques: { All (λ d. deques_of d.guests.items ≡ map stealer_deque stealers.items)
-        desks.items },
+    ghost deques: { All (λ d. deques_of d.passes.items ≡ map stealer_deque stealers.items)
+        states.items },
 }
 
 // `count` tasks, with the numbers from `count - 1` down to 0.
@@ -61,31 +61,36 @@ fn begin(alloc: Global) -> Result<Begun, AllocError> {
     let count = tasks.len();
     let (owns, stealers) = make_deques::<Numbered>(alloc, count, 3)?;
     let owns = deal(owns, tasks);
-    let (owns, _dealt) = cut::<Numbered, Dealt>(alloc, owns)?;
-    let desks = make_desks(alloc, count, owns)?;
-    Ok(Begun { desks, stealers })
+    let (owns, _dealt) = split_off::<Numbered, Dealt>(alloc, owns)?;
+    let states = make_worker_states(alloc, count, owns)?;
+    Ok(Begun { states, stealers })
 }
 
 // Puts a task in hand among the finished ones, if there is one and room for it.
-fn finish(desk: &mut Desk<Numbered>)
-    ensures guests { desk.new.guests ≡ desk.old.guests }
+fn finish(state: &mut WorkerState<Numbered>)
+    ensures passes { state.new.passes ≡ state.old.passes }
 {
-    if desk.finished.len() == desk.finished.capacity() {
+    if state.finished.len() == state.finished.capacity() {
         return;
     }
-    if let Some(task) = desk.task.take() {
-        desk.finished.push_reserved(task);
+    if let Some(task) = state.task.take() {
+        state.finished.push_reserved(task);
     }
 }
 
 // A worker looks this often, and finishes what it finds.
-fn find_all(stealers: &[StealHandle<Numbered>], worker: u32, desk: &mut Desk<Numbered>, looks: u32)
+fn find_all(
+    stealers: &[StealHandle<Numbered>],
+    worker: u32,
+    state: &mut WorkerState<Numbered>,
+    looks: u32,
+)
     requires worker { worker < length stealers.now }
-    requires deques { deques_of desk.old.guests.items ≡ map stealer_deque stealers.now }
+    requires deques { deques_of state.old.passes.items ≡ map stealer_deque stealers.now }
 {
     for _ in 0..looks {
-        let _ = desk.find(stealers, worker);
-        finish(desk);
+        let _ = state.find(stealers, worker);
+        finish(state);
     }
 }
 
@@ -104,25 +109,25 @@ fn are_numbered(tasks: &[Box<Numbered>], numbers: &[usize]) -> bool {
 
 // Whether the second of three workers finds these tasks if it looks this often.
 fn second_finds(
-    mut desks: Vec<Desk<Numbered>>,
+    mut states: Vec<WorkerState<Numbered>>,
     stealers: Vec<StealHandle<Numbered>>,
     looks: u32,
     numbers: &[usize],
 ) -> bool
     requires three { vec_len stealers ≡ 3 }
-    requires deques { All (λ d. deques_of d.guests.items ≡ map stealer_deque stealers.items) desks.items }
+    requires deques { All (λ d. deques_of d.passes.items ≡ map stealer_deque stealers.items) states.items }
 {
-    if desks.len() < 2 {
+    if states.len() < 2 {
         return false;
     }
-    find_all(stealers.as_slice(), 1, &mut desks[1], looks);
-    are_numbered(desks[1].finished.as_slice(), numbers)
+    find_all(stealers.as_slice(), 1, &mut states[1], looks);
+    are_numbered(states[1].finished.as_slice(), numbers)
 }
 
 // The same, of workers that begin.
 fn finds(alloc: Global, looks: u32, numbers: &[usize]) -> bool {
     match begin(alloc) {
-        Ok(Begun { desks, stealers }) => second_finds(desks, stealers, looks, numbers),
+        Ok(Begun { states, stealers }) => second_finds(states, stealers, looks, numbers),
         Err(_) => false,
     }
 }

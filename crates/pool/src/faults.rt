@@ -11,7 +11,7 @@ use std::alloc::AllocError;
 /// Why the threads of a run return nothing.
 #[derive(Debug, Clone, Copy, PartialEq, Eq)]
 pub enum ThreadsFault {
-    /// Out of memory for places, deques or desks, for the list of threads, or for what they return.
+    /// Out of memory for places, deques or workers' states, for the list of threads, or for what they return.
     Memory,
     /// A thread was refused; those that had begun are joined.
     Spawn,

@@ -2,7 +2,7 @@
 
 ghost use Rattle.std.specs.Prelude.{◌≡◌, ◌<◌, length, map};
 ghost use Rattle.crossbeam_deque.specs.Handles.{stealer_deque, worker_deque};
-ghost use Rattle.worker_deques.specs.Guests.{deques_of};
+ghost use Rattle.worker_deques.specs.Passes.{deques_of};
 ghost use Rattle.actor.specs.Stepped.{refusal_of, remembered};
 
 use crate::signals::Signals;
@@ -11,7 +11,7 @@ use deque_rule::{StealHandle, give_back};
 use node_api::NodeProgram;
 use std::sync::Wait;
 use std::thread;
-use worker_deques::Desk;
+use worker_deques::WorkerState;
 
 /// What all workers share besides the deques.
 #[derive(Drop)]
@@ -26,19 +26,19 @@ pub struct Crew<'a, J: Wiring, P: NodeProgram, G: Gate> {
 
 // The node goes to the finished places, if nothing is left for it to do, or else to the worker's own deque. If that
 // refuses it, it stays in hand.
-fn put_back<J: Wiring, P: NodeProgram>(signals: &Signals, desk: &mut Desk<Node<J, P>>)
-    ensures own { worker_deque desk.new.own ≡ worker_deque desk.old.own }
-    ensures guests { desk.new.guests ≡ desk.old.guests }
+fn put_back<J: Wiring, P: NodeProgram>(signals: &Signals, state: &mut WorkerState<Node<J, P>>)
+    ensures own { worker_deque state.new.own ≡ worker_deque state.old.own }
+    ensures passes { state.new.passes ≡ state.old.passes }
 {
-    let Some(node) = desk.task.take() else {
+    let Some(node) = state.task.take() else {
         return;
     };
-    if node.alpha.drained() && desk.finished.len() < desk.finished.capacity() {
+    if node.alpha.drained() && state.finished.len() < state.finished.capacity() {
         signals.finish();
-        desk.finished.push_reserved(node);
+        state.finished.push_reserved(node);
         return;
     }
-    desk.task = give_back(&mut desk.own, node);
+    state.task = give_back(&mut state.own, node);
 }
 
 // A turn of a node. Returns whether the node did something, or the refusal that it remembers.
@@ -65,12 +65,12 @@ fn turn_in_hand<J: Wiring, P: NodeProgram, R: Wait, G: Gate>(
     rt: &R,
     crew: &Crew<J, P, G>,
     worker: u32,
-    desk: &mut Desk<Node<J, P>>,
+    state: &mut WorkerState<Node<J, P>>,
 ) -> Result<bool, TurnRefused>
-    ensures own { desk.new.own ≡ desk.old.own }
-    ensures guests { desk.new.guests ≡ desk.old.guests }
+    ensures own { state.new.own ≡ state.old.own }
+    ensures passes { state.new.passes ≡ state.old.passes }
 {
-    match &mut desk.task {
+    match &mut state.task {
         Some(node) => turn(rt, crew, worker, node),
         None => Ok(false),
     }
@@ -83,18 +83,18 @@ fn look<J: Wiring, P: NodeProgram, R: Wait, G: Gate>(
     crew: &Crew<J, P, G>,
     stealers: &[StealHandle<Node<J, P>>],
     worker: u32,
-    desk: &mut Desk<Node<J, P>>,
+    state: &mut WorkerState<Node<J, P>>,
 ) -> Result<bool, TurnRefused>
     requires worker { worker < length stealers.now }
-    requires deques { deques_of desk.old.guests.items ≡ map stealer_deque stealers.now }
-    ensures own { worker_deque desk.new.own ≡ worker_deque desk.old.own }
-    ensures deques { deques_of desk.new.guests.items ≡ map stealer_deque stealers.now }
+    requires deques { deques_of state.old.passes.items ≡ map stealer_deque stealers.now }
+    ensures own { worker_deque state.new.own ≡ worker_deque state.old.own }
+    ensures deques { deques_of state.new.passes.items ≡ map stealer_deque stealers.now }
 {
-    if !desk.find(stealers, worker) {
+    if !state.find(stealers, worker) {
         return Ok(false);
     }
-    let turned = turn_in_hand(rt, crew, worker, desk);
-    put_back(crew.signals, desk);
+    let turned = turn_in_hand(rt, crew, worker, state);
+    put_back(crew.signals, state);
     turned
 }
 
@@ -104,22 +104,22 @@ pub fn work<J: Wiring, P: NodeProgram, R: Wait, G: Gate>(
     crew: &Crew<J, P, G>,
     stealers: &[StealHandle<Node<J, P>>],
     worker: u32,
-    mut desk: Desk<Node<J, P>>,
-) -> Desk<Node<J, P>>
+    mut state: WorkerState<Node<J, P>>,
+) -> WorkerState<Node<J, P>>
     requires worker { worker < length stealers.now }
-    requires deques { deques_of desk.guests.items ≡ map stealer_deque stealers.now }
-    ensures own { worker_deque result.own ≡ worker_deque desk.own }
-    ensures deques { deques_of result.guests.items ≡ map stealer_deque stealers.now }
+    requires deques { deques_of state.passes.items ≡ map stealer_deque stealers.now }
+    ensures own { worker_deque result.own ≡ worker_deque state.own }
+    ensures deques { deques_of result.passes.items ≡ map stealer_deque stealers.now }
 {
     for _ in 0..crew.looks {
         if crew.signals.is_over(crew.nodes) {
             break;
         }
-        match look(rt, crew, stealers, worker, &mut desk) {
+        match look(rt, crew, stealers, worker, &mut state) {
             Ok(true) => {}
             Ok(false) => thread::yield_now(),
             Err(_) => break,
         }
     }
-    desk
+    state
 }

@@ -3,7 +3,7 @@
 ghost use Rattle.std.specs.Prelude.{◌≡◌, ◌≤◌, All, IfOk, None, length, map, reverse, vec_len};
 ghost use Rattle.interference.specs.Net.{vertices};
 ghost use Rattle.crossbeam_deque.specs.Handles.{stealer_deque, worker_deque};
-ghost use Rattle.worker_deques.specs.Guests.{deques_of};
+ghost use Rattle.worker_deques.specs.Passes.{deques_of};
 ghost use Rattle.actor.specs.Stepped.{refusal_of};
 
 use crate::faults::{NodesFault, ThreadsFault};
@@ -20,9 +20,11 @@ use std::alloc::Global;
 use std::sync::Wait;
 use std::thread;
 use std::thread::Threads;
-use worker_deques::{Desk, cut, deal, gather, make_deques, make_desks, make_places};
+use worker_deques::{
+    WorkerState, deal, gather, make_deques, make_places, make_worker_states, split_off,
+};
 
-// A share is cut off with all that was pushed and taken so far.
+// A share is split off with all that was pushed and taken so far.
 pub struct Dealt;
 
 impl Split<Ledger> for Dealt {
@@ -52,8 +54,8 @@ fn run_all<J: Wiring + Send + Sync, P: NodeProgram, G: Gate + Sync, R: Threads +
     let places = make_places(alloc, count)?;
     let (owns, stealers) = make_deques::<Node<J, P>>(alloc, count, options.workers)?;
     let owns = deal(owns, nodes);
-    let (owns, dealt) = cut::<Node<J, P>, Dealt>(alloc, owns)?;
-    let desks = make_desks(alloc, count, owns)?;
+    let (owns, dealt) = split_off::<Node<J, P>, Dealt>(alloc, owns)?;
+    let states = make_worker_states(alloc, count, owns)?;
     let signals = Signals::new();
     let shared = Crew {
         links,
@@ -66,15 +68,15 @@ fn run_all<J: Wiring + Send + Sync, P: NodeProgram, G: Gate + Sync, R: Threads +
     let done = thread::scope(
         thread::scope_env(),
         rt,
-        move |scope| -> Result<Vec<Desk<Node<J, P>>>, ThreadsFault>
-            requires { (vec_len desks ≤ MAX_WORKERS) × (vec_len desks ≡ length stealers.now)
-                × All (λ d. deques_of d.guests.items ≡ map stealer_deque stealers.now) desks.items }
+        move |scope| -> Result<Vec<WorkerState<Node<J, P>>>, ThreadsFault>
+            requires { (vec_len states ≤ MAX_WORKERS) × (vec_len states ≡ length stealers.now)
+                × All (λ d. deques_of d.passes.items ≡ map stealer_deque stealers.now) states.items }
             ensures owns { IfOk result (λ done. map (λ d. worker_deque d.own) done.items
-                ≡ map (λ d. worker_deque d.own) desks.items) }
-            ensures guests { IfOk result (λ done. map (λ d. deques_of d.guests.items) done.items
-                ≡ map (λ d. deques_of d.guests.items) desks.items) }
+                ≡ map (λ d. worker_deque d.own) states.items) }
+            ensures passes { IfOk result (λ done. map (λ d. deques_of d.passes.items) done.items
+                ≡ map (λ d. deques_of d.passes.items) states.items) }
         {
-            let children = start_all(scope, rt, alloc, crew, stealers, desks)?;
+            let children = start_all(scope, rt, alloc, crew, stealers, states)?;
             Ok(join_all(rt, crew.signals, children)?)
         },
     )?;

@@ -2,7 +2,7 @@
 
 ghost use Rattle.std.specs.Prelude.{◌≡◌, ◌<◌, ◌≤◌, All, IfErr, IfOk, length, map, vec_len};
 ghost use Rattle.crossbeam_deque.specs.Handles.{stealer_deque, worker_deque};
-ghost use Rattle.worker_deques.specs.Guests.{deques_of};
+ghost use Rattle.worker_deques.specs.Passes.{deques_of};
 ghost use Rattle.pool.specs.declared.faults.ThreadsFault.TheVariants.{Spawn};
 
 use crate::faults::ThreadsFault;
@@ -18,10 +18,10 @@ use std::snapshot::Snapshot;
 use std::sync::Wait;
 use std::thread;
 use std::thread::{PromisedHandle, Scope, Threads};
-use worker_deques::{Desk, SameDeques};
+use worker_deques::{SameDeques, WorkerState};
 
 /// A worker in a thread of its own, which can be joined.
-pub type Child<T: Task> = PromisedHandle<Desk<T>, SameDeques<T>>;
+pub type Child<T: Task> = PromisedHandle<WorkerState<T>, SameDeques<T>>;
 
 // Starts a worker in a thread of the scope.
 fn start<'s, E, J: Wiring + Send + Sync, P: NodeProgram, G: Gate + Sync, R: Threads + Wait + Sync>(
@@ -30,21 +30,21 @@ fn start<'s, E, J: Wiring + Send + Sync, P: NodeProgram, G: Gate + Sync, R: Thre
     crew: &'s Crew<'s, J, P, G>,
     stealers: &'s [StealHandle<Node<J, P>>],
     worker: u32,
-    desk: Desk<Node<J, P>>,
+    state: WorkerState<Node<J, P>>,
 ) -> Result<Child<Node<J, P>>, ThreadsFault>
     requires worker { worker < length stealers.now }
-    requires deques { deques_of desk.guests.items ≡ map stealer_deque stealers.now }
-    ensures desk { IfOk result (λ h. h.promise.0.value ≡ desk) }
+    requires deques { deques_of state.passes.items ≡ map stealer_deque stealers.now }
+    ensures state { IfOk result (λ h. h.promise.0.value ≡ state) }
     ensures spawn { IfErr result (λ fault. fault ≡ Spawn) }
 {
     let started = scope.spawn_with(
-        SameDeques(Snapshot::of(&desk)),
-        move || -> Desk<Node<J, P>>
+        SameDeques(Snapshot::of(&state)),
+        move || -> WorkerState<Node<J, P>>
             requires { (worker < length stealers.now)
-                × (deques_of desk.guests.items ≡ map stealer_deque stealers.now) }
-            ensures { (worker_deque result.own ≡ worker_deque desk.own)
-                × (deques_of result.guests.items ≡ deques_of desk.guests.items) }
-        { work(rt, crew, stealers, worker, desk) },
+                × (deques_of state.passes.items ≡ map stealer_deque stealers.now) }
+            ensures { (worker_deque result.own ≡ worker_deque state.own)
+                × (deques_of result.passes.items ≡ deques_of state.passes.items) }
+        { work(rt, crew, stealers, worker, state) },
     );
     match started {
         Ok(child) => Ok(child),
@@ -55,7 +55,7 @@ fn start<'s, E, J: Wiring + Send + Sync, P: NodeProgram, G: Gate + Sync, R: Thre
     }
 }
 
-/// Starts a worker for each desk, in threads of the scope: worker k has desk k, from 0.
+/// Starts a worker for each of the states, in threads of the scope: worker k has state k, from 0.
 ///
 /// # Errors
 ///
@@ -74,23 +74,23 @@ pub fn start_all<
     alloc: Global,
     crew: &'s Crew<'s, J, P, G>,
     stealers: &'s [StealHandle<Node<J, P>>],
-    desks: Vec<Desk<Node<J, P>>>,
+    states: Vec<WorkerState<Node<J, P>>>,
 ) -> Result<Vec<Child<Node<J, P>>>, ThreadsFault>
-    requires few { vec_len desks ≤ MAX_WORKERS }
-    requires workers { vec_len desks ≡ length stealers.now }
-    requires deques { All (λ d. deques_of d.guests.items ≡ map stealer_deque stealers.now) desks.items }
-    ensures desks { IfOk result (λ hs. map (λ h. h.promise.0.value) hs.items ≡ desks.items) }
+    requires few { vec_len states ≤ MAX_WORKERS }
+    requires workers { vec_len states ≡ length stealers.now }
+    requires deques { All (λ d. deques_of d.passes.items ≡ map stealer_deque stealers.now) states.items }
+    ensures states { IfOk result (λ hs. map (λ h. h.promise.0.value) hs.items ≡ states.items) }
 {
-    let mut children = Vec::with_capacity(alloc, desks.len())?;
+    let mut children = Vec::with_capacity(alloc, states.len())?;
     let mut worker = 0;
-    for desk in desks {
-        children.push_reserved(start(scope, rt, crew, stealers, worker, desk)?);
+    for state in states {
+        children.push_reserved(start(scope, rt, crew, stealers, worker, state)?);
         worker += 1;
     }
     Ok(children)
 }
 
-/// Joins all workers, and returns their desks in the same order.
+/// Joins all workers, and returns their states in the same order.
 ///
 /// # Errors
 ///
@@ -99,11 +99,11 @@ pub fn join_all<T: Task, R: Threads + Wait>(
     rt: &R,
     signals: &Signals,
     children: Vec<Child<T>>,
-) -> Result<Vec<Desk<T>>, Memory>
+) -> Result<Vec<WorkerState<T>>, Memory>
     ensures owns { IfOk result (λ done. map (λ d. worker_deque d.own) done.items
         ≡ map (λ d. worker_deque d.own) (map (λ h. h.promise.0.value) children.items)) }
-    ensures guests { IfOk result (λ done. map (λ d. deques_of d.guests.items) done.items
-        ≡ map (λ d. deques_of d.guests.items) (map (λ h. h.promise.0.value) children.items)) }
+    ensures passes { IfOk result (λ done. map (λ d. deques_of d.passes.items) done.items
+        ≡ map (λ d. deques_of d.passes.items) (map (λ h. h.promise.0.value) children.items)) }
 {
     match thread::join_promised(rt, children) {
         Ok(done) => Ok(done),

@@ -1,9 +1,9 @@
 pub mod Absorbing
-pub mod Back
 pub mod Dealing
 pub mod Each
 pub mod Holds
 pub mod Out
 pub mod Pushed
+pub mod Returned
 pub mod Steps
 pub mod Views

@@ -1,3 +1,3 @@
 pub mod Dealt
-pub mod Guests
+pub mod Passes
 pub mod Places

@@ -5,7 +5,7 @@ ghost use Rattle.crossbeam_deque.specs.Handles.{stealer_deque, view, worker_capa
 ghost use Rattle.crossbeam_deque.specs.Handles.{worker_view};
 ghost use Rattle.deque_rule.specs.Ledgers.{AreDealt, CanSplit, all_shares, ledger, shares_of};
 ghost use Rattle.worker_deques.specs.Dealt.{begun_by};
-ghost use Rattle.worker_deques.specs.Guests.{deques_of};
+ghost use Rattle.worker_deques.specs.Passes.{deques_of};
 
 use crossbeam_deque::protocol::Split;
 use deque_rule::{Ledger, Own, PushStep, StealHandle, StealPass, Task};
@@ -65,7 +65,7 @@ pub fn deal<T: Task>(mut owns: Vec<Own<T>>, mut tasks: Vec<Box<T>>) -> Vec<Own<T
 }
 
 /// A pass at each deque.
-pub fn cut<T: Task, M: Split<Ledger>>(
+pub fn split_off<T: Task, M: Split<Ledger>>(
     alloc: Global,
     owns: Vec<Own<T>>,
 ) -> Result<(Vec<Own<T>>, Vec<StealPass<T>>), AllocError>
@@ -73,16 +73,16 @@ pub fn cut<T: Task, M: Split<Ledger>>(
     requires shares { All (λ o. 1 < shares_of (worker_view o)) owns.items }
     ensures owns { IfOk result (λ r. map worker_deque r.0.items ≡ map worker_deque owns.items) }
     ensures left { IfOk result (λ r. map worker_view r.0.items ≡ map (λ o. M.left (worker_view o)) owns.items) }
-    ensures guests { IfOk result (λ r. deques_of r.1.items ≡ map worker_deque owns.items) }
+    ensures passes { IfOk result (λ r. deques_of r.1.items ≡ map worker_deque owns.items) }
     ensures right { IfOk result
         (λ r. map (λ g. view g.pass) r.1.items ≡ map (λ o. M.right (worker_view o)) owns.items) }
 {
     let count = owns.len();
     let mut lefts = Vec::with_capacity(alloc, count)?;
-    let mut guests = Vec::with_capacity(alloc, count)?;
+    let mut passes = Vec::with_capacity(alloc, count)?;
     for mut own in owns {
-        guests.push_reserved(StealPass::new(own.another::<M>()));
+        passes.push_reserved(StealPass::new(own.another::<M>()));
         lefts.push_reserved(own);
     }
-    Ok((lefts, guests))
+    Ok((lefts, passes))
 }

@@ -6,18 +6,18 @@ ghost use Rattle.crossbeam_deque.specs.Handles.{view, worker_deque, worker_view}
 ghost use Rattle.deque_rule.specs.Ledgers.{AreDealt, AreSame, all_shares, in_hand, in_rows};
 ghost use Rattle.deque_rule.specs.Ledgers.{pushed_by, shares_of, taken_by, weigh};
 ghost use Rattle.run_options.specs.declared.TheConstants.{MAX_WORKERS};
-ghost use Rattle.worker_deques.specs.Guests.{deques_of};
+ghost use Rattle.worker_deques.specs.Passes.{deques_of};
 
-use crate::desk::Desk;
 use crate::order::by_number;
 use crate::place::Places;
+use crate::worker_state::WorkerState;
 use deque_rule::{OneShare, Own, PopStep, StealPass, Task};
 use std::alloc::{AllocError, Global};
 use std::sync::Wait;
 
-/// What all workers handed back, with the deques, the passes at them and the tasks apart.
+/// What all workers handed back: the deques, the passes at them and the tasks.
 #[derive(Drop)]
-pub struct Back<T: Task> {
+pub struct Returned<T: Task> {
     pub owns: Vec<Own<T>>,
     pub rows: Vec<Vec<StealPass<T>>>,
     pub tasks: Vec<Box<T>>,
@@ -36,9 +36,9 @@ fn absorb_row<T: Task>(owns: &mut Vec<Own<T>>, mut row: Vec<StealPass<T>>)
     ensures taken { (h : ℕ → ℕ) → taken_by h (map worker_view owns.new.items)
         ≡ taken_by h (map worker_view owns.old.items) + taken_by h (map (λ g. view g.pass) row.items) }
 {
-    'each: while let Some(guest) = row.pop() {
+    'each: while let Some(steal_pass) = row.pop() {
         let at = row.len();
-        owns[at].absorb::<OneShare>(guest.pass);
+        owns[at].absorb::<OneShare>(steal_pass.pass);
     }
 }
 
@@ -117,12 +117,15 @@ fn with_those_of<T: Task>(
     Ok(tasks)
 }
 
-// What workers handed back, apart.
-fn apart<T: Task>(alloc: Global, done: Vec<Desk<T>>) -> Result<Back<T>, AllocError>
+// What workers handed back, split into the deques, the passes at them and the tasks.
+fn split_states<T: Task>(
+    alloc: Global,
+    done: Vec<WorkerState<T>>,
+) -> Result<Returned<T>, AllocError>
     ensures owns { IfOk result
         (λ b. map worker_deque b.owns.items ≡ map (λ d. worker_deque d.own) done.items) }
     ensures rows { IfOk result (λ b. map (λ row. deques_of row.items) b.rows.items
-        ≡ map (λ d. deques_of d.guests.items) done.items) }
+        ≡ map (λ d. deques_of d.passes.items) done.items) }
     ensures shares { IfOk result (λ b. map (λ o. shares_of (worker_view o)) b.owns.items
         ≡ map (λ d. shares_of (worker_view d.own)) done.items) }
     ensures out { IfOk result (λ b. (h : ℕ → ℕ) →
@@ -136,18 +139,18 @@ fn apart<T: Task>(alloc: Global, done: Vec<Desk<T>>) -> Result<Back<T>, AllocErr
     let mut owns = Vec::with_capacity(alloc, count)?;
     let mut rows = Vec::with_capacity(alloc, count)?;
     let mut tasks = Vec::new(alloc);
-    for desk in done {
-        let Desk {
+    for state in done {
+        let WorkerState {
             own,
-            guests,
+            passes,
             task,
             finished,
-        } = desk;
+        } = state;
         owns.push_reserved(own);
-        rows.push_reserved(guests);
+        rows.push_reserved(passes);
         tasks = with_those_of(tasks, task, finished)?;
     }
-    Ok(Back { owns, rows, tasks })
+    Ok(Returned { owns, rows, tasks })
 }
 
 // Each task once, in any order, of what was dealt and what all workers handed back.
@@ -155,19 +158,19 @@ fn gather_boxes<T: Task, R: Wait>(
     rt: &R,
     alloc: Global,
     dealt: Vec<StealPass<T>>,
-    done: Vec<Desk<T>>,
+    done: Vec<WorkerState<T>>,
 ) -> Result<Vec<Box<T>>, AllocError>
     requires deques { deques_of dealt.items ≡ map (λ d. worker_deque d.own) done.items }
-    requires guests { All (λ d. deques_of d.guests.items ≡ deques_of dealt.items) done.items }
+    requires passes { All (λ d. deques_of d.passes.items ≡ deques_of dealt.items) done.items }
     requires few { vec_len dealt ≤ MAX_WORKERS }
     ensures once { (numbers : List ℕ) → AreDealt (map (λ g. view g.pass) dealt.items) numbers
         → IfOk result (λ all. AreSame (map (λ b. T.number_of b.value) all.items) numbers) }
 {
-    let Back {
+    let Returned {
         mut owns,
         rows,
         tasks,
-    } = apart(alloc, done)?;
+    } = split_states(alloc, done)?;
     absorb_row(&mut owns, dealt);
     absorb_rows(&mut owns, rows);
     Ok(drain_all(rt, owns, tasks)?)
@@ -184,10 +187,10 @@ pub fn gather<T: Task, R: Wait>(
     alloc: Global,
     places: Places<T>,
     dealt: Vec<StealPass<T>>,
-    done: Vec<Desk<T>>,
+    done: Vec<WorkerState<T>>,
 ) -> Result<Vec<Box<T>>, AllocError>
     requires deques { deques_of dealt.items ≡ map (λ d. worker_deque d.own) done.items }
-    requires guests { All (λ d. deques_of d.guests.items ≡ deques_of dealt.items) done.items }
+    requires passes { All (λ d. deques_of d.passes.items ≡ deques_of dealt.items) done.items }
     requires few { vec_len dealt ≤ MAX_WORKERS }
     requires dealt { AreDealt (map (λ g. view g.pass) dealt.items) (range_with_len 0 (vec_len places.slots)) }
     ensures order { IfOk result

@@ -4,22 +4,22 @@ use Rattle.worker_deques.proofs.Out.{finished}
 use Rattle.pool.proofs.InHand.{gave_back}
 use Rattle.pool.proofs.looks.put_back.Goals as goal
 
-pub invariant_of-desk-then-len-capacity : goal.invariant_of-desk-then-len-capacity
-invariant_of-desk-then-len-capacity g c =
-    let old = c.args.desk.now in
+pub invariant_of-state-then-len-capacity : goal.invariant_of-state-then-len-capacity
+invariant_of-state-then-len-capacity g c =
+    let old = c.args.state.now in
     record {
       shares = old.shares;
       some = old.some;
-      out = finished (λ b. b.value.vertex - 1) (worker_view old.own ∷ map (λ g'. view g'.pass) old.guests.items) old.task c.take.new.self c.in-Some.node
+      out = finished (λ b. b.value.vertex - 1) (worker_view old.own ∷ map (λ g'. view g'.pass) old.passes.items) old.task c.take.new.self c.in-Some.node
           old.finished.items c.push_reserved.new.self.items (sym c.take.ensures.value ∙ c.in-Some.is) c.take.ensures.after c.push_reserved.ensures.items
           old.out;
     }
 
-pub invariant_of-desk-2 : goal.invariant_of-desk-2
-invariant_of-desk-2 g c =
-    let old = c.args.desk.now in
+pub invariant_of-state-2 : goal.invariant_of-state-2
+invariant_of-state-2 g c =
+    let old = c.args.state.now in
     let back = c.give_back in
-    let p = gave_back (λ b. b.value.vertex - 1) (worker_view old.own) (worker_view back.new.own) (map (λ g'. view g'.pass) old.guests.items) old.task
+    let p = gave_back (λ b. b.value.vertex - 1) (worker_view old.own) (worker_view back.new.own) (map (λ g'. view g'.pass) old.passes.items) old.task
     back.result c.in-Some.node (map (λ b. b.value.vertex - 1) old.finished.items) old.out (sym c.take.ensures.value ∙ c.in-Some.is) back.ensures.none
     back.ensures.some in
     record {

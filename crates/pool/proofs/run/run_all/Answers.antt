@@ -6,7 +6,7 @@ use Rattle.deque_rule.specs.Deques.{deque_of}
 use Rattle.deque_rule.specs.Ledgers.{all_shares, ledger, shares_of}
 use Rattle.worker_deques.proofs.Holds.{dealt_on}
 use Rattle.deque_rule.proofs.Rule.{deals}
-use Rattle.worker_deques.specs.Guests.{deques_of}
+use Rattle.worker_deques.specs.Passes.{deques_of}
 use Rattle.worker_deques.proofs.Views.{as_many, carried}
 use Rattle.pool.proofs.Numbers.{as_many as many_nodes, from_one, from_the_last}
 use Rattle.pool.proofs.run.run_all.Goals as goal
@@ -17,17 +17,17 @@ deal-owns-requires-clause-room g c k d lt =
     let count = c.len-count.ensures in
     omega arith
 
-pub cut-requires-clause-rule : goal.cut-requires-clause-rule
-cut-requires-clause-rule g c = record {
+pub split_off-requires-clause-rule : goal.split_off-requires-clause-rule
+split_off-requires-clause-rule g c = record {
   forks = deals;
   one = λ v. refl;
 }
 
-pub cut-requires-clause-shares : goal.cut-requires-clause-shares
-cut-requires-clause-shares g c k d lt = let s = c.deal-owns.ensures.shares k d lt in omega arith
+pub split_off-requires-clause-shares : goal.split_off-requires-clause-shares
+split_off-requires-clause-shares g c k d lt = let s = c.deal-owns.ensures.shares k d lt in omega arith
 
-pub make_desks-requires-clause-few : goal.make_desks-requires-clause-few
-make_desks-requires-clause-few g c =
+pub make_worker_states-requires-clause-few : goal.make_worker_states-requires-clause-few
+make_worker_states-requires-clause-few g c =
     let made = c.in_ok-owns.owns in
     let dealt = as_many worker_deque worker_deque made.items c.deal-owns.result.items c.deal-owns.ensures.deques in
     let left = as_many worker_deque worker_deque c.deal-owns.result.items c.in_ok-owns-2.owns.items c.in_ok-owns-2.ensures.owns in
@@ -35,17 +35,18 @@ make_desks-requires-clause-few g c =
     let few = c.requires.workers.1 in
     omega (arith, made.ok.0, c.in_ok-owns-2.owns.ok.0)
 
-pub make_desks-requires-clause-new : goal.make_desks-requires-clause-new
-make_desks-requires-clause-new g c =
+pub make_worker_states-requires-clause-new : goal.make_worker_states-requires-clause-new
+make_worker_states-requires-clause-new g c =
     carried (λ o. ledger (shares_of (worker_view o) - 1) [] []) worker_view (λ v. v ≡ ledger (all_shares - 1) [] []) c.deal-owns.result.items _
     c.in_ok-owns-2.ensures.left (λ k d lt. ap (λ n. ledger (n - 1) [] []) (c.deal-owns.ensures.shares k d lt))
 
--- the threads begin with a desk for each stealer
+-- the threads begin with a state for each handle to steal by
 pub scoped-requires : goal.scoped-requires
 scoped-requires g c =
     let made = c.in_ok-owns.owns in
     let deques = c.in_ok-owns-2.ensures.owns ∙ c.deal-owns.ensures.deques ∙ c.in_ok-owns.ensures.deques in
-    let desks = as_many stealer_deque (λ d. worker_deque d.own) c.in_ok-owns.stealers.items c.in_ok-desks.desks.items (c.in_ok-desks.ensures.owns ∙ deques) in
+    let states = as_many stealer_deque (λ d. worker_deque d.own) c.in_ok-owns.stealers.items c.in_ok-states.states.items
+    (c.in_ok-states.ensures.owns ∙ deques) in
     let stealers = as_many worker_deque stealer_deque made.items c.in_ok-owns.stealers.items (sym c.in_ok-owns.ensures.deques) in
     let n = c.in_ok-owns.ensures.workers in
     let few = c.requires.workers.1 in
@@ -53,9 +54,9 @@ scoped-requires g c =
     record {
       at = λ a. (
         (
-          omega (arith, made.ok.0, c.in_ok-desks.desks.ok.0),
-          omega (arith, c.in_ok-owns.stealers.ok.0, c.in_ok-desks.desks.ok.0, ap (λ l. length l) c.as_slice-stealers.ensures.value),
-          λ k d lt. c.in_ok-desks.ensures.guests k d lt ∙ deques ∙ ap (map stealer_deque) (sym c.as_slice-stealers.ensures.value),
+          omega (arith, made.ok.0, c.in_ok-states.states.ok.0),
+          omega (arith, c.in_ok-owns.stealers.ok.0, c.in_ok-states.states.ok.0, ap (λ l. length l) c.as_slice-stealers.ensures.value),
+          λ k d lt. c.in_ok-states.ensures.passes k d lt ∙ deques ∙ ap (map stealer_deque) (sym c.as_slice-stealers.ensures.value),
         ),
         (search rules, search rules, may.send-P-Payload, search rules, search rules, search rules),
       );
@@ -63,19 +64,19 @@ scoped-requires g c =
 
 pub gather-requires-clause-deques : goal.gather-requires-clause-deques
 gather-requires-clause-deques g c =
-    c.in_ok-owns-2.ensures.guests ∙ sym c.in_ok-owns-2.ensures.owns ∙ sym c.in_ok-desks.ensures.owns ∙ sym c.in_ok-done.ensures.1.0
+    c.in_ok-owns-2.ensures.passes ∙ sym c.in_ok-owns-2.ensures.owns ∙ sym c.in_ok-states.ensures.owns ∙ sym c.in_ok-done.ensures.1.0
 
-pub gather-requires-clause-guests : goal.gather-requires-clause-guests
-gather-requires-clause-guests g c =
-    carried (λ d. deques_of d.guests.items) (λ d. deques_of d.guests.items)
-    (λ ids. ids ≡ deques_of c.in_ok-owns-2.dealt.items) c.in_ok-desks.desks.items _ c.in_ok-done.ensures.1.1
-    (λ k d lt. c.in_ok-desks.ensures.guests k d lt ∙ c.in_ok-owns-2.ensures.owns ∙ sym c.in_ok-owns-2.ensures.guests)
+pub gather-requires-clause-passes : goal.gather-requires-clause-passes
+gather-requires-clause-passes g c =
+    carried (λ d. deques_of d.passes.items) (λ d. deques_of d.passes.items)
+    (λ ids. ids ≡ deques_of c.in_ok-owns-2.dealt.items) c.in_ok-states.states.items _ c.in_ok-done.ensures.1.1
+    (λ k d lt. c.in_ok-states.ensures.passes k d lt ∙ c.in_ok-owns-2.ensures.owns ∙ sym c.in_ok-owns-2.ensures.passes)
 
 pub gather-requires-clause-few : goal.gather-requires-clause-few
 gather-requires-clause-few g c =
     let made = c.in_ok-owns.owns in
     let dealt = as_many worker_deque worker_deque made.items c.deal-owns.result.items c.deal-owns.ensures.deques in
-    let cut = as_many worker_deque (λ g'. deque_of g'.pass) c.deal-owns.result.items c.in_ok-owns-2.dealt.items c.in_ok-owns-2.ensures.guests in
+    let many = as_many worker_deque (λ g'. deque_of g'.pass) c.deal-owns.result.items c.in_ok-owns-2.dealt.items c.in_ok-owns-2.ensures.passes in
     let n = c.in_ok-owns.ensures.workers in
     let few = c.requires.workers.1 in
     omega (arith, made.ok.0, c.in_ok-owns-2.dealt.ok.0)

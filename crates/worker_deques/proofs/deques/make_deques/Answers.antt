@@ -16,7 +16,7 @@ loop-init g c = record {
       (All-nil (λ o. worker_index o + c.args.tasks ≤ worker_capacity o));
 }
 
--- there are as many stealers as deques
+-- there are as many handles to steal by as deques
 pub push_reserved-requires : goal.push_reserved-requires
 push_reserved-requires g c =
     let inv = c.loop.invariant in

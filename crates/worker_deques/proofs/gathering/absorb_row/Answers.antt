@@ -32,16 +32,16 @@ absorb-requires-clause-table g c =
     let own = c.index_mut.result.now in
     let ids = map worker_deque c.args.owns.now.items in
     let at = c.len-at.result in
-    let f = popped_front (λ g'. deque_of g'.pass) c.each.row.items c.pop.new.self.items c.in-Some.guest ids (worker_deque own) c.in-Some.ensures.items
+    let f = popped_front (λ g'. deque_of g'.pass) c.each.row.items c.pop.new.self.items c.in-Some.steal_pass ids (worker_deque own) c.in-Some.ensures.items
     inv.front (omega (arith, inv.few, length-map c.args.owns.now.items worker_deque)) in
     let n = as_many worker_deque worker_deque c.args.owns.now.items c.each.owns.items inv.deques in
     let i : at ≡ length c.pop.new.self.items = (let l = c.len-at.ensures in omega (arith, c.pop.new.self.ok.0)) in
     let lt : at < length c.each.owns.items = (let w = f.0 in omega (arith, inv.few, n)) in
     let there : worker_deque own ≡ get_or (map worker_deque c.each.owns.items) at (worker_deque own) =
     ap worker_deque c.index_mut.ensures.value ∙ sym (get_or-map worker_deque c.each.owns.items at own (worker_deque own) lt) in
-    let same : deque_of c.in-Some.guest.pass ≡ worker_deque own =
+    let same : deque_of c.in-Some.steal_pass.pass ≡ worker_deque own =
     f.1.0 ∙ ap (λ k. get_or ids k (worker_deque own)) (sym i) ∙ sym (there ∙ ap (λ l. get_or l at (worker_deque own)) inv.deques) in
-    (ap (λ (x : _ × _). x.0) same, ap (λ (x : _ × _). x.1) same, c.in-Some.guest.rests.0, c.in-Some.guest.rests.1)
+    (ap (λ (x : _ × _). x.0) same, ap (λ (x : _ × _). x.1) same, c.in-Some.steal_pass.rests.0, c.in-Some.steal_pass.rests.1)
 
 pub absorb-requires-clause-rule : goal.absorb-requires-clause-rule
 absorb-requires-clause-rule g c =
@@ -58,20 +58,21 @@ each-preserved g c =
     let own = c.index_mut.result.now in
     let new = c.absorb.new.self in
     let owns = c.each.owns.items in
-    let guest = c.in-Some.guest in
+    let steal_pass = c.in-Some.steal_pass in
     let rest = c.pop.new.self.items in
     let ids = map worker_deque c.args.owns.now.items in
     let at = c.len-at.result in
     let is = c.absorb.ensures.rule in
     let many = as_many worker_deque worker_deque c.args.owns.now.items owns inv.deques in
-    let f = popped_front (λ g'. deque_of g'.pass) c.each.row.items rest guest ids (worker_deque own) c.in-Some.ensures.items
+    let f = popped_front (λ g'. deque_of g'.pass) c.each.row.items rest steal_pass ids (worker_deque own) c.in-Some.ensures.items
     inv.front (omega (arith, inv.few, length-map c.args.owns.now.items worker_deque)) in
     let i : at ≡ length rest = (let l = c.len-at.ensures in omega (arith, c.pop.new.self.ok.0)) in
     let n = f.0 in
     let lt : at < length owns = omega (arith, inv.few, many) in
     let value = c.index_mut.ensures.value in
     let some = holds_at (λ o. 0 < shares_of (worker_view o)) owns at own lt value inv.some in
-    let more : (worker_view new).shares ≡ (worker_view own).shares + 1 = (let p = ap (λ (v : Ledger). v.shares) is in let q = guest.share in omega arith) in
+    let more : (worker_view new).shares ≡ (worker_view own).shares + 1 =
+    (let p = ap (λ (v : Ledger). v.shares) is in let q = steal_pass.share in omega arith) in
     record {
       deques = map_change worker_deque owns at own new lt value c.absorb.ensures.same.0.0 ∙ inv.deques;
       front = f.1.1;
@@ -84,17 +85,17 @@ each-preserved g c =
       pushed = λ h.
           let t = total_change (λ v. weigh h v.pushed) worker_view owns at own new lt value in
           let m = ap (λ l. total (λ v. weigh h v.pushed) (map (λ g'. view g'.pass) l)) c.in-Some.ensures.items
-          ∙ total_more (λ v. weigh h v.pushed) (λ g'. view g'.pass) rest guest in
+          ∙ total_more (λ v. weigh h v.pushed) (λ g'. view g'.pass) rest steal_pass in
           let e = ap (λ (v : Ledger). weigh h v.pushed) is in
-          let a = weigh-append h (worker_view own).pushed (view guest.pass).pushed in
+          let a = weigh-append h (worker_view own).pushed (view steal_pass.pass).pushed in
           let o = inv.pushed h in
           omega arith;
       taken = λ h.
           let t = total_change (λ v. weigh h v.taken) worker_view owns at own new lt value in
           let m = ap (λ l. total (λ v. weigh h v.taken) (map (λ g'. view g'.pass) l)) c.in-Some.ensures.items
-          ∙ total_more (λ v. weigh h v.taken) (λ g'. view g'.pass) rest guest in
+          ∙ total_more (λ v. weigh h v.taken) (λ g'. view g'.pass) rest steal_pass in
           let e = ap (λ (v : Ledger). weigh h v.taken) is in
-          let a = weigh-append h (worker_view own).taken (view guest.pass).taken in
+          let a = weigh-append h (worker_view own).taken (view steal_pass.pass).taken in
           let o = inv.taken h in
           omega arith;
     }

@@ -2,7 +2,7 @@ use Rattle.std.proofs.Common.{◌≡◌, ◌+◌, ◌<◌, ◌≤◌, ℕ, map, 
 use Rattle.std.specs.Prelude.{All}
 use Rattle.crossbeam_deque.specs.Handles.{view, worker_deque, worker_view}
 use Rattle.deque_rule.specs.Ledgers.{pushed_by, shares_of, taken_by}
-use Rattle.worker_deques.specs.Guests.{deques_of}
+use Rattle.worker_deques.specs.Passes.{deques_of}
 use Rattle.worker_deques.proofs.Absorbing.{IsUpTo}
 use Rattle.worker_deques.proofs.gathering.absorb_row.Given as goal
 

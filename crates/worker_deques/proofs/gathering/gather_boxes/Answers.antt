@@ -2,7 +2,7 @@ use Rattle.std.proofs.Common.{◌≡◌, ◌+◌, ◌-◌, ◌<◌, ◌∙◌, l
 use Rattle.crossbeam_deque.specs.Handles.{worker_deque, worker_view}
 use Rattle.deque_rule.specs.Deques.{deque_of}
 use Rattle.deque_rule.specs.Ledgers.{all_shares, shares_of}
-use Rattle.worker_deques.specs.Guests.{deques_of}
+use Rattle.worker_deques.specs.Passes.{deques_of}
 use Rattle.worker_deques.proofs.Views.{as_many, carried}
 use Rattle.worker_deques.proofs.gathering.gather_boxes.Goals as goal
 
@@ -16,9 +16,9 @@ absorb_row-requires-clause-some g c =
 
 pub absorb_rows-requires-clause-deques : goal.absorb_rows-requires-clause-deques
 absorb_rows-requires-clause-deques g c =
-    carried (λ d. deques_of d.guests.items) (λ row. deques_of row.items)
+    carried (λ d. deques_of d.passes.items) (λ row. deques_of row.items)
     (λ ids. ids ≡ map worker_deque c.absorb_row.new.owns.items) c.args.done.items _ c.in_ok-owns.ensures.rows
-    (λ k d lt. c.requires.guests k d lt ∙ c.requires.deques ∙ sym c.in_ok-owns.ensures.owns ∙ sym c.absorb_row.ensures.deques)
+    (λ k d lt. c.requires.passes k d lt ∙ c.requires.deques ∙ sym c.in_ok-owns.ensures.owns ∙ sym c.absorb_row.ensures.deques)
 
 -- each deque's owner has all shares but one for what was dealt and one for each worker, and these come back
 pub drain_all-requires : goal.drain_all-requires
@@ -29,9 +29,9 @@ drain_all-requires g c =
     c.in_ok-owns.ensures.shares (λ i x within.
     let w = get_or c.args.done.items i x in
     let s = w.shares in
-    let m = as_many (λ g'. deque_of g'.pass) (λ g'. deque_of g'.pass) dealt.items w.guests.items (c.requires.guests i x within) in
-    omega (arith, w.guests.ok.0)) in
-    let rows = as_many (λ d. deques_of d.guests.items) (λ row. deques_of row.items) c.args.done.items _
+    let m = as_many (λ g'. deque_of g'.pass) (λ g'. deque_of g'.pass) dealt.items w.passes.items (c.requires.passes i x within) in
+    omega (arith, w.passes.ok.0)) in
+    let rows = as_many (λ d. deques_of d.passes.items) (λ row. deques_of row.items) c.args.done.items _
     c.in_ok-owns.ensures.rows in
     let many = as_many (λ d. worker_deque d.own) (λ g'. deque_of g'.pass) c.args.done.items dealt.items c.requires.deques in
     let few = c.requires.few in

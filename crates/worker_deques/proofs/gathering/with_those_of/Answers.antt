@@ -1,4 +1,4 @@
-use Rattle.worker_deques.proofs.Back.{no_task, one_task}
+use Rattle.worker_deques.proofs.Returned.{no_task, one_task}
 use Rattle.worker_deques.proofs.gathering.with_those_of.Goals as goal
 
 pub returns : goal.returns

@@ -3,7 +3,7 @@ use Rattle.crossbeam_deque.specs.Handles.{stealer_deque, view, worker_view}
 use Rattle.deque_rule.specs.Deques.{deque_of}
 use Rattle.worker_deques.proofs.Out.{stolen}
 use Rattle.worker_deques.proofs.Views.{as_many, same_at, map_change}
-use Rattle.worker_deques.proofs.desk.Desk.steal.Goals as goal
+use Rattle.worker_deques.proofs.worker_state.WorkerState.steal.Goals as goal
 
 pub steal-requires : goal.steal-requires
 steal-requires g c =
@@ -11,7 +11,7 @@ steal-requires g c =
     let stealers = c.args.stealers.now in
     let lt : c.args.from < length stealers = c.requires.from in
     record {
-      deque = same_at (λ g'. deque_of g'.pass) stealer_deque old.guests.items stealers c.args.from _ _ c.requires.deques lt
+      deque = same_at (λ g'. deque_of g'.pass) stealer_deque old.passes.items stealers c.args.from _ _ c.requires.deques lt
           c.index_mut.ensures.value c.index-stealers-from.is;
     }
 
@@ -19,12 +19,12 @@ pub invariant_of-self : goal.invariant_of-self
 invariant_of-self g c =
     let old = c.args.self.now in
     let stealers = c.args.stealers.now in
-    let many = as_many stealer_deque (λ g'. deque_of g'.pass) stealers old.guests.items c.requires.deques in
-    let lt : c.args.from < length old.guests.items = (let q = c.requires.from in omega (arith, many)) in
+    let many = as_many stealer_deque (λ g'. deque_of g'.pass) stealers old.passes.items c.requires.deques in
+    let lt : c.args.from < length old.passes.items = (let q = c.requires.from in omega (arith, many)) in
     record {
       shares = old.shares;
       some = old.some;
-      out = stolen (λ b. g.T.Task.number_of b.value) (λ g'. view g'.pass) old.guests.items c.args.from _ _ c.steal.result (worker_view old.own) _ _ lt
+      out = stolen (λ b. g.T.Task.number_of b.value) (λ g'. view g'.pass) old.passes.items c.args.from _ _ c.steal.result (worker_view old.own) _ _ lt
           c.index_mut.ensures.value c.requires.empty c.steal.ensures.none c.steal.ensures.some old.out;
     }
 
@@ -32,6 +32,6 @@ pub returns-clause-deques : goal.returns-clause-deques
 returns-clause-deques g c =
     let old = c.args.self.now in
     let stealers = c.args.stealers.now in
-    let many = as_many stealer_deque (λ g'. deque_of g'.pass) stealers old.guests.items c.requires.deques in
-    let lt : c.args.from < length old.guests.items = (let q = c.requires.from in omega (arith, many)) in
-    map_change (λ g'. deque_of g'.pass) old.guests.items c.args.from _ _ lt c.index_mut.ensures.value c.steal.ensures.deque
+    let many = as_many stealer_deque (λ g'. deque_of g'.pass) stealers old.passes.items c.requires.deques in
+    let lt : c.args.from < length old.passes.items = (let q = c.requires.from in omega (arith, many)) in
+    map_change (λ g'. deque_of g'.pass) old.passes.items c.args.from _ _ lt c.index_mut.ensures.value c.steal.ensures.deque

@@ -3,7 +3,7 @@ use Rattle.crossbeam_deque.specs.Handles.{worker_view}
 use Rattle.deque_rule.specs.Ledgers.{KnowsEmpty}
 use Rattle.worker_deques.proofs.Out.{popped}
 use Rattle.deque_rule.proofs.Rule.{pops, takes}
-use Rattle.worker_deques.proofs.desk.Desk.pop.Goals as goal
+use Rattle.worker_deques.proofs.worker_state.WorkerState.pop.Goals as goal
 
 pub pop_as-requires-clause-fifo : goal.pop_as-requires-clause-fifo
 pop_as-requires-clause-fifo g c fifo = takes (λ b. g.T.Task.number_of b.value) _ _ 1 c.args.self.now.some

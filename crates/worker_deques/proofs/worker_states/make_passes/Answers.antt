@@ -5,17 +5,17 @@ use Rattle.deque_rule.specs.declared.ledger.Ledger.{Ledger}
 use Rattle.deque_rule.specs.Ledgers.{AreOut, all_shares, ledger}
 use Rattle.worker_deques.proofs.Holds.{all_to, fresh_out}
 use Rattle.deque_rule.proofs.Rule.{forks}
-use Rattle.worker_deques.specs.Guests.{deques_of}
-use Rattle.worker_deques.proofs.desks.hire.Goals as goal
+use Rattle.worker_deques.specs.Passes.{deques_of}
+use Rattle.worker_deques.proofs.worker_states.make_passes.Goals as goal
 
-pub cut-requires-clause-rule : goal.cut-requires-clause-rule
-cut-requires-clause-rule g c = record {
+pub split_off-requires-clause-rule : goal.split_off-requires-clause-rule
+split_off-requires-clause-rule g c = record {
   forks = forks;
   one = λ v. refl;
 }
 
-pub cut-requires-clause-shares : goal.cut-requires-clause-shares
-cut-requires-clause-shares g c k d lt =
+pub split_off-requires-clause-shares : goal.split_off-requires-clause-shares
+split_off-requires-clause-shares g c k d lt =
     let s = ap (λ (v : Ledger). v.shares) (c.loop.invariant.left k d lt) in
     let f = c.requires.few in
     let n = c.len-count.ensures in
@@ -37,9 +37,9 @@ loop-preserved g c =
           (ap (λ k. ledger k [] []) fewer) inv.left;
       room = omega (arith, more.capacity, inv.room);
       rows = let n = more.len in let i = inv.rows in omega arith;
-      guests = All-same (λ row. deques_of row.items ≡ map worker_deque c.args.owns.items) _ _ more.items
-          (All-push (λ row. deques_of row.items ≡ map worker_deque c.args.owns.items) c.loop.rows.items _ inv.guests
-          (said.guests ∙ inv.owns));
+      passes = All-same (λ row. deques_of row.items ≡ map worker_deque c.args.owns.items) _ _ more.items
+          (All-push (λ row. deques_of row.items ≡ map worker_deque c.args.owns.items) c.loop.rows.items _ inv.passes
+          (said.passes ∙ inv.owns));
       fresh = All-same (λ row. AreOut (map (λ g'. view g'.pass) row.items) []) _ _ more.items
           (All-push (λ row. AreOut (map (λ g'. view g'.pass) row.items) []) c.loop.rows.items _ inv.fresh
           (fresh_out (λ g'. view g'.pass) 1 _

@@ -1,7 +1,7 @@
 use Rattle.std.proofs.Common.{map, ap, ◌∙◌, arith}
 use Rattle.deque_rule.specs.declared.ledger.Ledger.{Ledger}
 use Rattle.deque_rule.specs.Ledgers.{weigh}
-use Rattle.worker_deques.proofs.desks.desk.Goals as goal
+use Rattle.worker_deques.proofs.worker_states.make_worker_state.Goals as goal
 
 pub invariant_of-result : goal.invariant_of-result
 invariant_of-result g c =

@@ -3,23 +3,23 @@
 ghost use Rattle.std.specs.Prelude.{◌≡◌, ◌≢◌, ◌<◌, ◌≤◌, ◌+◌, ◌⊎◌, ◌++◌, ◌∷◌, None, is_some, length, map, vec_len};
 ghost use Rattle.crossbeam_deque.specs.Handles.{stealer_deque, view, worker_deque, worker_view};
 ghost use Rattle.deque_rule.specs.Ledgers.{AreOut, all_shares, in_hand};
-ghost use Rattle.worker_deques.specs.Guests.{deques_of};
+ghost use Rattle.worker_deques.specs.Passes.{deques_of};
 
 use deque_rule::{Own, PopStep, StealHandle, StealPass, Task};
 
 /// What a worker has, and hands back: its deque, its passes at the deques of all workers, the task in hand and its
 /// finished places.
 #[derive(Drop)]
-pub struct Desk<T: Task> {
+pub struct WorkerState<T: Task> {
     pub own: Own<T>,
-    pub guests: Vec<StealPass<T>>,
+    pub passes: Vec<StealPass<T>>,
     /// The task of a look, or one that its deque refused.
     pub task: Option<Box<T>>,
     pub finished: Vec<Box<T>>,
-    pub ghost shares: { (worker_view own).shares + vec_len guests + 1 ≡ all_shares },
+    pub ghost shares: { (worker_view own).shares + vec_len passes + 1 ≡ all_shares },
     pub ghost some: { 0 < (worker_view own).shares },
     // What it took and didn't push is in hand or finished.
-    pub ghost out: { AreOut (worker_view own ∷ map (λ g. view g.pass) guests.items)
+    pub ghost out: { AreOut (worker_view own ∷ map (λ g. view g.pass) passes.items)
         (in_hand (λ b. T.number_of b.value) task ++ map (λ b. T.number_of b.value) finished.items) },
 }
 
@@ -39,12 +39,12 @@ fn victim(worker: u32, attempt: usize, workers: usize) -> usize
     }
 }
 
-impl<T: Task> Desk<T> {
+impl<T: Task> WorkerState<T> {
     // The first task of its own deque, if there is one.
     fn pop(&mut self)
         requires empty { self.old.task ≡ None }
         ensures own { worker_deque self.new.own ≡ worker_deque self.old.own }
-        ensures guests { self.new.guests ≡ self.old.guests }
+        ensures passes { self.new.passes ≡ self.old.passes }
     {
         self.task = self.own.pop_as::<PopStep>();
     }
@@ -53,20 +53,20 @@ impl<T: Task> Desk<T> {
     fn steal(&mut self, stealers: &[StealHandle<T>], from: usize)
         requires empty { self.old.task ≡ None }
         requires from { from < length stealers.now }
-        requires deques { deques_of self.old.guests.items ≡ map stealer_deque stealers.now }
+        requires deques { deques_of self.old.passes.items ≡ map stealer_deque stealers.now }
         ensures own { self.new.own ≡ self.old.own }
-        ensures deques { deques_of self.new.guests.items ≡ deques_of self.old.guests.items }
+        ensures deques { deques_of self.new.passes.items ≡ deques_of self.old.passes.items }
     {
-        self.task = self.guests[from].steal(&stealers[from]);
+        self.task = self.passes[from].steal(&stealers[from]);
     }
 
     /// Takes a task in hand, if none is: the first of its own deque; if there is none, by one attempt at each other
     /// worker's deque, going up from its own number plus one and round. Returns whether a task is in hand.
     pub fn find(&mut self, stealers: &[StealHandle<T>], worker: u32) -> bool
         requires worker { worker < length stealers.now }
-        requires deques { deques_of self.old.guests.items ≡ map stealer_deque stealers.now }
+        requires deques { deques_of self.old.passes.items ≡ map stealer_deque stealers.now }
         ensures own { worker_deque self.new.own ≡ worker_deque self.old.own }
-        ensures deques { deques_of self.new.guests.items ≡ map stealer_deque stealers.now }
+        ensures deques { deques_of self.new.passes.items ≡ map stealer_deque stealers.now }
         ensures found { result ≡ is_some self.new.task }
     {
         if self.task.is_none() {

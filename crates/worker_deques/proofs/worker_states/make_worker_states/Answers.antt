@@ -6,14 +6,14 @@ use Rattle.std.proofs.lemmas.Iterator.Adapters.{YieldsList-from_vec}
 use Rattle.crossbeam_deque.specs.Handles.{view, worker_deque, worker_view}
 use Rattle.deque_rule.specs.Deques.{deque_of}
 use Rattle.deque_rule.specs.Ledgers.{AreOut, all_shares, ledger}
-use Rattle.worker_deques.specs.Guests.{deques_of}
+use Rattle.worker_deques.specs.Passes.{deques_of}
 use Rattle.worker_deques.proofs.Pushed.{both_pushed}
 use Rattle.worker_deques.proofs.Views.{as_many}
-use Rattle.worker_deques.proofs.desks.make_desks.Goals as goal
+use Rattle.worker_deques.proofs.worker_states.make_worker_states.Goals as goal
 
 -- the row that was popped is of all deques
-pub desk-requires-clause-few : goal.desk-requires-clause-few
-desk-requires-clause-few g c =
+pub make_worker_state-requires-clause-few : goal.make_worker_state-requires-clause-few
+make_worker_state-requires-clause-few g c =
     let row = c.in-Some-pop.row in
     let theirs = All-pop (λ row. deques_of row.items ≡ map worker_deque c.args.owns.items) _ c.pop.new.self.items (Some row)
     c.in-Some-pop.ensures.items c.loop-own.invariant.theirs in
@@ -21,8 +21,8 @@ desk-requires-clause-few g c =
     let f = c.requires.few in
     omega (arith, row.ok.0, c.args.owns.ok.0)
 
-pub desk-requires-clause-new : goal.desk-requires-clause-new
-desk-requires-clause-new g c =
+pub make_worker_state-requires-clause-new : goal.make_worker_state-requires-clause-new
+make_worker_state-requires-clause-new g c =
     let row = c.in-Some-pop.row in
     let theirs = All-pop (λ row. deques_of row.items ≡ map worker_deque c.args.owns.items) _ c.pop.new.self.items (Some row)
     c.in-Some-pop.ensures.items c.loop-own.invariant.theirs in
@@ -32,8 +32,8 @@ desk-requires-clause-new g c =
     let new = subst (λ o. worker_view o ≡ ledger (all_shares - 1 - vec_len c.args.owns) [] []) (sym turn.1) (c.in_ok-owns.ensures.left _ _ turn.0) in
     new ∙ ap (λ k. ledger (all_shares - 1 - k) [] []) (omega (arith, row.ok.0, c.args.owns.ok.0))
 
-pub desk-requires-clause-fresh : goal.desk-requires-clause-fresh
-desk-requires-clause-fresh g c =
+pub make_worker_state-requires-clause-fresh : goal.make_worker_state-requires-clause-fresh
+make_worker_state-requires-clause-fresh g c =
     (All-pop (λ row. AreOut (map (λ g'. view g'.pass) row.items) []) _ c.pop.new.self.items (Some c.in-Some-pop.row) c.in-Some-pop.ensures.items
     c.loop-own.invariant.fresh).1
 
@@ -49,16 +49,16 @@ pub loop-own-preserved : goal.loop-own-preserved
 loop-own-preserved g c =
     let inv = c.loop-own.invariant in
     let row = c.in-Some-pop.row in
-    let said = c.in_ok-desk.ensures in
+    let said = c.in_ok-make_worker_state.ensures in
     let more = c.push_reserved.ensures in
     let theirs = All-pop (λ row. deques_of row.items ≡ map worker_deque c.args.owns.items) _ c.pop.new.self.items (Some row)
     c.in-Some-pop.ensures.items inv.theirs in
     record {
       owns = both_pushed (λ d. worker_deque d.own) worker_deque c.loop-own.all.items _ c.loop-own.yielded _ _ c.in-Some.own more.items refl
           (ap worker_deque said.own) inv.owns;
-      guests = All-same (λ d. deques_of d.guests.items ≡ map worker_deque c.args.owns.items) _ _ more.items
-          (All-push (λ d. deques_of d.guests.items ≡ map worker_deque c.args.owns.items) c.loop-own.all.items _ inv.guests
-          (ap (λ gs. deques_of gs.items) said.guests ∙ theirs.1));
+      passes = All-same (λ d. deques_of d.passes.items ≡ map worker_deque c.args.owns.items) _ _ more.items
+          (All-push (λ d. deques_of d.passes.items ≡ map worker_deque c.args.owns.items) c.loop-own.all.items _ inv.passes
+          (ap (λ gs. deques_of gs.items) said.passes ∙ theirs.1));
       places = All-same (λ d. c.args.tasks ≤ vec_capacity d.finished) _ _ more.items
           (All-push (λ d. c.args.tasks ≤ vec_capacity d.finished) c.loop-own.all.items _ inv.places said.places);
       room = omega (arith, more.capacity, inv.room);
@@ -76,7 +76,7 @@ unreachable-requires g c =
     let i = c.loop-own.invariant.rows in
     omega (arith, turn.0, c.args.owns.ok.0, c.loop-own.rows.ok.0)
 
--- at the end each deque has a desk
+-- at the end each deque has a state
 pub returns-clause-owns : goal.returns-clause-owns
 returns-clause-owns g c =
     let end = YieldsList-end (YieldsList-from_vec {s = c.into_iter-own-iterator.result} c.in_ok-owns.owns.items (search rules) (search rules))

@@ -2,13 +2,13 @@ use Rattle.std.proofs.Common.{◌≡◌, ◌≤◌, ◌+◌, [], length, map, ve
 use Rattle.std.specs.Prelude.{All}
 use Rattle.crossbeam_deque.specs.Handles.{view, worker_deque}
 use Rattle.deque_rule.specs.Ledgers.{AreOut}
-use Rattle.worker_deques.specs.Guests.{deques_of}
-use Rattle.worker_deques.proofs.desks.make_desks.Given as goal
+use Rattle.worker_deques.specs.Passes.{deques_of}
+use Rattle.worker_deques.proofs.worker_states.make_worker_states.Given as goal
 
 abbrev pub invariant-loop-own : goal.invariant-loop-own
 invariant-loop-own g l = record {
   owns : map (λ d. worker_deque d.own) l.all.items ≡ map worker_deque l.yielded;
-  guests : All (λ d. deques_of d.guests.items ≡ map worker_deque l.fn.owns.items) l.all.items;
+  passes : All (λ d. deques_of d.passes.items ≡ map worker_deque l.fn.owns.items) l.all.items;
   places : All (λ d. l.tasks ≤ vec_capacity d.finished) l.all.items;
   room : vec_len l.fn.owns ≤ vec_capacity l.all;
   rows : vec_len l.rows + length l.yielded ≡ vec_len l.fn.owns;

@@ -8,4 +8,4 @@ use Rattle.deque_rule.specs.declared.task.Task as task
 
 -- the deque of each pass
 abbrev pub deques_of : {T : Type 0} {t : task.Ghosts T} → List (StealPass T t) → List (RowsId × Global)
-deques_of guests = map (λ guest. deque_of guest.pass) guests
+deques_of passes = map (λ steal_pass. deque_of steal_pass.pass) passes

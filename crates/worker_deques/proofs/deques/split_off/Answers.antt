@@ -5,12 +5,12 @@ use Rattle.std.proofs.lemmas.Iterator.Adapters.{YieldsList-from_vec}
 use Rattle.crossbeam_deque.specs.Handles.{view, worker_deque, worker_view}
 use Rattle.deque_rule.specs.Deques.{deque_of}
 use Rattle.deque_rule.specs.Ledgers.{shares_of}
-use Rattle.worker_deques.specs.Guests.{deques_of}
+use Rattle.worker_deques.specs.Passes.{deques_of}
 use Rattle.worker_deques.proofs.Pushed.{both_pushed}
 use Rattle.worker_deques.proofs.Views.{as_many}
-use Rattle.worker_deques.proofs.deques.cut.Given.{Over}
-use Rattle.worker_deques.proofs.deques.cut.Goals.{In-Some}
-use Rattle.worker_deques.proofs.deques.cut.Goals as goal
+use Rattle.worker_deques.proofs.deques.split_off.Given.{Over}
+use Rattle.worker_deques.proofs.deques.split_off.Goals.{In-Some}
+use Rattle.worker_deques.proofs.deques.split_off.Goals as goal
 
 -- the deque of a turn
 turn : (g : Over) (c : In-Some g)
@@ -28,8 +28,8 @@ another-requires g c =
 pub push_reserved-requires : goal.push_reserved-requires
 push_reserved-requires g c =
     let inv = c.loop-own.invariant in
-    let many = as_many worker_deque (λ g'. deque_of g'.pass) c.loop-own.yielded c.loop-own.guests.items inv.guests in
-    omega (arith, (turn g (goal.at.push_reserved-requires g c).In-Some).0, inv.room.1, many, c.args.owns.ok.0, c.loop-own.guests.ok.0)
+    let many = as_many worker_deque (λ g'. deque_of g'.pass) c.loop-own.yielded c.loop-own.passes.items inv.passes in
+    omega (arith, (turn g (goal.at.push_reserved-requires g c).In-Some).0, inv.room.1, many, c.args.owns.ok.0, c.loop-own.passes.ok.0)
 
 pub push_reserved-requires-in-loop-own : goal.push_reserved-requires-in-loop-own
 push_reserved-requires-in-loop-own g c =
@@ -40,13 +40,13 @@ push_reserved-requires-in-loop-own g c =
 pub loop-own-init : goal.loop-own-init
 loop-own-init g c =
     let lefts = c.in_ok-lefts.ensures in
-    let guests = c.in_ok-guests.ensures in
+    let passes = c.in_ok-passes.ensures in
     record {
-      room = (omega (arith, lefts.capacity, c.len-count.ensures), omega (arith, guests.capacity, c.len-count.ensures));
+      room = (omega (arith, lefts.capacity, c.len-count.ensures), omega (arith, passes.capacity, c.len-count.ensures));
       owns = ap (map worker_deque) lefts.items;
       left = ap (map worker_view) lefts.items;
-      guests = ap deques_of guests.items;
-      right = ap (map (λ g'. view g'.pass)) guests.items;
+      passes = ap deques_of passes.items;
+      right = ap (map (λ g'. view g'.pass)) passes.items;
     }
 
 pub loop-own-preserved : goal.loop-own-preserved
@@ -56,14 +56,14 @@ loop-own-preserved g c =
     let said = c.another.ensures in
     let pass = c.new.ensures.pass in
     let lefts = c.push_reserved-in-loop-own.ensures in
-    let guests = c.push_reserved.ensures in
+    let passes = c.push_reserved.ensures in
     record {
-      room = (omega (arith, lefts.capacity, inv.room.0), omega (arith, guests.capacity, inv.room.1));
+      room = (omega (arith, lefts.capacity, inv.room.0), omega (arith, passes.capacity, inv.room.1));
       owns = both_pushed worker_deque worker_deque _ _ c.loop-own.yielded _ _ own lefts.items refl said.same.0.0 inv.owns;
       left = both_pushed worker_view (λ o. g.M.Split.left (worker_view o)) _ _ c.loop-own.yielded _ _ own lefts.items refl said.rule.0 inv.left;
-      guests = both_pushed (λ g'. deque_of g'.pass) worker_deque _ _ c.loop-own.yielded _ _ own guests.items refl
-          (ap deque_of pass ∙ (λ k. (said.same.2.0 k, said.same.2.1 k))) inv.guests;
-      right = both_pushed (λ g'. view g'.pass) (λ o. g.M.Split.right (worker_view o)) _ _ c.loop-own.yielded _ _ own guests.items refl
+      passes = both_pushed (λ g'. deque_of g'.pass) worker_deque _ _ c.loop-own.yielded _ _ own passes.items refl
+          (ap deque_of pass ∙ (λ k. (said.same.2.0 k, said.same.2.1 k))) inv.passes;
+      right = both_pushed (λ g'. view g'.pass) (λ o. g.M.Split.right (worker_view o)) _ _ c.loop-own.yielded _ _ own passes.items refl
           (ap view pass ∙ said.rule.1) inv.right;
     }
 
@@ -76,6 +76,6 @@ returns g c =
     record {
       owns = inv.owns ∙ ap (map worker_deque) all;
       left = inv.left ∙ ap (map (λ o. g.M.Split.left (worker_view o))) all;
-      guests = inv.guests ∙ ap (map worker_deque) all;
+      passes = inv.passes ∙ ap (map worker_deque) all;
       right = inv.right ∙ ap (map (λ o. g.M.Split.right (worker_view o))) all;
     }
