@@ -1,4 +1,4 @@
 pub mod Joined
-mod Ends
 mod InHand
+mod NoneRefused
 mod Numbers

@@ -6,7 +6,7 @@
 //! leaves is a fact of the node's type (`actor`).
 //!
 //! In reading order: `looks` is what a worker does, `signals` what workers see of one another, `threads` starts and
-//! joins the workers, `run` is all of a run, `told` says which fault it has if turns of its nodes ended early, and
+//! joins the workers, `run` is all of a run, `refusals` says which fault it has if turns of its nodes ended early, and
 //! `faults` which faults there are.
 //! `node_pool` makes nodes and links, `outcomes` gathers them.
 //!
@@ -20,10 +20,10 @@
 
 mod faults;
 mod looks;
+mod refusals;
 mod run;
 mod signals;
 mod threads;
-mod told;
 
 pub use faults::NodesFault;
 pub use run::run_nodes;

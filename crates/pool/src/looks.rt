@@ -15,7 +15,7 @@ use worker_deques::WorkerState;
 
 /// What all workers share besides the deques.
 #[derive(Drop)]
-pub struct Crew<'a, J: Wiring, P: NodeProgram, G: Gate> {
+pub struct Shared<'a, J: Wiring, P: NodeProgram, G: Gate> {
     pub links: &'a Links<J, P>,
     pub gate: &'a G,
     pub signals: &'a Signals,
@@ -44,18 +44,18 @@ fn put_back<J: Wiring, P: NodeProgram>(signals: &Signals, state: &mut WorkerStat
 // A turn of a node. Returns whether the node did something, or the refusal that it remembers.
 fn turn<J: Wiring, P: NodeProgram, R: Wait, G: Gate>(
     rt: &R,
-    crew: &Crew<J, P, G>,
+    shared: &Shared<J, P, G>,
     worker: u32,
     node: &mut Box<Node<J, P>>,
 ) -> Result<bool, TurnRefused>
     ensures vertex { node.new.value.vertex ≡ node.old.value.vertex }
     ensures refusal { refusal_of node.new.value ≡ remembered (refusal_of node.old.value) result }
 {
-    crew.gate.enter(rt, worker, node.vertex);
-    let turned = node.turn(rt, crew.links, crew.gate, worker);
-    crew.gate.leave(rt, worker, node.vertex);
+    shared.gate.enter(rt, worker, node.vertex);
+    let turned = node.turn(rt, shared.links, shared.gate, worker);
+    shared.gate.leave(rt, worker, node.vertex);
     if turned.is_err() || node.aside.is_some() {
-        crew.signals.fail();
+        shared.signals.fail();
     }
     turned
 }
@@ -63,7 +63,7 @@ fn turn<J: Wiring, P: NodeProgram, R: Wait, G: Gate>(
 // A turn of the node in hand, if there is one.
 fn turn_in_hand<J: Wiring, P: NodeProgram, R: Wait, G: Gate>(
     rt: &R,
-    crew: &Crew<J, P, G>,
+    shared: &Shared<J, P, G>,
     worker: u32,
     state: &mut WorkerState<Node<J, P>>,
 ) -> Result<bool, TurnRefused>
@@ -71,7 +71,7 @@ fn turn_in_hand<J: Wiring, P: NodeProgram, R: Wait, G: Gate>(
     ensures passes { state.new.passes ≡ state.old.passes }
 {
     match &mut state.task {
-        Some(node) => turn(rt, crew, worker, node),
+        Some(node) => turn(rt, shared, worker, node),
         None => Ok(false),
     }
 }
@@ -80,7 +80,7 @@ fn turn_in_hand<J: Wiring, P: NodeProgram, R: Wait, G: Gate>(
 // why its turn ended early.
 fn look<J: Wiring, P: NodeProgram, R: Wait, G: Gate>(
     rt: &R,
-    crew: &Crew<J, P, G>,
+    shared: &Shared<J, P, G>,
     stealers: &[StealHandle<Node<J, P>>],
     worker: u32,
     state: &mut WorkerState<Node<J, P>>,
@@ -93,15 +93,15 @@ fn look<J: Wiring, P: NodeProgram, R: Wait, G: Gate>(
     if !state.find(stealers, worker) {
         return Ok(false);
     }
-    let turned = turn_in_hand(rt, crew, worker, state);
-    put_back(crew.signals, state);
+    let turned = turn_in_hand(rt, shared, worker, state);
+    put_back(shared.signals, state);
     turned
 }
 
 /// Makes the looks of a worker, and none after a turn that ended early. The node remembers why its turn did.
 pub fn work<J: Wiring, P: NodeProgram, R: Wait, G: Gate>(
     rt: &R,
-    crew: &Crew<J, P, G>,
+    shared: &Shared<J, P, G>,
     stealers: &[StealHandle<Node<J, P>>],
     worker: u32,
     mut state: WorkerState<Node<J, P>>,
@@ -111,11 +111,11 @@ pub fn work<J: Wiring, P: NodeProgram, R: Wait, G: Gate>(
     ensures own { worker_deque result.own ≡ worker_deque state.own }
     ensures deques { deques_of result.passes.items ≡ map stealer_deque stealers.now }
 {
-    for _ in 0..crew.looks {
-        if crew.signals.is_over(crew.nodes) {
+    for _ in 0..shared.looks {
+        if shared.signals.is_over(shared.nodes) {
             break;
         }
-        match look(rt, crew, stealers, worker, &mut state) {
+        match look(rt, shared, stealers, worker, &mut state) {
             Ok(true) => {}
             Ok(false) => thread::yield_now(),
             Err(_) => break,

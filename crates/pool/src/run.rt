@@ -7,10 +7,10 @@ ghost use Rattle.worker_deques.specs.Passes.{deques_of};
 ghost use Rattle.actor.specs.Stepped.{refusal_of};
 
 use crate::faults::{NodesFault, ThreadsFault};
-use crate::looks::Crew;
+use crate::looks::Shared;
+use crate::refusals::fault_of_refusals;
 use crate::signals::Signals;
 use crate::threads::{join_all, start_all};
-use crate::told::told;
 use actor::{Gate, Links, Node, Wiring};
 use crossbeam_deque::protocol::Split;
 use deque_rule::Ledger;
@@ -57,14 +57,14 @@ fn run_all<J: Wiring + Send + Sync, P: NodeProgram, G: Gate + Sync, R: Threads +
     let (owns, dealt) = split_off::<Node<J, P>, Dealt>(alloc, owns)?;
     let states = make_worker_states(alloc, count, owns)?;
     let signals = Signals::new();
-    let shared = Crew {
+    let common = Shared {
         links,
         gate,
         signals: &signals,
         nodes: count as u64,
         looks: options.turns,
     };
-    let (crew, stealers) = (&shared, stealers.as_slice());
+    let (shared, stealers) = (&common, stealers.as_slice());
     let done = thread::scope(
         thread::scope_env(),
         rt,
@@ -76,8 +76,8 @@ fn run_all<J: Wiring + Send + Sync, P: NodeProgram, G: Gate + Sync, R: Threads +
             ensures passes { IfOk result (λ done. map (λ d. deques_of d.passes.items) done.items
                 ≡ map (λ d. deques_of d.passes.items) states.items) }
         {
-            let children = start_all(scope, rt, alloc, crew, stealers, states)?;
-            Ok(join_all(rt, crew.signals, children)?)
+            let children = start_all(scope, rt, alloc, shared, stealers, states)?;
+            Ok(join_all(rt, shared.signals, children)?)
         },
     )?;
     Ok(gather(rt, alloc, places, dealt, done)?)
@@ -90,7 +90,7 @@ fn run_all<J: Wiring + Send + Sync, P: NodeProgram, G: Gate + Sync, R: Threads +
 ///
 /// `Memory` if memory is refused, also for an entry of a node: its worker stops at once. `Spawn` if a thread is
 /// refused. `StampFull` if a stamp of a node would pass 18446744073709551615, and there is no other fault: its worker
-/// stops at once. Which of these it is, no clause says here; `told` has one. The workers that had begun are joined.
+/// stops at once. Which of these it is, a clause of `fault_of_refusals` says. The workers that had begun are joined.
 pub fn run_nodes<J: Wiring + Send + Sync, P: NodeProgram, G: Gate + Sync, R: Threads + Wait + Sync>(
     rt: &R,
     alloc: Global,
@@ -105,6 +105,6 @@ pub fn run_nodes<J: Wiring + Send + Sync, P: NodeProgram, G: Gate + Sync, R: Thr
     ensures none_refused { IfOk result (λ all. All (λ b. refusal_of b.value ≡ None) all.items) }
 {
     let nodes = run_all(rt, alloc, links, gate, nodes, options)?;
-    told(nodes.as_slice())?;
+    fault_of_refusals(nodes.as_slice())?;
     Ok(nodes)
 }

@@ -6,7 +6,7 @@ ghost use Rattle.worker_deques.specs.Passes.{deques_of};
 ghost use Rattle.pool.specs.declared.faults.ThreadsFault.TheVariants.{Spawn};
 
 use crate::faults::ThreadsFault;
-use crate::looks::{Crew, work};
+use crate::looks::{Shared, work};
 use crate::signals::Signals;
 use actor::{Gate, Node, Wiring};
 use deque_rule::{StealHandle, Task};
@@ -27,7 +27,7 @@ pub type Child<T: Task> = PromisedHandle<WorkerState<T>, SameDeques<T>>;
 fn start<'s, E, J: Wiring + Send + Sync, P: NodeProgram, G: Gate + Sync, R: Threads + Wait + Sync>(
     scope: &Scope<'s, E>,
     rt: &'s R,
-    crew: &'s Crew<'s, J, P, G>,
+    shared: &'s Shared<'s, J, P, G>,
     stealers: &'s [StealHandle<Node<J, P>>],
     worker: u32,
     state: WorkerState<Node<J, P>>,
@@ -44,12 +44,12 @@ fn start<'s, E, J: Wiring + Send + Sync, P: NodeProgram, G: Gate + Sync, R: Thre
                 × (deques_of state.passes.items ≡ map stealer_deque stealers.now) }
             ensures { (worker_deque result.own ≡ worker_deque state.own)
                 × (deques_of result.passes.items ≡ deques_of state.passes.items) }
-        { work(rt, crew, stealers, worker, state) },
+        { work(rt, shared, stealers, worker, state) },
     );
     match started {
         Ok(child) => Ok(child),
         Err(_) => {
-            crew.signals.fail();
+            shared.signals.fail();
             Err(ThreadsFault::Spawn)
         }
     }
@@ -72,7 +72,7 @@ pub fn start_all<
     scope: &Scope<'s, E>,
     rt: &'s R,
     alloc: Global,
-    crew: &'s Crew<'s, J, P, G>,
+    shared: &'s Shared<'s, J, P, G>,
     stealers: &'s [StealHandle<Node<J, P>>],
     states: Vec<WorkerState<Node<J, P>>>,
 ) -> Result<Vec<Child<Node<J, P>>>, ThreadsFault>
@@ -84,7 +84,7 @@ pub fn start_all<
     let mut children = Vec::with_capacity(alloc, states.len())?;
     let mut worker = 0;
     for state in states {
-        children.push_reserved(start(scope, rt, crew, stealers, worker, state)?);
+        children.push_reserved(start(scope, rt, shared, stealers, worker, state)?);
         worker += 1;
     }
     Ok(children)

@@ -1,10 +1,11 @@
 use Rattle.std.proofs.Common.{false, map, sym, ap, ◌∙◌}
-use Rattle.pool.specs.Ends.{told_after}
-use Rattle.pool.proofs.Ends.{none_refused}
+use Rattle.pool.specs.Refusals.{fault_of_refusals}
+use Rattle.pool.proofs.NoneRefused.{none_refused}
 use Rattle.pool.proofs.run.run_nodes.Goals as goal
 
 -- none of them remembers a refusal, since none was reported
 pub returns-clause-none_refused : goal.returns-clause-none_refused
 returns-clause-none_refused g c =
     none_refused (tt {0}) (λ b. b.value.refusal) c.in_ok-nodes.nodes.items (tt {0})
-    (ap (λ nodes. told_after (tt {0}) (map (λ b. b.value.refusal) nodes) false) (sym c.as_slice.ensures.value) ∙ sym c.told.ensures.told ∙ c.in_ok-told.was)
+    (ap (λ nodes. fault_of_refusals (tt {0}) (map (λ b. b.value.refusal) nodes) false) (sym c.as_slice.ensures.value)
+    ∙ sym c.fault_of_refusals.ensures.fault ∙ c.in_ok-fault_of_refusals.was)

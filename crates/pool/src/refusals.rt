@@ -2,7 +2,7 @@
 
 ghost use Rattle.std.specs.Prelude.{◌≡◌, false, map};
 ghost use Rattle.actor.specs.Stepped.{refusal_of};
-ghost use Rattle.pool.specs.Ends.{told_after};
+ghost use Rattle.pool.specs.Refusals.{fault_of_refusals};
 
 use actor::{Node, TurnRefused, Wiring};
 use node_api::NodeProgram;
@@ -12,8 +12,10 @@ use node_api::NodeProgram;
 /// # Errors
 ///
 /// `Memory` if a node was refused memory; `StampFull` if none was, and a stamp of one would pass 18446744073709551615.
-pub fn told<J: Wiring, P: NodeProgram>(nodes: &[Box<Node<J, P>>]) -> Result<(), TurnRefused>
-    ensures told { result ≡ told_after tt (map (λ b. refusal_of b.value) nodes.now) false }
+pub fn fault_of_refusals<J: Wiring, P: NodeProgram>(
+    nodes: &[Box<Node<J, P>>],
+) -> Result<(), TurnRefused>
+    ensures fault { result ≡ fault_of_refusals tt (map (λ b. refusal_of b.value) nodes.now) false }
 {
     let mut full = false;
     for node in nodes {

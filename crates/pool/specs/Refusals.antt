@@ -5,9 +5,9 @@ use Rattle.actor.specs.declared.refused.TurnRefused.TheVariants.{Memory, StampFu
 
 -- What a run reports of the refusals that its nodes remember: memory first, and then a stamp that would be too great,
 -- also if one was before.
-abbrev pub told_after : {A : Type 0} → A → List (Option TurnRefused) → Bool → Result A TurnRefused
-told_after done [] true = Err StampFull
-told_after done [] false = Ok done
-told_after done (None ∷ refusals) full = told_after done refusals full
-told_after done (Some Memory ∷ refusals) full = Err Memory
-told_after done (Some StampFull ∷ refusals) full = told_after done refusals true
+abbrev pub fault_of_refusals : {A : Type 0} → A → List (Option TurnRefused) → Bool → Result A TurnRefused
+fault_of_refusals done [] true = Err StampFull
+fault_of_refusals done [] false = Ok done
+fault_of_refusals done (None ∷ refusals) full = fault_of_refusals done refusals full
+fault_of_refusals done (Some Memory ∷ refusals) full = Err Memory
+fault_of_refusals done (Some StampFull ∷ refusals) full = fault_of_refusals done refusals true
