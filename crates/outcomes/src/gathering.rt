@@ -9,7 +9,7 @@ ghost use Rattle.outcomes.specs.Full.{some_full};
 use crate::cross::crossed;
 use crate::meeting::meet_rows;
 use crate::outcome::Outcome;
-use crate::taking_apart::{NodesAndEnds, apart};
+use crate::taking_apart::{NodesAndEnds, split_ends};
 use actor::{Links, Node, Wiring};
 use interference::{Memory, Network};
 use node_api::NodeProgram;
@@ -41,7 +41,7 @@ pub fn gathered<J: Wiring, P: NodeProgram, R: Wait>(
         actors,
         puts,
         takes,
-    } = apart(alloc, nodes)?;
+    } = split_ends(alloc, nodes)?;
     let takes = crossed(alloc, net, takes)?;
     let links = meet_rows(rt, alloc, links, puts, takes)?;
     Ok(Outcome { actors, links })

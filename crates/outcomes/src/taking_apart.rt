@@ -101,7 +101,7 @@ fn none_yet<J: Wiring, P: NodeProgram>(
 /// # Errors
 ///
 /// `AllocError` if memory is refused.
-pub fn apart<J: Wiring, P: NodeProgram>(
+pub fn split_ends<J: Wiring, P: NodeProgram>(
     alloc: Global,
     nodes: Vec<Box<Node<J, P>>>,
 ) -> Result<NodesAndEnds<J, P>, AllocError>

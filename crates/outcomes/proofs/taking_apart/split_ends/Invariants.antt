@@ -1,6 +1,6 @@
 use Rattle.std.proofs.Common.{◌≡◌, ◌≤◌, map, vec_len, vec_capacity}
 use Rattle.entries.specs.Recorded.{entries_by}
-use Rattle.outcomes.proofs.taking_apart.apart.Given as goal
+use Rattle.outcomes.proofs.taking_apart.split_ends.Given as goal
 
 abbrev pub invariant-loop-node : goal.invariant-loop-node
 invariant-loop-node g l = record {

@@ -5,9 +5,9 @@ use Rattle.std.proofs.lemmas.Iterator.Adapters.{YieldsList-from_vec}
 use Rattle.entries.specs.Recorded.{entries_by}
 use Rattle.worker_deques.proofs.Views.{as_many}
 use Rattle.outcomes.proofs.ReadLists.{both_pushed}
-use Rattle.outcomes.proofs.taking_apart.apart.Given.{Over}
-use Rattle.outcomes.proofs.taking_apart.apart.Goals.{In-Some}
-use Rattle.outcomes.proofs.taking_apart.apart.Goals as goal
+use Rattle.outcomes.proofs.taking_apart.split_ends.Given.{Over}
+use Rattle.outcomes.proofs.taking_apart.split_ends.Goals.{In-Some}
+use Rattle.outcomes.proofs.taking_apart.split_ends.Goals as goal
 
 left : (g : Over) (c : In-Some g) → length c.loop-node.yielded < length c.args.nodes.items
 left g c =
