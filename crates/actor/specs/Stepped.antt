@@ -15,11 +15,11 @@ use Rattle.actor.specs.declared.refused.TurnRefused.TheVariants.{Memory, StampFu
 
 -- the refusal that a node remembers after a turn: that memory was refused, if it ever was, or else why the last turn that
 -- ended early did
-abbrev pub remembered : Option TurnRefused → Result Bool TurnRefused → Option TurnRefused
-remembered old (Ok did) = old
-remembered (Some Memory) (Err error) = Some Memory
-remembered None (Err error) = Some error
-remembered (Some StampFull) (Err error) = Some error
+abbrev pub refusal_after : Option TurnRefused → Result Bool TurnRefused → Option TurnRefused
+refusal_after old (Ok did) = old
+refusal_after (Some Memory) (Err error) = Some Memory
+refusal_after None (Err error) = Some error
+refusal_after (Some StampFull) (Err error) = Some error
 
 module _ {J P T : Type 0} {j : wiring.Ghosts J} {p : program.Ghosts P T} {t : text.Ghosts T}
     {q : equality.Ghosts T} where

@@ -8,7 +8,7 @@ ghost use Rattle.actor.specs.Blocked.{HasPutRoom, HasTakeRoom, IsUnmoved, PutBlo
 ghost use Rattle.entries.specs.Recorded.{HasRoom};
 ghost use Rattle.actor.specs.Counted.{CountsOn, CountsPut, CountsTake, events_of};
 ghost use Rattle.actor.specs.HasStamps.{aside_stamp};
-ghost use Rattle.actor.specs.Stepped.{Stepped, Turned, refusal_of, remembered};
+ghost use Rattle.actor.specs.Stepped.{Stepped, Turned, refusal_after, refusal_of};
 
 use crate::aside::{Aside, WhyAside};
 use crate::gate::Gate;
@@ -337,7 +337,7 @@ impl<J: Wiring, P: NodeProgram> Node<J, P> {
         worker: u32,
     ) -> Result<bool, TurnRefused>
         ensures vertex { self.new.vertex ≡ self.old.vertex }
-        ensures refusal { refusal_of self.new ≡ remembered (refusal_of self.old) result }
+        ensures refusal { refusal_of self.new ≡ refusal_after (refusal_of self.old) result }
         ensures counted { CountsOn self.old self.new }
         ensures aside { IfOk result (λ did. IsSome self.new.aside → did ≡ false) }
         ensures moved { IfOk result (λ did. did ≡ true → events_of self.old < events_of self.new) }

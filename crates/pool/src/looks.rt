@@ -3,7 +3,7 @@
 ghost use Rattle.std.specs.Prelude.{◌≡◌, ◌<◌, length, map};
 ghost use Rattle.crossbeam_deque.specs.Handles.{stealer_deque, worker_deque};
 ghost use Rattle.worker_deques.specs.Passes.{deques_of};
-ghost use Rattle.actor.specs.Stepped.{refusal_of, remembered};
+ghost use Rattle.actor.specs.Stepped.{refusal_after, refusal_of};
 
 use crate::signals::Signals;
 use actor::{Gate, Links, Node, TurnRefused, Wiring};
@@ -49,7 +49,7 @@ fn turn<J: Wiring, P: NodeProgram, R: Wait, G: Gate>(
     node: &mut Box<Node<J, P>>,
 ) -> Result<bool, TurnRefused>
     ensures vertex { node.new.value.vertex ≡ node.old.value.vertex }
-    ensures refusal { refusal_of node.new.value ≡ remembered (refusal_of node.old.value) result }
+    ensures refusal { refusal_of node.new.value ≡ refusal_after (refusal_of node.old.value) result }
 {
     shared.gate.enter(rt, worker, node.vertex);
     let turned = node.turn(rt, shared.links, shared.gate, worker);
