@@ -2,4 +2,4 @@ mod Numbers
 mod Readings
 mod Plays
 mod Scripts
-mod Told
+mod Written

@@ -1,4 +1,4 @@
--- A script that is played event by event: one event more (play-next), and the fault at one that isn't possible (fault-told).
+-- A script that is played event by event: one event more (play-next), and the fault at one that isn't possible (fault-reported).
 use Rattle.std.proofs.Common.{◌≡◌, ◌≢◌, ◌+◌, ◌<◌, ◌∙◌, ℕ, suc, [], ◌∷◌, take, drop, length, get_or, Ok, Err, ap, arith}
 use Rattle.std.proofs.lemmas.List.{map-append}
 use Rattle.interference.specs.Net.{Net}
@@ -10,7 +10,7 @@ use Rattle.event_machine.specs.State.{State}
 use Rattle.event_machine.specs.Step.{run, step}
 use Rattle.event_machine.proofs.Parts.{take-split}
 use Rattle.event_machine.proofs.Reached.{run_push}
-use Rattle.event_texts.specs.Played.{IsFaultOfRun, IsFaultOfStep, IsRefusal, IsToldOfStep, events_in, fault_with}
+use Rattle.event_texts.specs.Played.{IsFaultOfRun, IsFaultOfStep, IsRefusal, IsRefusalOfStep, events_in, fault_with}
 use Rattle.event_texts.specs.Reading.{Script}
 use Rattle.event_texts.specs.declared.fault.EventFault.{EventFault}
 use Rattle.event_texts.specs.declared.fault.EventFault.TheVariants.{LinkEmpty, Memory, NoEvent, NoSuch, NotReady, NothingToPut}
@@ -28,7 +28,7 @@ module _ {S M E : Type 0} (program : Program S M E) (net : Net) where
         ∙ run_push program net (events_in (take i script)) row.1 state next before made
 
     refusal : (reason : StepRefused) (fault : EventFault) → step program net state row.1 ≡ Err reason →
-        IsFaultOfStep program net state row.0 row.1 reason fault → IsRefusal program net script fault
+        IsRefusalOfStep program net state row.0 row.1 reason fault → IsRefusal program net script fault
     refusal reason fault refuses is = record {
       before = take i script;
       line = row.0;
@@ -42,16 +42,16 @@ module _ {S M E : Type 0} (program : Program S M E) (net : Net) where
       is_fault = is;
     }
 
-    pub fault-told : (reason : StepRefused) (fault : EventFault) → (reason ≢ step_refused.Memory → step program net state row.1 ≡ Err reason) →
-        IsToldOfStep program net state row.0 row.1 reason fault → IsFaultOfRun program net script fault
-    fault-told reason Memory refuses is = tt
-    fault-told reason (NoEvent n) refuses is =
+    pub fault-reported : (reason : StepRefused) (fault : EventFault) → (reason ≢ step_refused.Memory → step program net state row.1 ≡ Err reason) →
+        IsFaultOfStep program net state row.0 row.1 reason fault → IsFaultOfRun program net script fault
+    fault-reported reason Memory refuses is = tt
+    fault-reported reason (NoEvent n) refuses is =
         refusal reason (NoEvent n) (refuses (λ e. let bad : NoEvent n ≡ Memory = is.is_fault ∙ ap (fault_with row.0 is.words) e in cc)) is
-    fault-told reason (NotReady n words) refuses is =
+    fault-reported reason (NotReady n words) refuses is =
         refusal reason (NotReady n words) (refuses (λ e. let bad : NotReady n words ≡ Memory = is.is_fault ∙ ap (fault_with row.0 is.words) e in cc)) is
-    fault-told reason (NothingToPut n words) refuses is =
+    fault-reported reason (NothingToPut n words) refuses is =
         refusal reason (NothingToPut n words) (refuses (λ e. let bad : NothingToPut n words ≡ Memory = is.is_fault ∙ ap (fault_with row.0 is.words) e in cc)) is
-    fault-told reason (LinkEmpty n words) refuses is =
+    fault-reported reason (LinkEmpty n words) refuses is =
         refusal reason (LinkEmpty n words) (refuses (λ e. let bad : LinkEmpty n words ≡ Memory = is.is_fault ∙ ap (fault_with row.0 is.words) e in cc)) is
-    fault-told reason (NoSuch n) refuses is =
+    fault-reported reason (NoSuch n) refuses is =
         refusal reason (NoSuch n) (refuses (λ e. let bad : NoSuch n ≡ Memory = is.is_fault ∙ ap (fault_with row.0 is.words) e in cc)) is

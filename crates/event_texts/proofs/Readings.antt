@@ -45,9 +45,9 @@ read-end lines n known left none e = e ∙ ap (read_from n known) none
 -- the fault of a line that is wrong where it stands
 pub fault-line : (lines : List Line) (n : ℕ) (wrong : Type 0) (fault : EventFault) → (wrong → read_from 1 [] lines ≡ Err n) → IsLineFault wrong n fault →
     IsFaultOfReading lines fault
-fault-line lines n wrong Memory told is = tt
-fault-line lines n wrong (NoEvent m) told is = told is.0 ∙ ap Err (sym is.1)
-fault-line lines n wrong (NotReady m words) told is = absurd is
-fault-line lines n wrong (NothingToPut m words) told is = absurd is
-fault-line lines n wrong (LinkEmpty m words) told is = absurd is
-fault-line lines n wrong (NoSuch m) told is = absurd is
+fault-line lines n wrong Memory reported is = tt
+fault-line lines n wrong (NoEvent m) reported is = reported is.0 ∙ ap Err (sym is.1)
+fault-line lines n wrong (NotReady m words) reported is = absurd is
+fault-line lines n wrong (NothingToPut m words) reported is = absurd is
+fault-line lines n wrong (LinkEmpty m words) reported is = absurd is
+fault-line lines n wrong (NoSuch m) reported is = absurd is

@@ -40,7 +40,7 @@ one-more : (known script : Script) (n : ℕ) (event : Event) (line : Line) (line
 one-more known script n event line lines e (more, is, rows) = (
   (n, event) ∷ more,
   is ∙ append_assoc known ((n, event) ∷ []) more,
-  ap (λ told. (n, told) ∷ map read_row lines) e ∙ ap (λ ts. (n, Some event) ∷ ts) rows,
+  ap (λ read. (n, read) ∷ map read_row lines) e ∙ ap (λ ts. (n, Some event) ∷ ts) rows,
 )
 
 -- one line, read forwards and backwards
@@ -130,7 +130,7 @@ reads ((word ∷ words) ∷ lines) n script e = by-word (is_event_word word) ref
     by-event (Some event) w r =
         let on = goes-on lines (n + 1) (n, event) [] script (pass n [] ((n, event) ∷ []) script (word ∷ words) lines
         (known-event n [] ((n, event) ∷ []) (word ∷ words) words word event refl (ap not w) r refl) e) in
-        ap (λ told. (n, told) ∷ map read_row (written (n + 1) lines)) r ∙ ap (λ ts. (n, Some event) ∷ ts) on.2 ∙ ap rows_of (sym on.1)
+        ap (λ read. (n, read) ∷ map read_row (written (n + 1) lines)) r ∙ ap (λ ts. (n, Some event) ∷ ts) on.2 ∙ ap rows_of (sym on.1)
 
     by-word : (b : Bool) → is_event_word word ≡ b → Later → map read_row (behind n ((word ∷ words) ∷ lines)) ≡ rows_of script
     by-word true w later = rw (w, event-word word w) (by-event (event_of (word ∷ words)) w refl)

@@ -26,7 +26,7 @@ fault_with line words step_refused.NoSuch = NoSuch line
 fault_with line words step_refused.Memory = Memory
 
 -- the same, with the words for what the event lacks in a state
-pub record IsFaultOfStep {S M E : Type 0} (program : Program S M E) (net : Net) (state : State S M) (line : ℕ)
+pub record IsRefusalOfStep {S M E : Type 0} (program : Program S M E) (net : Net) (state : State S M) (line : ℕ)
     (event : Event) (reason : StepRefused) (fault : EventFault) : Type 0 where
   pub words : Vec ℕ Global
   pub says : words.items ≡ missing_text program net state event
@@ -45,7 +45,7 @@ pub record IsRefusal {S M E : Type 0} (program : Program S M E) (net : Net) (scr
   pub is_run : run program net (events_in before) ≡ Ok reached
   pub reason : StepRefused
   pub refuses : step program net reached event ≡ Err reason
-  pub is_fault : IsFaultOfStep program net reached line event reason fault
+  pub is_fault : IsRefusalOfStep program net reached line event reason fault
 
 -- the fault of events that aren't all possible: that of the first which isn't; that memory ran out says nothing
 abbrev pub IsFaultOfRun : {S M E : Type 0} → Program S M E → Net → Script → EventFault → Type 0
@@ -53,7 +53,7 @@ IsFaultOfRun program net script Memory = Unit {0}
 IsFaultOfRun program net script fault = IsRefusal program net script fault
 
 -- the same of one event, in a state
-abbrev pub IsToldOfStep : {S M E : Type 0} → Program S M E → Net → State S M → ℕ → Event → StepRefused → EventFault →
+abbrev pub IsFaultOfStep : {S M E : Type 0} → Program S M E → Net → State S M → ℕ → Event → StepRefused → EventFault →
     Type 0
-IsToldOfStep program net state line event reason Memory = Unit {0}
-IsToldOfStep program net state line event reason fault = IsFaultOfStep program net state line event reason fault
+IsFaultOfStep program net state line event reason Memory = Unit {0}
+IsFaultOfStep program net state line event reason fault = IsRefusalOfStep program net state line event reason fault

@@ -1,7 +1,7 @@
 //! Events that were read, played.
 
 ghost use Rattle.std.specs.Prelude.{◌≡◌, IfOk, IfErr, Ok};
-ghost use Rattle.event_texts.specs.Played.{IsFaultOfRun, IsToldOfStep, events_in};
+ghost use Rattle.event_texts.specs.Played.{IsFaultOfRun, IsFaultOfStep, events_in};
 ghost use Rattle.event_machine.specs.Step.{run};
 
 use crate::fault::EventFault;
@@ -19,7 +19,7 @@ fn fault_of<P: NodeProgram>(
     event: Event,
     refused: StepRefused,
 ) -> EventFault
-    ensures { IsToldOfStep P.program state.now.net state.now.state line event refused result }
+    ensures { IsFaultOfStep P.program state.now.net state.now.state line event refused result }
 {
     let words = match missing_words(alloc, state, event) {
         Ok(words) => words,

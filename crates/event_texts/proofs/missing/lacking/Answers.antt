@@ -5,7 +5,7 @@ use Rattle.number_rows.proofs.Ranges.{texts-more}
 use Rattle.std.specs.List.{flat_map, range_with_len}
 use Rattle.dimacs_col.proofs.Refused.{err_says}
 use Rattle.interference.specs.Net.{degree_of}
-use Rattle.event_texts.proofs.Told.{at_end}
+use Rattle.event_texts.proofs.Written.{at_end}
 use Rattle.event_texts.proofs.missing.lacking.Goals as goal
 
 pub loop-port-preserved : goal.loop-port-preserved

@@ -3,7 +3,7 @@ use Rattle.event_texts.specs.Missing.{name_text}
 use Rattle.number_rows.proofs.Ranges.{texts-more}
 use Rattle.std.specs.List.{flat_map, range_with_len}
 use Rattle.dimacs_col.proofs.Refused.{err_says}
-use Rattle.event_texts.proofs.Told.{at_end}
+use Rattle.event_texts.proofs.Written.{at_end}
 use Rattle.event_texts.proofs.missing.push_names.Goals as goal
 
 pub loop-i-preserved : goal.loop-i-preserved

@@ -1,4 +1,4 @@
--- The plan: an error says nothing; the text is what was appended, as the view of the node has it (last_told, lacks_told).
+-- The plan: an error says nothing; the text is what was appended, as the view of the node has it (last_written, lacks_written).
 use Rattle.std.proofs.Common.{◌≡◌, ◌∙◌, ◌++◌, ap, ap₂, codes, nat_eq}
 use Rattle.std.proofs.lemmas.Result.{IfOk-equal}
 use Rattle.dimacs_col.proofs.Refused.{err_says}
@@ -6,7 +6,7 @@ use Rattle.node_api.specs.Program.{last_pulse_on}
 use Rattle.alpha_core.specs.View.{is_halted}
 use Rattle.event_machine.specs.State.{node_of}
 use Rattle.event_texts.specs.Missing.{lack_text}
-use Rattle.event_texts.proofs.Told.{lacks_told, last_told, words_none, words_some}
+use Rattle.event_texts.proofs.Written.{lacks_written, last_written, words_none, words_some}
 use Rattle.event_texts.proofs.missing.push_pulse.Goals as goal
 
 pub returns-then-halted : goal.returns-then-halted
@@ -17,7 +17,7 @@ returns-then-halted g c =
     let halted : c.halted.result ≡ is_halted last node.view =
     c.halted.ensures.halted ∙ ap₂ (λ l n. is_halted l n.view) c.node.ensures.last c.node.ensures.node in
     IfOk-equal c.push_last.result _ _ _ c.push_last.ensures
-    (last_told net last c.args.v node.view c.args.text.now.items c.pulse_of-pulse.result c.pulse_of-pulse.ensures.pulse c.halted.result halted
+    (last_written net last c.args.v node.view c.args.text.now.items c.pulse_of-pulse.result c.pulse_of-pulse.ensures.pulse c.halted.result halted
     c.if-halted.true)
 
 pub returns-then-is_empty : goal.returns-then-is_empty
@@ -31,7 +31,7 @@ returns-then-is_empty g c =
     let text = c.args.text.now.items in
     let pulse = c.pulse_of-pulse.result in
     IfOk-equal c.push_lack-then-is_empty.result _ _ _ c.push_lack-then-is_empty.ensures
-    (lacks_told net last c.args.v node.view text pulse c.pulse_of-pulse.ensures.pulse c.halted.result halted c.if-halted.false
+    (lacks_written net last c.args.v node.view text pulse c.pulse_of-pulse.ensures.pulse c.halted.result halted c.if-halted.false
     c.push_lack.new.text.items acks c.as_slice-then-is_empty.result.now (codes ": safe ")
     (c.in_ok-push_lack.ensures ∙ ap (λ l. text ++ lack_text (codes ": ack ") pulse l) c.as_slice.ensures.value) c.in_ok-acks.ensures
     (c.as_slice-then-is_empty.ensures.value ∙ c.in_ok-safes.ensures)
@@ -57,7 +57,7 @@ returns g c =
     let text = c.args.text.now.items in
     let pulse = c.pulse_of-pulse.result in
     IfOk-equal c.push_lack-else-is_empty.result _ _ _ c.push_lack-else-is_empty.ensures
-    (lacks_told net last c.args.v node.view text pulse c.pulse_of-pulse.ensures.pulse c.halted.result halted c.if-halted.false
+    (lacks_written net last c.args.v node.view text pulse c.pulse_of-pulse.ensures.pulse c.halted.result halted c.if-halted.false
     c.push_lack.new.text.items acks c.as_slice-else-is_empty.result.now (codes "; safe ")
     (c.in_ok-push_lack.ensures ∙ ap (λ l. text ++ lack_text (codes ": ack ") pulse l) c.as_slice.ensures.value) c.in_ok-acks.ensures
     (c.as_slice-else-is_empty.ensures.value ∙ c.in_ok-safes.ensures)

@@ -3,8 +3,8 @@ use Rattle.std.proofs.lemmas.List.{get_or_default}
 use Rattle.dimacs_col.proofs.Refused.{err_says}
 use Rattle.event_machine.specs.declared.event.Event.TheVariants.{Pulse}
 use Rattle.event_machine.specs.Step.{step}
-use Rattle.event_texts.specs.Played.{IsToldOfStep}
-use Rattle.event_texts.proofs.Plays.{fault-told, play-next}
+use Rattle.event_texts.specs.Played.{IsFaultOfStep}
+use Rattle.event_texts.proofs.Plays.{fault-reported, play-next}
 use Rattle.event_texts.proofs.playing.play.Goals as goal
 
 pub loop-row-preserved : goal.loop-row-preserved
@@ -27,11 +27,11 @@ returns-in-Err-clause-fault g c =
     let i = c.loop-row.row-index in
     let row = get_or script i (0, Pulse 0) in
     let state = c.loop-row.state.state in
-    fault-told program c.args.net.now script i row c.loop-row-test.true (get_or_default script i (0, Pulse 0) row c.loop-row-test.true) state
+    fault-reported program c.args.net.now script i row c.loop-row-test.true (get_or_default script i (0, Pulse 0) row c.loop-row-test.true) state
     c.loop-row.invariant.run c.in-Err.refused c.fault_of.result
     (λ no. ap (λ n. step program n state row.1) (sym c.loop-row.invariant.net) ∙ c.in-Err.ensures.step no)
-    (subst (λ n. IsToldOfStep program n state row.0 row.1 c.in-Err.refused c.fault_of.result) c.loop-row.invariant.net
-    (subst (λ view. IsToldOfStep program view.net view.state row.0 row.1 c.in-Err.refused c.fault_of.result) c.in-Err.ensures.refused
+    (subst (λ n. IsFaultOfStep program n state row.0 row.1 c.in-Err.refused c.fault_of.result) c.loop-row.invariant.net
+    (subst (λ view. IsFaultOfStep program view.net view.state row.0 row.1 c.in-Err.refused c.fault_of.result) c.in-Err.ensures.refused
     c.fault_of.ensures))
 
 pub returns-clause-net : goal.returns-clause-net

@@ -6,7 +6,7 @@ use Rattle.event_texts.specs.StateText.{link_text}
 use Rattle.number_rows.proofs.Ranges.{texts-more}
 use Rattle.std.specs.List.{flat_map, range_with_len}
 use Rattle.dimacs_col.proofs.Refused.{err_says}
-use Rattle.event_texts.proofs.Told.{at_end}
+use Rattle.event_texts.proofs.Written.{at_end}
 use Rattle.event_texts.proofs.state_text.push_links.Goals as goal
 
 pub loop-port-preserved : goal.loop-port-preserved

@@ -3,7 +3,7 @@ use Rattle.dimacs_col.proofs.Refused.{err_says}
 use Rattle.alpha_core.specs.declared.wire.Wire.{Wire}
 use Rattle.wire_texts.specs.PayloadTexts.{payload_texts}
 use Rattle.wire_texts.specs.WireText.{wire_text}
-use Rattle.event_texts.proofs.Told.{rows_more}
+use Rattle.event_texts.proofs.Written.{rows_more}
 use Rattle.event_texts.proofs.state_text.push_wires.Goals as goal
 
 pub loop-wire-init : goal.loop-wire-init

@@ -7,7 +7,7 @@ use Rattle.number_rows.proofs.Ranges.{behind, texts-more}
 use Rattle.std.specs.List.{flat_map, range_with_len}
 use Rattle.dimacs_col.proofs.Refused.{err_says}
 use Rattle.interference.specs.Net.{count_of}
-use Rattle.event_texts.proofs.Told.{at_end}
+use Rattle.event_texts.proofs.Written.{at_end}
 use Rattle.event_texts.proofs.state_text.text_of_state.Goals as goal
 
 pub loop-i-preserved : goal.loop-i-preserved

@@ -20,16 +20,16 @@ module _ {M : Type 0} (net : Net) (last v : ℕ) (view : View M) (text : List �
       lack_text (codes ": ack ") view.pulse (lacking net v view Ack)
       ++ lack_text (safe_words (lacking net v view Ack)) view.pulse (lacking net v view Safe)
 
-  pub last_told : halted ≡ true → text ++ last_text p ≡ text ++ pulse_text net last v view
+  pub last_written : halted ≡ true → text ++ last_text p ≡ text ++ pulse_text net last v view
   unfolding lacks_text
-  last_told is = ap (λ q. text ++ last_text q) pulse ∙ ap (λ b. text ++ (if b then last_text view.pulse else lacks_text)) (sym is ∙ of)
+  last_written is = ap (λ q. text ++ last_text q) pulse ∙ ap (λ b. text ++ (if b then last_text view.pulse else lacks_text)) (sym is ∙ of)
 
   -- the words of both lists, the first of which is there or isn't
-  pub lacks_told : halted ≡ false → (next acks safes words : List ℕ) → next ≡ text ++ lack_text (codes ": ack ") p acks
+  pub lacks_written : halted ≡ false → (next acks safes words : List ℕ) → next ≡ text ++ lack_text (codes ": ack ") p acks
       → acks ≡ lacking net v view Ack → safes ≡ lacking net v view Safe → words ≡ safe_words acks
       → next ++ lack_text words p safes ≡ text ++ pulse_text net last v view
   unfolding lacks_text
-  lacks_told is next acks safes words first acks_are safes_are words_are =
+  lacks_written is next acks safes words first acks_are safes_are words_are =
       behind text (lack_text (codes ": ack ") p acks) (lack_text words p safes) next (next ++ lack_text words p safes) first refl
       ∙ ap (λ q. text ++ (lack_text (codes ": ack ") q acks ++ lack_text words q safes)) pulse
       ∙ ap (λ ws. text ++ (lack_text (codes ": ack ") view.pulse acks ++ lack_text ws view.pulse safes)) words_are
