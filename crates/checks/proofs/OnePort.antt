@@ -30,7 +30,7 @@ taken_length last view next i w e =
     ∙ reacts_length last view i w
 
 -- a pulse that is made
-pub pulsed_length : {S M E : Type 0} (last : ℕ) (node next : Node S M) (told : Result (S × List (Option M)) E) → pulsed last node told ≡ Ok next
+pub pulsed_length : {S M E : Type 0} (last : ℕ) (node next : Node S M) (returned : Result (S × List (Option M)) E) → pulsed last node returned ≡ Ok next
     → length next.view.ports ≡ length node.view.ports
 pulsed_length last node next (Ok x) e =
     let is : record { state = x.0; view = entering last (suc node.view.pulse) x.1 (map (λ port. advances port) node.view.ports) } ≡ next = cc in

@@ -6,23 +6,23 @@ ghost use Rattle.node_api.specs.Boxes.{nothing, unread};
 ghost use Rattle.colour_rules.specs.Node.{ports};
 
 use crate::networks::edge;
-use crate::told::Told;
+use crate::samples::Sample;
 use colour_rules::{ColourNode, IdlePulses, Payload, Phase, Reduction};
 use interference::Network;
 use node_api::{Inbox, Outbox, PayloadText};
 use std::alloc::Global;
 
-static TEXTS: [(Told, &str, u128); 4] = [
-    (Told::Hello(u128::MAX), "hello", u128::MAX),
-    (Told::Label(65535), "label", 65535),
-    (Told::Colour(u128::MAX), "colour", u128::MAX),
-    (Told::Chosen(65535), "chosen", 65535),
+static TEXTS: [(Sample, &str, u128); 4] = [
+    (Sample::Hello(u128::MAX), "hello", u128::MAX),
+    (Sample::Label(65535), "label", 65535),
+    (Sample::Colour(u128::MAX), "colour", u128::MAX),
+    (Sample::Chosen(65535), "chosen", 65535),
 ];
 
 // Whether a payload has this word and number, and is read from them.
-fn has_text(told: Told, word: &str, number: u128) -> bool {
-    told.payload().words() == (word, number)
-        && Payload::from_words(word, number) == Some(told.payload())
+fn has_text(sample: Sample, word: &str, number: u128) -> bool {
+    sample.payload().words() == (word, number)
+        && Payload::from_words(word, number) == Some(sample.payload())
 }
 
 fn refuses_one_beyond() -> bool {
@@ -33,8 +33,8 @@ fn refuses_one_beyond() -> bool {
 
 #[test]
 fn payloads_have_their_text(rt: HostRuntime) {
-    for (told, word, number) in &TEXTS {
-        assert!(rt; has_text(*told, *word, *number), "{word}");
+    for (sample, word, number) in &TEXTS {
+        assert!(rt; has_text(*sample, *word, *number), "{word}");
     }
     assert!(rt; refuses_one_beyond());
 }
@@ -70,10 +70,10 @@ fn begins(node: &mut ColourNode, inbox: &mut Inbox<Payload>, out: &mut Outbox<Pa
     requires out { out.old ≡ nothing 1 }
 {
     node.greet(out);
-    let greets = out.get(0) == Some(Told::Hello(1).payload())
+    let greets = out.get(0) == Some(Sample::Hello(1).payload())
         && node.colour() == 0
         && has_phases(node);
-    inbox.put(0, Told::Hello(2).payload());
+    inbox.put(0, Sample::Hello(2).payload());
     out.clear();
     greets && node.pulse(1, inbox, out) == Ok(IdlePulses::none())
 }

@@ -43,11 +43,11 @@ mod node_api_checks;
 #[cfg(test)]
 mod pool_checks;
 #[cfg(test)]
+mod samples;
+#[cfg(test)]
 mod shift_down_checks;
 #[cfg(test)]
 mod sync_rounds_checks;
-#[cfg(test)]
-mod told;
 #[cfg(test)]
 mod transcripts_checks;
 #[cfg(test)]

@@ -5,7 +5,7 @@ ghost use Rattle.interference.specs.Net.{count_of};
 
 use crate::heard::{Came, Heard};
 use crate::networks::{edge, network};
-use crate::told::Told;
+use crate::samples::Sample;
 use colour_program::Colouring;
 use colour_rules::Payload;
 use event_machine::{Event, NetState, RunRefused};
@@ -137,10 +137,10 @@ fn keeps_what_is_early(alloc: Global, net: &Network) -> bool
 {
     let (before, _) = EVENTS.split_at(45);
     let (at_1, _) = EVENTS.split_at(47);
-    let hello_1 = Some((0, Told::Hello(1).payload()));
-    let hello_2 = Some((1, Told::Hello(2).payload()));
-    let label_1 = Some((0, Told::Label(1).payload()));
-    let label_0 = Some((1, Told::Label(0).payload()));
+    let hello_1 = Some((0, Sample::Hello(1).payload()));
+    let hello_2 = Some((1, Sample::Hello(2).payload()));
+    let label_1 = Some((0, Sample::Label(1).payload()));
+    let label_0 = Some((1, Sample::Label(0).payload()));
     hears(alloc, net, before, 0, None, None)
         && hears(alloc, net, at_1, 1, hello_1, hello_2)
         && hears(alloc, net, &EVENTS, 2, label_1, label_0)

@@ -208,7 +208,7 @@ fn alike(one: &Fed, other: &Fed) -> bool {
 
 // Whether a wire had the answer of its cell. If it was refused, the run went on as the run of the twin, which wasn't
 // fed it; if it was taken, the run ended all the same.
-fn is_told(cell: Cell, node: &Fed, twin: &Fed) -> bool {
+fn fits_cell(cell: Cell, node: &Fed, twin: &Fed) -> bool {
     if !node.drained {
         return false;
     }
@@ -238,7 +238,7 @@ fn walk(alloc: Global, net: &Network, row: &Row) -> bool
     let mut twin = not_fed(alloc);
     play_anew(alloc, net, first, Some(wire), rest, &mut node)
         && play_anew(alloc, net, first, None, rest, &mut twin)
-        && is_told(cell, &node, &twin)
+        && fits_cell(cell, &node, &twin)
         && twin.played.put.as_slice() == PUT.as_slice()
 }
 

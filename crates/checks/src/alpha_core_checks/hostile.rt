@@ -6,7 +6,7 @@ ghost use Rattle.interference.specs.Net.{IsVertex, degree_of};
 
 use crate::alpha_core_checks::alone::{Act, Played, leaf, play};
 use crate::networks::edge;
-use crate::told::Told;
+use crate::samples::Sample;
 use alpha_core::{AlphaNode, AlphaRefused, Wire};
 use colour_program::Colouring;
 use colour_rules::Payload;
@@ -15,16 +15,16 @@ use node_api::Refused;
 use std::alloc::Global;
 
 // What comes to a node of a payload, and what it puts of one.
-fn comes(pulse: u32, told: Told) -> Act<Payload> {
-    Act::Take(Wire::Payload(pulse, told.payload()))
+fn comes(pulse: u32, sample: Sample) -> Act<Payload> {
+    Act::Take(Wire::Payload(pulse, sample.payload()))
 }
 
-fn put(pulse: u32, told: Told) -> Wire<Payload> {
-    Wire::Payload(pulse, told.payload())
+fn put(pulse: u32, sample: Sample) -> Wire<Payload> {
+    Wire::Payload(pulse, sample.payload())
 }
 
 fn label() -> Act<Payload> {
-    comes(1, Told::Label(0))
+    comes(1, Sample::Label(0))
 }
 
 const TAKEN: Option<Result<(), AlphaRefused>> = Some(Ok(()));
@@ -87,13 +87,13 @@ static ONLY_TAKEN_ANSWERS: [Option<Result<(), AlphaRefused>>; 5] = [
 ];
 
 fn both_put() -> [Wire<Payload>; 3] {
-    [put(0, Told::Hello(1)), Wire::Safe(0), Wire::Ack(1)]
+    [put(0, Sample::Hello(1)), Wire::Safe(0), Wire::Ack(1)]
 }
 
 // What comes to vertex 1 as it makes two pulses, and what it puts.
 fn two_pulses() -> [Act<Payload>; 7] {
     [
-        comes(0, Told::Hello(2)),
+        comes(0, Sample::Hello(2)),
         Act::Take(Wire::Ack(0)),
         Act::Take(Wire::Safe(0)),
         Act::Pulse,
@@ -107,10 +107,10 @@ static ALL_TAKEN: [Option<Result<(), AlphaRefused>>; 7] = [TAKEN; 7];
 
 fn two_pulses_put() -> [Wire<Payload>; 6] {
     [
-        put(0, Told::Hello(1)),
+        put(0, Sample::Hello(1)),
         Wire::Ack(0),
         Wire::Safe(0),
-        put(1, Told::Label(0)),
+        put(1, Sample::Label(0)),
         Wire::Safe(1),
         Wire::Safe(2),
     ]
@@ -120,7 +120,7 @@ fn two_pulses_put() -> [Wire<Payload>; 6] {
 // label of its child is due.
 fn unlabelled() -> [Act<Payload>; 6] {
     [
-        comes(0, Told::Hello(1)),
+        comes(0, Sample::Hello(1)),
         Act::Take(Wire::Ack(0)),
         Act::Take(Wire::Safe(0)),
         Act::Pulse,
@@ -135,7 +135,7 @@ static UNLABELLED_ANSWERS: [Option<Result<(), AlphaRefused>>; 6] = [
 
 fn unlabelled_put() -> [Wire<Payload>; 4] {
     [
-        put(0, Told::Hello(2)),
+        put(0, Sample::Hello(2)),
         Wire::Ack(0),
         Wire::Safe(0),
         Wire::Safe(1),

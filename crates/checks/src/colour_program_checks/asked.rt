@@ -5,7 +5,7 @@ ghost use Rattle.std.specs.Prelude.{◌≡◌};
 ghost use Rattle.interference.specs.Net.{IsVertex, degree_of};
 ghost use Rattle.colour_rules.specs.Node.{ports};
 
-use crate::colour_program_checks::cells::{Cell, is_told};
+use crate::colour_program_checks::cells::{Cell, fits_cell};
 use crate::colour_program_checks::fed::made;
 use crate::colour_program_checks::refusals::{Refusal, refuses_then, takes_colour};
 use crate::colour_program_checks::twins::{GoneOn, goes_on_from, is_brought_to_rest};
@@ -40,7 +40,7 @@ fn holds(
     requires twin { ports twin.old ≡ degree }
 {
     match asked {
-        Asked::Cell(cell) => degree == 1 && is_told(alloc, node, twin, v, cell),
+        Asked::Cell(cell) => degree == 1 && fits_cell(alloc, node, twin, v, cell),
         Asked::Refusal(row) => degree == 2 && refuses_then(alloc, node, twin, row),
         Asked::Colour(pulse, colour) => degree == 2 && takes_colour(alloc, node, pulse, colour),
         Asked::GoesOn(row) => degree == 1 && goes_on_from(alloc, node, twin, row),

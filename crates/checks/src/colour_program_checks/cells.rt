@@ -7,7 +7,7 @@ use crate::colour_program_checks::asked::{Asked, holds_at};
 use crate::colour_program_checks::fed::{show, takes};
 use crate::colour_program_checks::twins::go_on_alike;
 use crate::networks::edge;
-use crate::told::Told;
+use crate::samples::Sample;
 use colour_program::Colouring;
 use colour_rules::rules::{AFTER_HALT, WRONG_KIND, WRONG_ROLE};
 use interference::Network;
@@ -16,15 +16,15 @@ use std::alloc::Global;
 use std::process::Abort;
 
 // Two nodes with identifiers 1 and 2 and an edge. No rule forbids these payloads by their value.
-const HELLO: Told = Told::Hello(3);
+const HELLO: Sample = Sample::Hello(3);
 
-const LOWER_HELLO: Told = Told::Hello(1);
+const LOWER_HELLO: Sample = Sample::Hello(1);
 
-const LABEL: Told = Told::Label(0);
+const LABEL: Sample = Sample::Label(0);
 
-const COLOUR: Told = Told::Colour(3);
+const COLOUR: Sample = Sample::Colour(3);
 
-const CHOSEN: Told = Told::Chosen(0);
+const CHOSEN: Sample = Sample::Chosen(0);
 
 // The rule that a cell breaks.
 const DUE: Option<u16> = None;
@@ -36,7 +36,7 @@ const P2: Option<u16> = Some(WRONG_ROLE);
 const P6: Option<u16> = Some(AFTER_HALT);
 
 // Pulse, payload, and what it breaks from a port that is Unknown, Up and Down.
-type Row = (u32, Told, Option<u16>, Option<u16>, Option<u16>);
+type Row = (u32, Sample, Option<u16>, Option<u16>, Option<u16>);
 
 static TABLE: [Row; 32] = [
     // Greet
@@ -82,7 +82,7 @@ static TABLE: [Row; 32] = [
 ];
 
 // Whether two nodes take these payloads at the pulses from 1 on.
-fn both_take(alloc: Global, node: &mut Colouring, twin: &mut Colouring, payloads: &[Told]) -> bool
+fn both_take(alloc: Global, node: &mut Colouring, twin: &mut Colouring, payloads: &[Sample]) -> bool
     requires ports { (ports node.old ≡ 1) × (ports twin.old ≡ 1) }
     ensures ports { (ports node.new ≡ 1) × (ports twin.new ≡ 1) }
 {
@@ -100,15 +100,15 @@ fn both_take(alloc: Global, node: &mut Colouring, twin: &mut Colouring, payloads
 /// What a node returns on a payload at a pulse, once others came at the pulses from 1 on.
 #[derive(Clone, Copy)]
 pub struct Cell<'a> {
-    earlier: &'a [Told],
+    earlier: &'a [Sample],
     pulse: u32,
-    payload: Told,
+    payload: Sample,
     due: Result<(), Refused>,
 }
 
 /// Whether a node returns what a cell says. If it refuses the payload, it shows the same from then on as its twin that
 /// wasn't fed it.
-pub fn is_told(
+pub fn fits_cell(
     alloc: Global,
     node: &mut Colouring,
     twin: &mut Colouring,
@@ -129,7 +129,7 @@ pub fn is_told(
 }
 
 // What a node returns that refuses a payload of its one port by a rule, or takes it.
-fn told(broken: Option<u16>) -> Result<(), Refused> {
+fn due_for(broken: Option<u16>) -> Result<(), Refused> {
     match broken {
         Some(rule) => Err(Refused {
             rule,
@@ -146,16 +146,16 @@ fn walk(alloc: Global, net: &Network, row: &Row) -> bool {
         earlier: &[],
         pulse,
         payload,
-        due: told(unknown),
+        due: due_for(unknown),
     };
     let of_up = Cell {
         earlier: &[HELLO],
-        due: told(up),
+        due: due_for(up),
         ..of_unknown
     };
     let of_down = Cell {
         earlier: &[LOWER_HELLO, LABEL],
-        due: told(down),
+        due: due_for(down),
         ..of_unknown
     };
     holds_at(alloc, net, 1, Asked::Cell(of_unknown))

@@ -5,7 +5,7 @@ ghost use Rattle.interference.specs.Net.{IsVertex, degree_of};
 ghost use Rattle.node_api.specs.Boxes.{nothing};
 ghost use Rattle.colour_rules.specs.Node.{ports};
 
-use crate::told::Told;
+use crate::samples::Sample;
 use colour_program::Colouring;
 use colour_rules::{ColourNode, Payload};
 use interference::{MAX_DEGREE, Memory, Network};
@@ -85,7 +85,7 @@ pub fn show(
     alloc: Global,
     node: &mut Colouring,
     pulse: u32,
-    payloads: &[Option<Told>],
+    payloads: &[Option<Sample>],
 ) -> Option<Shown>
     requires ports { length payloads.now ≡ ports node.old }
     requires few { length payloads.now ≤ MAX_DEGREE }
@@ -98,7 +98,7 @@ pub fn show(
 }
 
 /// Whether a node takes these payloads.
-pub fn takes(alloc: Global, node: &mut Colouring, pulse: u32, payloads: &[Option<Told>]) -> bool
+pub fn takes(alloc: Global, node: &mut Colouring, pulse: u32, payloads: &[Option<Sample>]) -> bool
     requires ports { length payloads.now ≡ ports node.old }
     requires few { length payloads.now ≤ MAX_DEGREE }
     ensures ports { ports node.new ≡ ports node.old }
@@ -115,7 +115,7 @@ pub fn show_alike(
     one: &mut Colouring,
     other: &mut Colouring,
     pulse: u32,
-    payloads: &[Option<Told>],
+    payloads: &[Option<Sample>],
 ) -> bool
     requires one { length payloads.now ≡ ports one.old }
     requires other { length payloads.now ≡ ports other.old }
@@ -128,7 +128,7 @@ pub fn show_alike(
 }
 
 // An inbox of these payloads.
-fn inbox_of(alloc: Global, payloads: &[Option<Told>]) -> Result<Inbox<Payload>, Memory>
+fn inbox_of(alloc: Global, payloads: &[Option<Sample>]) -> Result<Inbox<Payload>, Memory>
     requires few { length payloads.now ≤ MAX_DEGREE }
     ensures ports { IfOk result (λ inbox. length inbox.slots ≡ length payloads.now) }
     ensures rewound { IfOk result (λ inbox. inbox.cursor ≡ 0) }
@@ -136,9 +136,9 @@ fn inbox_of(alloc: Global, payloads: &[Option<Told>]) -> Result<Inbox<Payload>, 
     let degree = payloads.len() as u32;
     let mut inbox = Inbox::new(alloc, degree)?;
     for port in 0..degree {
-        if let Some(told) = payloads[port as usize] {
+        if let Some(sample) = payloads[port as usize] {
             if inbox.is_empty(port) {
-                inbox.put(port, told.payload());
+                inbox.put(port, sample.payload());
             }
         }
     }

@@ -6,8 +6,8 @@ ghost use Rattle.colour_rules.specs.Node.{ports};
 use crate::colour_program_checks::asked::{Asked, holds_at};
 use crate::colour_program_checks::fed::{show, show_alike, takes};
 use crate::networks::network;
-use crate::told::Told;
-use crate::told::Told::{Chosen, Colour, Hello, Label};
+use crate::samples::Sample;
+use crate::samples::Sample::{Chosen, Colour, Hello, Label};
 use colour_program::Colouring;
 use colour_rules::rules::{
     AFTER_HALT, COLOUR_RANGE, FOREST_RANGE, MISSING, WRONG_KIND, WRONG_ROLE,
@@ -18,7 +18,7 @@ use std::alloc::Global;
 use std::process::Abort;
 
 // A pulse, and what comes to the two ports of a node at it.
-type Came = (u32, Option<Told>, Option<Told>);
+type Came = (u32, Option<Sample>, Option<Sample>);
 
 // A triangle with identifiers 1, 2 and 30: two forests, degree 2, last pulse 30. Vertex 1 has two
 // parents, vertex 2 a child and a parent, vertex 3 two children.
@@ -29,7 +29,7 @@ static EDGES: [(u32, u32); 3] = [(1, 2), (1, 3), (2, 3)];
 // What comes to its vertices before: to vertex 1 in three turns, to vertex 2 in one, to vertex 3 in two.
 static PULSES: [u32; 6] = [1, 2, 24, 1, 1, 2];
 
-static PAYLOADS: [[Option<Told>; 2]; 6] = [
+static PAYLOADS: [[Option<Sample>; 2]; 6] = [
     [Some(Hello(2)), Some(Hello(30))],
     [None, None],
     [Some(Chosen(0)), Some(Chosen(1))],

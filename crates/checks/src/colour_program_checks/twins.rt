@@ -7,8 +7,8 @@ ghost use Rattle.colour_rules.specs.Node.{ports};
 use crate::colour_program_checks::asked::{Asked, holds_at};
 use crate::colour_program_checks::fed::{show, show_alike};
 use crate::networks::edge;
-use crate::told::Told;
-use crate::told::Told::{Chosen, Colour, Hello, Label};
+use crate::samples::Sample;
+use crate::samples::Sample::{Chosen, Colour, Hello, Label};
 use colour_program::Colouring;
 use colour_rules::rules::{AFTER_HALT, COLOUR_RANGE, FOREST_RANGE, WRONG_KIND, WRONG_ROLE};
 use interference::Network;
@@ -19,7 +19,7 @@ use std::process::Abort;
 // What comes to vertices 1 and 2 of an edge at the pulses from 1 on, worked by hand: vertex 2 is the root of the one
 // forest, its colours there are 2, then 0 after each bit step, then 1, 1, 0, 0, 1, 1. Vertex 1 chooses at pulse 13,
 // vertex 2 at 15.
-static CAME: [[Option<Told>; 18]; 2] = [
+static CAME: [[Option<Sample>; 18]; 2] = [
     [
         Some(Hello(2)),
         None,
@@ -63,7 +63,7 @@ static CAME: [[Option<Told>; 18]; 2] = [
 ];
 
 /// A vertex, a pulse, what comes at it in place of what is due, and the rule and port of the refusal.
-pub type GoneOn = (u32, u32, Told, u16, Option<u32>);
+pub type GoneOn = (u32, u32, Sample, u16, Option<u32>);
 
 static REFUSALS: [GoneOn; 8] = [
     (1, 1, Hello(1), COLOUR_RANGE, Some(0)),
@@ -78,7 +78,7 @@ static REFUSALS: [GoneOn; 8] = [
 ];
 
 // What comes to a vertex of the edge at a pulse.
-fn came(v: u32, pulse: u32) -> Option<Told> {
+fn came(v: u32, pulse: u32) -> Option<Sample> {
     let row = CAME.as_slice().get(v.wrapping_sub(1) as usize)?;
     *row.as_slice().get(pulse.wrapping_sub(1) as usize)?
 }

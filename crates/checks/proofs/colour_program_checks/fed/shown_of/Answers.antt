@@ -10,11 +10,11 @@ abbrev Keeps : ℕ → Node × List (Option Payload) → Type 0
 Keeps n node = (ports node.0 ≡ n) × (length node.1 ≡ n)
 
 -- an answer leaves a node its ports
-ports-kept : {A : Type 0} (old new : Node) (out before : List (Option Payload)) (told : Result (Node × List (Option Payload)) Refused) (r : Result A Refused) →
-    IfOk told (Keeps (ports old)) → MatchResult r (λ _. told ≡ Ok (new, out)) (λ refused. told ≡ Err refused) →
+ports-kept : {A : Type 0} (old new : Node) (out before : List (Option Payload)) (given : Result (Node × List (Option Payload)) Refused) (r : Result A Refused) →
+    IfOk given (Keeps (ports old)) → MatchResult r (λ _. given ≡ Ok (new, out)) (λ refused. given ≡ Err refused) →
     OnErr r ((new ≡ old) × (out ≡ before)) → ports new ≡ ports old
-ports-kept old new out before told (Ok x) shape answer same = (subst (λ t. IfOk t (Keeps (ports old))) answer shape).0
-ports-kept old new out before told (Err refused) shape answer same = ap ports same.0
+ports-kept old new out before given (Ok x) shape answer same = (subst (λ t. IfOk t (Keeps (ports old))) answer shape).0
+ports-kept old new out before given (Err refused) shape answer same = ap ports same.0
 
 pub returns : goal.returns
 returns c =

@@ -5,21 +5,21 @@ use colour_rules::{Long, Payload, Short};
 
 /// What a node sends.
 #[derive(Clone, Copy)]
-pub enum Told {
+pub enum Sample {
     Hello(u128),
     Label(u16),
     Colour(u128),
     Chosen(u16),
 }
 
-impl Told {
+impl Sample {
     /// Its payload.
     pub fn payload(self) -> Payload {
         match self {
-            Told::Hello(id) => Payload::Hello(Long::new(id)),
-            Told::Label(forest) => Payload::Label(Short::new(forest)),
-            Told::Colour(colour) => Payload::Colour(Long::new(colour)),
-            Told::Chosen(colour) => Payload::Chosen(Short::new(colour)),
+            Sample::Hello(id) => Payload::Hello(Long::new(id)),
+            Sample::Label(forest) => Payload::Label(Short::new(forest)),
+            Sample::Colour(colour) => Payload::Colour(Long::new(colour)),
+            Sample::Chosen(colour) => Payload::Chosen(Short::new(colour)),
         }
     }
 }
