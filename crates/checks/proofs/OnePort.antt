@@ -12,32 +12,32 @@ use Rattle.alpha_core.specs.Alpha.{reaction, reacts, takes, PulseRefused, pulse,
 use Rattle.alpha_core.specs.Table.{refusal_of}
 use Rattle.alpha_core.proofs.PortLists.{entering-length, settled-length}
 
-reacts_length : {M : Type 0} (last : ℕ) (view : View M) (i : ℕ) (w : Wire M) → length (reacts last view i w).ports ≡ length view.ports
-reacts_length last view i (Payload q x) = length-set view.ports i (takes view.pulse (port_at view i) (Payload q x))
-reacts_length {M} last view i (Ack q) =
+reacts-length : {M : Type 0} (last : ℕ) (view : View M) (i : ℕ) (w : Wire M) → length (reacts last view i w).ports ≡ length view.ports
+reacts-length last view i (Payload q x) = length-set view.ports i (takes view.pulse (port_at view i) (Payload q x))
+reacts-length {M} last view i (Ack q) =
     let w : Wire M = Ack q in
     let port = takes view.pulse (port_at view i) w in
     let ports = set_at view.ports i port in
     settled-length (nat_lt view.pulse last && none_waits ports) record { pulse = view.pulse; said = view.said; ports = ports }
     ∙ length-set view.ports i port
-reacts_length last view i (Safe q) = length-set view.ports i (takes view.pulse (port_at view i) (Safe q))
-reacts_length last view i Close = length-set view.ports i (takes view.pulse (port_at view i) Close)
+reacts-length last view i (Safe q) = length-set view.ports i (takes view.pulse (port_at view i) (Safe q))
+reacts-length last view i Close = length-set view.ports i (takes view.pulse (port_at view i) Close)
 
 -- a wire that is taken
 pub taken_length : {M : Type 0} (last : ℕ) (view next : View M) (i : ℕ) (w : Wire M) → reaction last view i w ≡ Ok next → length next.ports ≡ length view.ports
 taken_length last view next i w e =
     sym (ap (λ v. length v.ports) (not_refused (refusal_of last view.pulse view.said (port_at view i) w) (reacts last view i w) next e))
-    ∙ reacts_length last view i w
+    ∙ reacts-length last view i w
 
 -- a pulse that is made
-pub pulsed_length : {S M E : Type 0} (last : ℕ) (node next : Node S M) (returned : Result (S × List (Option M)) E) → pulsed last node returned ≡ Ok next
+pub pulsed-length : {S M E : Type 0} (last : ℕ) (node next : Node S M) (returned : Result (S × List (Option M)) E) → pulsed last node returned ≡ Ok next
     → length next.view.ports ≡ length node.view.ports
-pulsed_length last node next (Ok x) e =
+pulsed-length last node next (Ok x) e =
     let is : record { state = x.0; view = entering last (suc node.view.pulse) x.1 (map (λ port. advances port) node.view.ports) } ≡ next = cc in
     sym (ap (λ n. length n.view.ports) is)
     ∙ entering-length last (suc node.view.pulse) x.1 (map (λ port. advances port) node.view.ports)
     ∙ length-map node.view.ports _
-pulsed_length last node next (Err why) e = absurd cc
+pulsed-length last node next (Err why) e = absurd cc
 
 -- so after a call of either, whatever it returns
 pub taking : {S M A : Type 0} (old new : Alpha S M) (i : ℕ) (w : Wire M) (r : Result A AlphaRefused)
@@ -49,5 +49,5 @@ taking old new i w (Err why) e same = ap (λ a. length a.node.view.ports) same
 pub pulsing : {S M A : Type 0} (next : S → ℕ → List (Option M) → Result (S × List (Option M)) Refused) (old new : Alpha S M) (r : Result A AlphaRefused)
     → MatchResult r (λ _. pulse next old.last old.node ≡ Ok new.node) (λ refused. PulseRefused refused (pulse next old.last old.node))
     → OnErr r (new ≡ old) → length new.node.view.ports ≡ length old.node.view.ports
-pulsing next old new (Ok x) e same = pulsed_length old.last old.node new.node _ e
+pulsing next old new (Ok x) e same = pulsed-length old.last old.node new.node _ e
 pulsing next old new (Err why) e same = ap (λ a. length a.node.view.ports) same

@@ -28,11 +28,11 @@ pub map_snoc : {A : Type 0} (f : A → ℕ) (items : List A) (x : A) → map f (
 map_snoc f [] x = refl
 map_snoc f (y ∷ ys) x = ap (λ l. f y ∷ l) (map_snoc f ys x)
 
-pub total_set : (f : Ledger → ℕ) (views : List Ledger) (pass : ℕ) (v w : Ledger) → get_elem? views pass ≡ option.some v
+pub total-set : (f : Ledger → ℕ) (views : List Ledger) (pass : ℕ) (v w : Ledger) → get_elem? views pass ≡ option.some v
     → total f (set views pass w) + f v ≡ total f views + f w
-total_set f [] pass v w e = absurd (option.some-ne-none v (sym e))
-total_set f (x ∷ xs) zero v w e = let s : f x ≡ f v = ap f (option.some-injective x v e) in omega arith
-total_set f (x ∷ xs) (suc pass) v w e = let s = total_set f xs pass v w e in omega arith
+total-set f [] pass v w e = absurd (option.some-ne-none v (sym e))
+total-set f (x ∷ xs) zero v w e = let s : f x ≡ f v = ap f (option.some-injective x v e) in omega arith
+total-set f (x ∷ xs) (suc pass) v w e = let s = total-set f xs pass v w e in omega arith
 
 pub total_snoc : (f : Ledger → ℕ) (views : List Ledger) (w : Ledger) → total f (views ++ w ∷ []) ≡ total f views + f w
 total_snoc f [] w = omega arith
@@ -88,11 +88,11 @@ forks pass v more items views b at =
     let r = ledger 1 [] [] in
     let vs = set views pass l in
     record {
-      shares = let s = total_set (λ u. u.shares) views pass v l at in let t = total_snoc (λ u. u.shares) vs r in let p = b.shares in omega arith;
+      shares = let s = total-set (λ u. u.shares) views pass v l at in let t = total_snoc (λ u. u.shares) vs r in let p = b.shares in omega arith;
       even = λ h.
-          let s = total_set (λ u. weigh h u.pushed) views pass v l at in
+          let s = total-set (λ u. weigh h u.pushed) views pass v l at in
           let t = total_snoc (λ u. weigh h u.pushed) vs r in
-          let s' = total_set (λ u. weigh h u.taken) views pass v l at in
+          let s' = total-set (λ u. weigh h u.taken) views pass v l at in
           let t' = total_snoc (λ u. weigh h u.taken) vs r in
           let p = b.even h in
           omega arith;
@@ -106,11 +106,11 @@ deals pass v more items views b at =
     let r = ledger 1 v.pushed v.taken in
     let vs = set views pass l in
     record {
-      shares = let s = total_set (λ u. u.shares) views pass v l at in let t = total_snoc (λ u. u.shares) vs r in let p = b.shares in omega arith;
+      shares = let s = total-set (λ u. u.shares) views pass v l at in let t = total_snoc (λ u. u.shares) vs r in let p = b.shares in omega arith;
       even = λ h.
-          let s = total_set (λ u. weigh h u.pushed) views pass v l at in
+          let s = total-set (λ u. weigh h u.pushed) views pass v l at in
           let t = total_snoc (λ u. weigh h u.pushed) vs r in
-          let s' = total_set (λ u. weigh h u.taken) views pass v l at in
+          let s' = total-set (λ u. weigh h u.taken) views pass v l at in
           let t' = total_snoc (λ u. weigh h u.taken) vs r in
           let p = b.even h in
           omega arith;
@@ -138,10 +138,10 @@ module _ {A : Type 0} (f : A → ℕ) where
       let w = ledger v.shares (v.pushed ++ f x ∷ []) v.taken in (
         w,
         record {
-          shares = let s = total_set (λ u. u.shares) views pass v w at in let p = b.shares in omega arith;
+          shares = let s = total-set (λ u. u.shares) views pass v w at in let p = b.shares in omega arith;
           even = λ h.
-              let s = total_set (λ u. weigh h u.pushed) views pass v w at in
-              let t = total_set (λ u. weigh h u.taken) views pass v w at in
+              let s = total-set (λ u. weigh h u.pushed) views pass v w at in
+              let t = total-set (λ u. weigh h u.taken) views pass v w at in
               let p = b.even h in
               let m : weigh h (map f (items ++ x ∷ [])) ≡ weigh h (map f items) + weigh h (f x ∷ []) =
               ap (weigh h) (map_snoc f items x) ∙ weigh-append h (map f items) (f x ∷ []) in
@@ -160,10 +160,10 @@ module _ {A : Type 0} (f : A → ℕ) where
   leaves pass v xs before after views some_share parted b at =
       let w = ledger v.shares v.pushed (v.taken ++ map f xs) in
       record {
-        shares = let s = total_set (λ u. u.shares) views pass v w at in let p = b.shares in omega arith;
+        shares = let s = total-set (λ u. u.shares) views pass v w at in let p = b.shares in omega arith;
         even = λ h.
-            let s = total_set (λ u. weigh h u.pushed) views pass v w at in
-            let t = total_set (λ u. weigh h u.taken) views pass v w at in
+            let s = total-set (λ u. weigh h u.pushed) views pass v w at in
+            let t = total-set (λ u. weigh h u.taken) views pass v w at in
             let p = b.even h in
             let m = parted h in
             let q = weigh-append h v.taken (map f xs) in
@@ -197,15 +197,15 @@ module _ {A : Type 0} (f : A → ℕ) where
       let vs = set views pass both in
       record {
         shares =
-            let s = total_set (λ y. y.shares) views pass v both at in
-            let t = total_set (λ y. y.shares) vs other u none at' in
+            let s = total-set (λ y. y.shares) views pass v both at in
+            let t = total-set (λ y. y.shares) vs other u none at' in
             let p = b.shares in
             omega arith;
         even = λ h.
-            let s = total_set (λ y. weigh h y.pushed) views pass v both at in
-            let t = total_set (λ y. weigh h y.pushed) vs other u none at' in
-            let s' = total_set (λ y. weigh h y.taken) views pass v both at in
-            let t' = total_set (λ y. weigh h y.taken) vs other u none at' in
+            let s = total-set (λ y. weigh h y.pushed) views pass v both at in
+            let t = total-set (λ y. weigh h y.pushed) vs other u none at' in
+            let s' = total-set (λ y. weigh h y.taken) views pass v both at in
+            let t' = total-set (λ y. weigh h y.taken) vs other u none at' in
             let p = b.even h in
             let q = weigh-append h v.pushed u.pushed in
             let q' = weigh-append h v.taken u.taken in

@@ -5,7 +5,7 @@ use Rattle.std.proofs.lemmas.List.{length-map, get_or-map, map-set}
 use Rattle.crossbeam_deque.proofs.Lists.{at_index}
 use Rattle.deque_rule.specs.declared.ledger.Ledger.{Ledger}
 use Rattle.deque_rule.specs.Ledgers.{ledger, weigh, AreOut, in_hand}
-use Rattle.deque_rule.proofs.Rule.{weigh-append, map_snoc, total_set}
+use Rattle.deque_rule.proofs.Rule.{weigh-append, map_snoc, total-set}
 
 took : (own new : Ledger) (passes : List Ledger) (tasks : List ℕ) (k : ℕ) → new ≡ ledger own.shares own.pushed (own.taken ++ k ∷ [])
     → AreOut (own ∷ passes) tasks → AreOut (new ∷ passes) (k ∷ tasks)
@@ -29,8 +29,8 @@ stole : (own : Ledger) (passes : List Ledger) (i : ℕ) (v w : Ledger) (tasks : 
     → w ≡ ledger v.shares v.pushed (v.taken ++ k ∷ []) → AreOut (own ∷ passes) tasks → AreOut (own ∷ set passes i w) (k ∷ tasks)
 stole own passes i v w tasks k within at is out h =
     let here = at_index passes i v within at in
-    let s = total_set (λ u. weigh h u.pushed) passes i v w here in
-    let s' = total_set (λ u. weigh h u.taken) passes i v w here in
+    let s = total-set (λ u. weigh h u.pushed) passes i v w here in
+    let s' = total-set (λ u. weigh h u.taken) passes i v w here in
     let t = ap (λ (u : Ledger). weigh h u.taken) is in
     let p = ap (λ (u : Ledger). weigh h u.pushed) is in
     let a = weigh-append h v.taken (k ∷ []) in
@@ -41,8 +41,8 @@ same_view : (own : Ledger) (passes : List Ledger) (i : ℕ) (v w : Ledger) (task
     → w ≡ v → AreOut (own ∷ passes) tasks → AreOut (own ∷ set passes i w) tasks
 same_view own passes i v w tasks within at is out h =
     let here = at_index passes i v within at in
-    let s = total_set (λ u. weigh h u.pushed) passes i v w here in
-    let s' = total_set (λ u. weigh h u.taken) passes i v w here in
+    let s = total-set (λ u. weigh h u.pushed) passes i v w here in
+    let s' = total-set (λ u. weigh h u.taken) passes i v w here in
     let t = ap (λ (u : Ledger). weigh h u.taken) is in
     let p = ap (λ (u : Ledger). weigh h u.pushed) is in
     let e = out h in

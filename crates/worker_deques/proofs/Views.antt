@@ -6,7 +6,7 @@ use Rattle.std.proofs.lemmas.List.Elements.{All-map, All-head, All-tail}
 use Rattle.crossbeam_deque.proofs.Lists.{at_index}
 use Rattle.deque_rule.specs.declared.ledger.Ledger.{Ledger}
 use Rattle.deque_rule.specs.Ledgers.{total}
-use Rattle.deque_rule.proofs.Rule.{total_set}
+use Rattle.deque_rule.proofs.Rule.{total-set}
 
 -- what is so of the images of a list is so of the list, and the other way round
 pub unmapped : {A C : Type 0} (g : A → C) (Q : C → Type 0) (ys : List A) → All Q (map g ys) → All (λ y. Q (g y)) ys
@@ -33,9 +33,9 @@ total_zero f see (x ∷ xs) all =
     let r = total_zero f see xs (All-tail (λ x. f (see x) ≡ 0) x xs all) in
     omega arith
 
-pub total_append : (f : Ledger → ℕ) (xs ys : List Ledger) → total f (xs ++ ys) ≡ total f xs + total f ys
-total_append f [] ys = omega arith
-total_append f (x ∷ xs) ys = let r = total_append f xs ys in omega arith
+pub total-append : (f : Ledger → ℕ) (xs ys : List Ledger) → total f (xs ++ ys) ≡ total f xs + total f ys
+total-append f [] ys = omega arith
+total-append f (x ∷ xs) ys = let r = total-append f xs ys in omega arith
 
 -- the sum after a change of one
 pub total_change : {A : Type 0} (f : Ledger → ℕ) (see : A → Ledger) (xs : List A) (i : ℕ) (x y : A) → i < length xs → x ≡ get_or xs i x
@@ -43,7 +43,7 @@ pub total_change : {A : Type 0} (f : Ledger → ℕ) (see : A → Ledger) (xs : 
 total_change f see xs i x y lt at =
     let there : see x ≡ get_or (map see xs) i (see x) = ap see at ∙ sym (get_or-map see xs i x (see x) lt) in
     let here = at_index (map see xs) i (see x) (omega (arith, length-map xs see)) there in
-    let s = total_set f (map see xs) i (see x) (see y) here in
+    let s = total-set f (map see xs) i (see x) (see y) here in
     let e = ap (total f) (map-set see xs i y) in
     omega arith
 
