@@ -58,27 +58,34 @@ pub fn node_of<J: Wiring, const D: u32>(
     Ok(Box::new(alloc, node)?)
 }
 
-// A turn of the node of vertex 1 over two links. `far` takes what the node puts.
+// The ends of two links at the node of vertex 1, and the far end of the link that it puts into.
+#[derive(Drop)]
+struct Ends {
+    put: PutEnd<Greatest<1>>,
+    take: TakeEnd<Greatest<1>>,
+    far: TakeEnd<Greatest<1>>,
+}
+
+// A turn of the node of vertex 1 over two links.
 fn turned_over<J: Wiring, R: Wait>(
     rt: &R,
     alloc: Global,
     network: &Network,
     links: Vec<Link<Greatest<1>>>,
-    put: PutEnd<Greatest<1>>,
-    take: TakeEnd<Greatest<1>>,
-    far: TakeEnd<Greatest<1>>,
+    ends: Ends,
     stamp: u64,
 ) -> Result<Turned, Memory>
     requires network { (network.now ≡ pair_net) × (J.net ≡ pair_net) }
-    requires put { IsEndAt J.net J.tables 1 0 put.pass.table_id (put_name put)
-        × (slice_get J.links 0 ≡ Some put.pass.table_id) × (put_list put ≡ []) }
-    requires take { IsEndAt J.net J.tables 2 0 take.pass.table_id (take_name take)
-        × (slice_get J.links 1 ≡ Some take.pass.table_id) × (taken_list take ≡ []) }
-    requires far { IsEndAt J.net J.tables 1 0 far.pass.table_id (take_name far)
-        × (slice_get J.links 0 ≡ Some far.pass.table_id) }
+    requires put { IsEndAt J.net J.tables 1 0 ends.put.pass.table_id (put_name ends.put)
+        × (slice_get J.links 0 ≡ Some ends.put.pass.table_id) × (put_list ends.put ≡ []) }
+    requires take { IsEndAt J.net J.tables 2 0 ends.take.pass.table_id (take_name ends.take)
+        × (slice_get J.links 1 ≡ Some ends.take.pass.table_id) × (taken_list ends.take ≡ []) }
+    requires far { IsEndAt J.net J.tables 1 0 ends.far.pass.table_id (take_name ends.far)
+        × (slice_get J.links 0 ≡ Some ends.far.pass.table_id) }
     requires links { J.links ≡ map table_of links.items }
     requires transcript { J.transcript ≡ false }
 {
+    let Ends { put, take, far } = ends;
     let links = Links::<J, Greatest<1>>::new(links);
     let mut far = WiredTake::<J, Best>::new(1, 0, 0, far);
     let put = WiredPut::<J, Best>::new(1, 0, 0, put);
@@ -99,5 +106,5 @@ pub fn turn_past<R: Wait>(
     let (out, put, far) = Link::<Greatest<1>>::new(alloc, network, 1, 0, 1)?;
     let (back, _other, take) = Link::<Greatest<1>>::new(alloc, network, 2, 0, 1)?;
     let links = vec![in alloc; out, back]?;
-    turned_over::<Brand, R>(rt, alloc, network, links, put, take, far, stamp)
+    turned_over::<Brand, R>(rt, alloc, network, links, Ends { put, take, far }, stamp)
 }

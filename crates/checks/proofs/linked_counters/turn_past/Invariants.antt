@@ -4,7 +4,7 @@ use Rattle.checks.proofs.linked_counters.turn_past.Given as goal
 abbrev pub ghosts-turned_over : goal.ghosts-turned_over
 ghosts-turned_over g a = record {
   net = a.network.now;
-  tables = (a.put.pass.table_id ∷ []) ∷ (a.take.pass.table_id ∷ []) ∷ [];
-  links = a.put.pass.table_id ∷ a.take.pass.table_id ∷ [];
+  tables = (a.ends.put.pass.table_id ∷ []) ∷ (a.ends.take.pass.table_id ∷ []) ∷ [];
+  links = a.ends.put.pass.table_id ∷ a.ends.take.pass.table_id ∷ [];
   transcript = false;
 }
