@@ -1,3 +1,3 @@
+pub mod Asides
 pub mod Makes
 pub mod News
-pub mod Ends

@@ -5,7 +5,7 @@ ghost use Rattle.actor.specs.Tables.{table_of};
 ghost use Rattle.gather_laws.specs.Outcome.{IsOutcome};
 ghost use Rattle.run_faults.specs.declared.fault.PoolFault.TheVariants.{BadOptions};
 ghost use Rattle.run_options.specs.Ranges.{AreInRange};
-ghost use Rattle.node_pool.specs.Ends.{full_after};
+ghost use Rattle.node_pool.specs.Asides.{unless_full};
 ghost use Rattle.node_pool.specs.Makes.{AreMade, rows_of, tables_of};
 
 use crate::making::{Made, make_links};
@@ -34,7 +34,7 @@ fn are_in_range(options: Options) -> bool
 
 // Whether a node set a wire aside since the stamp of its take would be too great: that is the fault of the run.
 fn unless_full<J: Wiring, P: NodeProgram>(nodes: &[Box<Node<J, P>>]) -> Result<(), NodesFault>
-    ensures full { result ≡ full_after tt (map (λ b. b.value.aside) nodes.now) }
+    ensures full { result ≡ unless_full tt (map (λ b. b.value.aside) nodes.now) }
 {
     if some_full(nodes) {
         return Err(NodesFault::StampFull);
@@ -92,7 +92,7 @@ pub fn run_workers<P: NodeProgram, G: Gate + Sync, R: Threads + Wait + Sync>(
         (λ outcome. IsOutcome P.program net.now options.capacity options.transcript outcome) }
     ensures in_range { IfOk result (λ _. AreInRange options) }
     ensures bad_options { IfErr result (λ fault. fault ≡ BadOptions → AreInRange options → ⊥) }
-    ensures told_first { (AreInRange options → ⊥) → result ≡ Err BadOptions }
+    ensures reported_first { (AreInRange options → ⊥) → result ≡ Err BadOptions }
 {
     if !are_in_range(options) {
         return Err(PoolFault::BadOptions);

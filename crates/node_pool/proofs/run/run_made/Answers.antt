@@ -6,7 +6,7 @@ use Rattle.interference.specs.Net.{IsNetwork}
 use Rattle.gather_laws.specs.Outcome.{IsOutcome}
 use Rattle.pool.specs.declared.faults.NodesFault.{NodesFault}
 use Rattle.pool.specs.declared.faults.NodesFault.TheVariants.{StampFull}
-use Rattle.node_pool.specs.Ends.{full_after}
+use Rattle.node_pool.specs.Asides.{unless_full}
 use Rattle.node_pool.specs.Makes.{AreMade, rows_of}
 use Rattle.node_pool.proofs.MadeRows.{made_are_new, made_within}
 use Rattle.node_pool.proofs.run.run_made.Goals as goal
@@ -21,15 +21,15 @@ start_nodes-requires-clause-ends g c κs within =
     (sym c.requires.tables) (sym c.requires.links)
 
 -- nothing is reported only if no wire was set aside for its stamp
-not_full : {A : Type 0} (done x : A) (told : Result A NodesFault) (full : Bool) → told ≡ (if full then Err StampFull else Ok done) → told ≡ Ok x
+not_full : {A : Type 0} (done x : A) (reported : Result A NodesFault) (full : Bool) → reported ≡ (if full then Err StampFull else Ok done) → reported ≡ Ok x
     → full ≡ false
-not_full done x told true e is = let no = sym e ∙ is in absurd cc
-not_full done x told false e is = refl
+not_full done x reported true e is = let no = sym e ∙ is in absurd cc
+not_full done x reported false e is = refl
 
 pub gathered-requires-clause-stamps : goal.gathered-requires-clause-stamps
 gathered-requires-clause-stamps g c κs within =
     not_full (tt {0}) (tt {0}) c.unless_full.result (some_full (map (λ b. b.value.aside) c.in_ok-nodes-2.nodes.items))
-    (c.unless_full.ensures.full ∙ ap (λ nodes. full_after (tt {0}) (map (λ b. b.value.aside) nodes)) c.as_slice.ensures.value) c.in_ok-unless_full.was
+    (c.unless_full.ensures.full ∙ ap (λ nodes. unless_full (tt {0}) (map (λ b. b.value.aside) nodes)) c.as_slice.ensures.value) c.in_ok-unless_full.was
 
 -- the links that are gathered are those that were made
 pub returns : goal.returns

@@ -7,5 +7,5 @@ use Rattle.outcomes.specs.Full.{some_full}
 
 -- What a run reports of the wires that its nodes set aside: a stamp that would be too great, if one was set aside for
 -- that.
-abbrev pub full_after : {A M : Type 0} → A → List (Option (Aside M)) → Result A NodesFault
-full_after done asides = if some_full asides then Err StampFull else Ok done
+abbrev pub unless_full : {A M : Type 0} → A → List (Option (Aside M)) → Result A NodesFault
+unless_full done asides = if some_full asides then Err StampFull else Ok done
