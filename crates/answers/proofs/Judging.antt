@@ -63,8 +63,8 @@ fault-rows input network behind net rows fault are (graph, reads, (ok, same)) re
 pub proper-rows : (input network behind text : List ℕ) (net : Net) (rows : List Row) → AreParts input network behind →
     ReadsAs network (λ read. IsNetwork read × (net ≡ read)) → reading_of (lines_of behind) ≡ Ok rows → IsProper net rows →
     text ≡ verdict_text (greatest_channel rows) → IsCheckAnswer input text
-proper-rows input network behind text net rows are (graph, reads, (ok, same)) read is told = (
+proper-rows input network behind text net rows are (graph, reads, (ok, same)) read is ends = (
   graph,
   graph-of plan_word (lines_of input) (lines_of network) graph are.network reads,
-  (ok, (rows, (sym are.plan ∙ read, subst (λ known. IsProper known rows) same is), told)),
+  (ok, (rows, (sym are.plan ∙ read, subst (λ known. IsProper known rows) same is), ends)),
 )

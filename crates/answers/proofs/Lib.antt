@@ -1,4 +1,4 @@
-mod Ends
+mod AtVertices
 pub mod Numbering
 mod GivenIds
 pub mod Rooted

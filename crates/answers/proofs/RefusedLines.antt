@@ -18,7 +18,8 @@ use Rattle.transcripts.specs.Reading.{Transcript}
 use Rattle.transcripts.proofs.Either.{read-one-behind}
 use Rattle.transcripts.proofs.EntryNumbers.{entries-have-lines}
 use Rattle.wire_texts.specs.PayloadTexts.{PayloadTexts}
-use Rattle.answers.specs.ReplayAnswers.{HasLineOf, IsFaultOfTranscript, IsRefusal, IsTold, IsToldAs, StopsThere, fault_at, index_of, transcript_in, words_text}
+use Rattle.answers.specs.ReplayAnswers.{HasLineOf, IsFaultOfEntry, IsFaultOfTranscript, IsRefusal, IsRefusalOfEntry, StopsThere}
+use Rattle.answers.specs.ReplayAnswers.{fault_at, index_of, transcript_in, words_text}
 use Rattle.answers.specs.declared.replaying.ReplayFault.{ReplayFault}
 use Rattle.answers.specs.declared.replaying.ReplayFault.TheVariants as fault
 
@@ -73,10 +74,10 @@ module _ {S M E : Type 0} (program : Program S M E) where
 
 module _ {S M E : Type 0} (program : Program S M E) (payloads : PayloadTexts M) where
   -- The entries before the refused one, replayed once more, lead to the state in which the entries stop.
-  pub says-there : (net : Net) → IsNetwork net → (rows : List (Row M)) (numbers : List ℕ) (refused : ReplayRefused) (told : ReplayFault) →
-      (stops : Stops program net rows refused) → (is : IsToldAs program payloads net rows numbers refused told) →
+  pub says-there : (net : Net) → IsNetwork net → (rows : List (Row M)) (numbers : List ℕ) (refused : ReplayRefused) (reported : ReplayFault) →
+      (stops : Stops program net rows refused) → (is : IsRefusalOfEntry program payloads net rows numbers refused reported) →
       is.words.items ≡ words_text program payloads net stops.reached stops.row refused
-  says-there net ok rows numbers refused told stops is =
+  says-there net ok rows numbers refused reported stops is =
       let place = index-is program net rows refused is.index stops is.is_index in
       let before : take is.index rows ≡ stops.before =
       ap (λ k. take k rows) place ∙ ap (take (length stops.before)) stops.splits ∙ take-at stops.before (stops.row ∷ stops.after) in
@@ -90,39 +91,40 @@ module _ {S M E : Type 0} (program : Program S M E) (payloads : PayloadTexts M) 
       is.says ∙ ap (λ s. words_text program payloads net s is.row refused) state
       ∙ ap (λ r. words_text program payloads net stops.reached r refused) row
 
-  pub told-as : (net : Net) (rows : List (Row M)) (numbers : List ℕ) (refused : ReplayRefused) (told : ReplayFault) →
-      IsTold program payloads net rows numbers refused told → told ≢ fault.Memory → IsToldAs program payloads net rows numbers refused told
-  told-as net rows numbers refused (fault.Syntax n) so isnt = so
-  told-as net rows numbers refused (fault.WrongProgram n words) so isnt = so
-  told-as net rows numbers refused (fault.NotReady n words) so isnt = so
-  told-as net rows numbers refused (fault.NothingToPut n words) so isnt = so
-  told-as net rows numbers refused (fault.LinkEmpty n words) so isnt = so
-  told-as net rows numbers refused (fault.NoSuch n) so isnt = so
-  told-as net rows numbers refused (fault.WrongWire n words) so isnt = so
-  told-as net rows numbers refused (fault.WrongStamp n) so isnt = so
-  told-as net rows numbers refused (fault.NotWhole n) so isnt = so
-  told-as net rows numbers refused fault.Memory so isnt = absurd (isnt refl)
+  pub entry-refusal : (net : Net) (rows : List (Row M)) (numbers : List ℕ) (refused : ReplayRefused) (reported : ReplayFault) →
+      IsFaultOfEntry program payloads net rows numbers refused reported → reported ≢ fault.Memory
+      → IsRefusalOfEntry program payloads net rows numbers refused reported
+  entry-refusal net rows numbers refused (fault.Syntax n) so isnt = so
+  entry-refusal net rows numbers refused (fault.WrongProgram n words) so isnt = so
+  entry-refusal net rows numbers refused (fault.NotReady n words) so isnt = so
+  entry-refusal net rows numbers refused (fault.NothingToPut n words) so isnt = so
+  entry-refusal net rows numbers refused (fault.LinkEmpty n words) so isnt = so
+  entry-refusal net rows numbers refused (fault.NoSuch n) so isnt = so
+  entry-refusal net rows numbers refused (fault.WrongWire n words) so isnt = so
+  entry-refusal net rows numbers refused (fault.WrongStamp n) so isnt = so
+  entry-refusal net rows numbers refused (fault.NotWhole n) so isnt = so
+  entry-refusal net rows numbers refused fault.Memory so isnt = absurd (isnt refl)
 
-  pub is-told : (net : Net) (rows : List (Row M)) (numbers : List ℕ) (refused : ReplayRefused) (told : ReplayFault) →
-      IsToldAs program payloads net rows numbers refused told → IsTold program payloads net rows numbers refused told
-  is-told net rows numbers refused (fault.Syntax n) so = so
-  is-told net rows numbers refused (fault.WrongProgram n words) so = so
-  is-told net rows numbers refused (fault.NotReady n words) so = so
-  is-told net rows numbers refused (fault.NothingToPut n words) so = so
-  is-told net rows numbers refused (fault.LinkEmpty n words) so = so
-  is-told net rows numbers refused (fault.NoSuch n) so = so
-  is-told net rows numbers refused (fault.WrongWire n words) so = so
-  is-told net rows numbers refused (fault.WrongStamp n) so = so
-  is-told net rows numbers refused (fault.NotWhole n) so = so
-  is-told net rows numbers refused fault.Memory so = tt
+  pub entry-fault : (net : Net) (rows : List (Row M)) (numbers : List ℕ) (refused : ReplayRefused) (reported : ReplayFault) →
+      IsRefusalOfEntry program payloads net rows numbers refused reported → IsFaultOfEntry program payloads net rows numbers refused reported
+  entry-fault net rows numbers refused (fault.Syntax n) so = so
+  entry-fault net rows numbers refused (fault.WrongProgram n words) so = so
+  entry-fault net rows numbers refused (fault.NotReady n words) so = so
+  entry-fault net rows numbers refused (fault.NothingToPut n words) so = so
+  entry-fault net rows numbers refused (fault.LinkEmpty n words) so = so
+  entry-fault net rows numbers refused (fault.NoSuch n) so = so
+  entry-fault net rows numbers refused (fault.WrongWire n words) so = so
+  entry-fault net rows numbers refused (fault.WrongStamp n) so = so
+  entry-fault net rows numbers refused (fault.NotWhole n) so = so
+  entry-fault net rows numbers refused fault.Memory so = tt
 
 module _ {S M E : Type 0} (program : Program S M E) (payloads : PayloadTexts M) where
-  refusal : (net : Net) → IsNetwork net → (lines : List Line) (read : Transcript M) (refused : ReplayRefused) (told : ReplayFault)
+  refusal : (net : Net) → IsNetwork net → (lines : List Line) (read : Transcript M) (refused : ReplayRefused) (reported : ReplayFault)
       → transcript_in payloads lines ≡ Ok (One read) →
-      Stops program net read.1 refused → IsToldAs program payloads net read.1 (entry_lines lines) refused told →
-      IsRefusal program payloads net lines told
-  refusal net ok lines read refused told e stops so =
-      let is = so.is_told in
+      Stops program net read.1 refused → IsRefusalOfEntry program payloads net read.1 (entry_lines lines) refused reported →
+      IsRefusal program payloads net lines reported
+  refusal net ok lines read refused reported e stops so =
+      let is = so.is_reported in
       let rows = (entries-have-lines (codes "1") (row_of payloads.payload_of) lines read (read-one-behind payloads.payload_of lines read e)).rows_are
       ∙ ap (map (λ x. Some x)) stops.splits in
       let numbers = entry_lines lines in
@@ -135,13 +137,13 @@ module _ {S M E : Type 0} (program : Program S M E) (payloads : PayloadTexts M) 
         is_read = e;
         stops = stops;
         words = so.words;
-        says = says-there program payloads net ok read.1 numbers refused told stops so;
-        is_told = is;
+        says = says-there program payloads net ok read.1 numbers refused reported stops so;
+        is_reported = is;
         has_line = subst (HasLineOf payloads lines stops.row) (sym (is ∙ ap (fault_at numbers so.words) stops.index)) has;
       }
 
-  by-fault : (net : Net) (lines : List Line) (told : ReplayFault) → (told ≢ fault.Memory → IsRefusal program payloads net lines told) →
-      IsFaultOfTranscript program payloads net lines told
+  by-fault : (net : Net) (lines : List Line) (reported : ReplayFault) → (reported ≢ fault.Memory → IsRefusal program payloads net lines reported) →
+      IsFaultOfTranscript program payloads net lines reported
   by-fault net lines (fault.Syntax n) is = absurd ((is (λ e. cc)).has_line)
   by-fault net lines (fault.WrongProgram n words) is = absurd ((is (λ e. cc)).has_line)
   by-fault net lines (fault.NotReady n words) is = inl (is (λ e. cc))
@@ -153,10 +155,10 @@ module _ {S M E : Type 0} (program : Program S M E) (payloads : PayloadTexts M) 
   by-fault net lines (fault.NotWhole n) is = inl (is (λ e. cc))
   by-fault net lines fault.Memory is = tt
 
-  pub fault-refused : (net : Net) → IsNetwork net → (lines : List Line) (read : Transcript M) (refused : ReplayRefused) (told : ReplayFault) →
+  pub fault-refused : (net : Net) → IsNetwork net → (lines : List Line) (read : Transcript M) (refused : ReplayRefused) (reported : ReplayFault) →
       transcript_in payloads lines ≡ Ok (One read) → (refused ≢ replay.Run run.Memory → Stops program net read.1 refused) →
-      IsTold program payloads net read.1 (entry_lines lines) refused told → IsFaultOfTranscript program payloads net lines told
-  fault-refused net ok lines read refused told e stops is =
-      by-fault net lines told (λ no.
-      let so = told-as program payloads net read.1 (entry_lines lines) refused told is no in
-      refusal net ok lines read refused told e (stops (not-memory refused so.index so.is_index)) so)
+      IsFaultOfEntry program payloads net read.1 (entry_lines lines) refused reported → IsFaultOfTranscript program payloads net lines reported
+  fault-refused net ok lines read refused reported e stops is =
+      by-fault net lines reported (λ no.
+      let so = entry-refusal program payloads net read.1 (entry_lines lines) refused reported is no in
+      refusal net ok lines read refused reported e (stops (not-memory refused so.index so.is_index)) so)

@@ -1,4 +1,4 @@
--- The refusal of stamped entries, with its line: from that of `replay_whole`, and from what is told of it.
+-- The refusal of stamped entries, with its line: from that of `replay_whole`, and from the fault that is reported for it.
 use Rattle.std.proofs.Common.{◌≡◌, ◌≢◌, ◌++◌, ◌∷◌, ◌∙◌, ℕ, Some, Ok, List, ap, inr, length, map, refl, subst, sym}
 use Rattle.std.specs.declared.vec.Vec.{Vec}
 use Rattle.std.specs.declared.alloc.Global.{Global}
@@ -22,11 +22,12 @@ use Rattle.entries.specs.declared.rows.Row.{Row}
 use Rattle.entries.specs.declared.rows.StampedRow.{StampedRow}
 use Rattle.transcripts.proofs.Either.{stamped-have-lines}
 use Rattle.wire_texts.specs.PayloadTexts.{PayloadTexts}
-use Rattle.answers.specs.ReplayAnswers.{HasLine, IsEntryTold, IsFaultOfTranscript, IsStampedLine, IsStampedRefusal, IsStampedTold, IsToldAs, bare_rows}
+use Rattle.answers.specs.ReplayAnswers.{HasLine, IsFaultOfStamped, IsFaultOfTranscript, IsRefusalOfEntry, IsRefusalOfStampedEntry}
+use Rattle.answers.specs.ReplayAnswers.{IsStampedLine, IsStampedRefusal, bare_rows}
 use Rattle.answers.specs.ReplayAnswers.{SaysWhyNot, StopsThere, fault_at, first_line_in, last_of, line_at, transcript_in}
 use Rattle.answers.specs.declared.replaying.ReplayFault.{ReplayFault}
 use Rattle.answers.specs.declared.replaying.ReplayFault.TheVariants as fault
-use Rattle.answers.proofs.RefusedLines.{entry-at, not-memory, says-there, told-as}
+use Rattle.answers.proofs.RefusedLines.{entry-at, not-memory, says-there, entry-refusal}
 
 abbrev bare : {M : Type 0} → StampedRow M → Row M
 bare row = without_stamp row
@@ -64,10 +65,10 @@ module _ {S M E : Type 0} (program : Program S M E) (payloads : PayloadTexts M)
       entry-at (stamped_entry_on payloads.payload_of lines) (entry_lines lines) before row after
       ((stamped-have-lines payloads.payload_of lines read e).rows_are ∙ ap (map (λ r. Some r)) splits)
 
-  entry-told : (refused : ReplayRefused) (told : ReplayFault) (stops : StopsAtEntry program net read.1 refused) →
-      IsToldAs program payloads net (bare_rows read.1) (entry_lines lines) refused told →
-      IsEntryTold program payloads net lines read.1 refused stops told
-  entry-told refused told stops so =
+  stamped-refusal : (refused : ReplayRefused) (reported : ReplayFault) (stops : StopsAtEntry program net read.1 refused) →
+      IsRefusalOfEntry program payloads net (bare_rows read.1) (entry_lines lines) refused reported →
+      IsRefusalOfStampedEntry program payloads net lines read.1 refused stops reported
+  stamped-refusal refused reported stops so =
       let numbers = entry_lines lines in
       let row = stops.at.row in
       let line = line-of stops.at.before stops.at.after row stops.at.splits in
@@ -75,20 +76,20 @@ module _ {S M E : Type 0} (program : Program S M E) (payloads : PayloadTexts M)
       stops.reason in
       record {
         words = so.words;
-        says = says-there program payloads net ok (bare_rows read.1) numbers refused told (stops-bare program net read.1 refused stops) so;
-        is_told = so.is_told;
-        has_line = subst (HasLine (IsStampedLine payloads lines row)) (sym (so.is_told ∙ ap (fault_at numbers so.words) stops.index)) has;
+        says = says-there program payloads net ok (bare_rows read.1) numbers refused reported (stops-bare program net read.1 refused stops) so;
+        is_reported = so.is_reported;
+        has_line = subst (HasLine (IsStampedLine payloads lines row)) (sym (so.is_reported ∙ ap (fault_at numbers so.words) stops.index)) has;
       }
 
-  refusal-of : (refused : WholeRefused) (told : ReplayFault) → told ≢ fault.Memory →
+  refusal-of : (refused : WholeRefused) (reported : ReplayFault) → reported ≢ fault.Memory →
       (refused ≢ whole.Replay (replay.Run run.Memory) → WhyNotWhole program net read.1 refused) →
-      IsStampedTold program payloads net read.1 (first_line_in lines) (entry_lines lines) refused told →
-      IsStampedRefusal program payloads net lines told
-  refusal-of (whole.Replay refused) told isnt why is =
-      let so = told-as program payloads net (bare_rows read.1) (entry_lines lines) refused told is isnt in
+      IsFaultOfStamped program payloads net read.1 (first_line_in lines) (entry_lines lines) refused reported →
+      IsStampedRefusal program payloads net lines reported
+  refusal-of (whole.Replay refused) reported isnt why is =
+      let so = entry-refusal program payloads net (bare_rows read.1) (entry_lines lines) refused reported is isnt in
       let stops = why (λ same. not-memory refused so.index so.is_index (inner-is refused same)) in
-      record { read = read; refused = whole.Replay refused; is_read = e; why = stops; is_told = entry-told refused told stops so }
-  refusal-of (whole.WrongStamp k) told isnt why is =
+      record { read = read; refused = whole.Replay refused; is_read = e; why = stops; is_reported = stamped-refusal refused reported stops so }
+  refusal-of (whole.WrongStamp k) reported isnt why is =
       let stops : StopsAtStamp program net read.1 k = why (λ same. cc) in
       let here = line-of stops.at.before stops.at.after stops.at.row stops.at.splits in
       let line = subst (λ i. IsStampedLine payloads lines stops.at.row (line_at (entry_lines lines) i)) (sym stops.index) here in
@@ -97,10 +98,10 @@ module _ {S M E : Type 0} (program : Program S M E) (payloads : PayloadTexts M)
         refused = whole.WrongStamp k;
         is_read = e;
         why = stops;
-        is_told = (is, subst (HasLine (IsStampedLine payloads lines stops.at.row)) (sym is) line);
+        is_reported = (is, subst (HasLine (IsStampedLine payloads lines stops.at.row)) (sym is) line);
       }
-  refusal-of whole.NotWhole told isnt why is =
-      record { read = read; refused = whole.NotWhole; is_read = e; why = why (λ same. cc); is_told = is }
+  refusal-of whole.NotWhole reported isnt why is =
+      record { read = read; refused = whole.NotWhole; is_read = e; why = why (λ same. cc); is_reported = is }
 
 -- the refusal of a line, or of the program that the first one names: no refusal of entries is one
 abbrev IsOfText : ReplayFault → Type 0
@@ -117,9 +118,9 @@ no-text numbers words (replay.Run run.Memory) is = is
 no-text numbers words (replay.WrongWire k) is = is
 
 module _ {S M E : Type 0} (program : Program S M E) (payloads : PayloadTexts M) where
-  by-fault : (net : Net) (lines : List Line) (told : ReplayFault) →
-      (told ≢ fault.Memory → IsStampedRefusal program payloads net lines told) →
-      (IsOfText told → ⊥) → IsFaultOfTranscript program payloads net lines told
+  by-fault : (net : Net) (lines : List Line) (reported : ReplayFault) →
+      (reported ≢ fault.Memory → IsStampedRefusal program payloads net lines reported) →
+      (IsOfText reported → ⊥) → IsFaultOfTranscript program payloads net lines reported
   by-fault net lines (fault.Syntax n) is never = absurd (never tt)
   by-fault net lines (fault.WrongProgram n words) is never = absurd (never tt)
   by-fault net lines (fault.NotReady n words) is never = inr (is (λ e. cc))
@@ -131,19 +132,19 @@ module _ {S M E : Type 0} (program : Program S M E) (payloads : PayloadTexts M) 
   by-fault net lines (fault.NotWhole n) is never = inr (is (λ e. cc))
   by-fault net lines fault.Memory is never = tt
 
-  never-text : (net : Net) (rows : List (StampedRow M)) (first : ℕ) (numbers : List ℕ) (refused : WholeRefused) (told : ReplayFault) →
-      IsStampedTold program payloads net rows first numbers refused told → IsOfText told → ⊥
-  never-text net rows first numbers (whole.Replay refused) told is text =
-      let so = told-as program payloads net (bare_rows rows) numbers refused told is (λ m. subst IsOfText m text) in
-      no-text numbers so.words refused (subst IsOfText so.is_told text)
-  never-text net rows first numbers (whole.WrongStamp k) told is text = subst IsOfText is text
-  never-text net rows first numbers whole.NotWhole told is text = subst IsOfText is text
+  never-text : (net : Net) (rows : List (StampedRow M)) (first : ℕ) (numbers : List ℕ) (refused : WholeRefused) (reported : ReplayFault) →
+      IsFaultOfStamped program payloads net rows first numbers refused reported → IsOfText reported → ⊥
+  never-text net rows first numbers (whole.Replay refused) reported is text =
+      let so = entry-refusal program payloads net (bare_rows rows) numbers refused reported is (λ m. subst IsOfText m text) in
+      no-text numbers so.words refused (subst IsOfText so.is_reported text)
+  never-text net rows first numbers (whole.WrongStamp k) reported is text = subst IsOfText is text
+  never-text net rows first numbers whole.NotWhole reported is text = subst IsOfText is text
 
   pub whole-refused : (net : Net) → IsNetwork net → (lines : List Line) (nodes : ℕ) (rows : List (StampedRow M)) (refused : WholeRefused)
-      (told : ReplayFault) → transcript_in payloads lines ≡ Ok (Two (nodes, rows)) →
+      (reported : ReplayFault) → transcript_in payloads lines ≡ Ok (Two (nodes, rows)) →
       (refused ≢ whole.Replay (replay.Run run.Memory) → WhyNotWhole program net rows refused) →
-      IsStampedTold program payloads net rows (first_line_in lines) (entry_lines lines) refused told →
-      IsFaultOfTranscript program payloads net lines told
-  whole-refused net ok lines nodes rows refused told e why is =
-      by-fault net lines told (λ isnt. refusal-of program payloads net ok lines (nodes, rows) e refused told isnt why is)
-      (never-text net rows (first_line_in lines) (entry_lines lines) refused told is)
+      IsFaultOfStamped program payloads net rows (first_line_in lines) (entry_lines lines) refused reported →
+      IsFaultOfTranscript program payloads net lines reported
+  whole-refused net ok lines nodes rows refused reported e why is =
+      by-fault net lines reported (λ isnt. refusal-of program payloads net ok lines (nodes, rows) e refused reported isnt why is)
+      (never-text net rows (first_line_in lines) (entry_lines lines) refused reported is)

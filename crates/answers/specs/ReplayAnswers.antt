@@ -91,18 +91,18 @@ abbrev pub line_at : List ℕ → ℕ → ℕ
 line_at lines index = slice_index_or lines index 0
 
 -- The first line of the transcript names another program than the one of this name, and the refusal says which.
-pub record NamesAnother (name : List ℕ) (lines : List Line) (told : ReplayFault) : Type 0 where
+pub record NamesAnother (name : List ℕ) (lines : List Line) (reported : ReplayFault) : Type 0 where
   pub named : List ℕ
   pub is_named : program_in lines ≡ Some named
   pub another : named ≢ name
   pub words : Vec ℕ Global
   pub says : words.items ≡ codes ": " ++ named
-  pub is_told : told ≡ fault.WrongProgram (first_line_in lines) words
+  pub is_reported : reported ≡ fault.WrongProgram (first_line_in lines) words
 
 -- the same, or memory ran out
 abbrev pub IsFaultOfName : List ℕ → List Line → ReplayFault → Type 0
 IsFaultOfName name lines fault.Memory = Unit {0}
-IsFaultOfName name lines told = NamesAnother name lines told
+IsFaultOfName name lines reported = NamesAnother name lines reported
 
 -- the refusal of a replay, with the line of its entry in place of the index, and words behind it
 abbrev pub fault_at : List ℕ → Vec ℕ Global → ReplayRefused → ReplayFault
@@ -138,7 +138,7 @@ HasLine at fault.Memory = Unit {0}
 module _ {M : Type 0} (payloads : PayloadTexts M) where
   -- the line whose number a refusal has is this entry
   abbrev pub HasLineOf : List Line → Row M → ReplayFault → Type 0
-  HasLineOf lines row told = HasLine (λ n. entry_on payloads.payload_of lines n ≡ Some row) told
+  HasLineOf lines row reported = HasLine (λ n. entry_on payloads.payload_of lines n ≡ Some row) reported
 
   -- the line of a number is this entry with its stamp
   abbrev pub IsStampedLine : List Line → StampedRow M → ℕ → Type 0
@@ -157,7 +157,7 @@ abbrev pub SaysWhyNot : {S M E : Type 0} → Program S M E → Net → List (Sta
 SaysWhyNot program net rows refused =
     refused ≢ whole.Replay (replay.Run run.Memory) → WhyNotWhole program net rows refused
 
--- ---- how the refusal of entries is told
+-- ---- the refusal of entries as a fault
 module _ {S M E : Type 0} (program : Program S M E) (payloads : PayloadTexts M) where
   -- the words behind the refusal of an entry in a state: what its event lacks, or the pulse or wire that it comes to
   abbrev pub words_text : Net → State S M → Row M → ReplayRefused → List ℕ
@@ -165,9 +165,9 @@ module _ {S M E : Type 0} (program : Program S M E) (payloads : PayloadTexts M) 
   words_text net state row (replay.WrongWire k) =
       expected_text program payloads net state (event_of net row)
 
-  -- What a refusal of entries is told as: the entries before the refused one are replayed once more, for the words.
-  pub record IsToldAs (net : Net) (rows : List (Row M)) (lines : List ℕ) (refused : ReplayRefused)
-      (told : ReplayFault) : Type 0 where
+  -- The fault for a refusal of entries: the entries before the refused one are replayed once more, for the words.
+  pub record IsRefusalOfEntry (net : Net) (rows : List (Row M)) (lines : List ℕ) (refused : ReplayRefused)
+      (reported : ReplayFault) : Type 0 where
     pub index : ℕ
     pub is_index : index_of refused ≡ Some index
     pub row : Row M
@@ -176,59 +176,62 @@ module _ {S M E : Type 0} (program : Program S M E) (payloads : PayloadTexts M) 
     pub is_replay : IsReplay program net (take index rows) reached
     pub words : Vec ℕ Global
     pub says : words.items ≡ words_text net reached row refused
-    pub is_told : told ≡ fault_at lines words refused
+    pub is_reported : reported ≡ fault_at lines words refused
 
   -- the same, or memory ran out
-  abbrev pub IsTold : Net → List (Row M) → List ℕ → ReplayRefused → ReplayFault → Type 0
-  IsTold net rows lines refused fault.Memory = Unit {0}
-  IsTold net rows lines refused told = IsToldAs net rows lines refused told
+  abbrev pub IsFaultOfEntry : Net → List (Row M) → List ℕ → ReplayRefused → ReplayFault → Type 0
+  IsFaultOfEntry net rows lines refused fault.Memory = Unit {0}
+  IsFaultOfEntry net rows lines refused reported = IsRefusalOfEntry net rows lines refused reported
 
-  -- What a refusal of stamped entries is told as, with the numbers of the first line and of the entries' lines.
-  abbrev pub IsStampedTold : Net → List (StampedRow M) → ℕ → List ℕ → WholeRefused → ReplayFault → Type 0
-  IsStampedTold net rows first numbers (whole.Replay refused) told = IsTold net (bare_rows rows) numbers refused told
-  IsStampedTold net rows first numbers (whole.WrongStamp k) told = told ≡ fault.WrongStamp (line_at numbers k)
-  IsStampedTold net rows first numbers whole.NotWhole told = told ≡ fault.NotWhole (last_of first numbers)
+  -- The fault for a refusal of stamped entries, with the numbers of the first line and of the entries' lines.
+  abbrev pub IsFaultOfStamped : Net → List (StampedRow M) → ℕ → List ℕ → WholeRefused → ReplayFault → Type 0
+  IsFaultOfStamped net rows first numbers (whole.Replay refused) reported =
+      IsFaultOfEntry net (bare_rows rows) numbers refused reported
+  IsFaultOfStamped net rows first numbers (whole.WrongStamp k) reported =
+      reported ≡ fault.WrongStamp (line_at numbers k)
+  IsFaultOfStamped net rows first numbers whole.NotWhole reported = reported ≡ fault.NotWhole (last_of first numbers)
 
 -- ---- the refusal of a transcript
 module _ {S M E : Type 0} (program : Program S M E) (payloads : PayloadTexts M) where
   -- The entries of the transcript of edition 1 in the lines stop, and this is the refusal, with the number of a line in
   -- place of the entry's index, and the words for the state in which the entries stop: that line is the entry.
-  pub record IsRefusal (net : Net) (lines : List Line) (told : ReplayFault) : Type 0 where
+  pub record IsRefusal (net : Net) (lines : List Line) (reported : ReplayFault) : Type 0 where
     pub read : Transcript M
     pub refused : ReplayRefused
     pub is_read : transcript_in payloads lines ≡ Ok (One read)
     pub stops : Stops program net read.1 refused
     pub words : Vec ℕ Global
     pub says : words.items ≡ words_text program payloads net stops.reached stops.row refused
-    pub is_told : told ≡ fault_at (entry_lines lines) words refused
-    pub has_line : HasLineOf payloads lines stops.row told
+    pub is_reported : reported ≡ fault_at (entry_lines lines) words refused
+    pub has_line : HasLineOf payloads lines stops.row reported
 
   -- the refusal of an entry of edition 2 that isn't possible, or has another pulse or wire, as for edition 1
-  pub record IsEntryTold (net : Net) (lines : List Line) (rows : List (StampedRow M)) (refused : ReplayRefused)
-      (stops : StopsAtEntry program net rows refused) (told : ReplayFault) : Type 0 where
+  pub record IsRefusalOfStampedEntry (net : Net) (lines : List Line) (rows : List (StampedRow M))
+      (refused : ReplayRefused) (stops : StopsAtEntry program net rows refused) (reported : ReplayFault) : Type 0 where
     pub words : Vec ℕ Global
     pub says : words.items
         ≡ words_text program payloads net stops.at.reached (without_stamp stops.at.row) refused
-    pub is_told : told ≡ fault_at (entry_lines lines) words refused
-    pub has_line : HasLine (IsStampedLine payloads lines stops.at.row) told
+    pub is_reported : reported ≡ fault_at (entry_lines lines) words refused
+    pub has_line : HasLine (IsStampedLine payloads lines stops.at.row) reported
 
-  -- How the refusal of stamped entries is told: that of an entry with the number of its line, which is the entry; that
-  -- of the state at the end with the number of the last entry's line.
-  abbrev pub IsWholeTold : (net : Net) (lines : List Line) (rows : List (StampedRow M)) (refused : WholeRefused)
+  -- The fault for a refusal of stamped entries: of an entry with the number of its line, which is the entry; of the
+  -- state at the end with the number of the last entry's line.
+  abbrev pub IsRefusalOfWhole : (net : Net) (lines : List Line) (rows : List (StampedRow M)) (refused : WholeRefused)
       → WhyNotWhole program net rows refused → ReplayFault → Type 0
-  IsWholeTold net lines rows (whole.Replay refused) why told = IsEntryTold net lines rows refused why told
-  IsWholeTold net lines rows (whole.WrongStamp k) why told =
-      (told ≡ fault.WrongStamp (line_at (entry_lines lines) k))
-      × HasLine (IsStampedLine payloads lines why.at.row) told
-  IsWholeTold net lines rows whole.NotWhole why told = told ≡ fault.NotWhole (last_line_in lines)
+  IsRefusalOfWhole net lines rows (whole.Replay refused) why reported =
+      IsRefusalOfStampedEntry net lines rows refused why reported
+  IsRefusalOfWhole net lines rows (whole.WrongStamp k) why reported =
+      (reported ≡ fault.WrongStamp (line_at (entry_lines lines) k))
+      × HasLine (IsStampedLine payloads lines why.at.row) reported
+  IsRefusalOfWhole net lines rows whole.NotWhole why reported = reported ≡ fault.NotWhole (last_line_in lines)
 
   -- The entries of the transcript of edition 2 in the lines aren't a whole replay, and this is the refusal.
-  pub record IsStampedRefusal (net : Net) (lines : List Line) (told : ReplayFault) : Type 0 where
+  pub record IsStampedRefusal (net : Net) (lines : List Line) (reported : ReplayFault) : Type 0 where
     pub read : StampedTranscript M
     pub refused : WholeRefused
     pub is_read : transcript_in payloads lines ≡ Ok (Two read)
     pub why : WhyNotWhole program net read.1 refused
-    pub is_told : IsWholeTold net lines read.1 refused why told
+    pub is_reported : IsRefusalOfWhole net lines read.1 refused why reported
 
   -- the fault of the transcript in the lines: its first wrong line, or else the refusal of its entries; that memory ran
   -- out says nothing
@@ -236,13 +239,13 @@ module _ {S M E : Type 0} (program : Program S M E) (payloads : PayloadTexts M) 
   IsFaultOfTranscript net lines fault.Memory = Unit {0}
   IsFaultOfTranscript net lines (fault.Syntax n) = transcript_in payloads lines ≡ Err n
   IsFaultOfTranscript net lines (fault.WrongProgram n words) = ⊥
-  IsFaultOfTranscript net lines told = IsRefusal net lines told ⊎ IsStampedRefusal net lines told
+  IsFaultOfTranscript net lines reported = IsRefusal net lines reported ⊎ IsStampedRefusal net lines reported
 
   -- the fault of a transcript that is to be of the program of a name: its first line names another one, or else the
   -- transcript has this fault
   abbrev pub IsFaultOfNamed : List ℕ → Net → List Line → ReplayFault → Type 0
-  IsFaultOfNamed name net lines told =
-      IsFaultOfName name lines told ⊎ (IsOfProgram name lines × IsFaultOfTranscript net lines told)
+  IsFaultOfNamed name net lines reported =
+      IsFaultOfName name lines reported ⊎ (IsOfProgram name lines × IsFaultOfTranscript net lines reported)
 
   -- the fault of an input of `replay`, for a program with texts: of the network text before the transcript, or of the root,
   -- or else of the transcript

@@ -8,7 +8,8 @@ ghost use Rattle.transcripts.specs.Behind.{transcript_lines};
 ghost use Rattle.transcripts.specs.Editions.{One, Two};
 ghost use Rattle.wire_texts.specs.PayloadTexts.{payload_texts};
 ghost use Rattle.answers.specs.ReplayAnswers.{IsFaultOfReplay, IsFaultOfTranscript, IsReplayAnswer, IsReplayed};
-ghost use Rattle.answers.specs.ReplayAnswers.{IsFaultOfName, IsOfProgram, IsStampedTold, IsTold, SaysWhyNot, StopsThere};
+ghost use Rattle.answers.specs.ReplayAnswers.{IsFaultOfEntry, IsFaultOfName, IsFaultOfStamped, IsOfProgram};
+ghost use Rattle.answers.specs.ReplayAnswers.{SaysWhyNot, StopsThere};
 ghost use Rattle.answers.specs.ReplayAnswers.{bare_rows, fault_at, fault_of_text};
 ghost use Rattle.answers.specs.ReplayAnswers.{first_line_in, index_of, last_of, line_at, transcript_in, words_text};
 
@@ -141,7 +142,7 @@ fn words_of<P: NodeProgram>(
 }
 
 // The refusal of entries, with its line, and words for the state that the entries before it lead to.
-fn told<P: NodeProgram>(
+fn fault_of_entry<P: NodeProgram>(
     alloc: Global,
     network: &Network,
     rows: &[Row<P::Payload>],
@@ -149,7 +150,8 @@ fn told<P: NodeProgram>(
     refused: ReplayRefused,
 ) -> ReplayFault
     requires stops { StopsThere P.program network.now rows.now refused }
-    ensures { IsTold P.program (payload_texts P.Payload.PayloadText.own) network.now rows.now lines.now refused result }
+    ensures { IsFaultOfEntry P.program (payload_texts P.Payload.PayloadText.own) network.now rows.now lines.now refused
+        result }
 {
     let Some(index) = index_of(refused) else {
         return ReplayFault::Memory;
@@ -173,17 +175,17 @@ fn replayed_entries<P: NodeProgram>(
 ) -> Result<NetState<P>, ReplayFault>
     ensures net { IfOk result (λ view. view.net ≡ network.now) }
     ensures ok { IfOk result (λ view. IsReplay P.program network.now rows.now view.state) }
-    ensures fault { IfErr result (λ told. (nodes : ℕ)
+    ensures fault { IfErr result (λ fault. (nodes : ℕ)
         → transcript_in (payload_texts P.Payload.PayloadText.own) (lines_of input.now) ≡ Ok (One (nodes, rows.now))
         → IsFaultOfTranscript P.program (payload_texts P.Payload.PayloadText.own) network.now (lines_of input.now)
-        told) }
+        fault) }
 {
     network.is_network();
     match replay::<P>(alloc, network, rows) {
         Ok(state) => Ok(state),
         Err(refused) => {
             let lines = entry_lines(alloc, input)?;
-            Err(told::<P>(alloc, network, rows, lines.as_slice(), refused))
+            Err(fault_of_entry::<P>(alloc, network, rows, lines.as_slice(), refused))
         }
     }
 }
@@ -228,7 +230,7 @@ fn last_of(other: usize, numbers: &[usize]) -> usize
 
 // The refusal of stamped entries, with the number of a line, and words as of edition 1. `first` is the number of the
 // transcript's first line.
-fn stamped_told<P: NodeProgram>(
+fn fault_of_stamped<P: NodeProgram>(
     alloc: Global,
     network: &Network,
     rows: &[StampedRow<P::Payload>],
@@ -237,12 +239,12 @@ fn stamped_told<P: NodeProgram>(
     refused: WholeRefused,
 ) -> ReplayFault
     requires why { SaysWhyNot P.program network.now rows.now refused }
-    ensures { IsStampedTold P.program (payload_texts P.Payload.PayloadText.own) network.now rows.now first lines.now
+    ensures { IsFaultOfStamped P.program (payload_texts P.Payload.PayloadText.own) network.now rows.now first lines.now
         refused result }
 {
     match refused {
         WholeRefused::Replay(refused) => match bare_rows(alloc, rows) {
-            Ok(bare) => told::<P>(alloc, network, bare.as_slice(), lines, refused),
+            Ok(bare) => fault_of_entry::<P>(alloc, network, bare.as_slice(), lines, refused),
             Err(_) => ReplayFault::Memory,
         },
         WholeRefused::WrongStamp(k) => ReplayFault::WrongStamp(line_at(lines, k)),
@@ -270,7 +272,7 @@ fn replayed_whole<P: NodeProgram>(
         Err(refused) => {
             let lines = entry_lines(alloc, input)?;
             let first = first_line_in(input);
-            Err(stamped_told::<P>(alloc, network, rows, first, lines.as_slice(), refused))
+            Err(fault_of_stamped::<P>(alloc, network, rows, first, lines.as_slice(), refused))
         }
     }
 }

@@ -6,7 +6,7 @@ use Rattle.channel_plan.specs.PlanText.{plan_of}
 use Rattle.colour_rules.specs.Node.{Node}
 use Rattle.colour_rules.specs.Program.{colouring}
 use Rattle.colour_laws.specs.Colours.{colours}
-use Rattle.answers.proofs.Ends.{at-vertices}
+use Rattle.answers.proofs.AtVertices.{at-vertices}
 use Rattle.answers.proofs.colours_text.text_of_plan.Goals as goal
 
 pub returns : goal.returns
@@ -16,6 +16,6 @@ returns c =
     let at_end : ℕ → Node = state_at colouring net (last_pulse_on colouring net) in
     let read : map merged (map at_end (vertices net)) ≡ map (colours net) (vertices net) =
     at-vertices net merged at_end (colours net) (c.rounds_end_with_the_colours.ensures net c.is_network.ensures) in
-    subst (λ (told : List ℕ). IfOk c.text_of_nodes.result (λ text. text.items ≡ plan_of told))
+    subst (λ (all : List ℕ). IfOk c.text_of_nodes.result (λ text. text.items ≡ plan_of all))
     (ap (map merged) (c.as_slice.ensures.value ∙ c.in_ok-nodes.ensures.states) ∙ read)
     c.text_of_nodes.ensures

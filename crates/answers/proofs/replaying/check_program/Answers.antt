@@ -17,5 +17,5 @@ returns-clause-fault c =
       words = words;
       says = c.in_ok-extend_from_slice-2.ensures.items
           ∙ ap (λ (t : List ℕ). t ++ named) (c.in_ok-extend_from_slice.ensures.items ∙ ap (λ (t : List ℕ). t ++ codes ": ") c.new-words.ensures.items);
-      is_told = ap (λ (n : ℕ). WrongProgram n words) c.first_line_in.ensures;
+      is_reported = ap (λ (n : ℕ). WrongProgram n words) c.first_line_in.ensures;
     }

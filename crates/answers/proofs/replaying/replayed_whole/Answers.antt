@@ -3,7 +3,7 @@ use Rattle.dimacs_col.specs.Lines.{lines_of}
 use Rattle.transcripts.specs.Behind.{entry_lines}
 use Rattle.transcripts.proofs.Either.{no-any-behind}
 use Rattle.wire_texts.specs.PayloadTexts.{payload_texts}
-use Rattle.answers.specs.ReplayAnswers.{IsStampedTold}
+use Rattle.answers.specs.ReplayAnswers.{IsFaultOfStamped}
 use Rattle.answers.proofs.WholeRefusals.{whole-refused}
 use Rattle.answers.proofs.replaying.replayed_whole.Goals as goal
 
@@ -22,10 +22,10 @@ returns-in_ok-lines-in-Err-clause-fault g c =
     let rows = c.args.rows.now in
     let first = c.first_line_in-first.result in
     whole-refused program payloads net c.is_network.ensures (lines_of c.args.input.now) c.requires.read.0 rows refused
-    c.stamped_told.result
+    c.fault_of_stamped.result
     c.requires.read.1 (λ no. c.in-Err.ensures.refuses no)
-    (subst (λ first. IsStampedTold program payloads net rows first (entry_lines (lines_of c.args.input.now)) refused c.stamped_told.result)
+    (subst (λ first. IsFaultOfStamped program payloads net rows first (entry_lines (lines_of c.args.input.now)) refused c.fault_of_stamped.result)
     c.first_line_in-first.ensures
-    (subst (λ numbers. IsStampedTold program payloads net rows first numbers refused c.stamped_told.result)
+    (subst (λ numbers. IsFaultOfStamped program payloads net rows first numbers refused c.fault_of_stamped.result)
     (c.as_slice.ensures.value ∙ c.in_ok-lines-in-Err.ensures)
-    c.stamped_told.ensures))
+    c.fault_of_stamped.ensures))

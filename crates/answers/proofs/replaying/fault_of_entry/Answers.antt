@@ -2,8 +2,8 @@ use Rattle.std.proofs.Common.{◌∙◌, ap, sym}
 use Rattle.node_api.proofs.SlotCursor.{get-read}
 use Rattle.wire_texts.specs.PayloadTexts.{payload_texts}
 use Rattle.answers.specs.ReplayAnswers.{words_text}
-use Rattle.answers.proofs.RefusedLines.{index-within, is-told}
-use Rattle.answers.proofs.replaying.told.Goals as goal
+use Rattle.answers.proofs.RefusedLines.{index-within, entry-fault}
+use Rattle.answers.proofs.replaying.fault_of_entry.Goals as goal
 
 -- the refused entry is one of the entries
 pub bounds-rows-index : goal.bounds-rows-index
@@ -19,7 +19,7 @@ returns-in-Ok-words_of g c =
     let is = sym c.index_of.ensures ∙ c.in-Some.is in
     let within = index-within program c.args.network.now c.args.rows.now c.args.refused c.in-Some.index c.requires.stops is in
     let reached = c.in-Ok.state.state in
-    is-told program payloads c.args.network.now c.args.rows.now c.args.lines.now c.args.refused c.fault_at.result
+    entry-fault program payloads c.args.network.now c.args.rows.now c.args.lines.now c.args.refused c.fault_at.result
     (record {
       index = c.in-Some.index;
       is_index = is;
@@ -29,5 +29,5 @@ returns-in-Ok-words_of g c =
       is_replay = c.in-Ok.ensures.accepts;
       words = c.in-Ok-words_of.words;
       says = c.in-Ok-words_of.ensures ∙ ap (λ net. words_text program payloads net reached row c.args.refused) c.in-Ok.ensures.net;
-      is_told = c.fault_at.ensures;
+      is_reported = c.fault_at.ensures;
     })

@@ -1,11 +1,11 @@
 use Rattle.std.proofs.Common.{◌∙◌, subst, sym}
 use Rattle.answers.specs.ReplayAnswers.{SaysWhyNot, StopsThere}
 use Rattle.answers.proofs.WholeRefusals.{stops-there}
-use Rattle.answers.proofs.replaying.stamped_told.Goals as goal
+use Rattle.answers.proofs.replaying.fault_of_stamped.Goals as goal
 
 -- the entries without their stamps stop where those with them do
-pub told-requires-clause-stops : goal.told-requires-clause-stops
-told-requires-clause-stops g c κs within =
+pub fault_of_entry-requires-clause-stops : goal.fault_of_entry-requires-clause-stops
+fault_of_entry-requires-clause-stops g c κs within =
     let program = g.P.NodeProgram.program in
     let net = c.args.network.now in
     let refused = c.in-Replay.refused in
