@@ -61,7 +61,7 @@ fn text_of_ends<P: ProgramText>(
 /// and end as in the synchronous run, whatever the threads do. The run has no transcript, whatever the options say. If a
 /// root is given, the network is that with this root.
 ///
-/// It is not promised that the call returns, nor that any number of turns is enough.
+/// It is not promised that the call returns, nor that any number of looks is enough.
 ///
 /// # Errors
 /// As of `plan_bytes`; and before the fault of the network `NoRoot` if the root is no vertex.

@@ -72,7 +72,7 @@ fn text_in<P: ProgramText>(
 /// has a transcript, whatever the options say. If a root is given, the network is that with this root. With more than one
 /// worker two calls may give different transcripts.
 ///
-/// It is not promised that the call returns, nor that any number of turns is enough.
+/// It is not promised that the call returns, nor that any number of looks is enough.
 ///
 /// # Errors
 /// As of `run_bytes`.

@@ -46,7 +46,7 @@ fn unless_stopped<P: NodeProgram>(
 /// the options say of it.
 ///
 /// # Errors
-/// `Pool` with the fault of the run; `Stopped` if not every node was done within the turns.
+/// `Pool` with the fault of the run; `Stopped` if not every node was done within the looks.
 pub(crate) fn whole_run<P: NodeProgram, G: Gate + Sync, R: Threads + Wait + Sync>(
     rt: &R,
     alloc: Global,
@@ -76,11 +76,11 @@ pub(crate) fn whole_run<P: NodeProgram, G: Gate + Sync, R: Threads + Wait + Sync
 /// colours asynchronously, on worker threads with links between the nodes. The run has no transcript, whatever the
 /// options say.
 ///
-/// It is not promised that the call returns, nor that any number of turns is enough.
+/// It is not promised that the call returns, nor that any number of looks is enough.
 ///
 /// # Errors
 /// As of `forest_bytes`; if there is none, `Pool` with the fault of the run, `BadOptions` only if the options are out
-/// of range; if there is none, `Stopped` if not every node was done within the turns; then `Memory` if there is no
+/// of range; if there is none, `Stopped` if not every node was done within the looks; then `Memory` if there is no
 /// memory for the text.
 pub fn plan_bytes<G: Gate + Sync, R: Threads + Wait + Sync>(
     rt: &R,

@@ -178,23 +178,23 @@ pub fn holds(
     true
 }
 
-/// One worker with a transcript, which makes `turns` looks.
-pub fn of_one(capacity: u32, turns: u64) -> Options {
+/// One worker with a transcript, which makes this number of looks.
+pub fn of_one(capacity: u32, looks: u64) -> Options {
     Options {
         workers: 1,
         capacity,
-        turns,
+        turns: looks,
         transcript: true,
     }
 }
 
-/// The run of one worker with a transcript, after `turns` looks.
+/// The run of one worker with a transcript, after this number of looks.
 pub fn run_of_one<R: Threads + Wait + Sync>(
     rt: &R,
     alloc: Global,
     net: &Network,
     capacity: u32,
-    turns: u64,
+    looks: u64,
 ) -> Result<Outcome<Colouring>, PoolFault> {
-    run_workers::<Colouring, OpenGate, R>(rt, alloc, net, of_one(capacity, turns), &OpenGate)
+    run_workers::<Colouring, OpenGate, R>(rt, alloc, net, of_one(capacity, looks), &OpenGate)
 }

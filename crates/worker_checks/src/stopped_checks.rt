@@ -262,15 +262,15 @@ fn adds_to(after: &Outcome<Colouring>, before: &Outcome<Colouring>) -> bool {
     !before.is_whole() || after.is_whole()
 }
 
-// Whether a run of `turns` looks did what the run before did, which it replaces.
+// Whether a run of this number of looks did what the run before did, which it replaces.
 fn adds<R: Threads + Wait + Sync>(
     rt: &R,
     alloc: Global,
     net: &Network,
-    turns: u64,
+    looks: u64,
     before: &mut Outcome<Colouring>,
 ) -> bool {
-    match run_of_one(rt, alloc, net, 1, turns) {
+    match run_of_one(rt, alloc, net, 1, looks) {
         Ok(after) => {
             let is_more = adds_to(&after, before);
             *before = after;
@@ -287,8 +287,8 @@ fn all_add<R: Threads + Wait + Sync>(
     net: &Network,
     before: &mut Outcome<Colouring>,
 ) -> bool {
-    for turns in 1..201 {
-        if !adds(rt, alloc, net, turns, before) {
+    for looks in 1..201 {
+        if !adds(rt, alloc, net, looks, before) {
             return false;
         }
     }
