@@ -76,9 +76,8 @@ fn network_of_graph(alloc: Global, graph: &ColFile, root: Option<Root>) -> Resul
 /// The network that a DIMACS text describes, with the root that is given, if there is one.
 ///
 /// # Errors
-/// `Col` with the fault of the reading; if there is none, `NoRoot` if the root is no vertex; if it is one, `Net` with the
-/// fault of the network. Reading and network may instead fail for lack of memory: `ColFault::Memory` or
-/// `NetFault::Memory`.
+/// `Col` with the fault of the reading; else `NoRoot` if the root is no vertex; else `Net` with the fault of the
+/// network. Reading and network may instead fail for lack of memory: `ColFault::Memory` or `NetFault::Memory`.
 pub fn network_of_text(
     alloc: Global,
     input: &[u8],
@@ -97,8 +96,8 @@ pub fn network_of_text(
 /// The forests text of the network that a DIMACS text describes.
 ///
 /// # Errors
-/// `Col` with the fault of the reading; if there is none, `Net` with the fault of the network. Any call
-/// may instead fail for lack of memory: `ColFault::Memory`, `NetFault::Memory` or `Memory`.
+/// `Col` with the fault of the reading; else `Net` with the fault of the network. Any call may instead fail for lack of
+/// memory: `ColFault::Memory`, `NetFault::Memory` or `Memory`.
 pub fn forest_bytes(alloc: Global, input: &[u8]) -> Result<Vec<u8>, PlanFault>
     ensures ok { IfOk result (λ text. IsForestsAnswer input.now text.items) }
     ensures fault { IfErr result (IsFaultOfText None input.now) }

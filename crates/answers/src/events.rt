@@ -18,9 +18,9 @@ use std::alloc::Global;
 /// first field is one of these words. If a root is given, the network is that with this root.
 ///
 /// # Errors
-/// As of `network_of_text` for the lines before the events; if there is none, `Event` with the first line that is
-/// no event; if there is none, `Event` with the first event that isn't possible. Lines count from the first of
-/// the input. Any call may instead fail for lack of memory: `EventFault::Memory` or as `forest_bytes`.
+/// As of `network_of_text` for the lines before the events; else `Event` with the first line that is no event; else
+/// `Event` with the first event that isn't possible. Lines count from the first of the input. Any call may instead fail
+/// for lack of memory: `EventFault::Memory` or as `forest_bytes`.
 pub fn events_bytes<P: ProgramText>(
     alloc: Global,
     input: &[u8],

@@ -15,7 +15,7 @@ use run_faults::PoolFault;
 pub enum PlanFault {
     /// The text is no graph.
     Col(ColFault),
-    /// The vertex that is to be the root is none of its graph.
+    /// The vertex that is to be the root isn't in its graph.
     NoRoot(u32),
     /// Its graph is no network.
     Net(NetFault),

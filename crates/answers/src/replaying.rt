@@ -319,12 +319,11 @@ fn check_program(alloc: Global, input: &[u8], name: &str) -> Result<(), ReplayFa
 /// to a whole state. If a root is given, the network is that with this root.
 ///
 /// # Errors
-/// As of `network_of_text` for the lines before the transcript; if there is none, `Replay` with the first line if that
-/// names another program; if there is none, `Replay` with the first line that is none of a transcript; if there is none,
-/// `Replay` with the first entry that isn't possible, or has another pulse or wire, or, with stamps, another stamp than
-/// its node comes to, or comes too late; if there is none, with stamps, `Replay` with the last line if the state isn't
-/// whole. Lines count from the first of the input. Any call may instead fail for lack of memory: `ReplayFault::Memory`
-/// or as `forest_bytes`.
+/// As of `network_of_text` for the lines before the transcript; else `Replay` with the first line if that names another
+/// program; else `Replay` with the first line that no transcript has; else `Replay` with the first entry that isn't
+/// possible, or has another pulse or wire, or, with stamps, another stamp than its node comes to, or comes too late;
+/// else, with stamps, `Replay` with the last line if the state isn't whole. Lines count from the first of the input.
+/// Any call may instead fail for lack of memory: `ReplayFault::Memory` or as `forest_bytes`.
 pub fn replay_bytes<P: ProgramText>(
     alloc: Global,
     input: &[u8],

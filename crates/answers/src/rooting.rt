@@ -48,7 +48,7 @@ pub fn with_root(alloc: Global, ids: Vec<u128>, root: Option<Root>) -> Result<Ve
     }
 }
 
-/// The root that is given, if it is none of so many vertices.
+/// The root that is given, if it is no vertex of a graph with this number of vertices.
 pub fn missing_root(root: Option<Root>, nodes: u32) -> Option<u32>
     ensures { MatchOption result (IsRootAmong root nodes)
         (λ v. (net : Net) → count_of net ≡ nodes → LacksRoot root v net) }

@@ -23,9 +23,9 @@ fn text_of_verdict(alloc: Global, greatest: u32) -> Result<Vec<u8>, Memory>
 /// the first line whose first field is `plan`. The verdict is `proper G`, G being the greatest channel.
 ///
 /// # Errors
-/// As of `forest_bytes` for the lines before the plan text; if there is none, `Check` with the fault of the
-/// plan text, whose lines count from its first; if there is none, `Check` with the fault of its rows. Any
-/// call may instead fail for lack of memory: `CheckFault::Memory` or as `forest_bytes`.
+/// As of `forest_bytes` for the lines before the plan text; else `Check` with the fault of the plan text, whose lines
+/// count from its first; else `Check` with the fault of its rows. Any call may instead fail for lack of memory:
+/// `CheckFault::Memory` or as `forest_bytes`.
 pub fn check_bytes(alloc: Global, input: &[u8]) -> Result<Vec<u8>, PlanFault>
     ensures ok { IfOk result (λ text. IsCheckAnswer input.now text.items) }
     ensures fault { IfErr result (IsFaultOfCheck input.now) }

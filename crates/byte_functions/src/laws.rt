@@ -7,7 +7,7 @@ ghost use Rattle.answers.specs.Verdicts.{IsCheckAnswer, IsFaultOfCheck, verdict_
 ghost use Rattle.answers.specs.declared.fault.PlanFault.{PlanFault};
 
 /// A network text that ends in a line feed, followed by the plan that `plain_bytes` gives for it, is an
-/// input that `check_bytes` calls proper; no fault but that of memory is possible.
+/// input that `check_bytes` calls proper; no fault but out of memory is possible.
 pub fn plain_plans_are_proper()
     ensures proper { (input answer : List ℕ) → IsPlainAnswer (input ++ 10 ∷ []) answer
         → (greatest : ℕ) × IsCheckAnswer ((input ++ 10 ∷ []) ++ answer) (verdict_text greatest) }

@@ -68,7 +68,7 @@ fn text_in<P: ProgramText>(
 /// The transcript of a run of a program on the network that a DIMACS text describes: what each node put, took and did
 /// until its last pulse. In edition 1 it has the entries of each node in its own order, vertex by vertex; in edition 2
 /// all entries in the order of their stamps and then of their vertices, which is a run that `replay_bytes` accepts. If
-/// the program is named, the latter has edition 3, with the name in its first line. The run is that of `plan_bytes`, but
+/// the program is named, the latter has edition 3, with the name in its first line. The run is as in `plan_bytes`, but
 /// has a transcript, whatever the options say. If a root is given, the network is that with this root. With more than one
 /// worker two calls may give different transcripts.
 ///

@@ -79,9 +79,8 @@ pub(crate) fn whole_run<P: NodeProgram, G: Gate + Sync, R: Threads + Wait + Sync
 /// It is not promised that the call returns, nor that any number of looks is enough.
 ///
 /// # Errors
-/// As of `forest_bytes`; if there is none, `Pool` with the fault of the run, `BadOptions` only if the options are out
-/// of range; if there is none, `Stopped` if not every node was done within the looks; then `Memory` if there is no
-/// memory for the text.
+/// As of `forest_bytes`; else `Pool` with the fault of the run, `BadOptions` only if the options are out of range; else
+/// `Stopped` if not every node was done within the looks; then `Memory` if there is no memory for the text.
 pub fn plan_bytes<G: Gate + Sync, R: Threads + Wait + Sync>(
     rt: &R,
     alloc: Global,

@@ -1,4 +1,4 @@
-//! In which order a worker takes tasks, without threads: those of its own deque, as they were dealt, and then the next
+//! In which order a worker takes tasks, without threads: from its own deque, as they were dealt, and then from the next
 //! worker's, and so on, and round.
 
 ghost use Rattle.std.specs.Prelude.{◌≡◌, ◌<◌, ◌≤◌, All, IfOk, length, map, vec_len};

@@ -21,8 +21,8 @@ pub struct PortEnds<P: NodeProgram> {
     pub take: TakeEnd<P>,
 }
 
-/// The links of a network, both directions of an edge side by side, and their ends: row `v - 1` has those of the node
-/// of vertex `v`, by port.
+/// The links of a network, both directions of an edge side by side, and their ends: row `v - 1` has the ends of the
+/// node of vertex `v`, by port.
 #[derive(Drop)]
 pub struct Made<P: NodeProgram> {
     pub links: Vec<Link<P>>,

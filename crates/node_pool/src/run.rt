@@ -79,7 +79,7 @@ fn run_made<J: Wiring + Send + Sync, P: NodeProgram, G: Gate + Sync, R: Threads 
 ///
 /// `BadOptions`, which is looked at first, exactly if the options are out of range; `Memory` if memory is refused;
 /// `Spawn` if a thread is, and those that had begun are joined; `StampFull` if a stamp would pass
-/// 18446744073709551615, and there is no other fault. Which of these three it is, no clause says. Nothing is left of
+/// 18446744073709551615, and there is no other fault. No clause says which of these three it is. Nothing is left of
 /// the run.
 pub fn run_workers<P: NodeProgram, G: Gate + Sync, R: Threads + Wait + Sync>(
     rt: &R,

@@ -46,8 +46,8 @@ fn boxed_node<J: Wiring, P: NodeProgram>(
 }
 
 /// All nodes of a run at pulse 0, from the last vertex down, each in a box with its ends. The ends are given as
-/// `make_links` makes them: row `v - 1` has those of vertex `v`, by port. With `transcript` the nodes write down what
-/// they do.
+/// `make_links` makes them: row `v - 1` has the ends of vertex `v`, by port. With `transcript` the nodes write down
+/// what they do.
 ///
 /// # Errors
 ///

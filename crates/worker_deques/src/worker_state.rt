@@ -60,8 +60,8 @@ impl<T: Task> WorkerState<T> {
         self.task = self.passes[from].steal(&stealers[from]);
     }
 
-    /// Takes a task in hand, if none is: the first of its own deque; if there is none, by one attempt at each other
-    /// worker's deque, going up from its own number plus one and round. Returns whether a task is in hand.
+    /// Takes a task in hand, unless there is one: the first of its own deque; if that is empty, by one attempt at each
+    /// other worker's deque, going up from its own number plus one and round. Returns whether a task is in hand.
     pub fn find(&mut self, stealers: &[StealHandle<T>], worker: u32) -> bool
         requires worker { worker < length stealers.now }
         requires deques { deques_of self.old.passes.items ≡ map stealer_deque stealers.now }
