@@ -11,7 +11,7 @@ use Rattle.dimacs_col.specs.Reading.{Graph, id_in}
 use Rattle.interference.specs.Net.{Net, IsVertex, count_of, id_of}
 use Rattle.interference.specs.Making.{network_of}
 use Rattle.answers.specs.Answers.{LinesReadAs, identifiers_with, network_with}
-use Rattle.answers.specs.Roots.{IsRootAmong, OfRooted, exchanged, rooted, rooted_ids, with_root}
+use Rattle.answers.specs.Roots.{IsRootAmong, OfRooted, exchanged_id, rooted, rooted_ids, with_root}
 use Rattle.answers.specs.declared.root.Root.{Root}
 
 -- ---- from one fact of the network to another
@@ -31,7 +31,7 @@ rooted-so (Some root) P X so net is = so (rooted root net) is.1
 pub network-rooted : (root : Root) (ids : List ℕ) (edges bars : List (ℕ × ℕ))
     → network_of (rooted_ids root ids) edges bars ≡ rooted root (network_of ids edges bars)
 unfolding network_of
-network-rooted root ids edges bars = rw (length-map ids (exchanged root.id (slice_index ids (root.vertex - 1)))) refl
+network-rooted root ids edges bars = rw (length-map ids (exchanged_id root.id (slice_index ids (root.vertex - 1)))) refl
 
 pub graph-count : (graph : Graph) → count_of (network_with graph) ≡ graph.nodes
 unfolding network_of
@@ -39,9 +39,9 @@ graph-count graph = length-map-range_with_len (λ v. unwrap_or (id_in graph.ids 
 
 -- ---- the root of the network with a root
 pub rooted-vertex : (root : Root) (net : Net) (v : ℕ) → IsVertex net v → IsVertex (rooted root net) v
-rooted-vertex root net v is = (is.0, omega (arith, is.1, length-map net.ids (exchanged root.id (id_of net root.vertex))))
+rooted-vertex root net v is = (is.0, omega (arith, is.1, length-map net.ids (exchanged_id root.id (id_of net root.vertex))))
 
-gets-id : (id own : ℕ) → exchanged id own own ≡ id
+gets-id : (id own : ℕ) → exchanged_id id own own ≡ id
 gets-id id own = elim (eqb_tells own id) [
   | inl same ↦ let test : nat_eq own id ≡ true = same.0 in rw test same.1
   | inr other ↦
@@ -53,12 +53,12 @@ pub root-has-id : (root : Root) (net : Net) → IsVertex net root.vertex → id_
 root-has-id root net vertex =
     let own : ℕ = id_of net root.vertex in
     let low : root.vertex - 1 < length net.ids = omega (arith, vertex.0, vertex.1) in
-    get_or-map (exchanged root.id own) net.ids (root.vertex - 1) 0 0 low ∙ gets-id root.id own
+    get_or-map (exchanged_id root.id own) net.ids (root.vertex - 1) 0 0 low ∙ gets-id root.id own
 
 -- ---- the network of a graph with a root
 pub with-root-length : (root : Option Root) (ids : List ℕ) → length (with_root root ids) ≡ length ids
 with-root-length None ids = refl
-with-root-length (Some root) ids = length-map ids (exchanged root.id (slice_index ids (root.vertex - 1)))
+with-root-length (Some root) ids = length-map ids (exchanged_id root.id (slice_index ids (root.vertex - 1)))
 
 -- the network of the identifiers with the root is that with this root
 pub of-graph : (root : Option Root) (graph : Graph) (holds : Net → Type 0) → IsRootAmong root graph.nodes

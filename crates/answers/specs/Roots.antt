@@ -4,12 +4,12 @@ use Rattle.interference.specs.Net.{Net, IsVertex}
 use Rattle.answers.specs.declared.root.Root.{Root}
 
 -- two identifiers change places, and any other one stays
-abbrev pub exchanged : ℕ → ℕ → ℕ → ℕ
-exchanged a b id = if nat_eq id a then b else if nat_eq id b then a else id
+abbrev pub exchanged_id : ℕ → ℕ → ℕ → ℕ
+exchanged_id a b id = if nat_eq id a then b else if nat_eq id b then a else id
 
 -- the vertex has the identifier of the root, and the vertex that had this, if there is one, has the other's
 abbrev pub rooted_ids : Root → List ℕ → List ℕ
-rooted_ids root ids = map (exchanged root.id (slice_index ids (root.vertex - 1))) ids
+rooted_ids root ids = map (exchanged_id root.id (slice_index ids (root.vertex - 1))) ids
 
 -- the identifiers with the root that is given, if there is one
 abbrev pub with_root : Option Root → List ℕ → List ℕ

@@ -2,14 +2,14 @@
 
 ghost use Rattle.std.specs.Prelude.{◌≡◌, ◌≤◌, IfOk, MatchOption, length};
 ghost use Rattle.interference.specs.Net.{Net, count_of};
-ghost use Rattle.answers.specs.Roots.{IsRootAmong, LacksRoot, exchanged, rooted_ids, with_root};
+ghost use Rattle.answers.specs.Roots.{IsRootAmong, LacksRoot, exchanged_id, rooted_ids, with_root};
 
 use crate::root::Root;
 use std::alloc::{AllocError, Global};
 
 // The other one of two identifiers for each of them, and any other identifier itself.
-fn exchanged(a: u128, b: u128, id: u128) -> u128
-    ensures { result ≡ exchanged a b id }
+fn exchanged_id(a: u128, b: u128, id: u128) -> u128
+    ensures { result ≡ exchanged_id a b id }
 {
     if id == a {
         b
@@ -29,7 +29,7 @@ fn rooted_ids(alloc: Global, ids: &[u128], root: Root) -> Result<Vec<u128>, Allo
     let own = ids[root.vertex as usize - 1];
     let mut made = Vec::new(alloc);
     for id in ids {
-        made.push(exchanged(root.id, own, *id))?;
+        made.push(exchanged_id(root.id, own, *id))?;
     }
     Ok(made)
 }
