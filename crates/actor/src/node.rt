@@ -66,7 +66,6 @@ impl<J: Wiring, P: NodeProgram> Node<J, P> {
         ensures first { IfOk result (λ node. node.alpha.node ≡ start_node P.program net.now vertex) }
         ensures refusal { IfOk result (λ node. node.refusal ≡ None) }
     {
-        net.is_network();
         let alpha = AlphaNode::start(alloc, net, vertex)?;
         Ok(Node {
             vertex,

@@ -310,6 +310,7 @@ module _ {P T : Type 0} (net : Net) (capacity : ℕ) where
     -- after the last vertex all ports have their ends
     pub all-made : AreMadeBefore net capacity (count_of net + 1) 0 links rows → AreMade net capacity links rows
     all-made so_far = record {
+      network = ok;
       shape = record {
         count = so_far.count;
         row = λ u in_net. ⊎_elim

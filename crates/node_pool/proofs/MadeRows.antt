@@ -3,7 +3,7 @@ use Rattle.std.specs.Prelude.{All, Option}
 use Rattle.std.proofs.Common.{◌≡◌, ℕ, zero, suc, ◌-◌, ◌<◌, ◌≤◌, List, [], ◌∷◌, map, get_or, sym, ap, subst, ◌∙◌, arith, Some, slice_get}
 use Rattle.std.proofs.lemmas.Option.{same_Some}
 use Rattle.atomic_table.specs.Seated.{TableId}
-use Rattle.interference.specs.Net.{Net, IsNetwork, IsVertex, degree_of, neighbour_of, back_port_of}
+use Rattle.interference.specs.Net.{Net, IsVertex, degree_of, neighbour_of, back_port_of}
 use Rattle.link_queue.specs.declared.link.Link.{Link}
 use Rattle.link_queue.specs.Ends.{link_capacity}
 use Rattle.link_rule.specs.declared.name.LinkName.{LinkName}
@@ -36,9 +36,9 @@ module _ {P T : Type 0} (net : Net) (capacity : ℕ) (links : List (Link P T)) (
     (made : AreMade net capacity links rows) where
   -- The ends of links that were made are new ends of a run that picks the links' queues. The end that takes is of the link
   -- on which the neighbour puts, so it has the queue of that link's place.
-  pub made_are_new : IsNetwork net → (tables : List (List TableId)) (queues : List TableId) → tables_of rows ≡ tables → map table_of links ≡ queues
+  pub made_are_new : (tables : List (List TableId)) (queues : List TableId) → tables_of rows ≡ tables → map table_of links ≡ queues
       → AreNewEnds net tables queues rows
-  made_are_new ok tables queues picked listed = record {
+  made_are_new tables queues picked listed = record {
     shape = made.shape;
     each = λ v vertex. record { long = made.shape.row v vertex; each = λ i ends at. new v vertex i ends at };
   } where
@@ -52,9 +52,9 @@ module _ {P T : Type 0} (net : Net) (capacity : ℕ) (links : List (Link P T)) (
     new v vertex i ends at =
         let mine = made.ends.each v i ends vertex at in
         let lt : i < degree_of net v = omega (arith, below (row_at rows v) i ends at, made.shape.row v vertex) in
-        let other = ok.vertices v i vertex lt in
+        let other = made.network.vertices v i vertex lt in
         let far = there (row_at rows (neighbour_of net v i)) (back_port_of net v i)
-        (omega (arith, ok.symmetric v i vertex lt, made.shape.row (neighbour_of net v i) other)) in
+        (omega (arith, made.network.symmetric v i vertex lt, made.shape.row (neighbour_of net v i) other)) in
         let theirs = made.ends.each (neighbour_of net v i) (back_port_of net v i) far.0 other far.1 in
         let one = same_Some mine.back.0 theirs.out.0
         (sym mine.back.1.0 ∙ ap (slice_get links) (made.ends.joined v i ends far.0 vertex lt at far.1) ∙ theirs.out.1.0) in

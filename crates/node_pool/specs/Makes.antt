@@ -4,7 +4,7 @@ use Rattle.std.specs.Prelude.{slice_get, slice_set}
 use Rattle.std.specs.declared.alloc.Global.{Global}
 use Rattle.std.specs.declared.vec.Vec.{Vec}
 use Rattle.atomic_table.specs.Seated.{TableId}
-use Rattle.interference.specs.Net.{Net, IsVertex, back_port_of, count_of, degree_of, neighbour_of}
+use Rattle.interference.specs.Net.{Net, IsNetwork, IsVertex, back_port_of, count_of, degree_of, neighbour_of}
 use Rattle.interference.specs.declared.limits.TheConstants.{MAX_DEGREE}
 use Rattle.link_rule.specs.Legal.{name_of}
 use Rattle.link_queue.specs.declared.link.Link.{Link}
@@ -61,7 +61,8 @@ module _ {P T : Type 0} (net : Net) (capacity : ℕ) where
     pub there : (u p : ℕ) → IsVertex net u → p < degree_of net u
         → (p < length (row_at rows u)) ↔ HasEndBefore net u p v i
 
-  -- The links of all edges, with two new ends for each port.
+  -- The links of all edges of a network, with two new ends for each port.
   pub record AreMade (links : List (Link P T)) (rows : List (List (PortEnds P T))) : Type 0 where
+    pub network : IsNetwork net
     pub shape : HasShape net rows
     pub ends : AreEnds links rows

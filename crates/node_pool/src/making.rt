@@ -71,7 +71,6 @@ fn make_edge<P: NodeProgram>(
     ensures made { IfOk result (λ _.
         AreMadeBefore net.now capacity v (i + 1) made.new.links.items (rows_of made.new.ends.items)) }
 {
-    net.is_network();
     let (w, j) = (net.neighbour(v, i), net.back_port(v, i));
     let (out, put, other_take) = Link::<P>::new(alloc, net, v, i, capacity)?;
     let (back, other_put, take) = Link::<P>::new(alloc, net, w, j, capacity)?;
@@ -110,7 +109,6 @@ fn make_edges<P: NodeProgram>(
     ensures made { IfOk result (λ _.
         AreMadeBefore net.now capacity (v + 1) 0 made.new.links.items (rows_of made.new.ends.items)) }
 {
-    net.is_network();
     for i in 0..net.degree(v) {
         if v < net.neighbour(v, i) {
             make_edge(alloc, net, v, i, capacity, made)?;

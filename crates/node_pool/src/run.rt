@@ -60,7 +60,6 @@ fn run_made<J: Wiring + Send + Sync, P: NodeProgram, G: Gate + Sync, R: Threads 
     ensures outcome { IfOk result
         (λ outcome. IsOutcome P.program net.now options.capacity options.transcript outcome) }
 {
-    net.is_network();
     let Made { links, ends } = made;
     let nodes = start_nodes::<J, P>(alloc, net, ends, options.transcript)?;
     let links = Links::<J, P>::new(links);

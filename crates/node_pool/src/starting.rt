@@ -39,7 +39,6 @@ fn boxed_node<J: Wiring, P: NodeProgram>(
     ensures vertex { IfOk result (λ node. node.value.vertex ≡ v) }
     ensures first { IfOk result (λ node. node.value.alpha.node ≡ start_node P.program net.now v) }
 {
-    net.is_network();
     let WiredEnds { puts, takes } = wired_ends::<J, P>(alloc, net, v, ends)?;
     let node = Node::<J, P>::start(alloc, net, v, puts, takes, transcript)?;
     Ok(Box::new(alloc, node)?)

@@ -34,7 +34,6 @@ pub(crate) fn wired_ends<J: Wiring, P: NodeProgram>(
     ensures nothing_put { IfOk result (λ ends. All (λ e. put_list e.end ≡ []) ends.puts.items) }
     ensures nothing_taken { IfOk result (λ ends. All (λ e. taken_list e.end ≡ []) ends.takes.items) }
 {
-    net.is_network();
     let mut puts = Vec::with_capacity(alloc, row.len())?;
     let mut takes = Vec::with_capacity(alloc, row.len())?;
     let mut port = 0;

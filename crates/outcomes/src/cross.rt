@@ -2,7 +2,7 @@
 
 ghost use Rattle.std.specs.Prelude.{◌≡◌, ◌≢◌, ◌<◌, ◌≤◌, ℕ, IfOk, None, Some, length, map};
 ghost use Rattle.std.specs.List.{range_with_len};
-ghost use Rattle.interference.specs.Net.{IsVertex, back_port_of, degree_of, neighbour_of};
+ghost use Rattle.interference.specs.Net.{IsNetwork, IsVertex, back_port_of, degree_of, neighbour_of};
 ghost use Rattle.outcomes.specs.Rows.{AreCrossed, HasShape, row_at, set_slot, slot_at};
 
 use interference::Network;
@@ -65,7 +65,6 @@ fn crossed_row<T: Drop>(
         → slot_at (map (λ row. row.items) slots.new.items) w j
         ≡ slot_at (map (λ row. row.items) slots.old.items) w j }
 {
-    net.is_network();
     let degree = net.degree(v);
     let mut row = Vec::with_capacity(alloc, degree as usize)?;
     for i in 0..degree {
@@ -91,6 +90,7 @@ pub fn crossed<T: Drop>(
     requires shape { HasShape net.now (map (λ row. row.items) rows.items) }
     ensures crossed { IfOk result (λ all. AreCrossed net.now (map (λ row. row.items) rows.items)
         (map (λ row. row.items) all.items)) }
+    ensures network { IfOk result (λ _. IsNetwork net.now) }
 {
     let mut slots = all_slots(alloc, rows)?;
     let mut all = Vec::with_capacity(alloc, net.nodes() as usize)?;

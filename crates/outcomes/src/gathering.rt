@@ -36,7 +36,6 @@ pub fn gathered<J: Wiring, P: NodeProgram, R: Wait>(
     ensures outcome { IfOk result (λ outcome. (capacity : ℕ)
         → HoldAtMost links.now capacity → IsOutcome P.program net.now capacity J.transcript outcome) }
 {
-    net.is_network();
     let NodesAndEnds {
         actors,
         puts,

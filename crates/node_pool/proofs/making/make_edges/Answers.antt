@@ -18,7 +18,7 @@ loop-i-preserved g c =
         | else-v-neighbour w ↦
             subst (λ made. AreMadeBefore net c.args.capacity c.args.v (c.loop-i.i + 1) made.links.items (rows_of made.ends.items))
             (sym w.made-is)
-            (edge-was_made net c.args.capacity c.is_network.ensures c.args.v c.requires.vertex _ _ c.loop-i.i lt
+            (edge-was_made net c.args.capacity c.degree-i-end.ensures.network c.args.v c.requires.vertex _ _ c.loop-i.i lt
             (λ less. omega (arith, less, w.if-v-neighbour.false, c.neighbour.ensures.value)) c.loop-i.invariant.made)
       ];
     }
@@ -28,7 +28,7 @@ returns g c =
     let net = c.args.net.now in
     let last : c.loop-i.i ≡ degree_of net c.args.v = omega (arith, c.loop-i-test.false, c.loop-i.auto.i-end, c.degree-i-end.ensures.value) in
     record {
-      made = vertex-made net c.args.capacity c.is_network.ensures c.args.v c.requires.vertex _ _
+      made = vertex-made net c.args.capacity c.degree-i-end.ensures.network c.args.v c.requires.vertex _ _
           (subst (λ i. AreMadeBefore net c.args.capacity c.args.v i c.loop-i.made.links.items (rows_of c.loop-i.made.ends.items)) last
           c.loop-i.invariant.made);
     }

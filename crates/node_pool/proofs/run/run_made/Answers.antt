@@ -2,7 +2,6 @@ use Rattle.std.proofs.Common.{◌≡◌, ◌≤◌, Bool, true, false, if◌then
 use Rattle.std.specs.Prelude.{All, Result}
 use Rattle.link_queue.specs.Ends.{link_capacity}
 use Rattle.outcomes.specs.Full.{some_full}
-use Rattle.interference.specs.Net.{IsNetwork}
 use Rattle.gather_laws.specs.Outcome.{IsOutcome}
 use Rattle.pool.specs.declared.faults.NodesFault.{NodesFault}
 use Rattle.pool.specs.declared.faults.NodesFault.TheVariants.{StampFull}
@@ -17,8 +16,7 @@ start_nodes-requires-clause-ends g c κs within =
     let capacity = c.args.options.capacity in
     let made = c.args.made in
     let are_made = subst (λ net. AreMade net capacity made.links.items (rows_of made.ends.items)) (sym c.requires.network) c.requires.made in
-    made_are_new g.J.Wiring.net capacity _ _ are_made (subst IsNetwork (sym c.requires.network) c.is_network.ensures) g.J.Wiring.tables g.J.Wiring.links
-    (sym c.requires.tables) (sym c.requires.links)
+    made_are_new g.J.Wiring.net capacity _ _ are_made g.J.Wiring.tables g.J.Wiring.links (sym c.requires.tables) (sym c.requires.links)
 
 -- nothing is reported only if no wire was set aside for its stamp
 not_full : {A : Type 0} (done x : A) (reported : Result A NodesFault) (full : Bool) → reported ≡ (if full then Err StampFull else Ok done) → reported ≡ Ok x

@@ -32,7 +32,7 @@ unreachable-requires g c =
 pub loop-i-preserved : goal.loop-i-preserved
 loop-i-preserved g c =
     let net = c.args.net.now in
-    let ok = c.is_network.ensures in
+    let ok = c.degree-degree.ensures.network in
     let v = c.args.v in
     let i = c.loop-i.i in
     let inv = c.loop-i.invariant in

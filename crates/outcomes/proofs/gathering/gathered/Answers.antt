@@ -36,7 +36,7 @@ pub meet_rows-requires-clause-takes : goal.meet_rows-requires-clause-takes
 meet_rows-requires-clause-takes g c κs within =
     let net = g.J.Wiring.net in
     let nodes = c.args.nodes.items in
-    let ok = subst IsNetwork (sym c.requires.network) c.is_network.ensures in
+    let ok = subst IsNetwork (sym c.requires.network) c.in_ok-takes.ensures.network in
     let crossed = map (λ row. row.items) c.in_ok-takes.takes.items in
     let crosses = subst (λ rows. AreCrossed net rows crossed) c.in_ok-actors.ensures.takes
     (subst (λ net. AreCrossed net (map (λ row. row.items) c.in_ok-actors.field-0.takes.items) crossed) (sym c.requires.network)
@@ -51,7 +51,7 @@ returns g c =
     let program = g.P.NodeProgram.program in
     let net = g.J.Wiring.net in
     let nodes = c.args.nodes.items in
-    let ok = subst IsNetwork (sym c.requires.network) c.is_network.ensures in
+    let ok = subst IsNetwork (sym c.requires.network) c.in_ok-takes.ensures.network in
     let crossed = map (λ row. row.items) c.in_ok-takes.takes.items in
     let mets = c.in_ok-links.links.items in
     let actors = c.in_ok-actors.field-0.actors.items in

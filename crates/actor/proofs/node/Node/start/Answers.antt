@@ -23,13 +23,14 @@ invariant_of-result g c =
     let same = sym c.requires.network in
     let sent = by_port (map (λ e. put_list e.end) c.args.puts.items) in
     let taken = by_port (map (λ e. taken_list e.end) c.args.takes.items) in
-    let fresh = starts_keep program c.args.net.now (runs program g.P.NodeProgram.laws c.args.net.now c.is_network.ensures) c.args.vertex c.requires.vertex in
+    let run = runs program g.P.NodeProgram.laws c.args.net.now c.degree.ensures.network in
+    let fresh = starts_keep program c.args.net.now run c.args.vertex c.requires.vertex in
     let kept = node_same program c.args.net.now c.args.vertex (start_node program c.args.net.now c.args.vertex) (λ i. []) (λ i. [])
     sent taken (λ i lt. none_at (λ e. put_list e.end) c.args.puts.items c.requires.nothing_put i)
     (λ i lt. none_at (λ e. taken_list e.end) c.args.takes.items c.requires.nothing_taken i) fresh in
     record {
       kept = record {
-        network = subst (λ net. IsNetwork net) same c.is_network.ensures;
+        network = subst (λ net. IsNetwork net) same c.degree.ensures.network;
         is_vertex = subst (λ net. IsVertex net c.args.vertex) same c.requires.vertex;
         recorded = c.new-2.ensures.on ∙ sym c.requires.transcript;
         ports = c.degree.ensures.value ∙ ap (λ net. degree_of net c.args.vertex) same;
