@@ -1,8 +1,6 @@
 -- The links that are made, with their ends.
 use Rattle.std.specs.Prelude.{◌≡◌, ◌⊎◌, ◌↔◌, ◌<◌, ◌≤◌, ◌+◌, ◌*◌, ◌-◌, ℕ, List, ◌++◌, ◌∷◌, [], All, length, map, Some}
 use Rattle.std.specs.Prelude.{slice_get, slice_set}
-use Rattle.std.specs.declared.alloc.Global.{Global}
-use Rattle.std.specs.declared.vec.Vec.{Vec}
 use Rattle.atomic_table.specs.Seated.{TableId}
 use Rattle.interference.specs.Net.{Net, IsNetwork, IsVertex, back_port_of, count_of, degree_of, neighbour_of}
 use Rattle.interference.specs.declared.limits.TheConstants.{MAX_DEGREE}
@@ -11,10 +9,6 @@ use Rattle.link_queue.specs.declared.link.Link.{Link}
 use Rattle.link_queue.specs.Ends.{IsNewPutEnd, IsNewTakeEnd, link_capacity}
 use Rattle.outcomes.specs.Rows.{HasShape, row_at, thing_at}
 use Rattle.node_pool.specs.declared.making.PortEnds.{PortEnds}
-
--- the rows that vectors are
-abbrev pub rows_of : {A : Type 0} → List (Vec A Global) → List (List A)
-rows_of rows = map (λ row. row.items) rows
 
 -- rows with one thing more in the row of v
 abbrev pub row_more : {A : Type 0} → List (List A) → ℕ → A → List (List A)

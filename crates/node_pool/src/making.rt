@@ -2,8 +2,8 @@
 
 ghost use Rattle.std.specs.Prelude.{◌≡◌, ◌<◌, ◌≤◌, ◌+◌, ℕ, [], IfOk, length, vec_len};
 ghost use Rattle.interference.specs.Net.{IsVertex, count_of, degree_of, neighbour_of};
-ghost use Rattle.outcomes.specs.Rows.{row_at};
-ghost use Rattle.node_pool.specs.Makes.{AreMade, AreMadeBefore, row_more, rows_of};
+ghost use Rattle.outcomes.specs.Rows.{row_at, rows_of};
+ghost use Rattle.node_pool.specs.Makes.{AreMade, AreMadeBefore, row_more};
 
 use interference::{Memory, Network};
 use link_queue::{Link, PutEnd, TakeEnd};

@@ -5,8 +5,9 @@ ghost use Rattle.actor.specs.Tables.{table_of};
 ghost use Rattle.gather_laws.specs.Outcome.{IsOutcome};
 ghost use Rattle.run_faults.specs.declared.fault.PoolFault.TheVariants.{BadOptions};
 ghost use Rattle.run_options.specs.Ranges.{AreInRange};
+ghost use Rattle.outcomes.specs.Rows.{rows_of};
 ghost use Rattle.node_pool.specs.Asides.{unless_full};
-ghost use Rattle.node_pool.specs.Makes.{AreMade, rows_of, tables_of};
+ghost use Rattle.node_pool.specs.Makes.{AreMade, tables_of};
 
 use crate::making::{Made, make_links};
 use crate::starting::start_nodes;

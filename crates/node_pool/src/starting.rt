@@ -3,8 +3,8 @@
 ghost use Rattle.std.specs.Prelude.{◌≡◌, ◌∷◌, ◌++◌, ◌<◌, [], All, IfOk, map, reverse, vec_len};
 ghost use Rattle.interference.specs.Net.{IsVertex, vertices};
 ghost use Rattle.alpha_core.specs.Program.{start_node};
-ghost use Rattle.node_pool.specs.Makes.{rows_of};
 ghost use Rattle.node_pool.specs.News.{AreNewEnds, AreNewOf};
+ghost use Rattle.outcomes.specs.Rows.{rows_of};
 
 use crate::making::PortEnds;
 use crate::wires::{WiredEnds, wired_ends};

@@ -1,8 +1,15 @@
 -- Things by vertex and port: entry `v - 1` of the rows has those of vertex v, by port.
-use Rattle.std.specs.Prelude.{◌≡◌, ℕ, ◌-◌, ◌<◌, List, [], length, Option, None, slice_get, slice_index_or, slice_set}
+use Rattle.std.specs.Prelude.{◌≡◌, ℕ, ◌-◌, ◌<◌, List, [], length, map, slice_get, slice_index_or, slice_set}
+use Rattle.std.specs.Prelude.{Option, None}
+use Rattle.std.specs.declared.alloc.Global.{Global}
+use Rattle.std.specs.declared.vec.Vec.{Vec}
 use Rattle.interference.specs.Net.{Net, IsVertex, count_of, degree_of, neighbour_of, back_port_of}
 
 module _ {A : Type 0} where
+  -- the rows that vectors are
+  abbrev pub rows_of : List (Vec A Global) → List (List A)
+  rows_of rows = map (λ row. row.items) rows
+
   abbrev pub row_at : List (List A) → ℕ → List A
   row_at rows v = slice_index_or rows (v - 1) []
 

@@ -3,6 +3,7 @@
 ghost use Rattle.std.specs.Prelude.{◌≡◌, ◌≤◌, [], IfOk, map, vec_capacity};
 ghost use Rattle.entries.specs.Recorded.{entries_by};
 ghost use Rattle.outcomes.specs.Full.{is_full, some_full};
+ghost use Rattle.outcomes.specs.Rows.{rows_of};
 
 use actor::{Aside, Node, WhyAside, WiredPut, WiredTake, Wiring};
 use alpha_core::AlphaNode;
@@ -113,9 +114,9 @@ pub fn split_ends<J: Wiring, P: NodeProgram>(
         (λ both. map (λ a. a.left.value.entries.items) both.actors.items
         ≡ map (λ b. entries_by b.value.recorder) nodes.items) }
     ensures puts { IfOk result
-        (λ both. map (λ row. row.items) both.puts.items ≡ map (λ b. b.value.puts.items) nodes.items) }
+        (λ both. rows_of both.puts.items ≡ map (λ b. b.value.puts.items) nodes.items) }
     ensures takes { IfOk result
-        (λ both. map (λ row. row.items) both.takes.items ≡ map (λ b. b.value.takes.items) nodes.items) }
+        (λ both. rows_of both.takes.items ≡ map (λ b. b.value.takes.items) nodes.items) }
 {
     let mut all = none_yet(alloc, nodes.len())?;
     for node in nodes {

@@ -1,6 +1,7 @@
 use Rattle.std.proofs.Common.{◌≡◌, ◌<◌, ◌+◌, sym, subst, arith}
 use Rattle.interference.specs.Net.{degree_of}
-use Rattle.node_pool.specs.Makes.{AreMadeBefore, rows_of}
+use Rattle.outcomes.specs.Rows.{rows_of}
+use Rattle.node_pool.specs.Makes.{AreMadeBefore}
 use Rattle.node_pool.proofs.Edges.{edge-was_made, vertex-made}
 use Rattle.node_pool.proofs.making.make_edges.Goals.{then-v-neighbour+in_ok-make_edge, else-v-neighbour}
 use Rattle.node_pool.proofs.making.make_edges.Goals as goal

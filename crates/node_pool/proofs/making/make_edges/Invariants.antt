@@ -1,4 +1,5 @@
-use Rattle.node_pool.specs.Makes.{AreMadeBefore, rows_of}
+use Rattle.outcomes.specs.Rows.{rows_of}
+use Rattle.node_pool.specs.Makes.{AreMadeBefore}
 use Rattle.node_pool.proofs.making.make_edges.Given as goal
 
 abbrev pub invariant-loop-i : goal.invariant-loop-i

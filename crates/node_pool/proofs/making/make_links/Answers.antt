@@ -1,7 +1,8 @@
 use Rattle.std.proofs.Common.{◌≡◌, ◌+◌, subst, ◌∙◌, arith}
 use Rattle.std.proofs.lemmas.List.{length-map}
 use Rattle.interference.specs.Net.{count_of}
-use Rattle.node_pool.specs.Makes.{AreMadeBefore, rows_of}
+use Rattle.outcomes.specs.Rows.{rows_of}
+use Rattle.node_pool.specs.Makes.{AreMadeBefore}
 use Rattle.node_pool.proofs.Edges.{all-made, none-made}
 use Rattle.node_pool.proofs.making.make_links.Goals as goal
 

@@ -1,5 +1,6 @@
 use Rattle.std.proofs.Common.{◌+◌}
-use Rattle.node_pool.specs.Makes.{AreMadeBefore, rows_of}
+use Rattle.outcomes.specs.Rows.{rows_of}
+use Rattle.node_pool.specs.Makes.{AreMadeBefore}
 use Rattle.node_pool.proofs.making.make_links.Given as goal
 
 abbrev pub invariant-loop-v : goal.invariant-loop-v

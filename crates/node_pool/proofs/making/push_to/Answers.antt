@@ -1,7 +1,6 @@
 use Rattle.std.proofs.Common.{◌≡◌, ◌-◌, ◌<◌, ◌∷◌, ◌++◌, [], length, set, sym, ap, ◌∙◌, arith}
 use Rattle.std.proofs.lemmas.List.{get_or-map, map-set}
-use Rattle.outcomes.specs.Rows.{row_at}
-use Rattle.node_pool.specs.Makes.{rows_of}
+use Rattle.outcomes.specs.Rows.{row_at, rows_of}
 use Rattle.node_pool.proofs.making.push_to.Goals as goal
 
 pub returns : goal.returns

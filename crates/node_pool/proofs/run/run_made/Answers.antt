@@ -5,8 +5,9 @@ use Rattle.outcomes.specs.Full.{some_full}
 use Rattle.gather_laws.specs.Outcome.{IsOutcome}
 use Rattle.pool.specs.declared.faults.NodesFault.{NodesFault}
 use Rattle.pool.specs.declared.faults.NodesFault.TheVariants.{StampFull}
+use Rattle.outcomes.specs.Rows.{rows_of}
 use Rattle.node_pool.specs.Asides.{unless_full}
-use Rattle.node_pool.specs.Makes.{AreMade, rows_of}
+use Rattle.node_pool.specs.Makes.{AreMade}
 use Rattle.node_pool.proofs.MadeRows.{made_are_new, made_within}
 use Rattle.node_pool.proofs.run.run_made.Goals as goal
 

@@ -1,6 +1,7 @@
 use Rattle.std.proofs.Common.{map}
 use Rattle.actor.specs.Tables.{table_of}
-use Rattle.node_pool.specs.Makes.{rows_of, tables_of}
+use Rattle.outcomes.specs.Rows.{rows_of}
+use Rattle.node_pool.specs.Makes.{tables_of}
 use Rattle.node_pool.proofs.run.run_workers.Given as goal
 
 abbrev pub ghosts-run_made : goal.ghosts-run_made

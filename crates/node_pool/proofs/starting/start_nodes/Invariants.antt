@@ -3,8 +3,7 @@ use Rattle.std.specs.Prelude.{All, reverse}
 use Rattle.std.specs.List.{range_with_len}
 use Rattle.interference.specs.Net.{vertices}
 use Rattle.alpha_core.specs.Program.{start_node}
-use Rattle.outcomes.specs.Rows.{row_at}
-use Rattle.node_pool.specs.Makes.{rows_of}
+use Rattle.outcomes.specs.Rows.{row_at, rows_of}
 use Rattle.node_pool.specs.News.{AreNewOf}
 use Rattle.node_pool.proofs.starting.start_nodes.Given as goal
 

@@ -3,13 +3,14 @@ use Rattle.std.proofs.lemmas.List.{length-map, map-append}
 use Rattle.std.proofs.lemmas.Simd.{map-map}
 use Rattle.interference.specs.Net.{IsVertex, count_of}
 use Rattle.outcomes.proofs.Crosses.{starts_shape, starts_at, full, more_rows, more_at, less_left}
+use Rattle.outcomes.specs.Rows.{rows_of}
 use Rattle.outcomes.proofs.cross.crossed.Goals as goal
 
 pub loop-v-init : goal.loop-v-init
 loop-v-init g c =
     let net = c.args.net.now in
     let ok = c.nodes.ensures.network in
-    let rows = map (λ row. row.items) c.args.rows.items in
+    let rows = rows_of c.args.rows.items in
     let is = c.in_ok-slots.ensures.slots ∙ sym (map-map (λ row. map Some row) (λ row. row.items) c.args.rows.items) in
     record {
       shape = starts_shape net ok rows _ is c.requires.shape;
@@ -24,7 +25,7 @@ pub crossed_row-requires-clause-full : goal.crossed_row-requires-clause-full
 crossed_row-requires-clause-full g c =
     let net = c.args.net.now in
     let vertex : IsVertex net (c.loop-v.v + 1) = (omega arith, omega (arith, c.nodes-v-end.ensures.count)) in
-    full net c.nodes.ensures.network c.loop-v.v (map (λ row. row.items) c.args.rows.items) (map (λ row. row.items) c.loop-v.slots.items) vertex
+    full net c.nodes.ensures.network c.loop-v.v (rows_of c.args.rows.items) (rows_of c.loop-v.slots.items) vertex
     c.requires.shape c.loop-v.invariant.left
 
 pub push_reserved-requires : goal.push_reserved-requires
@@ -37,11 +38,11 @@ loop-v-preserved g c =
     let v = c.loop-v.v in
     let inv = c.loop-v.invariant in
     let vertex : IsVertex net (v + 1) = (omega arith, omega (arith, c.nodes-v-end.ensures.count)) in
-    let rows = map (λ row. row.items) c.args.rows.items in
-    let all = map (λ row. row.items) c.loop-v.all.items in
-    let slots = map (λ row. row.items) c.loop-v.slots.items in
+    let rows = rows_of c.args.rows.items in
+    let all = rows_of c.loop-v.all.items in
+    let slots = rows_of c.loop-v.slots.items in
     let long : length all ≡ v = omega (arith, length-map c.loop-v.all.items (λ row. row.items), c.loop-v.all.ok.0, inv.count) in
-    let pushed = ap (map (λ row. row.items)) c.push_reserved.ensures.items ∙ map-append (λ row. row.items) c.loop-v.all.items _ in
+    let pushed = ap rows_of c.push_reserved.ensures.items ∙ map-append (λ row. row.items) c.loop-v.all.items _ in
     record {
       shape = c.crossed_row.ensures.shape;
       left = less_left net ok v vertex rows all _ _ slots _ long pushed c.in_ok-row.ensures.row inv.left c.crossed_row.ensures.others;
@@ -63,4 +64,5 @@ returns g c =
         };
         at = λ u i vertex lt. inv.at u i vertex (omega (arith, vertex.1, last)) lt;
       };
+      network = c.nodes.ensures.network;
     }

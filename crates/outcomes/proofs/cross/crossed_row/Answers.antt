@@ -1,7 +1,7 @@
 use Rattle.std.proofs.Common.{◌≡◌, ◌<◌, None, Some, length, map, refl, sym, ap, ◌∙◌, arith}
 use Rattle.std.specs.List.{range_with_len}
 use Rattle.interference.specs.Net.{back_port_of, degree_of, neighbour_of}
-use Rattle.outcomes.specs.Rows.{set_slot, slot_at}
+use Rattle.outcomes.specs.Rows.{rows_of, set_slot, slot_at}
 use Rattle.outcomes.proofs.Crosses.{out_shape, out_row, out_left, out_others}
 use Rattle.outcomes.proofs.cross.crossed_row.Goals as goal
 
@@ -23,7 +23,7 @@ unreachable-requires g c =
     let net = c.args.net.now in
     let v = c.args.v in
     let i = c.loop-i.i in
-    let slots = map (λ row. row.items) c.loop-i.slots.items in
+    let slots = rows_of c.loop-i.slots.items in
     let lt : i < degree_of net v = omega (arith, c.degree-degree.ensures.value) in
     let found = ap (λ w. slot_at slots w (back_port_of net v i)) (sym c.neighbour.ensures.value)
     ∙ ap (λ j. slot_at slots c.neighbour.result j) (sym c.back_port.ensures.value) ∙ sym c.in-None.ensures.thing in
@@ -36,8 +36,8 @@ loop-i-preserved g c =
     let v = c.args.v in
     let i = c.loop-i.i in
     let inv = c.loop-i.invariant in
-    let old = map (λ row. row.items) c.args.slots.now.items in
-    let slots = map (λ row. row.items) c.loop-i.slots.items in
+    let old = rows_of c.args.slots.now.items in
+    let slots = rows_of c.loop-i.slots.items in
     let lt : i < degree_of net v = omega (arith, c.degree-degree.ensures.value) in
     let is = c.take_out.ensures.slots ∙ ap (λ w. set_slot slots w c.back_port.result None) c.neighbour.ensures.value
     ∙ ap (λ j. set_slot slots (neighbour_of net v i) j None) c.back_port.ensures.value in
@@ -57,7 +57,7 @@ pub returns : goal.returns
 returns g c =
     let net = c.args.net.now in
     let v = c.args.v in
-    let old = map (λ row. row.items) c.args.slots.now.items in
+    let old = rows_of c.args.slots.now.items in
     let last : c.loop-i.i ≡ degree_of net v = omega (arith, c.degree-degree.ensures.value) in
     record {
       shape = c.loop-i.invariant.shape;

@@ -1,6 +1,6 @@
-use Rattle.std.proofs.Common.{◌-◌, ◌<◌, length, map, refl, ap, ◌∙◌, arith}
+use Rattle.std.proofs.Common.{◌-◌, ◌<◌, length, refl, ap, ◌∙◌, arith}
 use Rattle.std.specs.Vec.{with_item}
-use Rattle.outcomes.specs.Rows.{set_slot}
+use Rattle.outcomes.specs.Rows.{rows_of, set_slot}
 use Rattle.outcomes.proofs.Slots.{row_read, slot_written}
 use Rattle.outcomes.proofs.cross.take_out.Goals as goal
 
@@ -14,4 +14,4 @@ returns-clause-slots g c =
     let in_row : c.args.i < length row.items = omega (arith, c.requires.slot, ap length read) in
     slot_written (λ row. row.items) rows c.args.v c.args.i row slot in_rows in_row c.index_mut.ensures.value c.index_mut-2.ensures.value
     (with_item row c.args.i c.take.new.self) c.take.new.self refl
-    ∙ ap (λ x. set_slot (map (λ row. row.items) rows) c.args.v c.args.i x) c.take.ensures.after
+    ∙ ap (λ x. set_slot (rows_of rows) c.args.v c.args.i x) c.take.ensures.after

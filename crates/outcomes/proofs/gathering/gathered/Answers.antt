@@ -6,7 +6,7 @@ use Rattle.actor.proofs.Lists.{as_long}
 use Rattle.actor.specs.Node.{by_port, reacted_to}
 use Rattle.actor.specs.Written.{IsTranscript}
 use Rattle.entries.specs.Rows.{bare_of}
-use Rattle.outcomes.specs.Rows.{AreCrossed, HasShape}
+use Rattle.outcomes.specs.Rows.{AreCrossed, HasShape, rows_of}
 use Rattle.actor.specs.HasStamps.{HasStamps}
 use Rattle.entries.specs.Recorded.{entries_by}
 use Rattle.link_queue.specs.Ends.{held_stamped, put_list, put_stamped, taken_list, taken_stamped}
@@ -37,9 +37,9 @@ meet_rows-requires-clause-takes g c κs within =
     let net = g.J.Wiring.net in
     let nodes = c.args.nodes.items in
     let ok = subst IsNetwork (sym c.requires.network) c.in_ok-takes.ensures.network in
-    let crossed = map (λ row. row.items) c.in_ok-takes.takes.items in
+    let crossed = rows_of c.in_ok-takes.takes.items in
     let crosses = subst (λ rows. AreCrossed net rows crossed) c.in_ok-actors.ensures.takes
-    (subst (λ net. AreCrossed net (map (λ row. row.items) c.in_ok-actors.field-0.takes.items) crossed) (sym c.requires.network)
+    (subst (λ net. AreCrossed net (rows_of c.in_ok-actors.field-0.takes.items) crossed) (sym c.requires.network)
     c.in_ok-takes.ensures.crossed) in
     of_items (λ row. row.items) c.in_ok-takes.takes.items (λ e. (e.vertex, e.port)) _ refl
     ∙ ends_meet net ok (λ b. b.value.vertex) nodes c.requires.nodes (λ b. b.value.puts.items) (λ e. (e.vertex, e.port)) (λ b. b.value.kept.outs)
@@ -52,7 +52,7 @@ returns g c =
     let net = g.J.Wiring.net in
     let nodes = c.args.nodes.items in
     let ok = subst IsNetwork (sym c.requires.network) c.in_ok-takes.ensures.network in
-    let crossed = map (λ row. row.items) c.in_ok-takes.takes.items in
+    let crossed = rows_of c.in_ok-takes.takes.items in
     let mets = c.in_ok-links.links.items in
     let actors = c.in_ok-actors.field-0.actors.items in
     let met = c.in_ok-links.ensures.met in
@@ -76,7 +76,7 @@ returns g c =
       ins = λ b. as_long _ _ b.value.takes.items _ b.value.kept.ins;
       order = c.requires.nodes;
       crosses = subst (λ rows. AreCrossed net rows crossed) c.in_ok-actors.ensures.takes
-          (subst (λ net. AreCrossed net (map (λ row. row.items) c.in_ok-actors.field-0.takes.items) crossed) (sym c.requires.network)
+          (subst (λ net. AreCrossed net (rows_of c.in_ok-actors.field-0.takes.items) crossed) (sym c.requires.network)
           c.in_ok-takes.ensures.crossed);
       vertices_are = map-map (λ g. g.vertex) gathered_of actors ∙ c.in_ok-actors.ensures.vertices;
       alphas_are = map-map (λ g. g.alpha) gathered_of actors ∙ c.in_ok-actors.ensures.alphas;

@@ -5,6 +5,7 @@ use Rattle.std.proofs.lemmas.Iterator.Adapters.{YieldsList-from_vec}
 use Rattle.entries.specs.Recorded.{entries_by}
 use Rattle.worker_deques.proofs.Views.{as_many}
 use Rattle.outcomes.proofs.ReadLists.{both_pushed}
+use Rattle.outcomes.specs.Rows.{rows_of}
 use Rattle.outcomes.proofs.taking_apart.split_ends.Given.{Over}
 use Rattle.outcomes.proofs.taking_apart.split_ends.Goals.{In-Some}
 use Rattle.outcomes.proofs.taking_apart.split_ends.Goals as goal
@@ -23,8 +24,8 @@ loop-node-init g c =
       vertices = ap (map (λ a. a.left.value.vertex)) none.actors.0;
       alphas = ap (map (λ a. a.left.value.alpha)) none.actors.0;
       entries = ap (map (λ a. a.left.value.entries.items)) none.actors.0;
-      puts = ap (map (λ row. row.items)) none.puts.0;
-      takes = ap (map (λ row. row.items)) none.takes.0;
+      puts = ap rows_of none.puts.0;
+      takes = ap rows_of none.takes.0;
     }
 
 pub push_reserved-requires : goal.push_reserved-requires

@@ -1,5 +1,6 @@
 use Rattle.std.proofs.Common.{◌≡◌, ◌≤◌, map, vec_len, vec_capacity}
 use Rattle.entries.specs.Recorded.{entries_by}
+use Rattle.outcomes.specs.Rows.{rows_of}
 use Rattle.outcomes.proofs.taking_apart.split_ends.Given as goal
 
 abbrev pub invariant-loop-node : goal.invariant-loop-node
@@ -9,6 +10,6 @@ invariant-loop-node g l = record {
   vertices : map (λ a. a.left.value.vertex) l.all.actors.items ≡ map (λ b. b.value.vertex) l.yielded;
   alphas : map (λ a. a.left.value.alpha) l.all.actors.items ≡ map (λ b. b.value.alpha) l.yielded;
   entries : map (λ a. a.left.value.entries.items) l.all.actors.items ≡ map (λ b. entries_by b.value.recorder) l.yielded;
-  puts : map (λ row. row.items) l.all.puts.items ≡ map (λ b. b.value.puts.items) l.yielded;
-  takes : map (λ row. row.items) l.all.takes.items ≡ map (λ b. b.value.takes.items) l.yielded;
+  puts : rows_of l.all.puts.items ≡ map (λ b. b.value.puts.items) l.yielded;
+  takes : rows_of l.all.takes.items ≡ map (λ b. b.value.takes.items) l.yielded;
 }
