@@ -15,7 +15,7 @@ use Rattle.event_machine.specs.declared.event.Event.TheVariants.{Pulse, Put, Tak
 use Rattle.event_machine.specs.State.{State, node_of, link_at, link_to}
 use Rattle.event_machine.specs.Events.{Possible}
 use Rattle.event_machine.proofs.NetKept.{NetKept, all_kept}
-use Rattle.progress_laws.specs.Ends.{IsWholeState, PossibleWithin}
+use Rattle.progress_laws.specs.Endings.{IsWholeState, PossibleWithin}
 
 module _ {S M E : Type 0} {program : Program S M E} {net : Net} (ok : IsNetwork net) (runs : Runs program net) {state : State S M}
     (kept : NetKept program net state) where

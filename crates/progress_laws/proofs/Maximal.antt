@@ -21,7 +21,7 @@ use Rattle.event_machine.proofs.KeptRuns.{start_good, reached_kept, reached_simu
 use Rattle.event_machine.proofs.KeptSteps.{Good, step_good}
 use Rattle.event_machine.proofs.NetKept.{NetKept, all_kept}
 use Rattle.event_machine.proofs.Stepping.{Stepped, stepped, steps-step}
-use Rattle.progress_laws.specs.Ends.{HasRoom, IsRunWithin, IsTerminal, IsWholeState}
+use Rattle.progress_laws.specs.Endings.{HasRoom, IsRunWithin, IsTerminal, IsWholeState}
 use Rattle.progress_laws.specs.Laws.{IsEnd, events_in}
 use Rattle.progress_laws.proofs.Counted.{moved_in, one_more_shows, pulses_in, shows, start_shows}
 use Rattle.progress_laws.proofs.Deadlock.{no_deadlock}

@@ -1,3 +1,3 @@
-pub mod Ends
+pub mod Endings
 pub mod Commute
 pub mod Laws
