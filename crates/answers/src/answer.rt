@@ -53,6 +53,7 @@ fn network_of_graph(alloc: Global, graph: &ColFile, root: Option<Root>) -> Resul
     requires root { IsRootAmong root graph.now.nodes }
     ensures ok { IfOk result (λ net.
         OfRooted root (λ made. IsNetwork made × (net ≡ made)) (network_with (graph_of graph.now))) }
+    ensures network { IfOk result IsNetwork }
     ensures fault { IfErr result (λ fault.
         OfRooted root (λ made. IsFaultOf made fault) (network_with (graph_of graph.now))) }
 {
@@ -62,15 +63,13 @@ fn network_of_graph(alloc: Global, graph: &ColFile, root: Option<Root>) -> Resul
     let Ok(ids) = with_root(alloc, ids, root) else {
         return Err(NetFault::Memory);
     };
-    let network = Network::new(
+    Ok(Network::new(
         alloc,
         graph.nodes,
         ids.as_slice(),
         graph.edges.as_slice(),
         graph.bars.as_slice(),
-    )?;
-    network.is_network();
-    Ok(network)
+    )?)
 }
 
 /// The network that a DIMACS text describes, with the root that is given, if there is one.
@@ -84,6 +83,7 @@ pub fn network_of_text(
     root: Option<Root>,
 ) -> Result<Network, PlanFault>
     ensures ok { IfOk result (λ net. ReadsAs input.now (OfRooted root (λ read. IsNetwork read × (net ≡ read)))) }
+    ensures network { IfOk result IsNetwork }
     ensures fault { IfErr result (IsFaultOfText root input.now) }
 {
     let graph = read(alloc, input)?;

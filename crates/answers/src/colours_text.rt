@@ -1,6 +1,7 @@
 //! The text of a channel plan, from nodes that have found their colours.
 
 ghost use Rattle.std.specs.Prelude.{◌≡◌, IfOk, map};
+ghost use Rattle.interference.specs.Net.{IsNetwork};
 ghost use Rattle.channel_plan.specs.PlanText.{plan_of};
 ghost use Rattle.answers.specs.Texts.{colours_text};
 
@@ -35,9 +36,9 @@ fn text_of_nodes(alloc: Global, nodes: &[Colouring]) -> Result<Vec<u8>, Memory>
 /// # Errors
 /// If memory ran out.
 pub fn text_of_plan(alloc: Global, network: &Network) -> Result<Vec<u8>, Memory>
+    requires { IsNetwork network.now }
     ensures { IfOk result (λ text. text.items ≡ colours_text network.now) }
 {
-    network.is_network();
     rounds_end_with_the_colours();
     let nodes = run_rounds::<Colouring>(alloc, network)?;
     text_of_nodes(alloc, nodes.as_slice())

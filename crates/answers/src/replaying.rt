@@ -2,6 +2,7 @@
 
 ghost use Rattle.std.specs.Prelude.{◌≡◌, ◌≢◌, ℕ, [], IfOk, IfErr, Ok};
 ghost use Rattle.dimacs_col.specs.Lines.{lines_of};
+ghost use Rattle.interference.specs.Net.{IsNetwork};
 ghost use Rattle.net_core.specs.Replays.{IsReplay};
 ghost use Rattle.net_core.specs.Whole.{IsWholeReplay};
 ghost use Rattle.transcripts.specs.Behind.{transcript_lines};
@@ -173,6 +174,7 @@ fn replayed_entries<P: NodeProgram>(
     input: &[u8],
     rows: &[Row<P::Payload>],
 ) -> Result<NetState<P>, ReplayFault>
+    requires network { IsNetwork network.now }
     ensures net { IfOk result (λ view. view.net ≡ network.now) }
     ensures ok { IfOk result (λ view. IsReplay P.program network.now rows.now view.state) }
     ensures fault { IfErr result (λ fault. (nodes : ℕ)
@@ -180,7 +182,6 @@ fn replayed_entries<P: NodeProgram>(
         → IsFaultOfTranscript P.program (payload_texts P.Payload.PayloadText.own) network.now (lines_of input.now)
         fault) }
 {
-    network.is_network();
     match replay::<P>(alloc, network, rows) {
         Ok(state) => Ok(state),
         Err(refused) => {
@@ -259,6 +260,7 @@ fn replayed_whole<P: NodeProgram>(
     input: &[u8],
     rows: &[StampedRow<P::Payload>],
 ) -> Result<NetState<P>, ReplayFault>
+    requires network { IsNetwork network.now }
     requires read { (nodes : ℕ)
         × (transcript_in (payload_texts P.Payload.PayloadText.own) (lines_of input.now) ≡ Ok (Two (nodes, rows.now))) }
     ensures net { IfOk result (λ view. view.net ≡ network.now) }
@@ -266,7 +268,6 @@ fn replayed_whole<P: NodeProgram>(
     ensures fault { IfErr result (IsFaultOfTranscript P.program (payload_texts P.Payload.PayloadText.own) network.now
         (lines_of input.now)) }
 {
-    network.is_network();
     match replay_whole::<P>(alloc, network, rows) {
         Ok(stamped) => Ok(stamped.into_state()),
         Err(refused) => {
@@ -283,6 +284,7 @@ fn replayed<P: NodeProgram>(
     network: &Network,
     input: &[u8],
 ) -> Result<NetState<P>, ReplayFault>
+    requires network { IsNetwork network.now }
     ensures net { IfOk result (λ view. view.net ≡ network.now) }
     ensures ok { IfOk result (λ view.
         IsReplayed P.program (payload_texts P.Payload.PayloadText.own) network.now (lines_of input.now) view.state) }

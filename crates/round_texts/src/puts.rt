@@ -32,7 +32,6 @@ pub(crate) fn push_puts<P: ProgramText>(
         return Ok(());
     }
     let net = rounds.network();
-    net.is_network();
     for port in 0..net.degree(v) {
         if let Some(payload) = rounds.sent(v, port) {
             let put = Entry::Put(

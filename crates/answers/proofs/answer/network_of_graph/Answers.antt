@@ -35,8 +35,8 @@ new-requires-clause-ids c =
     ap length (c.as_slice-2.ensures.value ∙ c.in-Ok-with_root.ensures) ∙ with-root-length c.args.root c.in-Ok.ids.items ∙ ap length c.in-Ok.ensures ∙
     length-map-range_with_len (λ v. unwrap_or (id_in c.as_slice.result.now v) v) 1 c.args.graph.now.nodes
 
-pub returns-in_err-network-clause-fault : goal.returns-in_err-network-clause-fault
-returns-in_err-network-clause-fault c =
+pub returns-in_err-new-clause-fault : goal.returns-in_err-new-clause-fault
+returns-in_err-new-clause-fault c =
     let graph = graph_of c.args.graph.now in
     let root = c.args.root in
     let ids : c.as_slice-2.result.now ≡ with_root root (identifiers_with graph.ids graph.nodes) =
@@ -47,21 +47,21 @@ returns-in_err-network-clause-fault c =
     ap (λ i. network_of i c.as_slice-3.result.now c.as_slice-4.result.now) ids
     ∙ ap (λ e. network_of (with_root root (identifiers_with graph.ids graph.nodes)) e c.as_slice-4.result.now) c.as_slice-3.ensures.value
     ∙ ap (network_of (with_root root (identifiers_with graph.ids graph.nodes)) graph.edges) c.as_slice-4.ensures.value in
-    let fault = c.in_err-network.field-0.0 in
+    let fault = c.in_err-new.field-0.0 in
     let p = err_from_is_err_and c.from_residual.result c.from_residual.ensures.1 in
-    rw (p.1, p.2) (of-graph root graph (λ n. IsFaultOf n fault) c.requires.root (subst (λ n. IsFaultOf n fault) made c.in_err-network.ensures.fault))
+    rw (p.1, p.2) (of-graph root graph (λ n. IsFaultOf n fault) c.requires.root (subst (λ n. IsFaultOf n fault) made c.in_err-new.ensures.fault))
 
 pub returns-clause-ok : goal.returns-clause-ok
 returns-clause-ok c =
     let graph = graph_of c.args.graph.now in
     let root = c.args.root in
-    let net = c.in_ok-network.network in
+    let net = c.in_ok-new.field-0 in
     let ids : c.as_slice-2.result.now ≡ with_root root (identifiers_with graph.ids graph.nodes) =
     c.as_slice-2.ensures.value ∙ c.in-Ok-with_root.ensures
     ∙ ap (with_root root) (c.in-Ok.ensures ∙ ap (λ given. identifiers_with given graph.nodes) c.as_slice.ensures.value) in
     let made : net ≡ network_of (with_root root (identifiers_with graph.ids graph.nodes)) graph.edges graph.bars =
-    c.in_ok-network.ensures.made
+    c.in_ok-new.ensures.made
     ∙ ap (λ i. network_of i c.as_slice-3.result.now c.as_slice-4.result.now) ids
     ∙ ap (λ e. network_of (with_root root (identifiers_with graph.ids graph.nodes)) e c.as_slice-4.result.now) c.as_slice-3.ensures.value
     ∙ ap (network_of (with_root root (identifiers_with graph.ids graph.nodes)) graph.edges) c.as_slice-4.ensures.value in
-    of-graph root graph (λ n. IsNetwork n × (net ≡ n)) c.requires.root (subst (λ n. IsNetwork n) made c.is_network.ensures, made)
+    of-graph root graph (λ n. IsNetwork n × (net ≡ n)) c.requires.root (subst (λ n. IsNetwork n) made c.in_ok-new.ensures.network, made)

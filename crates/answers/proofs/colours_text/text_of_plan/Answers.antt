@@ -15,7 +15,7 @@ returns c =
     let merged : Node → ℕ = λ node. node.merged in
     let at_end : ℕ → Node = state_at colouring net (last_pulse_on colouring net) in
     let read : map merged (map at_end (vertices net)) ≡ map (colours net) (vertices net) =
-    at-vertices net merged at_end (colours net) (c.rounds_end_with_the_colours.ensures net c.is_network.ensures) in
+    at-vertices net merged at_end (colours net) (c.rounds_end_with_the_colours.ensures net c.requires) in
     subst (λ (all : List ℕ). IfOk c.text_of_nodes.result (λ text. text.items ≡ plan_of all))
     (ap (map merged) (c.as_slice.ensures.value ∙ c.in_ok-nodes.ensures.states) ∙ read)
     c.text_of_nodes.ensures

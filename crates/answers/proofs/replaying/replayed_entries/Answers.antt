@@ -13,7 +13,7 @@ returns-in_ok-lines-in-Err-clause-fault g c =
     let net = c.args.network.now in
     let rows = c.args.rows.now in
     λ nodes e.
-    fault-refused program payloads net c.is_network.ensures (lines_of c.args.input.now) (nodes, rows) refused c.fault_of_entry.result e
+    fault-refused program payloads net c.requires.network (lines_of c.args.input.now) (nodes, rows) refused c.fault_of_entry.result e
     (λ no. c.in-Err.ensures.refuses no)
     (subst (λ numbers. IsFaultOfEntry program payloads net rows numbers refused c.fault_of_entry.result)
     (c.as_slice.ensures.value ∙ c.in_ok-lines-in-Err.ensures) c.fault_of_entry.ensures)

@@ -21,7 +21,7 @@ returns-in_ok-lines-in-Err-clause-fault g c =
     let net = c.args.network.now in
     let rows = c.args.rows.now in
     let first = c.first_line_in-first.result in
-    whole-refused program payloads net c.is_network.ensures (lines_of c.args.input.now) c.requires.read.0 rows refused
+    whole-refused program payloads net c.requires.network (lines_of c.args.input.now) c.requires.read.0 rows refused
     c.fault_of_stamped.result
     c.requires.read.1 (λ no. c.in-Err.ensures.refuses no)
     (subst (λ first. IsFaultOfStamped program payloads net rows first (entry_lines (lines_of c.args.input.now)) refused c.fault_of_stamped.result)

@@ -45,7 +45,7 @@ loop-port-preserved g c =
     let out = outbox_at g.P.NodeProgram.program at.net at.pulse v in
     let so_far = c.loop-port.text.items in
     let put : ℕ → ℕ → Option _ → List ℕ = λ p w sent. put_text payloads p v w sent in
-    let ok = subst (λ (n : Net). IsNetwork n) c.network-net.ensures.net c.is_network.ensures in
+    let ok = subst (λ (n : Net). IsNetwork n) c.network-net.ensures.net c.degree-port-end.ensures.network in
     let below = subst (λ (n : Net). port < degree_of n v) c.network-net.ensures.net
     (subst (λ (n : ℕ). port < n) c.degree-port-end.ensures.value c.loop-port-test.true) in
     one_more payloads at.net at.pulse v port out c.args.text.now.items so_far c.match-sent.text.items ok
