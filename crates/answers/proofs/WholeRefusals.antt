@@ -1,5 +1,5 @@
 -- The refusal of stamped entries, with its line: from that of `replay_whole`, and from the fault that is reported for it.
-use Rattle.std.proofs.Common.{◌≡◌, ◌≢◌, ◌++◌, ◌∷◌, ◌∙◌, ℕ, Some, Ok, List, ap, inr, length, map, refl, subst, sym}
+use Rattle.std.proofs.Common.{◌≡◌, ◌≢◌, ◌++◌, ◌∷◌, ◌∙◌, ℕ, Some, Ok, List, ap, inr, length, map, subst, sym}
 use Rattle.std.specs.declared.vec.Vec.{Vec}
 use Rattle.std.specs.declared.alloc.Global.{Global}
 use Rattle.std.proofs.lemmas.List.{length-map, map-append}
@@ -24,7 +24,7 @@ use Rattle.transcripts.proofs.Either.{stamped-have-lines}
 use Rattle.wire_texts.specs.PayloadTexts.{PayloadTexts}
 use Rattle.answers.specs.ReplayAnswers.{HasLine, IsFaultOfStamped, IsFaultOfTranscript, IsRefusalOfEntry, IsRefusalOfStampedEntry}
 use Rattle.answers.specs.ReplayAnswers.{IsStampedLine, IsStampedRefusal, bare_rows}
-use Rattle.answers.specs.ReplayAnswers.{SaysWhyNot, StopsThere, fault_at, first_line_in, last_of, line_at, transcript_in}
+use Rattle.answers.specs.ReplayAnswers.{SaysWhyNot, StopsThere, fault_at, first_line_in, line_at, transcript_in}
 use Rattle.answers.specs.declared.replaying.ReplayFault.{ReplayFault}
 use Rattle.answers.specs.declared.replaying.ReplayFault.TheVariants as fault
 use Rattle.answers.proofs.RefusedLines.{entry-at, not-memory, says-there, entry-refusal}

@@ -1,5 +1,5 @@
 -- What each worker begins with, one task after another.
-use Rattle.std.proofs.Common.{◌≡◌, ◌≢◌, ℕ, ◌%◌, ◌<◌, cond, List, [], ◌∷◌, ◌++◌, length, map, reverse, set, get_or, sym, ap, ◌∙◌, ⊎_elim, arith, eqb}
+use Rattle.std.proofs.Common.{◌≡◌, ◌≢◌, ℕ, ◌%◌, ◌<◌, cond, List, [], ◌∷◌, ◌++◌, length, map, set, get_or, sym, ap, ◌∙◌, ⊎_elim, arith, eqb}
 use Rattle.std.specs.Prelude.{All}
 use Rattle.std.specs.List.{filter}
 use Rattle.std.proofs.lemmas.Bool.Decides.{eqb_tells}

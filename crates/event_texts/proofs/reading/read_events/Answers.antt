@@ -1,6 +1,6 @@
 -- The plan: the lines that are left are the line at hand and those behind it; a wrong line is refused as the definition
 -- refuses it (fault-line); a line more leaves the reader as the definition has it; at the end no line is left (read-end).
-use Rattle.std.proofs.Common.{◌≡◌, ◌+◌, [], ◌∙◌, Err, None, ap, sym}
+use Rattle.std.proofs.Common.{◌≡◌, ◌+◌, ◌∙◌, Err, None, ap, sym}
 use Rattle.std.proofs.lemmas.Result.{err_from_is_err_and}
 use Rattle.dimacs_col.specs.Lines.{lines_of}
 use Rattle.event_texts.specs.Reading.{known_after, read_from}

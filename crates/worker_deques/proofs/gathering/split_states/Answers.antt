@@ -1,5 +1,5 @@
 -- There is room for what each worker handed back; at the end every worker's deque is there.
-use Rattle.std.proofs.Common.{◌≡◌, ◌<◌, length, map, map-id, refl, sym, ap, ◌∙◌, arith, rules}
+use Rattle.std.proofs.Common.{◌<◌, length, map, map-id, refl, sym, ap, ◌∙◌, arith, rules}
 use Rattle.std.proofs.lemmas.Iterator.Adapters.{YieldsList-from_vec}
 use Rattle.std.proofs.lemmas.Iterator.Consumers.{YieldsList-end, YieldsList-turn}
 use Rattle.crossbeam_deque.specs.Handles.{view, worker_deque, worker_view}
