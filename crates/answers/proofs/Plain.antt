@@ -1,13 +1,10 @@
 -- The text of the colours of a network is its plain answer.
-use Rattle.std.proofs.Common.{◌≡◌, ◌≢◌, ◌≤◌, ℕ, List, sym, subst}
+use Rattle.std.proofs.Common.{◌≡◌, ◌≢◌, ◌≤◌, ℕ, List, subst}
 use Rattle.interference.specs.Net.{Net, IsBarred, IsNetwork, IsEdge, span_of}
 use Rattle.answers.specs.Answers.{IsPlainAnswer, ReadsAs}
 use Rattle.answers.specs.Plans.{IsChannelPlan}
 use Rattle.answers.specs.Texts.{colours_text}
 use Rattle.colour_laws.specs.Colours.{colours}
-
-pub is-network : (input : List ℕ) (net : Net) → ReadsAs input (λ read. IsNetwork read × (net ≡ read)) → IsNetwork net
-is-network input net (graph, reads, (ok, e)) = subst (λ n. IsNetwork n) (sym e) ok
 
 -- the text of the colours is a channel plan
 pub plain : (input text : List ℕ) (net : Net) → ReadsAs input (λ read. IsNetwork read × (net ≡ read)) → text ≡ colours_text net

@@ -80,7 +80,6 @@ pub fn run_bytes<P: ProgramText, G: Gate + Sync, R: Threads + Wait + Sync>(
     whole_outcomes_have_ended::<P, P::Payload, Refused>();
     P::rounds_solve();
     let network = network_of_text(alloc, input, root)?;
-    network.is_network();
     let outcome = whole_run::<P, G, R>(rt, alloc, &network, options, false, gate)?;
     Ok(text_of_ends(alloc, &network, outcome.actors())?)
 }

@@ -40,13 +40,6 @@ impl Model for Network {
 }
 
 impl Network {
-    /// What every network keeps, for a caller that reads nothing else of it: the contract is the whole result.
-    pub fn is_network(&self)
-        ensures { IsNetwork self.now }
-    {
-        let _ = &self.ids;
-    }
-
     /// How many nodes there are: the vertices are 1 to this.
     pub fn nodes(&self) -> u32
         ensures count { result ≡ count_of self.now }

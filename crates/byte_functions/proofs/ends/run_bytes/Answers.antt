@@ -24,9 +24,10 @@ returns-clause-ok g c =
     let is = c.in_ok-outcome.ensures.outcome in
     let program = g.P.NodeProgram.program in
     let texts = g.P.ProgramText.texts in
-    let ended = c.whole_outcomes_have_ended.ensures.law program g.P.NodeProgram.laws net c.is_network.ensures capacity false outcome is
+    let ended = c.whole_outcomes_have_ended.ensures.law program g.P.NodeProgram.laws net c.in_ok-network.ensures.network capacity false outcome is
     c.in_ok-outcome.ensures.whole in
-    ends-answer program texts net capacity false outcome is ended.nodes_are c.args.root c.args.input.now c.in_ok-text_of_ends.field-0.items c.in_ok-network.ensures.ok
+    ends-answer program texts net capacity false outcome is ended.nodes_are c.args.root c.args.input.now c.in_ok-text_of_ends.field-0.items
+    c.in_ok-network.ensures.ok
     (c.in_ok-text_of_ends.ensures ∙ ap (flat_map (gathered_end texts net)) c.actors.ensures.nodes)
     c.rounds_solve.ensures.law
 

@@ -3,7 +3,6 @@ use Rattle.std.proofs.lemmas.Simd.{map-map}
 use Rattle.channel_plan.specs.PlanText.{plan_of}
 use Rattle.colour_rules.specs.Program.{colouring}
 use Rattle.outcomes.specs.Gathers.{gathered_of}
-use Rattle.answers.proofs.Plain.{is-network}
 use Rattle.byte_functions.specs.Colours.{merged_of}
 use Rattle.byte_functions.proofs.Working.{planned}
 use Rattle.byte_functions.proofs.workers.plan_bytes.Goals as goal
@@ -13,7 +12,7 @@ returns-clause-ok g c =
     let net = c.in_ok-network.network in
     let outcome = c.in_ok-outcome.outcome in
     let capacity = c.args.options.capacity in
-    let ok = is-network c.args.input.now net c.in_ok-network.ensures.ok in
+    let ok = c.in_ok-network.ensures.network in
     let is = c.in_ok-outcome.ensures.outcome in
     let complete = c.whole_outcomes_are_complete.ensures.law colouring net ok capacity false outcome is c.in_ok-outcome.ensures.whole in
     let coloured = c.halted_nodes_are_coloured.ensures.outcomes net ok capacity false outcome is complete.halted in
