@@ -7,7 +7,7 @@ import os
 import re
 
 from build import promises
-from build.crate_lists import listed, with_below
+from build.crate_lists import PROGRAMS, listed, with_below
 from lab.__main__ import COMMANDS as OF_LAB
 from tests import TOP
 from tests.cases import Case, text_in
@@ -98,6 +98,13 @@ class Index(Case):
         self.assertEqual({crate: int(count) for crate, count in found.items()},
                          {crate: count for crate, count in wanted.items() if crate in found})
         self.assertEqual(wanted.keys() - found.keys(), {"checks", "worker_checks"})
+
+    def test_first_calls(self):
+        """LOOKUP says which crates a first call of each program leaves unproved: those that aren't below it."""
+        below = listed()
+        found = re.findall(r"`(\w+)` leaves ((?:`\w+`(?:, | and |))+)", one_line(text_in("docs", "work", "LOOKUP.md")))
+        self.same("what first calls leave", {name: sorted(re.findall(r"`(\w+)`", left)) for name, left in found},
+                  {name: sorted(below.keys() - with_below([name], below)) for name in PROGRAMS})
 
     def test_readme_has_each_command(self):
         """Each command of forestlab and of the programs is in the table."""
