@@ -17,6 +17,7 @@ import time
 
 from build import kit
 from build.crate_lists import TOP, lines_of, listed, with_below
+from lab.door import STOPPED
 
 # What `rt ci` isn't given of a crate: what was built of it, and edits.
 LEFT_OUT = ("out", "must-fail", "wrong-bodies")
@@ -126,8 +127,8 @@ def run(name, crates, edits=None, take=None):
                 return None
             if take:
                 take(room)
-    except (KeyboardInterrupt, SystemExit):
+    except (KeyboardInterrupt, SystemExit) as why:
         shown.end(f"interrupted after {shown.time()}; what is proved is kept, so the next call goes on from here")
-        raise
+        sys.exit(why.code if isinstance(why, SystemExit) else STOPPED)
     shown.end(f"{len(wanted)} crates proved in {shown.time()}")
     return said
