@@ -42,10 +42,13 @@ def transcript_by(network, workers):
 class PictureCase(Case):
     examples, painter = examples(), staticmethod(painter)
 
-    def done(self, kind, network, text, *options, **more):
-        """What `picture KIND` makes of a network and a text, both given as bytes."""
-        words = [kind, self.file("net.col", network), OPTION.get(kind, "--rounds"), self.file("text", text), *options]
-        return call(words, **more) if more else painter(words)
+    def words(self, kind, network, text, *options):
+        """The words of a call of `picture KIND` for a network and a text, both given as bytes."""
+        return [kind, self.file("net.col", network), OPTION.get(kind, "--rounds"), self.file("text", text), *options]
+
+    def done(self, *given, **more):
+        """What such a call makes."""
+        return call(self.words(*given), **more) if more else painter(self.words(*given))
 
     def picture(self, words):
         """The picture that a call draws."""
@@ -54,10 +57,8 @@ class PictureCase(Case):
             raise AssertionError(f"{words[0]} is refused: {fault.decode()}")
         return drawn.decode()
 
-    def draw(self, kind, network, text, *options):
-        """The same of a network and a text."""
-        return self.picture([kind, self.file("net.col", network), OPTION.get(kind, "--rounds"), self.file("text", text),
-                             *options])
+    def draw(self, *given):
+        return self.picture(self.words(*given))
 
     def by_rounds(self, network, text, *options):
         """The tally that is counted by a text of rounds."""

@@ -93,30 +93,16 @@ class Broken(PictureCase):
             same = sorted(tuple(sorted(edge)) for edge, forest in net.number.items() if forest <= f
                           and len({after[v] for v in edge}) == 1)
             self.note(f"{name}: what is red {kind}", red == same and bool(red) == (kind == "without"), (red, same))
-            takes = {
-                int(v): int(c) - 1
-                for v, c in re.findall(r"node (\d+), turn [\d, ]+: takes channel (\d+)",
-                                       "\n".join(mark.text for mark in marks(group, "chooses")))
-            }
-            self.note(f"{name}: who takes what {kind}", takes == {v: after[v] for v in (clash.v, clash.w)}, takes)
             said = "\n".join(mark.text for mark in marks(group, "chooses"))
+            takes = {int(v): int(c) - 1 for v, c in re.findall(r"node (\d+), turn [\d, ]+: takes channel (\d+)", said)}
+            self.note(f"{name}: who takes what {kind}", takes == {v: after[v] for v in (clash.v, clash.w)}, takes)
             heard = {int(v): {int(w): int(c) for c, w in re.findall(r"(\d+) of (\d+)", words)}
                      for v, words in re.findall(r"node (\d+), turn .*\n\(it has heard (.*)\)", said)}
             left_out = rounds.without if kind == "without" else ()
             turn = {v: (colours[v],) if "pair" in left_out else (colours[v], before[v]) for v in vertices}
-            told = {
-                v: {
-                    w: after[w] + 1
-                    for w in net.neighbours[v]
-                    if turn[w] < turn[v]
-                    and (
-                        net.number[frozenset((v, w))] == f
-                        or net.number[frozenset((v, w))] < f
-                        and "earlier" not in left_out
-                    )
-                }
-                for v in (clash.v, clash.w)
-            }
+            forests = range(f, f + 1) if "earlier" in left_out else range(f + 1)
+            told = {v: {w: after[w] + 1 for w in net.neighbours[v]
+                        if turn[w] < turn[v] and net.number[frozenset((v, w))] in forests} for v in (clash.v, clash.w)}
             self.note(f"{name}: who has heard what {kind}", heard == told, (heard, told))
             arrows = len(marks(group, "arrow"))
             self.same(f"{name}: the forest's edges {kind}", arrows, sum(forest == f for forest in net.number.values()))

@@ -168,16 +168,11 @@ class Maps(PictureCase):
             self.bits_rows(name, self.examples[name], v)
 
     def test_players(self):
-        for name, network in (
-            ("triangle", self.examples["triangle"]),
-            ("petersen", self.examples["petersen"]),
-            ("all joined", ALL_JOINED),
-            ("one", ONE),
-            ("three apart", b"p edge 3 0\n"),
-            ("two", EDGE),
-            ("barred", self.examples["barred"]),
-            ("three apart with bars", b"p edge 3 0\nb 1 1\nb 1 2\nb 3 2\n"),
-        ):
+        apart = b"p edge 3 0\n"
+        for name in ("triangle", "petersen", "barred"):
+            self.player_rows(name, self.examples[name])
+        for name, network in (("two", EDGE), ("one", ONE), ("all joined", ALL_JOINED), ("three apart", apart),
+                              ("three apart with bars", apart + b"b 1 1\nb 1 2\nb 3 2\n")):
             self.player_rows(name, network)
 
     def apart_row(self, name, found, are_squares=False):

@@ -14,7 +14,6 @@ from tests.cases import called, contents, example, examples, text_in
 from tests.pictures.base import APART, EDGE, SEED, PictureCase, call, circle_of, transcript
 from tests.pictures.marks import gap, parsed, texts, titles
 from tests.programs.made_transcripts import made_transcript, merged_text, transcript_text
-from tests.programs.transcripts import found_in, mistaken
 from tests.settings import PLAN, PLAY
 
 ONE = b"p edge 1 0\n"
@@ -23,7 +22,7 @@ KINDS_OF_RUNS = ("run", "overview", "node", "tally")
 
 class Pictures(PictureCase):
     def test_refused(self):
-        """A wrong text is refused in one line, and nothing is drawn."""
+        """A wrong text is refused in one line, and nothing is drawn; of transcripts see tests/workshop/pictures.py."""
         star, petersen = examples()["star"], examples()["petersen"]
         plan = plan_text(petersen)
         plans = [b"", b"plan\n", plan[5:], plan + b"1 2\n", plan.replace(b"3 1", b"3 5"), plan.replace(b"3 1", b"3 0"),
@@ -50,10 +49,6 @@ class Pictures(PictureCase):
                 self.refused(f"{kind} of rounds with another last digit in {lines[at]}",
                              self.done(kind, star, b"\n".join(changed)))
             self.refused(f"{kind} of half the rounds", self.done(kind, star, b"\n".join(lines[:100])))
-        for mistake, network, net, text in mistaken(3):
-            if net.number and found_in(net, text)[0] not in (None, "NotWhole"):
-                for kind in KINDS_OF_RUNS:
-                    self.refused(f"{kind} of a transcript, {mistake}", self.done(kind, network, text))
         cut = transcript(petersen, "cut").split(b"\n")
         for count in (len(cut) // 10, len(cut) // 2):
             done = self.done("tally", petersen, b"\n".join(cut[:count]) + b"\n")
@@ -62,27 +57,15 @@ class Pictures(PictureCase):
 
     def stamped_rows(self, source):
         """A transcript of edition 2 is drawn as the same entries without stamps are, but for what the caption says of
-        time; and of another stamp, or of a line left out, the line is named."""
+        time."""
         lines = made_transcript(source, network_of(APART), 4)
         plain, merged = transcript_text(5, lines), merged_text(5, lines)
         for kind in KINDS_OF_RUNS:
             wanted, got = (self.draw(kind, APART, text).split("\n") for text in (plain, merged))
             others = [line for line in got if line not in wanted]
-            good = (
-                len(wanted) == len(got)
-                and len(others) == (kind in ("run", "overview"))
-                and all("Lamport's clock" in line for line in others)
-            )
+            good = len(wanted) == len(got) and len(others) == (kind in ("run", "overview")) and all(
+                "Lamport's clock" in line for line in others)
             self.note(f"{kind} of a transcript with stamps", good, others[:3])
-        rows = merged.split(b"\n")
-        for kind in KINDS_OF_RUNS:
-            at = source.randrange(1, len(rows) - 1)
-            stamp, entry = rows[at].split(b" ", 1)
-            other = b"%d %s" % (int(stamp) + source.choice((1, -1)), entry)
-            self.refused(f"{kind} of another stamp at line {at + 1}",
-                         self.done(kind, APART, b"\n".join(rows[:at] + [other] + rows[at + 1 :])))
-            self.refused(f"{kind} without line {at + 1}",
-                         self.done(kind, APART, b"\n".join(rows[:at] + rows[at + 1 :])))
 
     def test_sizes(self):
         """Above its size a kind refuses and names the kind to use."""

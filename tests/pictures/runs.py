@@ -81,35 +81,6 @@ def fill_of(kind, wire):
     return (hue, None) if kind == "take" else ("#FFFFFF", hue)
 
 
-def lockstep_text(net):
-    """The transcript of the run in which all nodes go from pulse to pulse together: {vertex: its lines}."""
-    lines, last, sent = {v: [] for v in net.neighbours}, last_pulse(net), {}
-    for f in map(str.split, rounds_text(net).decode().split("\n")):
-        if f[1:2] == ["put"]:
-            sent.setdefault(int(f[4]), []).append((int(f[0]), int(f[2]), " ".join(f[3:])))
-    for p in range(last + 1):
-        now, pairs = sent.get(p, []), [(v, w) for v in lines for w in sorted(net.neighbours[v])]
-        wire, senders = f"safe {p}" if p < last else "close", {v for v, _, _ in now}
-        # Who sends no payload is safe at once, before it acknowledges any.
-        for v, w in pairs:
-            lines[v] += [f"{v} put {w} {wire}"] if v not in senders else []
-        for v, w, payload in now:
-            lines[v].append(f"{v} put {w} {payload}")
-        for v, w, payload in now:
-            lines[w] += [f"{w} take {v} {payload}", f"{w} put {v} ack {p}"]
-        for v, w, _ in now:
-            lines[v] += [f"{v} take {w} {wire}"] if w not in senders else []
-            lines[v].append(f"{v} take {w} ack {p}")
-        for v, w in pairs:
-            lines[v] += [f"{v} put {w} {wire}"] if v in senders else []
-        taken = {(v, w) for v, w, _ in now if w not in senders}
-        for v, w in pairs:
-            lines[v] += [f"{v} take {w} {wire}"] if (v, w) not in taken else []
-        for v in lines:
-            lines[v] += [f"{v} pulse {p + 1}"] if p < last else []
-    return lines
-
-
 class Runs(PictureCase):
     def test_whole_runs(self):
         chain = self.examples["chain6"]
@@ -154,14 +125,9 @@ class Runs(PictureCase):
         for bar, group in zip(marks(root, "bar"), marks(root, "payload")):
             from_to, pulse = title(group).split(":")[0].split(" to "), int(title(group).split()[4])
             (x1, y), (x2, _) = ends(bar)
-            row = ticks[int(from_to[1]) - 1]
+            row, line = ticks[int(from_to[1]) - 1], rows[int(from_to[1]) - 1]
             tip = max(ends(mark)[0][0] for mark in group.iter() if mark.tag.endswith("path"))
-            if (
-                abs(rows[int(from_to[1]) - 1] + 10 - y) > 0.2
-                or abs(row[pulse + 1] - x2) > 0.2
-                or abs(tip - x1) > 0.2
-                or x1 > x2
-            ):
+            if x1 > x2 or max(abs(line + 10 - y), abs(row[pulse + 1] - x2), abs(tip - x1)) > 0.2:
                 wrong.append((title(group), x1, x2))
         count = len(marks(root, "bar")), len(marks(root, "payload"))
         self.note(f"{name}: each payload is kept till the tick that reads it", not wrong and count[0] == count[1],
@@ -285,12 +251,10 @@ class Runs(PictureCase):
                 shown[kind, pulse] = count
         wanted = {(kind, pulse): count for (kind, pulse), count in counts.items() if first <= pulse <= final}
         self.note(f"tally of {name}: a bar for each kind and pulse", shown == wanted, shown)
-        heights = [(number(group[1], "height"), int(title(group).split()[-1])) for kind in WIRES
-                   for group in marks(root, kind)]
+        groups = [group for kind in WIRES for group in marks(root, kind)]
+        heights = [(number(group[1], "height"), int(title(group).split()[-1])) for group in groups]
         unit = sum(height for height, _ in heights) / sum(count for _, count in heights)
-        bars = sorted(
-            {(number(group[1], "x"), number(group[1], "width")) for kind in WIRES for group in marks(root, kind)}
-        )
+        bars = sorted({(number(group[1], "x"), number(group[1], "width")) for group in groups})
         # A figure with one decimal place may be off by a twentieth.
         gaps = [b - a - wide for (a, wide), (b, _) in zip(bars, bars[1:])]
         self.note(f"tally of {name}: bars don't overlap, and narrow ones leave no gap",
@@ -321,20 +285,25 @@ class Runs(PictureCase):
 
     def test_long(self):
         """Of a long run the first 40 pulses are drawn, and only what they depend on is read: the same picture as of a
-        run that was stopped a little later. The tally is the same by the rounds."""
-        network = b"p edge 12 66\n" + b"".join(b"e %d %d\n" % (v, w) for w in range(1, 13) for v in range(1, w))
+        run that was stopped a little later. The tally is the same by the rounds. By hand: its last pulse
+        is 12 + 3 · 3 · (3 + 200 + 1)."""
+        network = self.examples["petersen"] + b"".join(b"b 1 %d\n" % channel for channel in range(1, 201))
         net = network_of(network)
-        lines, last = lockstep_text(net), last_pulse(net)
-        text = transcript_text(12, lines)
-        self.note("a long text is long", text.count(b"\n") > 100_000, text.count(b"\n"))
-        short = transcript_text(12, {v: own[:own.index(f"{v} pulse 60")] for v, own in lines.items()})
+        last, text = last_pulse(net), transcript_by(network, 1).decode()
+        rows = [row.partition(" ")[2] for row in text.splitlines()[1:]]
+
+        def by_vertex(rows):
+            return transcript_text(10, {v: [row for row in rows if row.startswith(f"{v} ")] for v in net.neighbours})
+
+        text, short = by_vertex(rows), by_vertex(rows[:max(rows.index(f"{v} pulse 60") for v in net.neighbours)])
+        self.note("a long text is long", len(rows) > 100_000, len(rows))
         for kind, words in (("overview", ()), ("node", ("--pulses", "0..39")), ("node", ("--vertex", 3)), ("run", ())):
             self.note(f"{kind} {words} of a long text",
                       self.draw(kind, network, text, *words) == self.draw(kind, network, short, *words))
         picture = self.draw("overview", network, text)
         said = texts(parsed(picture))
         self.note("overview of a long run: what it says",
-                  ": pulses 0 to 39 of 408," in said[0] and "the first 40 pulses of 409:" in said[-1], said[-1])
+                  ": pulses 0 to 39 of 1848," in said[0] and "the first 40 pulses of 1849:" in said[-1], said[-1])
         self.note("node of a long run: what it says",
                   "in pulses 0 to 39 of the run" in texts(parsed(self.draw("node", network, text)))[1])
         root, whole = parsed(self.draw("tally", network, text)), parsed(
@@ -343,11 +312,10 @@ class Runs(PictureCase):
         self.tally_marks("a long run", root, net, text, (0, 39), last)
         self.tally_marks("a long run, all of it by the rounds", whole, net, text, (0, last), last)
         self.note("tally of a long run: what it says",
-                  any("the first 40 pulses of 409" in words for words in texts(root)))
+                  any("the first 40 pulses of 1849" in words for words in texts(root)))
         by_rounds = parsed(self.by_rounds(network, rounds_text(net)))
         self.tally_marks("a long run, by the rounds", by_rounds, net, text, (0, 39), last)
         self.note("tally by the rounds says so", "; counted by the rounds" in texts(by_rounds)[1], texts(by_rounds)[1])
-        at = next(k for k, line in enumerate(lines[5]) if line == "5 put 7 safe 20")
-        wrong = dict(lines) | {5: lines[5][:at] + ["5 put 7 safe 21"] + lines[5][at + 1:]}
-        status, picture, _ = self.done("overview", network, transcript_text(12, wrong))
+        wrong = [re.sub(r"^(5 put \d+ safe) 20$", r"\1 21", row) for row in rows]
+        status, picture, _ = self.done("overview", network, by_vertex(wrong))
         self.note("a long text with a mistake in these pulses", (status, picture) == (1, b""))

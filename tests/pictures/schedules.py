@@ -155,11 +155,8 @@ class Schedules(PictureCase):
         ports = [(v, w, port_to[v, w], port_to[w, v]) for v in net.neighbours for w in sorted(net.neighbours[v])]
         shown = [(link["from"], link["to"], link["put"], link["take"]) for link in table.data["links"]]
         self.note(f"table of {name}: its links and ports", shown == ports, shown)
-        wrong = [
-            s
-            for s in range(space.count)
-            if table.steps[s] != [((event.kind, event.v, event.port, event.place), t) for event, t in space.steps(s)]
-        ]
+        wrong = [s for s in range(space.count) if table.steps[s] != [
+            ((event.kind, event.v, event.port, event.place), t) for event, t in space.steps(s)]]
         self.note(f"table of {name}: each step", len(table.steps) == space.count and not wrong, wrong[:3])
         faults = {(s, e): plain(words) for (s, e), words in space.faults.items()}
         shown = {(int(s), None if e == "-1" else int(e)): plain(table.data["sentences"][k])
