@@ -88,20 +88,29 @@ def folder() -> str:
 kept: list[tempfile.TemporaryDirectory] = []
 
 
+def of_c(source: str, to: str) -> list[str]:
+    """The command of a program in C."""
+    made = os.path.join(to, os.path.basename(source).removesuffix(".c"))
+    subprocess.run(["cc", "-O2", "-Wall", "-Werror", "-o", made, source], check=True)
+    return [made]
+
+
+def of_java(sources: list[str], to: str) -> list[list[str]]:
+    """The commands of programs in Java; none on a machine without Java."""
+    if not shutil.which("javac"):
+        return []
+    subprocess.run(["javac", "-J-XX:+UseSerialGC", "-d", to, *sources], check=True)
+    java = ["java", "-Xmx64m", "-XX:+UseSerialGC", "-XX:TieredStopAtLevel=1", "-cp", to]
+    return [[*java, os.path.basename(source).removesuffix(".java")] for source in sources]
+
+
 @functools.cache
 def in_c() -> list[str]:
     """The command of the node in C."""
-    to = os.path.join(folder(), "rounds_node")
-    source = os.path.join(EXAMPLES, "c", "rounds_node.c")
-    subprocess.run(["cc", "-O2", "-Wall", "-Werror", "-o", to, source], check=True)
-    return [to]
+    return of_c(os.path.join(EXAMPLES, "c", "rounds_node.c"), folder())
 
 
 @functools.cache
 def in_java() -> list[str] | None:
-    """The command of the node in Java; None on a machine without Java."""
-    if not shutil.which("javac"):
-        return None
-    source = os.path.join(EXAMPLES, "java", "AlphaNode.java")
-    subprocess.run(["javac", "-J-XX:+UseSerialGC", "-d", folder(), source], check=True)
-    return ["java", "-Xmx64m", "-XX:+UseSerialGC", "-XX:TieredStopAtLevel=1", "-cp", folder(), "AlphaNode"]
+    """The command of the node in Java, if there is one."""
+    return next(iter(of_java([os.path.join(EXAMPLES, "java", "AlphaNode.java")], folder())), None)

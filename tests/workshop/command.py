@@ -9,23 +9,8 @@ from tests.cases import text_in
 from tests.workshop.base import ALPHA, GREEDY, ROUNDS, Played, call
 
 WAITS = [sys.executable, "-S", "-c", "import time; time.sleep(100)"]
-# A program between two ends that writes down what goes in and out of it.
-TEE = """\
-import subprocess, sys, threading
-name = sys.argv[1] + '/' + str(__import__('os').getpid())
-node = subprocess.Popen(sys.argv[2:], stdin=subprocess.PIPE, stdout=subprocess.PIPE)
-def pass_on(source, target, kept):
-    with open(name, 'ab', 0) as log:
-        for line in iter(source.readline, b''):
-            log.write(kept + line)
-            target.write(line)
-            target.flush()
-    target.close()
-thread = threading.Thread(target=pass_on, args=(sys.stdin.buffer, node.stdin, b'> '))
-thread.start()
-pass_on(node.stdout, sys.stdout.buffer, b'< ')
-thread.join()
-"""
+# A node whose messages and answers are written down.
+TEE = 'tee "$0/$$.in" | "$@" | tee "$0/$$.out"'
 
 
 class Command(Played):
@@ -113,12 +98,13 @@ class Command(Played):
     def test_the_record_is_what_the_programs_read_and_wrote(self):
         logs = self.path("logs")
         os.mkdir(logs)
-        done = call("alpha", "path3", "--keep", self.path("kept"), "--", sys.executable, "-S", "-c", TEE, logs, *ALPHA)
+        done = call("alpha", "path3", "--keep", self.path("kept"), "--", "sh", "-c", TEE, logs, *ALPHA)
         self.assertEqual(done.returncode, 0, done.stdout)
         rows = [line.split(" ", 2)[1:] for line in text_in(self.path("kept", "run.transcript")).splitlines()[1:]]
         seen = 0
-        for name in os.listdir(logs):
-            lines = [line[2:] for line in text_in(logs, name).splitlines()]
+        for name in (name for name in os.listdir(logs) if name.endswith(".in")):
+            messages, answers = (text_in(logs, name.replace(".in", part)).split("end\n") for part in (".in", ".out"))
+            lines = [line for both in zip(messages, answers) for part in both for line in part.splitlines()]
             v = next(int(line.split()[1]) for line in lines if line.startswith("identifier"))
             neighbours = {1: [2], 2: [1, 3], 3: [2]}[v]
             did = [line.split(" ") for line in lines if line.startswith(("take ", "put ", "pulse "))]

@@ -10,7 +10,6 @@ node 1 in pulse 32 and takes 1, node 3 in pulse 33."""
 import json
 import os
 import subprocess
-import sys
 
 from lab.networks.network_text import Network
 from lab.schedules.policies import POLICIES
@@ -20,7 +19,7 @@ from lab.workshop.protocol import SEQUELS, own_data
 from lab.workshop.right_rounds import RightRounds
 from lab.workshop.workshop import main
 from tests.cases import in_process, text_in
-from tests.workshop.base import EXAMPLES, MISTAKES, Played, answering, network, played, python
+from tests.workshop.base import MISTAKES, Played, answering, network, played, python
 
 
 def node(program: str, assignment: str) -> list[str]:
@@ -97,37 +96,6 @@ WHY = {
         "a node's channel is the colour that it has chosen anew, plus one; it chose in pulse 13: it had colour 1 by "
         "the plan, colour 0 is barred at it",
 }
-# A right node of the leader, and one that says what it knows in each pulse.
-LEADER = """\
-import sys
-sys.path[:0] = [{folder!r}]
-from alpha_node import AlphaNode
-from rounds_node import RoundsNode
-from talk import serve
-class Leader:
-    def __init__(self, own):
-        self.best, self.ports, self.last = own["identifier"], range(own["degree"]), own["last"]
-    def greet(self):
-        return {{port: ("leader", self.best) for port in self.ports}}
-    def pulse(self, p, inbox):
-        heard = max([number for _, number in inbox.values()], default=0)
-        if heard {sign} self.best:
-            return {{}}
-        self.best = heard
-        return self.greet() if p < self.last else {{}}
-    def lines(self, p):
-        return []
-    def result(self):
-        return f"leader {{self.best}}"
-serve(lambda own: {kind}(own, Leader))
-"""
-
-
-def leader(kind: str, sign: str = "<=") -> list[str]:
-    code = LEADER.format(folder=os.path.join(EXAMPLES, "python"), kind=kind, sign=sign)
-    return [sys.executable, "-S", "-c", code]
-
-
 def called(*words: str) -> tuple[int, str, str]:
     """Status, standard output and standard error of a call in this process."""
     status, out, errors = in_process("workshop", main, *words)
@@ -139,6 +107,9 @@ class OtherPrograms(Played):
         rounds = RightRounds(network("path3"), "layers")
         self.assertEqual((rounds.forests, rounds.last), (None, 2))
         self.assertEqual(rounds.puts, [{1: {2: "hops 0"}}, {2: {1: "hops 1", 3: "hops 1"}}, {}])
+        self.same("what a leader sends", RightRounds(network("path3"), "leader").puts, [
+            {1: {2: "leader 1"}, 2: {1: "leader 2", 3: "leader 2"}, 3: {2: "leader 3"}},
+            {1: {2: "leader 2"}, 2: {1: "leader 3", 3: "leader 3"}}, {1: {2: "leader 3"}}, {}])
         for given, program, right in (
             (network("path3"), "layers", ["layer 0", "layer 1 by 0", "layer 2 by 0"]),
             (RING, "layers", ["layer 2 by 0", "layer 1 by 1", "layer 0", "layer 1 by 1", "layer none"]),
@@ -170,18 +141,6 @@ class OtherPrograms(Played):
         for policy in POLICIES:
             self.right("alpha", RING, node("layers", "alpha"), policy=policy, is_shared=True, program="layers")
 
-    def test_a_right_leader(self):
-        for given in ("path1", "path5", RING):
-            for assignment, kind in (("rounds", "RoundsNode"), ("alpha", "AlphaNode")):
-                self.right(assignment, given, leader(kind), program="leader")
-
-    def test_a_leader_that_is_heard_again(self):
-        """With `<` in place of `<=` node 3 of path3, which knows of 3 alone, hears it from node 2 in pulse 2."""
-        finding = self.found(("differs", 3, 2), "rounds", "path3", leader("RoundsNode", "<"), program="leader")
-        self.same("its words", finding.text()[:4], [
-            "where  node 3, pulse 2", "came   leader 3 by port 0", "wrong  put 0 leader 3", "right  nothing by port 0"])
-        self.found(("WrongWire", 3, 2), "alpha", "path3", leader("AlphaNode", "<"), program="leader")
-
     def test_mistakes(self):
         self.same("all of them", set(LAYERS), set(MISTAKES.LAYERS))
         for name, rights in LAYERS.items():
@@ -208,7 +167,8 @@ class OtherPrograms(Played):
         for policy, program in zip(POLICIES, SEQUELS * len(POLICIES)):
             self.right("alpha", BARRED_RING, node(program, "alpha"), policy=policy, is_shared=True, program=program)
         # A node alone is silent, and says its result in each pulse.
-        for program, line in (("matching", "partner none"), ("independent-set", "in"), ("recolouring", "channel 001")):
+        for program, line in (("leader", "leader 01"), ("matching", "partner none"), ("independent-set", "in"),
+                              ("recolouring", "channel 001")):
             self.right("rounds", "path1", answering(line), program=program)
 
     def test_mistakes_of_sequels(self):
@@ -248,6 +208,7 @@ class OtherPrograms(Played):
             ("matching", "alpha", "put 0 payload 0 joined 1",
              "`joined` is no payload, which are hello, label, colour, chosen, free, take"),
             ("recolouring", "alpha", f"put 0 payload 0 anew {1 << 16}", f"`{1 << 16}` is no number below {1 << 16}"),
+            ("leader", "alpha", f"put 0 payload 0 leader {1 << 128}", f"`{1 << 128}` is no number below {1 << 128}"),
         ):
             finding = played(assignment, "two", answering(line), program=program).finding
             said = dict(finding.lines)["wrong"]

@@ -133,9 +133,7 @@ class AlphaWords(Case):
         both = "it can't have said safe yet: it lacks the acknowledgements of pulse 0 by ports 0 and 1"
         said = f"{safe}; it has put safe 0 by port 0 already"
         for lacks, words, right in (
-            ("ack 0 by port 1", "pulse 1", f"{pulse}; {one}"),
             ("ack 0 by ports 0 and 1; safe 0 by port 1", "pulse 1", f"{pulse}; {both}; it lacks safe 0 by port 1"),
-            ("safe 0 by ports 0 and 1", "pulse 1", f"{pulse}; it lacks safe 0 by ports 0 and 1"),
             ("ack 0 by port 1; safe 0 by port 1", "put 0 safe 0", f"{safe}; {one}"),
             ("safe 0 by port 1", "put 0 safe 0", said),
         ):
