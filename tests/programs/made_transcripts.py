@@ -1,5 +1,5 @@
-"""Transcripts made from the definitions (lab/definitions/nodes.py) under random schedules, and transcripts with one
-mistake.
+"""Transcripts made from the definitions (lab/definitions/nodes.py) under random schedules, and texts of them with one
+thing spoiled.
 
 A transcript is held as its entries' lines without line feeds, each node's in its own order."""
 import re
@@ -8,7 +8,7 @@ from lab.definitions.nodes import NetState, wire_words
 from lab.transcripts.stamps import Clock
 
 MOST_LOOKS, MOST_TAKES = 10_000_000, 4
-MISTAKES = ("changed", "doubled", "left out", "swapped")
+PAYLOADS = ("hello", "label", "colour", "chosen", "free", "take", "joined", "anew", "hops", "best", "Take")
 
 
 def made_transcript(source, net, capacity):
@@ -129,32 +129,49 @@ def odd(source, line):
     return source.choice((line, line + "\n", line + "\n \t\r"))
 
 
-def with_mistake(source, mistake, lines):
-    """The same with one mistake in the entries of one node."""
-    v = source.choice([v for v in lines if len(lines[v]) > 1])
-    own = list(lines[v])
-    at = source.randrange(len(own))
-    if mistake == "changed":
-        at = source.choice([i for i, line in enumerate(own) if "pulse" not in line] or [at])
-        own[at] = changed(source, own[at])
-    elif mistake == "doubled":
-        own.insert(source.choice((at + 1, source.randint(at, len(own)))), own[at])
-    elif mistake == "left out":
-        del own[at]
-    else:
-        other = source.choice([i for i in (at - 1, at + 1, source.randrange(len(own))) if 0 <= i < len(own) and i != at]
-                              or [at])
-        own[at], own[other] = own[other], own[at]
-    return lines | {v: own}
+def another_stamp(source, row):
+    """Another stamp; a number of 2^64 or above is no stamp."""
+    stamp, _, rest = row.partition(" ")
+    others = {0, 1, int(stamp) - 1, int(stamp) + 1, 2 * int(stamp), 2**64 - 1, 2**64, 10**20} - {int(stamp), -1}
+    return [f"{source.choice(sorted(others))} {rest}"]
 
 
-def changed(source, line):
-    """The entry with another wire; of a pulse, with another number."""
-    head, wire = re.fullmatch(r"(\d+ (?:pulse|put \d+|take \d+)) (.*)", line).groups()
-    number = source.choice((0, 1, 2, 3, 5, 12, 40))
+def another_wire(source, row):
+    """The entry with another wire, of this program or of another; of a pulse, with another number."""
+    head, wire = re.fullmatch(r"((?:\d+ )?\d+ (?:pulse|put \d+|take \d+)) (.*)", row).groups()
+    number, word = source.choice((0, 1, 2, 3, 5, 12, 40, 65536, 2**128)), source.choice(PAYLOADS)
     others = [re.sub(r"\d+", str(number), wire, count=1), re.sub(r"\d+$", str(number), wire)]
     if not wire.isdigit():
         others += ["close", f"ack {number}", f"safe {number}", wire.replace("safe", "ack"), wire.replace("ack", "safe"),
-                   f"payload {number} colour {number}", f"payload {number} best {number}",
-                   wire.replace("hello", "colour"), wire.replace("label", "chosen")]
-    return f"{head} {source.choice([other for other in others if other != wire] or [str(int(wire) + 1)])}"
+                   f"payload {number} {word} {number}", re.sub(r"(payload \d+) \w+", rf"\1 {word}", wire)]
+    return [f"{head} {source.choice([other for other in others if other != wire] or ['7'])}"]
+
+
+def of_another_node(source, row):
+    fields = row.split(" ")
+    at = int(fields[1].isdigit())
+    fields[at] = source.choice([v for v in ("0", "1", "2", "3", "99") if v != fields[at]])
+    return [" ".join(fields)]
+
+
+SPOILS = {"a stamp changed": another_stamp, "another wire": another_wire, "a line of another node": of_another_node,
+          "a line dropped": lambda source, row: [], "a line doubled": lambda source, row: [row] * 2}
+KINDS = [*SPOILS, "two lines swapped", "cut", "cut at a line"]
+
+
+def spoiled(source, kind, data):
+    """The text with one thing spoiled, and the first line that can be refused for it."""
+    first, *rows = data.decode().split("\n")[:-1]
+    at = source.randrange(len(rows))
+    if kind == "two lines swapped":
+        others = (at - 1, at + 1, source.randrange(len(rows)))
+        at, other = sorted((at, source.choice([i for i in others if 0 <= i < len(rows) and i != at])))
+        rows[at], rows[other] = rows[other], rows[at]
+    elif kind == "cut":
+        # Cut in its first word it would be no transcript, and the word a wrong line of the network.
+        return data[:source.randrange(len(b"transcript"), len(data) - 1)], 1
+    elif kind == "cut at a line":
+        rows = rows[:at]
+    else:
+        rows[at:at + 1] = SPOILS[kind](source, rows[at])
+    return "".join(row + "\n" for row in [first, *rows]).encode(), min(at, len(rows) - 1) + 2

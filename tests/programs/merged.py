@@ -8,11 +8,11 @@ from lab.definitions.colours import network_of
 from lab.definitions.programs import PROGRAMS
 from lab.schedules.simulate import played, text_of_rows
 from tests.cases import Case, called, text
-from tests.programs.made_transcripts import made_transcript, merged_text, odd, transcript_text
+from tests.programs.made_transcripts import KINDS, merged_text, spoiled
 from tests.programs.node_programs import SEQUELS
 from tests.programs.plain_networks import cycle, path, random_of, shaped, star, text_of, tree, two_sided
-from tests.programs.transcripts import (CAPACITIES, EDGE, EDGE_LINES, EDGE_WHOLE, HELLO_1, HELLO_2, NO_ENTRIES, SEED,
-                                        is_counted, networks, said_by, said_of, small_networks)
+from tests.programs.transcripts import (EDGE, EDGE_LINES, EDGE_WHOLE, HELLO_1, HELLO_2, NO_ENTRIES, SEED, is_counted,
+                                        said_by, said_of, small_networks)
 from tests.settings import PLAN, setting
 
 GREATEST = 2**64 - 1
@@ -58,56 +58,6 @@ WORKED = (
 )
 
 
-# ---- spoiled texts
-def with_stamp(source, rows, at):
-    """Another stamp; a number of 2^64 or above is no stamp."""
-    stamp, _, rest = rows[at].partition(b" ")
-    others = {0, 1, int(stamp) - 1, int(stamp) + 1, 2 * int(stamp), GREATEST, GREATEST + 1, 10**20} - {int(stamp), -1}
-    return [b"%d %s" % (source.choice(sorted(others)), rest)]
-
-
-def of_another_node(source, rows, at):
-    stamp, vertex, rest = rows[at].split(b" ", 2)
-    vertices = {row.split(b" ", 2)[1] for row in rows} | {b"0", b"99"}
-    return [b"%s %s %s" % (stamp, source.choice(sorted(vertices - {vertex})), rest)]
-
-
-def another_payload(source, rows, at):
-    """The payload of a line with another word or number: of the program, of another, or too great."""
-    head, word, number = rows[at].rsplit(b" ", 2)
-    words = [b"hello", b"label", b"colour", b"chosen", b"free", b"take", b"joined", b"anew", b"hops", b"Take", b"freed"]
-    others = {(other, number) for other in words} | {(word, other) for other in (b"0", b"1", b"65535", b"65536", b"x")}
-    return [b" ".join([head, *source.choice(sorted(others - {(word, number)}))])]
-
-
-SPOILS = {"a stamp changed": with_stamp, "another payload": another_payload,
-          "a line dropped": lambda source, rows, at: [],
-          "a line doubled": lambda source, rows, at: [rows[at]] * 2, "a line of another node": of_another_node}
-
-
-def spoiled(source, kind, data):
-    """The text with one thing spoiled, and the first line that can be refused for it."""
-    first, *rows = data.split(b"\n")[:-1]
-    at = source.choice([at for at, row in enumerate(rows) if b" payload " in row or kind != "another payload"])
-    if kind == "two lines swapped":
-        other = source.choice(
-            [i for i in (at - 1, at + 1, source.randrange(len(rows))) if 0 <= i < len(rows) and i != at]
-        )
-        at, other = min(at, other), max(at, other)
-        rows[at], rows[other] = rows[other], rows[at]
-    elif kind == "cut":
-        # Cut in its first word it would be no transcript, and the word a wrong line of the network.
-        return data[:source.randrange(len(b"transcript"), len(data) - 1)], 1
-    elif kind == "cut at a line":
-        rows = rows[:at]
-    else:
-        rows[at:at + 1] = SPOILS[kind](source, rows, at)
-    return b"".join(row + b"\n" for row in [first] + rows), min(at, len(rows) - 1) + 2
-
-
-KINDS = [*SPOILS, "two lines swapped", "cut", "cut at a line"]
-
-
 def networks_of_runs(source):
     """Networks of 2 to 40 nodes, those with many edges small, so that a run has at most some 100,000 entries."""
     while True:
@@ -130,22 +80,6 @@ class Merged(Case):
         whole, edge = merged_text(2, EDGE_LINES), network_of(text(EDGE))
         self.same("a merged run of an edge worked by hand", said_of(edge, whole)[0], EDGE_WHOLE)
         self.note("it begins as both greet", whole.startswith(text(GREETED)), whole[:200])
-        accepted = [end for end in range(0, len(whole) - 1, 11)
-                    if not said_of(edge, whole[:end])[0].startswith("line ")]
-        self.note("no beginning of that run is whole", not accepted, accepted)
-
-    def test_made(self):
-        """Runs by the definitions, in the layout of the program and in an odd one."""
-        source, wrong = random.Random(SEED), []
-        for i, (data, net) in enumerate(networks()[::4]):
-            lines = made_transcript(source, net, CAPACITIES[i % 3])
-            merged = merged_text(len(lines), lines)
-            first, *rows = merged.decode().splitlines()
-            strange = "\n".join([first] + [odd(source, row) for row in rows]).encode()
-            said = said_of(net, transcript_text(len(lines), lines))[0]
-            if [said_of(net, merged)[0], said_of(net, strange)[0]] != [said] * 2:
-                wrong.append((data, merged, said_of(net, merged)[0]))
-        self.note(f"merged runs of {i + 1} networks by the definitions", not wrong, wrong[:1])
 
     def test_spoiled(self):
         """Runs of four programs: each is refused, and by the program at the same line with the same code."""

@@ -79,9 +79,8 @@ def pairs_in(text):
     """The edges of a network's text by the names of its nodes, and the nodes without an edge."""
     net, names = network_of(text), comments(text, "name")
     named = {v: names.get(v, str(v)) for v in net.neighbours}
-    return {frozenset(map(named.get, edge)) for edge in net.number}, {
-        named[v] for v, ws in net.neighbours.items() if not ws
-    }
+    return ({frozenset(map(named.get, edge)) for edge in net.number},
+            {named[v] for v, ws in net.neighbours.items() if not ws})
 
 
 def numbers(text):
@@ -431,12 +430,8 @@ class OwnNetworks(Case):
             status, wrote, told = call("tell", "-", data=text.encode())
             code, _, place = fault.partition(" ")
             lines = told.decode().split("\n")
-            good = (
-                (status, wrote) == (1, b"")
-                and lines[0].startswith("network: -")
-                and lines[0].endswith(f"({code})")
-                and said in lines[0]
-            )
+            said_in = rf"network: -(?=.*{re.escape(said)}).*\({code}\)"
+            good = (status, wrote) == (1, b"") and re.fullmatch(said_in, lines[0])
             good = good and (f" {place}: " in lines[0] if place.startswith("line") else True)
             self.note(f"the fault {fault} of {text[:40]!r}", good, told)
             self.note(f"another way in for {text[:40]!r}",

@@ -13,15 +13,17 @@ import subprocess
 import time
 
 from lab.definitions.colours import network_of
-from lab.definitions.nodes import Colouring, NetState, Refused, last_pulse, make
+from lab.definitions.nodes import Colouring, last_pulse
 from lab.transcripts.check import Wrong, find_order, first_refused, in_order, whole_run
 from lab.transcripts.reading import read
 from tests import FORESTLAB
 from tests.cases import Case, called, forestlab, text, text_in
-from tests.programs.made_transcripts import MISTAKES, made_transcript, mixed_text, transcript_text, with_mistake
+from tests.programs.made_transcripts import (KINDS, made_transcript, merged_text, mixed_text, odd, spoiled,
+                                             transcript_text)
 from tests.programs.one_worker import Run
 from tests.programs.plain_networks import (all_small, cycle, path, random_of, shaped, some_bars, star, text_of, tree,
                                            two_sided)
+from tests.programs.slow_reader import answer_to
 from tests.settings import PLAN, PLAY
 from tests.shell import wait_until
 
@@ -169,14 +171,13 @@ def is_counted(net, data, said):
 
 
 def mistaken(count):
-    """(the mistake, the network's text, the network, the transcript), as many of each kind of mistake."""
-    source, small = random.Random(SEED), small_networks()
+    """(the kind of mistake, the network's text, the network, the transcript), as many of each kind."""
+    source, small = random.Random(SEED), [row for row in small_networks() if row[1].number]
     for i in range(count):
-        for mistake in MISTAKES:
-            data, net = source.choice([row for row in small if mistake != "changed" or row[1].greatest_degree > 0])
-            lines = with_mistake(source, mistake, made_transcript(source, net, CAPACITIES[i % 3]))
-            write = source.choice((transcript_text, lambda nodes, own: mixed_text(source, nodes, own)))
-            yield mistake, data, net, write(len(lines), lines)
+        data, net = source.choice(small)
+        whole = transcript_text(len(net.neighbours), made_transcript(source, net, CAPACITIES[i % 3]))
+        for kind in KINDS[1:]:
+            yield kind, data, net, spoiled(source, kind, whole)[0]
 
 
 def found_in(net, data):
@@ -193,21 +194,6 @@ def found_in(net, data):
         return found.refusals[first.vertex], in_order([entry.line for entry in order], data)
     made = in_order([entry.line for entry in found.made], data)
     return (None if found.is_whole() else "NotWhole"), made
-
-
-def replayed(net, data):
-    """What the definition of events says of the entries one by one, in the order of the text."""
-    try:
-        _, entries = read(data)
-        state = NetState(net)
-        for entry in entries:
-            make(state, entry)
-    except Wrong as wrong:
-        return wrong.code
-    except Refused as refused:
-        return str(refused)
-    is_whole = all(node.drained() for node in state.nodes.values()) and not any(state.link.values())
-    return None if is_whole else "NotWhole"
 
 
 def said_by(network, data, *words, play=PLAY):
@@ -260,33 +246,39 @@ class Transcripts(Case):
             self.note(f"a run of an edge without line {at + 1}", not got[0].startswith("whole"), got)
 
     def test_made(self):
-        """Two runs of each network by the definitions, one in each layout."""
+        """Two runs of each network by the definitions, in both editions, each as the program writes it and in an odd
+        layout."""
         source, wrong = random.Random(SEED), []
         for i, (data, net) in enumerate(networks()):
-            runs = [made_transcript(source, net, CAPACITIES[(i + k) % 3]) for k in range(2)]
-            texts = [transcript_text(len(runs[0]), runs[0]), mixed_text(source, len(runs[1]), runs[1])]
+            one, other = (made_transcript(source, net, CAPACITIES[(i + k) % 3]) for k in range(2))
+            merged = merged_text(len(one), one)
+            first, *rows = merged.decode().splitlines()
+            texts = [transcript_text(len(one), one), mixed_text(source, len(other), other), merged,
+                     "\n".join([first] + [odd(source, row) for row in rows]).encode()]
             wrong += [(data, said_of(net, made)) for made in texts if not is_counted(net, made, said_of(net, made)[0])]
         self.note(f"two runs of each of {i + 1} networks by the definitions", not wrong, wrong[:1])
 
     def test_mistakes(self):
         """Each refused transcript is refused at the entry that the search names, each accepted one is a run in the
         order found."""
-        wrong, accepted, codes = [], dict.fromkeys(MISTAKES, 0), set()
-        for mistake, network, net, data in mistaken(100):
+        wrong, accepted, codes = [], dict.fromkeys(KINDS[1:], 0), set()
+        for mistake, network, net, data in mistaken(60):
             code, ordered = found_in(net, data)
             said, words = said_of(net, data)
             accepted[mistake] += code is None
             codes.add(code)
+            done, wanted = called(PLAY, "replay", data=network + ordered), answer_to("replay", network + ordered)
             # The program plays what isn't whole, too.
-            played = said_by(network, ordered) or ("NotWhole" if code == "NotWhole" else "")
-            verdicts = [said.rpartition(": ")[2] if words else "", replayed(net, ordered) or "", played.split(": ")[-1]]
-            if verdicts != [code or ""] * 3:
-                wrong.append((mistake, network, data, code, verdicts))
-        self.note("400 transcripts with a mistake, beside a replay", not wrong, f"{len(wrong)}: {wrong[:1]}")
-        self.same("all but swapped entries are refused", [accepted[mistake] for mistake in MISTAKES[:3]], [0, 0, 0])
-        self.note("swapped entries are refused or not", 0 < accepted["swapped"] < 100, accepted)
-        self.note("refusals of each kind",
-                  codes == {None, "X1", "NotReady", "NothingToPut", "LinkEmpty", "WrongWire", "NotWhole"}, codes)
+            refused = b"" if code in (None, "NotWhole") else f"forestplay: {code} line ".encode()
+            good = done == wanted and done[2].startswith(refused) and bool(done[2]) == bool(refused)
+            if not good or (said.rpartition(": ")[2] if words else None) != code:
+                wrong.append((mistake, network, data, code, said, done, wanted))
+        self.note("420 transcripts with a mistake, beside a replay", not wrong, f"{len(wrong)}: {wrong[:1]}")
+        swapped = accepted.pop("two lines swapped")
+        self.note("all but swapped entries are refused", not any(accepted.values()), accepted)
+        self.note("swapped entries are refused or not", 0 < swapped < 60, swapped)
+        self.same("refusals of each kind", codes, {
+            None, "X1", "NoSuch", "NotReady", "NothingToPut", "LinkEmpty", "WrongWire", "NotWhole"})
 
     def test_checker(self):
         """The checker as a command: from a file, from standard input, in the order found, and refused."""
@@ -303,7 +295,7 @@ class Transcripts(Case):
         ):
             self.same(f"check {words}", check(*words, data=data), wanted)
         status, ordered, fault = check("--order", network, data=whole)
-        self.same("an order that is a run", (status, fault, replayed(network_of(text(EDGE)), ordered)), (0, b"", None))
+        self.same("an order that is a run", (status, fault, said_by(text(EDGE), ordered)), (0, b"", None))
         self.same("its lines are the transcript's", sorted(ordered.split(b"\n")), sorted(whole.split(b"\n")))
         for data in (b"", whole, b"p edge\n", b"p edge 2 1\ne 1 1\n", b"p edge 2 1\ne 1 3\n",
                      b"p edge 2 1\ne 1 x\n", b"p a 1 0\np a 1 0\n"):
@@ -321,8 +313,6 @@ class Transcripts(Case):
     def test_cut(self):
         """Texts that end too early are refused, and the reader is asked whether the text is cut."""
         edge, whole = network_of(text(EDGE)), transcript_text(2, EDGE_LINES)
-        said = [said_of(edge, whole[:end])[0] for end in range(len(whole) - 1)]
-        self.note("no beginning of a run of an edge is whole", not any(code.startswith("whole") for code in said))
         lines = whole.split(b"\n")[:-1]
         pulse = lines.index(b"2 pulse %d" % EDGE_LAST)
         said = [said_of(edge, b"\n".join(lines[:count]) + b"\n") for count in range(1, pulse + 1)]
