@@ -22,7 +22,7 @@ PATH, TAIL, PAIRS = [(1, 2), (2, 3), (3, 4), (4, 5)], [(1, 2), (1, 3), (2, 3), (
 # A path with the root at vertex 2, and vertex 6 alone; a square whose root is vertex 4.
 LONG, SQUARE = network([9, 1, 20, 5, 8, 6], PATH), network([8, 6, 3, 1], [(1, 2), (1, 3), (2, 4), (3, 4)])
 # What the nodes end with: by program and network, the last pulse, the result of each node, and what `run` adds to it:
-# that a leader is elected, and the neighbour to which a port leads.
+# that a leader is elected, and the neighbour to which a port leads. sequel_runs.py has networks by chance.
 ENDS = [
     ("colouring", EDGE, 18, ["channel 1", "channel 2"], {}),
     ("leader", ROW, 3, ["leader 3"] * 3, {3: "elected"}),
@@ -44,23 +44,6 @@ ENDS = [
     ("layers", "p edge 0 0|", 0, [], {}),
     # A node alone has no pulse to make before it knows its layer.
     ("layers", "p edge 1 0|", 0, ["layer 0"], {}),
-    # A path whose ends are as far apart as can be, with the greatest identifier at one of them.
-    ("leader", network([9, 1, 4, 5, 20], PATH), 5, ["leader 20"] * 5, {5: "elected"}),
-    # A triangle with a tail, which has the root.
-    ("leader", network([3, 6, 8, 1], TAIL), 4, ["leader 8"] * 4, {3: "elected"}),
-    ("layers", network([8, 6, 3, 1], TAIL), 3, ["layer 2 by 1", "layer 2 by 1", "layer 1 by 2", "layer 0"],
-     {1: "to 3", 2: "to 3", 3: "to 4"}),
-    # Two components, and for the election a vertex alone; without a root nobody is reached.
-    ("leader", network([7, 5, 3, 2, 9], PAIRS), 5, ["leader 7", "leader 7", "leader 3", "leader 3", "leader 9"],
-     {1: "elected", 3: "elected", 5: "elected"}),
-    ("layers", network([7, 5, 3, 2], PAIRS), 3, ["layer none"] * 4, {}),
-    ("layers", LONG, 5,
-     ["layer 1 by 0", "layer 0", "layer 1 by 0", "layer 2 by 0", "layer 3 by 0", "layer none"],
-     {1: "to 2", 3: "to 2", 4: "to 3", 5: "to 4"}),
-    # A path with the root at one end: the other end is as far as can be, and hears at the last pulse.
-    ("layers", network([1, 9, 4, 5, 20], PATH), 4,
-     ["layer 0", "layer 1 by 0", "layer 2 by 0", "layer 3 by 0", "layer 4 by 0"],
-     {2: "to 1", 3: "to 2", 4: "to 3", 5: "to 4"}),
     # Two ways lead from vertex 1 to the root, and the one by the lesser port is taken.
     ("layers", SQUARE, 3,
      ["layer 2 by 0", "layer 1 by 1", "layer 1 by 1", "layer 0"], {1: "to 2", 2: "to 4", 3: "to 4"}),
@@ -70,9 +53,6 @@ ENDS = [
 ROUNDS = [
     ("leader", EDGE, "rounds 3 leader 2 1 2|pulse 0|1 put 2 payload 0 leader 1|2 put 1 payload 0 leader 2|pulse 1|"
                      "1 put 2 payload 1 leader 2|pulse 2|1 leader 2|2 leader 2|"),
-    ("leader", network([4, 7], [(1, 2)]),
-     "rounds 3 leader 2 1 2|pulse 0|1 put 2 payload 0 leader 4|2 put 1 payload 0 leader 7|pulse 1|"
-     "1 put 2 payload 1 leader 7|pulse 2|1 leader 7|2 leader 7|"),
     ("layers", EDGE, "rounds 3 layers 2 1 1|pulse 0|1 put 2 payload 0 hops 0|pulse 1|1 layer 0|2 layer 1 by 0|"),
     ("layers", network([1, 5, 4, 3], [(1, 2), (2, 3)]),
      "rounds 3 layers 4 2 3|pulse 0|1 put 2 payload 0 hops 0|pulse 1|2 put 1 payload 1 hops 1|"
@@ -190,16 +170,6 @@ class Programs(Played):
         for program, net, wanted in ROUNDS:
             self.same(f"rounds of {program} on {net}", play("rounds", "--program", program, data=net),
                       (0, text(wanted), b""))
-
-    def test_payloads_put(self):
-        """The puts of payloads of a run, by one worker and by three, are those of the rounds, in another order."""
-        for program, net, wanted in ROUNDS:
-            sent = sorted(line for line in wanted.split("|") if " put " in line)
-            for workers in (1, 3):
-                _, run, _ = play("run", "--program", program, "--transcript", "--workers", workers, data=net)
-                entries = (line.split(" ", 1)[1] for line in run.decode("ascii").splitlines()[1:])
-                put = sorted(entry for entry in entries if " put " in entry and " payload " in entry)
-                self.same(f"puts of {program} on {net} by {workers}", put, sent)
 
     def test_events(self):
         """Node 2 sends nothing in pulse 0, so it said safe 0 before node 1's payload came: that is put first."""

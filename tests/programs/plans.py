@@ -32,8 +32,6 @@ STOPPED = b"forestplan: stopped\n"
 GREETED = ["1 put 2 payload 0 hello 1", "1 put 3 payload 0 hello 1"]
 TAKEN = ["2 take 1 payload 0 hello 1", "2 put 1 payload 0 hello 2"]
 FIRST_LOOKS = [
-    (4, 0, [], {}),
-    (1, 0, [], {}),
     *((capacity, 1, GREETED, {(1, 0): ["payload 0 hello 1"], (1, 1): ["payload 0 hello 1"]}) for capacity in (4, 1)),
     (4, 2, GREETED + TAKEN + ["2 put 1 ack 0", "2 put 3 payload 0 hello 2"],
      {(1, 1): ["payload 0 hello 1"], (2, 0): ["payload 0 hello 2", "ack 0"], (2, 1): ["payload 0 hello 2"]}),
@@ -49,8 +47,6 @@ WORKED_RUNS = [
     ([], b"p col 2 0\n", 0, b"plan\n1 1\n2 1\n", b""),
     ([], b"p edge 2 1\ne 1 2\n", 0, b"plan\n1 1\n2 2\n", b""),
     (["--turns", "0"], TRIANGLE, 3, b"", STOPPED),
-    (["--turns", "1"], TRIANGLE, 3, b"", STOPPED),
-    (["--turns", "1", "--workers", "1"], TRIANGLE, 3, b"", STOPPED),
     (["--turns", "1", "--workers", "64"], TRIANGLE, 3, b"", STOPPED),
     # a look makes at most one pulse, and each of the three nodes makes 30
     (["--turns", "89", "--workers", "1"], TRIANGLE, 3, b"", STOPPED),

@@ -30,16 +30,11 @@ EDGE_TEXT = ("rounds 1 2 1 1 18|" + EDGE_BEGINNING
              "pulse 15 merge 0 1 0|2 chose 1|2 put 1 payload 15 chosen 1|pulse 16 merge 0 1 1|"
              "pulse 17 merge 0 2 0|pulse 18 merge 0 2 1|")
 # With channel 1 barred at node 1 the merge has nine pulses. Node 1 begins with colour 1, so it chooses at step 1, and
-# again 1; node 2 begins with 0, so it chooses at step 3, and 0 is neither barred nor taken. With one bar at each end
-# there are nine pulses, too: of channel 1 at both, node 2 has heard 1 and takes 2; it chooses at step 4.
+# again 1; node 2 begins with 0, so it chooses at step 3, and 0 is neither barred nor taken.
 BARRED_EDGES = [
     ("b 1 1|", "rounds 2 2 1 1 1 21|" + EDGE_BEGINNING
      + "pulse 13 merge 0 0 0|pulse 14 merge 0 0 1|1 chose 1|1 put 2 payload 14 chosen 1|"
      "pulse 15 merge 0 0 2|pulse 16 merge 0 1 0|2 chose 0|2 put 1 payload 16 chosen 0|pulse 17 merge 0 1 1|"
-     "pulse 18 merge 0 1 2|" "pulse 19 merge 0 2 0|pulse 20 merge 0 2 1|pulse 21 merge 0 2 2|"),
-    ("b 2 1|b 1 1|b 2 1|", "rounds 2 2 1 1 1 21|" + EDGE_BEGINNING
-     + "pulse 13 merge 0 0 0|pulse 14 merge 0 0 1|1 chose 1|1 put 2 payload 14 chosen 1|"
-     "pulse 15 merge 0 0 2|pulse 16 merge 0 1 0|pulse 17 merge 0 1 1|2 chose 2|2 put 1 payload 17 chosen 2|"
      "pulse 18 merge 0 1 2|" "pulse 19 merge 0 2 0|pulse 20 merge 0 2 1|pulse 21 merge 0 2 2|"),
 ]
 EMPTY_TEXT = "rounds 1 0 0 0 12|pulse 0 greet|pulse 1 orient|" + "".join(
