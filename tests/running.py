@@ -55,10 +55,6 @@ class Counting(unittest.TestResult):
 
     addFailure = addError
 
-    def addUnexpectedSuccess(self, test):
-        self.failed += 1
-        print(f"FAILED {name_of(test)}: it passes, and was expected to fail")
-
     def addSkip(self, test, reason):
         super().addSkip(test, reason)
         print(f"skipped {name_of(getattr(test, 'test_case', test))}: {reason}", flush=True)

@@ -30,12 +30,10 @@ SAID_OF_LIMITS = {
         "bar {ABOVE_BARS:,} different channels", "at most {MAX_BARS:,}, each below {MAX_CHANNEL:,}.",
         "more than {MAX_DEGREE:,} neighbours", "1 to {MAX_WORKERS} workers and a capacity of 1 to {MAX_CAPACITY}."),
     "docs/claim/FORMATS.md": (
-        "| F7 | NODES is above {MAX_NODES:,}, or the line names the different edge that is number {ABOVE_EDGES:,} |",
-        "| F13 | a barred channel is 0 or above {MAX_CHANNEL:,} |", "that is number {ABOVE_BARS:,} |",
-        "| N1 | a vertex has more than {MAX_DEGREE:,} neighbours", "| `--workers` | 1 | {MAX_WORKERS} |",
-        "| `--capacity` | 1 | {MAX_CAPACITY} |", "| `--turns` | 0 | {MAX_TURNS} |",
-        "| `--edition` | 1 | {MAX_EDITION} |", "a vertex, from 1 to {MAX_NODES:,}",
-        "choose anew, from 1 to {MAX_PASSES};",
+        "| F7 | NODES is above {MAX_NODES:,}, or", "that is number {ABOVE_EDGES:,} |", "is number {ABOVE_BARS:,} |",
+        "| F13 | a barred channel is 0 or above {MAX_CHANNEL:,} |", "a vertex has more than {MAX_DEGREE:,} neighbours",
+        "| `--workers` | 1 | {MAX_WORKERS} |", "| `--capacity` | 1 | {MAX_CAPACITY} |", "| 0 | {MAX_TURNS} |",
+        "| `--edition` | 1 | {MAX_EDITION} |", "a vertex, from 1 to {MAX_NODES:,}", "anew, from 1 to {MAX_PASSES};",
         "from 1 to {MAX_CHANNEL:,}, up to {MAX_BARS:,} of them at one vertex"),
     "docs/claim/PROMISES.md": (
         "{MAX_NODES:,} vertices and {MAX_EDGES:,} edges, {MAX_DEGREE:,} neighbours, {MAX_WORKERS} workers",

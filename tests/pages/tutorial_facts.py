@@ -29,14 +29,6 @@ def fewest_colours(nodes, edges):
                 if all(c[v - 1] != c[w - 1] for v, w in edges))
 
 
-def rounds_in_order(row):
-    """How many rounds a row takes if each node chooses in the round after the last of its lower neighbours."""
-    chosen = {}
-    for k, v in sorted(enumerate(row), key=lambda place: place[1]):
-        chosen[v] = 1 + max([chosen[w] for w in row[max(k - 1, 0):k] + row[k + 1:k + 2] if w < v], default=0)
-    return max(chosen.values())
-
-
 def dropped(net, f):
     """(pulse, vertex) of each drop that changes a colour."""
     lists = dict(enumerate(pulses_of(net, f), 2))
@@ -63,18 +55,6 @@ class TutorialFacts(Case):
             state.step(*event)
         pulses = [node.pulse_number for _, node in sorted(state.nodes.items())]
         self.same("pulses of a row of six with node 1 at rest", pulses, [0, 1, 2, 3, 4, 5])
-
-    def test_orders(self):
-        for row, wanted in (([1, 3, 2, 4], 2), ([1, 2, 3, 4], 4), (list(range(1, 20001)), 20000)):
-            self.same(f"choosing in order on a row of {len(row)}", rounds_in_order(row), wanted)
-
-    def test_steps(self):
-        """By hand, with 2**128 + 3 as the root: 1, 2, 3 find the digits 0, 0, 128, and have 1, 0, 256, the root 1; then
-        the digits 0, 8, 0 and 1, 16, 0; then 0, 4, 0 and 1, 9, 0; then 3, 0, 0 and 6, 1, 0."""
-        net = Network({1: 1, 2: 2, 3: 3, 4: 2**128 + 3}, {(1, 2), (2, 3), (3, 4)})
-        lists = [list(c.values()) for c in pulses_of(net, 0)[1:5]]
-        self.same("four bit steps with a name of 129 digits", lists,
-                  [[1, 0, 256, 1], [1, 16, 0, 1], [1, 9, 0, 1], [6, 1, 0, 1]])
 
     def test_drops(self):
         """The example, by hand from the colours after pulse 6. At pulse 7 node 1 has 5, which node 2 had; before it had

@@ -290,39 +290,38 @@ class ForeignForms(Case):
             good = status == 0 and b"\np edge " in b"\n" + wrote and wrote.count(b"\ne ") == edges
             self.note(f"{words} {data}", good, (wrote, told))
 
-    def test_ignored(self):
-        """A column or key that the caller says to ignore isn't counted, and what else is left out is; one that isn't
-        left out is refused, and so is one that may say which edges count, whatever the caller says."""
-        link = '{"nodes": [{"id": "A"}, {"id": "B"}], "links": [{"source": "A", "target": "B", "km": 3, "of": "x"}]}'
-        for names, data, status in (
-            ("km", "source,target,km\nA,B,3\n", 0), ("km", "source,target,km,dB\nA,B,3,7\n", 1),
-            ("dB,km", "source,target,km,dB\nA,B,3,7\n", 0), ("k", "source,target,km\nA,B,3\n", 1),
-            ("km", link, 1), ("km,of", link, 0), ("data", "A B {'weight': 2}\n", 0),
-            ("len", "graph { a -- b [len=2] }\n", 0), ("len", "graph { a -- b [len=2]; a -- a }\n", 1),
-            ("on", "graph { a -- b [on=no]; b -- c [on=yes] }\n", 1), ("", "A,B\nB,C\n", 1),
-        ):
-            found = call("read", "-", "--strict", "--ignore", names, data=data.encode())
-            self.note(f"{names} of {data}", found[0] == status and (not found[1]) == bool(status), found)
-        headed = call("read", "-", "--strict", "--heading", "yes", data=b"source,target,of\nA,B,x\n")
-        self.refusal("a heading doesn't say that its other columns are none", headed, 1, b"")
-
     def test_strict(self):
-        """Something that would be left out is a refusal if that is asked for; nothing is, if nothing would be."""
-        loop = b"1 2\n2 2\n"
-        said = b"--strict is asked for: 1 edge from a node to itself left out, first at line 2: 2"
-        self.refusal("a loop", call("read", "-", "--strict", data=loop), 1, said)
-        self.note("without the word", call("read", "-", data=loop)[0] == 0)
-        for data, *words in ((b"1 2\n2 1\n",), (b"source,target\nA,B\n",), ("\ufeff1 2\n".encode(),),
-                             (b"A,B,3\nB,C,2\n", "--as", "pairs")):
-            self.note(f"nothing is left out of {data}", call("read", "-", "--strict", *words, data=data)[0] == 0)
-        for data, said in ((b"source,target,km\nA,B,3\n", b"1 column not read: km"),
-                           (b"A B {'weight': 2}\n", b"data in braces not read"),
-                           (b"graph { a -- b [len=2, color=red] }\n", b"2 keys of edges not read: color, len"),
-                           (b'{"nodes": [{"id": 1, "on": true}], "links": []}\n', b"1 key of nodes not read: on"),
-                           (b"graph [ node [ id 1 ] edge [ source 1 target 1 w 2 ] ]\n", b"1 key of edges not read: w"),
-                           (b"p sp 2 1\na 1 2 3\n", b"weights of lines `a` not read: 1")):
-            self.refusal(f"left out of {data}", call("read", "-", "--strict", data=data), 1, said)
-            self.note(f"read without the word: {data}", call("read", "-", data=data)[0] == 0)
+        """What would be left out is a refusal if that is asked for, and nothing is if nothing would be. A column or key
+        that the caller says to ignore isn't left out; one that isn't there is refused, and so is one that may say which
+        edges count, whatever the caller says."""
+        link = '{"nodes": [{"id": "A"}, {"id": "B"}], "links": [{"source": "A", "target": "B", "km": 3, "of": "x"}]}'
+        loop = "--strict is asked for: 1 edge from a node to itself left out, first at line 2: 2"
+        for words, data, said in (
+            ("", "1 2\n2 2\n", loop), ("", "1 2\n2 1\n", None), ("", "source,target\nA,B\n", None),
+            ("", "\ufeff1 2\n", None), ("--as pairs", "A,B,3\nB,C,2\n", None),
+            ("", "source,target,km\nA,B,3\n", "1 column not read: km"),
+            ("", "A B {'weight': 2}\n", "data in braces not read"),
+            ("", "graph { a -- b [len=2, color=red] }\n", "2 keys of edges not read: color, len"),
+            ("", '{"nodes": [{"id": 1, "on": true}], "links": []}\n', "1 key of nodes not read: on"),
+            ("", "graph [ node [ id 1 ] edge [ source 1 target 1 w 2 ] ]\n", "1 key of edges not read: w"),
+            ("", "p sp 2 1\na 1 2 3\n", "weights of lines `a` not read: 1"),
+            ("--ignore km", "source,target,km\nA,B,3\n", None), ("--ignore km", "source,target,km,dB\nA,B,3,7\n", ""),
+            ("--ignore dB,km", "source,target,km,dB\nA,B,3,7\n", None), ("--ignore k", "source,target,km\nA,B,3\n", ""),
+            ("--ignore km", link, ""), ("--ignore km,of", link, None), ("--ignore data", "A B {'weight': 2}\n", None),
+            ("--ignore len", "graph { a -- b [len=2] }\n", None),
+            ("--ignore len", "graph { a -- b [len=2]; a -- a }\n", ""),
+            ("--ignore on", "graph { a -- b [on=no]; b -- c [on=yes] }\n", ""), ("--ignore ", "A,B\nB,C\n", ""),
+            # A heading doesn't say that its other columns are none.
+            ("--heading yes", "source,target,of\nA,B,x\n", ""),
+        ):
+            words = words.split(" ") if words else []
+            done = call("read", "-", "--strict", *words, data=data.encode())
+            if said is None:
+                self.note(f"nothing is left out of {data!r} with {words}", done[0] == 0 and done[1], done)
+            else:
+                self.refusal(f"left out of {data!r} with {words}", done, 1, said.encode())
+            if not words:
+                self.note(f"read without the word: {data!r}", call("read", "-", data=data.encode())[0] == 0)
 
     def test_adjacency_with_marks(self):
         """A mark that separates fields in some lines alone isn't part of names."""

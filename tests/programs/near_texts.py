@@ -10,6 +10,7 @@ from lab.wrong import Wrong
 from tests.cases import Case
 from tests.programs.foreign_texts import (as_csv, as_dot, as_gml, as_graphml, as_json, as_metis, beside, excuses,
                                           found_in)
+from tests.programs.foreign_texts import graph_of as any_graph
 
 TEXTS, SEED = 25, 20261130
 TOWNS = ("Ulm", "Aue", "Hof", "Köln", "Mörs", "Bonn", "Kiel", "Jena")
@@ -24,12 +25,8 @@ WEIGHT = '"weight": 2'
 
 def graph_of(source, names):
     """Four names or more, and three pairs or more of them, each once."""
-    while True:
-        nodes = source.sample(names, source.randint(4, len(names)))
-        pairs = [source.choice(((a, b), (b, a))) for at, a in enumerate(nodes) for b in nodes[at + 1:]
-                 if source.random() < 0.5]
-        if len(pairs) > 2:
-            return nodes, pairs
+    graphs = iter(lambda: any_graph(source, names), None)
+    return next((nodes, pairs) for nodes, pairs in graphs if len(nodes) > 3 and len(pairs) > 2)
 
 
 # Writers: functions of the nodes, the pairs and chance. A text is one, too, in which {0}, {1}, .. are nodes, {n}, {m}

@@ -23,26 +23,17 @@ def nothing(*_):
 def long_names(source, nodes):
     """Identifiers of some vertices, great ones and small ones, no two the same."""
     while True:
-        given = {
-            v: source.choice(
-                (source.randrange(2**128), source.randrange(2 * nodes),
-                 2**source.choice((32, 64, 128)) - 1 - source.randrange(2 * nodes))
-            )
-            for v in range(1, nodes + 1)
-            if source.random() < 0.8
-        }
+        given = {v: source.choice((source.randrange(2**128), source.randrange(2 * nodes),
+                                   2**source.choice((32, 64, 128)) - 1 - source.randrange(2 * nodes)))
+                 for v in range(1, nodes + 1) if source.random() < 0.8}
         if len({given.get(v, v) for v in range(1, nodes + 1)}) == nodes:
             return given
 
 
 def some_bars(source, nodes, most=12):
     """Channels that are barred at some vertices, low ones mostly; at most `most` of a vertex."""
-    bars = {
-        v: {source.choice((source.randint(1, 4), source.randint(1, nodes + 2), 2048))
-            for _ in range(source.choice((1, 1, 2, most)))}
-        for v in range(1, nodes + 1)
-        if source.random() < 0.5
-    }
+    bars = {v: {source.choice((source.randint(1, 4), source.randint(1, nodes + 2), 2048))
+                for _ in range(source.choice((1, 1, 2, most)))} for v in range(1, nodes + 1) if source.random() < 0.5}
     return bars or {1: {1}} if nodes else {}
 
 

@@ -251,17 +251,6 @@ class Schedules(Case):
         for name in ("alone", "apart", "barred", "two", "path", "star"):
             self.end_rows(f"{name}, puts apart", Space(net_of(name), puts=True, limit=MOST))
 
-    def test_schedules(self):
-        """The number of schedules of two, by recursion over the steps."""
-        space, ways = Space(net_of("two"), limit=MOST), {}
-
-        def count(s):
-            if s not in ways:
-                ways[s] = sum(count(t) for _, t in space.steps(s)) or 1
-            return ways[s]
-
-        self.same("schedules of two", space.schedules, count(0))
-
     def test_walks(self):
         """A hundred random walks, each state beside the definitions."""
         source, wrong, needless = random.Random(SEED), [], []

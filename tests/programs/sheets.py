@@ -6,7 +6,6 @@ import re
 
 from lab.definitions.colours import network_of
 from lab.definitions.nodes import synchronous_pulses
-from lab.pictures.sheet import farthest
 from tests.cases import Case, said_by
 from tests.programs.plain_networks import payloads_of, reached
 
@@ -111,11 +110,6 @@ class Answers(Case):
                 self.assertIn(f"Sheet 7-{number}, answers", section)
                 self.check(section)
         self.assertEqual(len({re.search(r"<pre>.*?</pre>", section, re.S).group() for section in sections}), 12)
-
-    def test_a_stopped_edge_by_hand(self):
-        """Six in a row, and nothing goes between 2 and 3: as in tests/programs/simulate.py."""
-        row = network_of(b"p edge 6 5\ne 1 2\ne 2 3\ne 3 4\ne 4 5\ne 5 6\n")
-        self.assertEqual(farthest(row, (2, 3)), {1: 0, 2: 0, 3: 0, 4: 0, 5: 1, 6: 2})
 
 
 class Sheets(Case):
