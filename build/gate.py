@@ -25,17 +25,26 @@ PROVED = re.compile(r"^rt: (\w+) (?:proved$|is kept: )", re.M)
 NOT_PROVED = re.compile(r"^rt: (\w+)(?:: its tests are)? NOT PROVED.*$", re.M)
 
 
+def is_taken(lock):
+    """Takes the lock, unless another call has it."""
+    try:
+        fcntl.flock(lock, fcntl.LOCK_EX | fcntl.LOCK_NB)
+    except BlockingIOError:
+        return False
+    return True
+
+
 @contextlib.contextmanager
 def new_room(name):
     """A place for a folder in the user's cache, and the lock on it: another call waits until this one ends."""
     room = kit.in_cache("room")
     os.makedirs(os.path.dirname(room), mode=0o700, exist_ok=True)
     with open(f"{room}.lock", "w", encoding="ascii") as lock:
-        try:
-            fcntl.flock(lock, fcntl.LOCK_EX | fcntl.LOCK_NB)
-        except BlockingIOError:
+        if not is_taken(lock):
             print(f"{name}: another call is proving already; waiting for its end", file=sys.stderr, flush=True)
-            fcntl.flock(lock, fcntl.LOCK_EX)
+            # In one call that waits, a signal that came just before it would wait, too.
+            while not is_taken(lock):
+                time.sleep(0.2)
         shutil.rmtree(room, ignore_errors=True)
         try:
             yield room, lock
