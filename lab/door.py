@@ -3,7 +3,6 @@
 What was given may be wrong; a closed or full output, too little memory and Ctrl-C are no faults of the command. A
 reader that has gone away is no fault at all."""
 import contextlib
-import io
 import os
 import signal
 import sys
@@ -16,30 +15,6 @@ STOPS = (signal.SIGINT, signal.SIGTERM, signal.SIGHUP)
 # The statuses of a fault of the command itself, and of Ctrl-C.
 OWN_FAULT, STOPPED = 70, 130
 NOT_WRITTEN = "the output can't be written"
-
-
-class Said(io.FileIO):
-    """Standard error: what can't be written there, as it is full or its reader has gone, is dropped."""
-
-    def write(self, data):
-        try:
-            return super().write(data)
-        except OSError:
-            return len(data)
-
-
-def open_streams():
-    """Gives a closed stream a file that refuses what it is for, so that no other file gets its number."""
-    for number, mode in ((0, os.O_WRONLY), (1, os.O_RDONLY), (2, os.O_WRONLY)):
-        try:
-            os.fstat(number)
-        except OSError:
-            os.dup2(os.open(os.devnull, mode), number)
-    # Buffered, whatever Python is asked for: argparse passes over a text of help that can't be written at once.
-    sys.stdin, sys.stdout = (open(number, mode, encoding="utf-8", errors="surrogateescape", closefd=False)
-                             for number, mode in ((0, "r"), (1, "w")))
-    sys.stderr = io.TextIOWrapper(io.BufferedWriter(Said(2, "w", closefd=False)), encoding="utf-8",
-                                  errors="backslashreplace", line_buffering=True)
 
 
 def stop(number, _):
@@ -62,16 +37,14 @@ def held():
 
 def run(name, load):
     """Runs the command that `load` imports, a function that returns its status, and returns the status to end with."""
+    for number in STOPS:
+        if signal.getsignal(number) != signal.SIG_IGN:      # as `nohup` has it, and a shell in the background
+            signal.signal(number, stop)
     try:
-        open_streams()
-        for number in STOPS:
-            if signal.getsignal(number) != signal.SIG_IGN:      # as `nohup` has it, and a shell in the background
-                signal.signal(number, stop)
         try:
             return load()()
         finally:
             sys.stdout.flush()
-            signal.signal(signal.SIGINT, signal.SIG_IGN)
     except BrokenPipeError:
         status, line = 0, ""
     except KeyboardInterrupt:
@@ -87,7 +60,6 @@ def run(name, load):
         status, line = OWN_FAULT, (f"a fault of this command itself, please report it: {type(why).__name__}: "
                                    f"{' '.join(str(why).split())} ({os.path.basename(at.filename)} line {at.lineno})")
     # Standard output gets nothing more.
-    with contextlib.suppress(OSError, ValueError):
-        os.dup2(os.open(os.devnull, os.O_WRONLY), 1)
-        sys.stderr.write(line and f"{name}: {line}\n")
+    os.dup2(os.open(os.devnull, os.O_WRONLY), 1)
+    sys.stderr.write(line and f"{name}: {line}\n")
     return status
