@@ -3,7 +3,7 @@ the programs wouldn't read."""
 import re
 
 from lab.networks.edge_list import Listed, clean
-from lab.networks.fields import Unread, is_number, refuse_zero
+from lab.networks.fields import Unread, is_number, value_of
 from lab.networks.network_text import (
     IDENTIFIERS, MAX_BARS, MAX_CHANNEL, SKIPPED, fields_of, read_comment, shown, whole)
 from lab.wrong import wrong_line
@@ -49,7 +49,8 @@ def read(text: str, name: str) -> Listed:
                 raise wrong_line(name, line, f"a third number after `e`: is it a weight or a node? "
                                              f"`{shown(raw.strip())}`; `a V W WEIGHT` has a weight")
             if fields[0] == "a":
-                refuse_zero((fields + [None] * 4)[3], f"{name} line {line}")
+                if len(fields) > 3 and value_of(fields[3]) == 0:
+                    raise wrong_line(name, line, "an edge of weight 0: is it one? Leave out those that are none")
                 weights += len(fields) > 3
             found.edges.append((line, str(whole(ends[0])), str(whole(ends[1]))))
     found.names = {v: clean(own) for v, own in found.names.items()}

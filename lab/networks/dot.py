@@ -2,51 +2,54 @@
 subgraph in braces at an end of an edge means all its nodes."""
 import re
 
-from lab.networks.edge_list import Listed, leave_keys, refuse_flags
-from lab.networks.fields import refuse_zero
+from lab.networks.edge_list import Listed
+from lab.networks.graphs import Graph
 from lab.networks.network_text import MAX_EDGES, shown
 from lab.wrong import Wrong, wrong_line
 
-# One pass over the text: whichever of these begins first at a place is there. A line that begins with # is a comment.
-TOKEN = re.compile(
-    r"""(?P<space>[ \t\r\n\f\v\ufeff]+ | //[^\n]* | /\*.*?\*/ | (?m:^)\#[^\n]*)
-      | (?P<mark>--|->|[{}\[\];,:=])
-      | "(?P<quoted>[^"\\]*(?:\\.[^"\\]*)*)"
-      | (?P<html><)
-      | (?P<number>-?(?:\.[0-9]+|[0-9]+(?:\.[0-9]*)?)(?![\w.]))
-      | (?P<word>[^\W\d]\w*)
-      | (?P<cut>/\*|")
-      | (?P<strange>[^\s{}\[\];,:="<]+|.)""", re.X | re.S
-)
+# A line that begins with # is a comment.
+SPACE = r"(?:[ \t\r\n\f\v\ufeff]|//[^\n]*|/\*(?:[^*]|\*(?!/))*\*/|(?m:^)#[^\n]*)"
+QUOTED = r'"[^"\\]*(?:\\.[^"\\]*)*"'
+NAME = r"-?(?:\.[0-9]+|[0-9]+(?:\.[0-9]*)?)(?![\w.])|[^\W\d]\w*"
+# One pass over the text: whichever of these begins first at a place is there.
+TOKEN = re.compile(rf"(?P<space>{SPACE}+)|(?P<mark>--|->|[{{}}\[\];,:=])|(?P<quoted>{QUOTED})|(?P<html><)|"
+                   rf'(?P<name>{NAME})|(?P<cut>/\*|")|(?P<strange>[^\s{{}}\[\];,:="<]+|.)', re.S)
+BEGINS = re.compile(rf"{SPACE}*+(?:strict\b{SPACE}*+)?(?:di)?graph\b{SPACE}*+(?:{QUOTED}|{NAME})?{SPACE}*+\{{",
+                    re.S | re.I)
 COMPASS = {"n", "ne", "e", "se", "s", "sw", "w", "nw", "c", "_"}
 WORDS = {"node", "edge", "graph", "digraph", "subgraph", "strict"}
-# No file that a person or a program writes has as many braces in each other, or as many edges between two subgraphs.
-DEEPEST, MOST_EDGES = 100, 4 * MAX_EDGES
+# No file that a person or a program writes has as many edges between two subgraphs.
+MOST_EDGES = 4 * MAX_EDGES
+
+
+def begins(text: str) -> bool:
+    return BEGINS.match(text) is not None
 
 
 def tokens_of(text, name):
-    """(line, kind, value) of each token: a mark, which may be a keyword, or a text; in quotes it is never a keyword."""
+    """(line, kind, value) of each token: a mark, which may be a keyword, or a text; in quotes it is never a keyword.
+    The last one is the end."""
     at, line = 0, 1
     while at < len(text):
         found = TOKEN.match(text, at)
         kind, value, start, at = found.lastgroup, found.group(), line, found.end()
-        if kind == "number" and value[0] == "-" and re.match(r"\w", text[found.start() - 1:found.start()]):
+        if kind == "name" and value[0] == "-" and re.match(r"\w", text[found.start() - 1:found.start()]):
             raise wrong_line(name, line, f"`{shown(value)}` after a name without a blank: a name with - needs quotes")
         if kind == "strange":
             raise wrong_line(name, line, f"DOT isn't read on from `{shown(value)}`; a name of other letters than these "
                                          "and digits needs quotes")
-        if kind == "cut":
-            raise wrong_line(name, line, "DOT ends before its last brace: is the text cut?")
         if kind == "html":
             at = end_of_html(text, at)
-            if at is None:
-                raise wrong_line(name, line, "`<` begins a text here, and no `>` ends it: is the text cut?")
             value = text[found.start():at]
-        elif kind == "quoted":
-            value = found["quoted"].replace("\\\n", "").replace('\\"', '"')
+        if kind == "cut" or at is None:
+            raise wrong_line(name, line, f"`{value[:2]}` begins a text or a comment here, and nothing ends it: is the "
+                                         "text cut?")
+        if kind == "quoted":
+            value = value[1:-1].replace("\\\n", "").replace('\\"', '"')
         line += text.count("\n", found.start(), at)
         if kind != "space":
-            yield start, "mark" if kind == "mark" or kind == "word" and value.lower() in WORDS else "text", value
+            yield start, "mark" if kind == "mark" or kind == "name" and value.lower() in WORDS else "text", value
+    yield line, "end", ""
 
 
 def end_of_html(text, at):
@@ -59,40 +62,23 @@ def end_of_html(text, at):
     return None
 
 
-def begins(text):
-    """Whether the first words are those of a graph, up to its brace."""
-    words = []
-    try:
-        for _, kind, value in tokens_of(text, ""):
-            if kind == "mark" and value.lower() not in WORDS or len(words) > 3:
-                return value == "{" and re.fullmatch(r"(strict )?(di)?graph( \S+)?", " ".join(words)) is not None
-            words.append(value.lower() if kind == "mark" else "text")
-    except Wrong:
-        pass
-    return False
-
-
 class Reader:
-    """A place in the list of tokens, and what was read before it: `edges` as (line, name, name), `nodes` as
-    (line, name), once and again, the attribute `name` of nodes that have one, whether some statement `has_lists`, how
-    many `ports` there are that are no points of the compass, the `keys` of nodes, what attributes of edges have `said`,
-    and their `defaults`, also behind the subgraph that has them."""
+    """A place in the tokens, and what was read before it: `nodes` as (line, attributes) by their names, `edges` as
+    (line, ends, attributes), attributes of all, which hold also behind the subgraph that has them, whether some
+    statement `has_lists`, and how many `ports` there are that are no points of the compass."""
 
     def __init__(self, text, name):
-        self.name, self.at, self.tokens, self.depth = name, 0, list(tokens_of(text, name)), 0
-        self.edges, self.nodes, self.labels, self.is_directed = [], [], {}, False
-        self.has_lists, self.ports, self.said, self.defaults = False, 0, [], {}
-        self.keys = set()
+        self.name, self.at, self.tokens = name, 0, list(tokens_of(text, name))
+        self.nodes, self.edges, self.of_all = {}, [], {"node": {}, "edge": {}, "graph": {}}
+        self.is_directed, self.has_lists, self.ports = False, False, 0
 
-    def next(self):
-        """The next token; beyond the last one it is refused."""
-        if self.at == len(self.tokens):
-            line = self.tokens[-1][0] if self.tokens else 1
-            raise wrong_line(self.name, line, "DOT ends before its last brace: is the text cut?")
-        return self.tokens[self.at]
+    def wrong(self):
+        line, kind, value = self.tokens[self.at]
+        return wrong_line(self.name, line, f"DOT isn't read on from `{shown(value)}`" if kind != "end" else
+                          "DOT ends before its last brace: is the text cut?")
 
-    def is_at(self, *marks):
-        _, kind, value = self.tokens[self.at] if self.at < len(self.tokens) else (0, "", "")
+    def is_at(self, *marks, after=0):
+        _, kind, value = self.tokens[min(self.at + after, len(self.tokens) - 1)]
         return kind == "mark" and value.lower() in marks
 
     def skip(self, *marks):
@@ -101,83 +87,64 @@ class Reader:
         self.at += found
         return found
 
+    def want(self, *marks):
+        if not self.skip(*marks):
+            raise self.wrong()
+
     def id(self):
-        """The line and the name of the next token."""
-        line, kind, value = self.next()
-        if kind == "mark":
-            raise wrong_line(self.name, line, f"DOT isn't read on from `{shown(value)}`")
+        """The name that is next."""
+        _, kind, value = self.tokens[self.at]
+        if kind != "text":
+            raise self.wrong()
         self.at += 1
-        return line, value
+        return value
 
     def graph(self):
         """The whole text, which is one graph."""
         self.skip("strict")
-        if not self.skip("graph", "digraph"):
-            raise wrong_line(self.name, self.next()[0], "no `graph {` or `digraph {`")
+        self.want("graph", "digraph")
         if not self.is_at("{"):
             self.id()
-        if not self.skip("{"):
-            raise wrong_line(self.name, self.next()[0], "no `graph {` or `digraph {`")
+        self.want("{")
         self.statements()
-        if self.at < len(self.tokens):
-            line, _, value = self.next()
+        line, kind, value = self.tokens[self.at]
+        if kind != "end":
             raise wrong_line(self.name, line, f"after the graph's last brace comes `{shown(value)}`: one graph is read")
 
     def statements(self):
         """All up to the closing brace; returns the names of the nodes in it."""
-        self.depth += 1
-        if self.depth > DEEPEST:
-            raise wrong_line(self.name, self.next()[0], f"more than {DEEPEST} braces in each other")
         names = {}
         while not self.skip("}"):
             if not self.skip(";"):
                 names |= dict.fromkeys(self.statement())
-        self.depth -= 1
         return list(names)
 
     def statement(self):
-        is_before = self.tokens[self.at + 1: self.at + 2]
-        if self.is_at("node", "edge", "graph") and is_before and is_before[0][1:] == ("mark", "["):
-            _, _, word = self.tokens[self.at]
+        if self.is_at("node", "edge", "graph") and self.is_at("[", after=1):
+            word = self.tokens[self.at][2].lower()
             self.at += 1
-            said = self.attributes()
-            if word.lower() == "edge":
-                self.defaults |= said
-            elif word.lower() == "node":
-                self.keys |= said.keys()
+            self.of_all[word] |= self.attributes()
             return []
-        if is_before and is_before[0][1:] == ("mark", "="):
+        if self.is_at("=", after=1):
             self.id()
-            self.at += 1
+            self.want("=")
             self.id()
             return []
         left = self.end()
-        names, is_node = list(left), True
+        names, edges = list(left), []
         while self.skip("--", "->"):
-            is_node = False
             line, _, mark = self.tokens[self.at - 1]
             self.is_directed |= mark == "->"
             right = self.end()
-            if len(self.edges) + len(left) * len(right) > MOST_EDGES:
+            if len(self.edges) + len(edges) + len(left) * len(right) > MOST_EDGES:
                 raise wrong_line(self.name, line, f"more than {MOST_EDGES:,} edges")
-            self.edges += [(line, one, other) for one in left for other in right]
+            edges += [(line, [one, other]) for one in left for other in right]
             names, left = names + right, right
-        line, said = self.tokens[self.at - 1][0], self.attributes()
-        if not is_node:
-            self.see_edge(line, said)
-        else:
-            self.keys |= said.keys()
-        if is_node and len(names) == 1 and "name" in said:
-            self.labels[names[0]] = said["name"]
+        said = self.attributes()
+        self.edges += [(line, ends, self.of_all["edge"] | said) for line, ends in edges]
+        for node in names if not edges else ():
+            self.nodes[node][1].update(said)
         return names
-
-    def see_edge(self, line, said):
-        """Refuses an edge that nobody sees; keeps what the attributes of edges say."""
-        said = self.defaults | said
-        if "invis" in said.get("style", "") or said.get("color") in ("transparent", "none"):
-            raise wrong_line(self.name, line, "an edge that isn't drawn: is it one? Leave it out if not")
-        refuse_zero(said.get("weight"), f"{self.name} line {line}")
-        self.said.append({key: word.lower() for key, word in said.items()})
 
     def attributes(self):
         """The attributes in brackets, by their names."""
@@ -185,9 +152,9 @@ class Reader:
         while self.skip("["):
             while not self.skip("]"):
                 if not self.skip(",", ";"):
-                    _, key = self.id()
+                    key = self.id()
                     if self.skip("="):
-                        _, said[key] = self.id()
+                        said[key] = self.id()
         return said
 
     def end(self):
@@ -195,8 +162,8 @@ class Reader:
         if self.skip("subgraph"):
             if not self.is_at("{"):
                 self.id()
-            if not self.is_at("{"):
-                raise wrong_line(self.name, self.next()[0], "a subgraph is read where its nodes are")
+            self.want("{")
+            return self.statements()
         if self.skip("{"):
             return self.statements()
         names = [self.node()]
@@ -206,27 +173,31 @@ class Reader:
         return names
 
     def node(self):
-        line, name = self.id()
+        line, name = self.tokens[self.at][0], self.id()
         for _ in range(2):
             if self.skip(":"):
-                self.ports += (self.id()[1] not in COMPASS)
-        self.nodes.append((line, name))
+                self.ports += self.id() not in COMPASS
+        self.nodes.setdefault(name, (line, {}))
         return name
 
 
 def read(text: str, name: str) -> Listed:
     """The nodes and edges of a text."""
     reader = Reader(text, name)
-    reader.graph()
+    try:
+        reader.graph()
+    except RecursionError:
+        raise Wrong(f"{name}: more braces in each other than any graph has") from None
     if not reader.nodes:
         raise Wrong(f"{name}: a graph in DOT without a node; if it is a list of pairs: --as pairs")
     if reader.has_lists and not reader.edges:
         raise Wrong(f"{name}: DOT without an edge, in which commas list nodes: an edge is `a -- b`")
-    notes = ["directions aren't read"] if reader.is_directed else []
-    found = Listed("DOT", reader.edges, reader.nodes, notes, is_exact=True)
-    refuse_flags(found, reader.said, name)
-    leave_keys(found, reader.keys - {"name"}, "nodes")
+    graph = Graph("DOT", name, ("name",))
+    for node, (line, said) in reader.nodes.items():
+        graph.node(line, node, said, [said.pop("name", "")])
+    for edge in reader.edges:
+        graph.edge(*edge)
+    graph.keys |= reader.of_all["node"].keys() - {"name"}
     if reader.ports:
-        found.left_out.append(f"ports of nodes aren't read: {reader.ports} (a name with a colon needs quotes)")
-    found.names_by(reader.labels, "name")
-    return found
+        graph.found.left_out.append(f"ports of nodes aren't read: {reader.ports} (a name with a colon needs quotes)")
+    return graph.listed(reader.is_directed)

@@ -3,10 +3,10 @@ import codecs
 import io
 import re
 import unicodedata
-from collections.abc import Callable, Iterable
+from collections.abc import Callable
 from dataclasses import dataclass, field
 
-from lab.networks.fields import Unread, shown
+from lab.networks.fields import shown
 from lab.wrong import Wrong, wrong_line
 
 # More bytes than a network within the limits needs in any form.
@@ -34,14 +34,9 @@ NO_END = "its last line has no line end: is the text cut?"
 LOOK_ALIKE = str.maketrans("\u0410\u0412\u0415\u041a\u041c\u041d\u041e\u0420\u0421\u0422\u0425\u0430\u0435\u043e\u0440"
                            "\u0441\u0443\u0445\u0391\u0392\u0395\u0396\u0397\u0399\u039a\u039c\u039d\u039f\u03a1\u03a4"
                            "\u03a7", "ABEKMHOPCTXaeopcyxABEZHIKMNOPTX")
-# Keys that only number a node or an edge, and those whose 0 and 1 say something else than whether it counts.
-NUMBERS = ("key", "networkx_key", "id", "index", "")
-NO_FLAGS = (*NUMBERS, "group", "type")
 # Words that say no, and those that say yes or no.
 NOT = {"no", "n", "nein", "false", "f", "falsch", "off", "0", "null"}
 FLAGS = NOT | {"yes", "y", "ja", "j", "true", "t", "wahr", "w", "on", "x", "1", "", "-"}
-# What is said of an edge that is there and doesn't count.
-HIDDEN = ("hidden", "deleted", "removed", "disabled", "ignored")
 
 
 @dataclass
@@ -88,34 +83,6 @@ class Listed:
             why = f"{shown(twin_of(cleaned))} comes twice" if len(different) < len(labelled) else "some have none"
             self.notes.append(f"nodes aren't named by their {word}: {why}")
         return is_named
-
-
-def refuse_flags(found: Listed, edges: list[dict[str, str]], name: str,
-                 defaults: dict[str, str] | None = None) -> None:
-    """Refuses edges, each given by what its keys say, of which a key says yes of some and no, or nothing at all, of
-    others: these may be none. All keys are counted."""
-    keys = dict.fromkeys(key for edge in edges for key in edge)
-    said = {key: {edge.get(key, (defaults or {}).get(key, "")) for edge in edges} for key in keys}
-    for key, words in said.items():
-        if len(words) > 1 and words <= FLAGS and words & NOT and key not in NO_FLAGS:
-            raise Wrong(f"{name}: the key `{shown(key)}` may say which edges count: leave out those that are none, and "
-                        "the key of the others")
-    leave_keys(found, [key for key, words in said.items() if key not in NUMBERS or "".join(words).strip("0123456789")],
-               "edges")
-
-
-def leave_groups(found: Listed, groups: set[str]) -> None:
-    """Leaves out the nodes that only hold others, as the groups of yEd do, unless they have an edge of their own."""
-    groups = groups - {end for _, *ends in found.edges for end in ends}
-    if groups:
-        found.left_out.append(f"groups of nodes, without an edge of their own, are no nodes: {len(groups)}")
-        found.alone = [(line, node) for line, node in found.alone if node not in groups]
-
-
-def leave_keys(found: Listed, keys: Iterable[str], what: str) -> None:
-    """Counts keys of nodes or edges that aren't read, whatever they say."""
-    if left := Unread(sorted(set(keys) - {""}), f"{{count}} key{{s}} of {what} not read: {{names}}"):
-        found.left_out.append(left)
 
 
 def clean(name: str) -> str:

@@ -2,8 +2,6 @@
 import re
 from functools import lru_cache
 
-from lab.wrong import Wrong
-
 # More digits than any number has that a text of ours may hold.
 MOST_DIGITS = 40
 
@@ -78,10 +76,3 @@ def value_of(field: str) -> float | None:
 
 def is_number(field: str) -> bool:
     return value_of(field) is not None
-
-
-def refuse_zero(weight, where: str) -> None:
-    """Refuses an edge whose weight is zero: in a list of all pairs it means that there is none."""
-    if weight is not None and value_of(str(weight).strip()) == 0:
-        raise Wrong(f"{where}: an edge of weight 0: is it one? Leave out those that are none, and the weights of the "
-                    "others")

@@ -2,8 +2,9 @@
 import html
 import re
 
-from lab.networks.edge_list import HIDDEN, Listed, leave_groups, leave_keys, refuse_flags
-from lab.networks.fields import refuse_zero, shown
+from lab.networks.edge_list import Listed
+from lab.networks.fields import shown
+from lab.networks.graphs import Graph
 from lab.wrong import Wrong, wrong_line
 
 BEGINS = re.compile(
@@ -11,9 +12,6 @@ BEGINS = re.compile(
 )
 TOKEN = re.compile(r'(?P<space>\s+|#[^\n]*)|(?P<mark>[\[\]])|"(?P<string>[^"]*)"|(?P<word>[^\s\[\]"#]+(?=[\s\[\]"]|$))|'
                    r'(?P<strange>.)', re.S)
-
-# What nodes are called: networkx and yEd write the first, igraph and Graphviz the second.
-LABELS = ("label", "name")
 
 
 class Quoted(str):
@@ -36,21 +34,17 @@ def tokens_of(text: str):
 
 def tree_of(text: str, name: str) -> list:
     """Lists of (line, key, value), one inside the other; a value is a text or a list."""
-    top, open_lists, key, line = [], [], None, 1
-    inside = top
+    inside, open_lists, key, line = [], [], None, 1
     for line, kind, value in tokens_of(text):
         mark = value if kind in ("mark", "strange") else None
         if mark == "[" and key is not None:
-            below = []
-            inside.append((*key, below))
             open_lists.append(inside)
-            inside, key = below, None
+            inside.append((*key, []))
+            inside, key = inside[-1][2], None
         elif mark == "]" and key is None and open_lists:
             inside = open_lists.pop()
-        elif mark:
-            raise wrong_line(name, line, f"GML isn't read on from `{shown(mark)}`")
-        elif key is None and not re.fullmatch("[A-Za-z][0-9A-Za-z_]*", value):
-            raise wrong_line(name, line, f"`{shown(value)}` is no key of GML")
+        elif mark or key is None and not re.fullmatch("[A-Za-z][0-9A-Za-z_]*", value):
+            raise wrong_line(name, line, f"GML isn't read on from `{shown(value)}`")
         elif key is None:
             key = line, value.lower()
         else:
@@ -58,12 +52,17 @@ def tree_of(text: str, name: str) -> list:
             key = None
     if open_lists or key:
         raise wrong_line(name, line, "GML ends before its last bracket: is the text cut?")
-    return top
+    return inside
 
 
-def value_of(entries: list, key: str):
-    """The first value of a key, or None."""
-    return next((value for _, known, value in entries if known == key), None)
+def texts_of(entries, name: str, line: int, once: tuple[str, ...]) -> dict:
+    """What the keys of a list say, the first value of each; a list says nothing. Some come at most once."""
+    said: dict[str, str] = {}
+    for _, key, value in entries if isinstance(entries, list) else ():
+        if key in said and key in once:
+            raise wrong_line(name, line, f"two values of `{key}`")
+        said.setdefault(key, value if isinstance(value, str) else key)
+    return said
 
 
 def read(text: str, name: str) -> Listed:
@@ -73,45 +72,25 @@ def read(text: str, name: str) -> Listed:
     if len(graphs) != 1:
         raise Wrong(f"{name}: it has {len(graphs)} graphs, and one is read")
     refuse_others(tree, graphs[0], name)
-    found, labels, lines = Listed("GML", is_exact=True), {word: {} for word in LABELS}, {}
+    graph, groups = Graph("GML", name), set()
     for line, key, entries in graphs[0]:
         if key == "node":
-            node = one_of(entries, "id", name, line)
-            if node is None or node in lines:
-                what = "a node without an id" if node is None else f"a second node {shown(node)}"
-                raise wrong_line(name, line, what)
-            lines[node] = line
-            found.alone.append((line, node))
-            read_node(found, node, entries, labels)
+            said = texts_of(entries, name, line, ("id",))
+            node = said.pop("id", None)
+            if said.pop("isgroup", "") == "1":
+                groups.add(node)
+            labels = [said.pop(word, "") for word in graph.words]
+            graph.node(line, node, {known: said[known] for known in said.keys() - {"graphics", "gid"}}, labels)
+            see_place(graph.found, node, entries)
         elif key == "edge":
-            ends = [one_of(entries, end, name, line) for end in ("source", "target")]
-            if None in ends:
-                raise wrong_line(name, line, "an edge without source or target")
-            found.edges.append((line, *ends))
-            for weight in ("weight", "value"):
-                refuse_zero(value_of(entries, weight), f"{name} line {line}")
-            hidden = next((word for word in HIDDEN if value_of(entries, word) == "1"), None)
-            if hidden:
-                raise wrong_line(name, line, f"an edge that is {hidden}: leave it out if it is none")
-    refuse_flags(found, [{known: value.lower() or "null" if isinstance(value, str) else known
-                          for _, known, value in entries if known not in ("source", "target")}
-                         for _, key, entries in graphs[0] if key == "edge" and isinstance(entries, list)], name)
-    keys = {inner for _, key, entries in graphs[0] if key == "node" for _, inner, _ in entries}
-    leave_keys(found, keys - {*LABELS, "id", "graphics", "isgroup", "gid"}, "nodes")
-    for line, *ends in found.edges:
-        for end in ends:
-            if end not in lines:
-                raise wrong_line(name, line, f"an edge names {shown(end)}, which is no node")
-            if isinstance(end, Quoted) and any(end in said.values() for said in labels.values()):
-                raise wrong_line(name, line, f"an edge names \"{shown(end)}\", which is a label, too: write ids")
-    leave_groups(found, {value_of(entries, "id") for _, key, entries in graphs[0]
-                         if key == "node" and value_of(entries, "isgroup") == "1"})
-    for word in LABELS:
-        if found.names_by(labels[word], word):
-            break
-    if value_of(graphs[0], "directed") == "1":
-        found.notes.append("directions aren't read")
-    return found
+            said = texts_of(entries, name, line, ("source", "target"))
+            graph.edge(line, [said.pop(end, None) for end in ("source", "target")], said)
+    labels = {label for said in graph.labels.values() for label in said.values()}
+    for line, *ends in graph.found.edges:
+        if named := next((end for end in ends if isinstance(end, Quoted) and end in labels), None):
+            raise wrong_line(name, line, f"an edge names \"{shown(named)}\", which is a label, too: write ids")
+    graph.leave_groups(groups)
+    return graph.listed(any(part[1:] == ("directed", "1") for part in graphs[0]))
 
 
 def refuse_others(tree: list, graph: list, name: str) -> None:
@@ -128,22 +107,11 @@ def refuse_others(tree: list, graph: list, name: str) -> None:
                 below.append((value, value is graph))
 
 
-def one_of(entries, key: str, name: str, line: int) -> str | None:
-    """The one value of a key, or None."""
-    values = [value for _, known, value in entries if known == key] if isinstance(entries, list) else []
-    if len(values) > 1:
-        raise wrong_line(name, line, f"two values of `{key}`")
-    return values[0] if values and isinstance(values[0], str) else None
-
-
-def read_node(found: Listed, node: str, entries: list, labels: dict) -> None:
-    """What a node is called, and its place of `graphics [ x .. y .. ]`."""
-    drawn = value_of(entries, "graphics")
-    for word in LABELS:
-        if isinstance(said := value_of(entries, word), str):
-            labels[word][node] = said
-    if isinstance(drawn, list):
-        try:
-            found.places[node] = float(value_of(drawn, "x")), float(value_of(drawn, "y"))
-        except (TypeError, ValueError):
-            pass
+def see_place(found: Listed, node: str, entries: list) -> None:
+    """The place of `graphics [ x .. y .. ]`."""
+    drawn = next((dict(part[1:] for part in value) for _, key, value in entries
+                  if key == "graphics" and isinstance(value, list)), {})
+    try:
+        found.places[node] = float(drawn["x"]), float(drawn["y"])
+    except (KeyError, TypeError, ValueError):
+        pass

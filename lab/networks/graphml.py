@@ -1,113 +1,113 @@
-"""A network in GraphML, as networkx, yEd, Gephi and igraph write it."""
+"""A network in XML: GraphML, as networkx, yEd, Gephi and igraph write it, and GEXF."""
+import re
 from xml.etree import ElementTree
 
-from lab.networks.edge_list import Listed, leave_groups, leave_keys, refuse_flags
-from lab.networks.fields import Unread, refuse_zero, shown
+from lab.networks.edge_list import Listed
+from lab.networks.fields import Unread
+from lab.networks.graphs import Graph
 from lab.wrong import Wrong
 
-LABELS, WEIGHTS = ("label", "name"), ("weight", "value")
+BEGINS = {form: re.compile(rf"\s*<.{{0,4096}}?<{form}\b|\s*<{form}\b", re.S | re.I) for form in ("graphml", "gexf")}
+# Elements and keys of GEXF of edges that come and go.
+TIMES = {"start", "end", "spell", "spells", "startopen", "endopen", "timestamp"}
 
 
-def begins(text: str) -> bool:
-    head = text[:4096].lower()
-    return head.lstrip().startswith("<") and "<graphml" in head
-
-
-def plain(tag: str) -> str:
-    """The name of an element without its space."""
-    return tag.rpartition("}")[2]
-
-
-def read(text: str, name: str) -> Listed:
-    """Its nodes and edges; those of graphs inside nodes too."""
+def root_of(text: str, name: str) -> ElementTree.Element:
+    """The outer element, with names of elements and attributes without their space."""
     doctype = text.find("<!DOCTYPE")
     if "<!ENTITY" in text or doctype >= 0 and "[" in text[doctype:text.find(">", doctype)]:
-        raise Wrong(f"{name}: GraphML with entities of its own isn't read")
+        raise Wrong(f"{name}: XML with entities of its own isn't read")
     try:
         # The text is decoded already, whatever encoding its first line names.
         root = ElementTree.fromstring(text.lstrip().encode(), ElementTree.XMLParser(encoding="utf-8"))
     except ElementTree.ParseError as why:
-        raise Wrong(f"{name} line {why.position[0]}: it begins like GraphML, and is no XML: {why}") from None
-    graphs = root.findall("{*}graph")
+        raise Wrong(f"{name} line {why.position[0]}: it begins like XML, and is no XML: {why}") from None
+    for element in root.iter():
+        element.tag = element.tag.rpartition("}")[2]
+    return root
+
+
+def parts_of(root: ElementTree.Element, name: str) -> list[tuple[int, ElementTree.Element]]:
+    """The elements of the one graph, in their order, with their numbers; none else is a node or an edge."""
+    graphs = root.findall("graph")
     if len(graphs) != 1:
         raise Wrong(f"{name}: it has {len(graphs)} graphs, and one is read")
-    parts = [sum(plain(element.tag) in ("node", "edge") for element in part.iter()) for part in (root, graphs[0])]
-    if parts[0] != parts[1]:
+    inside = list(enumerate(graphs[0].iter(), 1))
+    if sum(element.tag in ("node", "edge") for element in root.iter()) != sum(
+            element.tag in ("node", "edge") for _, element in inside):
         raise Wrong(f"{name}: a node or an edge is outside of the graph")
-    found = Listed("GraphML", is_exact=True)
-    words = {key.get("id"): key.get("attr.name", "").lower() for key in root.findall(".//{*}key")}
-    said = {word: {} for word in (*LABELS, "x", "y")}
-    for at, element in enumerate(graphs[0].iter(), 1):
-        read_element(found, name, at, element, words, said)
-    defaults = {words[key.get("id")]: (part.text or "").strip().lower() for key in root.findall(".//{*}key")
-                if key.get("for") != "node" for part in key.findall("{*}default")}
-    edges = [{words.get(data.get("key"), ""): (data.text or "").strip().lower() or "null"
-              for data in edge.findall("{*}data")} for edge in graphs[0].findall(".//{*}edge")]
-    refuse_flags(found, edges, name, defaults)
-    if any((part.text or "").strip() for part in graphs[0].findall(".//{*}EdgeLabel")):
-        found.left_out.append(Unread(["labels"], "{names} of edges not read"))
-    nodes = graphs[0].findall(".//{*}node")
-    keys = {words.get(data.get("key"), "") for node in nodes for data in node.findall("{*}data")}
-    leave_keys(found, keys - said.keys(), "nodes")
-    listed = {node for _, node in found.alone}
-    if len(listed) != len(found.alone):
-        raise Wrong(f"{name}: two nodes have one id")
-    unknown = next((end for _, *ends in found.edges for end in ends if end not in listed), None)
-    if unknown is not None:
-        raise Wrong(f"{name}: an edge names {shown(unknown)}, which is no node")
-    leave_groups(found, {node.get("id") for node in nodes if node.find("{*}graph") is not None})
-    read_places(found, said)
-    for word in LABELS:
-        if found.names_by(said[word], word):
-            break
-    if any(graph.get("edgedefault") == "directed" for graph in graphs):
-        found.notes.append("directions aren't read")
-    return found
+    for at, element in inside:
+        if element.tag == "hyperedge" or element.tag != "edge" and element.get("source") and element.get("target"):
+            raise Wrong(f"{name} element {at}: `{element.tag}` joins nodes, and only an edge of two ends is read")
+    return inside
 
 
-def read_element(found: Listed, name: str, at: int, element: ElementTree.Element, words: dict, said: dict) -> None:
-    """A node with what is said of it, or an edge."""
-    tag = plain(element.tag)
-    if tag == "hyperedge":
-        raise Wrong(f"{name}: a hyperedge isn't read, since an edge has two ends")
-    if tag == "node":
-        node = element.get("id")
-        if not node:
-            raise Wrong(f"{name}: a node has no id")
-        found.alone.append((at, node))
-        for data in element:
-            word = words.get(data.get("key"))
-            if plain(data.tag) == "data" and word in said and data.text and data.text.strip():
-                said[word][node] = data.text
-            elif plain(data.tag) == "data":
-                read_drawing(node, data, said)
-    if tag != "edge" and element.get("source") and element.get("target"):
-        raise Wrong(f"{name}: an element `{shown(tag)}` has source and target, and only an edge has")
-    if tag == "edge":
-        ends = [element.get("source"), element.get("target")]
-        if not all(ends):
-            raise Wrong(f"{name}: an edge has no source or no target")
-        found.edges.append((at, *ends))
-        for data in element:
-            word = words.get(data.get("key"))
-            if word in WEIGHTS:
-                refuse_zero(data.text, name)
+def ends_of(edge: ElementTree.Element) -> list[str | None]:
+    return [edge.get("source"), edge.get("target")]
 
 
-def read_drawing(node: str, data: ElementTree.Element, said: dict) -> None:
-    """The label and the place of a node as yEd draws it."""
-    for part in data.iter():
-        if plain(part.tag) == "NodeLabel" and part.text and part.text.strip():
-            said["label"].setdefault(node, part.text)
-        elif plain(part.tag) == "Geometry" and part.get("x") and part.get("y"):
-            said["x"].setdefault(node, part.get("x"))
-            said["y"].setdefault(node, part.get("y"))
+def read_graphml(text: str, name: str) -> Listed:
+    """The nodes and edges of GraphML; those of graphs inside nodes too."""
+    root = root_of(text, name)
+    graph, groups, inside = Graph("GraphML", name, place="element"), set(), parts_of(root, name)
+    keys = root.findall(".//key")
+    words = {key.get("id"): key.get("attr.name", "").lower() for key in keys}
+    defaults = {words[key.get("id")]: (part.text or "").strip().lower() for key in keys if key.get("for") != "node"
+                for part in key.findall("default")}
+    for at, element in inside:
+        said = {words.get(data.get("key"), ""): (data.text or "").strip() for data in element.findall("data")}
+        if element.tag == "node":
+            see_drawing(element, said)
+            graph.node(at, element.get("id"), {key: said[key] for key in said.keys() - {"label", "name", "x", "y"}},
+                       [said.get(word) for word in graph.words])
+            if element.find("graph") is not None:
+                groups.add(element.get("id"))
+            see_place(graph.found, element.get("id"), said)
+        elif element.tag == "edge":
+            graph.edge(at, ends_of(element), said)
+    if any((part.text or "").strip() for part in root.findall(".//edge//EdgeLabel")):
+        graph.found.left_out.append(Unread(["labels"], "{names} of edges not read"))
+    graph.leave_groups(groups)
+    return graph.listed(any(part.get("edgedefault") == "directed" for _, part in inside), defaults)
 
 
-def read_places(found: Listed, said: dict) -> None:
-    """Places of the nodes, if each has two numbers."""
+def see_drawing(node: ElementTree.Element, said: dict[str, str]) -> None:
+    """What yEd draws of a node: its label and its place, unless there are others."""
+    for part in (part for data in node.findall("data") for part in data.iter()):
+        if part.tag == "NodeLabel" and (part.text or "").strip():
+            said.setdefault("label", part.text.strip())
+        elif part.tag == "Geometry":
+            said.setdefault("x", part.get("x", ""))
+            said.setdefault("y", part.get("y", ""))
+
+
+def see_place(found: Listed, node: str, said: dict[str, str]) -> None:
     try:
-        places = {node: (float(said["x"][node]), float(said["y"][node])) for _, node in found.alone}
+        found.places[node] = float(said["x"]), float(said["y"])
     except (KeyError, ValueError):
-        return
-    found.places = places
+        pass
+
+
+def read_gexf(text: str, name: str) -> Listed:
+    """The nodes and edges of GEXF, all of one time."""
+    root = root_of(text, name)
+    graph, inside = Graph("GEXF", name, ("label",), "element"), parts_of(root, name)
+    titles = {part.get("id"): part.get("title", "").lower() for part in root.findall(".//attribute")}
+    parts = sum(element.tag in ("node", "edge") for _, element in inside)
+    if parts != len(root.findall(".//nodes/node") + root.findall(".//edges/edge")):
+        raise Wrong(f"{name}: a node or an edge is outside of `nodes` and `edges`")
+    for at, element in inside:
+        if element.tag not in ("node", "edge"):
+            continue
+        own = [part for part in element if part.tag not in ("nodes", "edges")]
+        said = dict(element.attrib) | {titles.get(part.get("for"), "value"): part.get("value", "")
+                                       for child in own for part in child.iter("attvalue")}
+        said |= {part.tag: part.tag for part in own if part.tag != "attvalues"}
+        if TIMES & said.keys():
+            raise Wrong(f"{name} element {at}: it comes and goes: write a graph of one time")
+        if element.tag == "node":
+            graph.node(at, element.get("id"), {key: said[key] for key in said.keys() - {"id", "label"}},
+                       [element.get("label")])
+        else:
+            graph.edge(at, ends_of(element), {key: said[key] for key in said.keys() - {"source", "target"}})
+    return graph.listed(any(part.get("defaultedgetype") == "directed" for _, part in inside))

@@ -2,48 +2,16 @@
 read it as another network."""
 import re
 
-from lab.networks.by_networkx import count_six
 from lab.networks.counts import are_degrees, counts_neighbours, has_counts, have_counts, is_by_line, is_metis
 from lab.networks.edge_list import FLAGS
 from lab.networks.fields import is_number, shown, value_of, whole
 from lab.networks.lines import DATA, without_inner_commas
 from lab.wrong import Wrong, wrong_line
 
-WRITE = "nx.write_graphml(G, FILE) writes what is read"
-# How texts begin, what they are, and how networkx reads them.
-HEADS = [
-    (r"<!doctype html|<html\b", "an HTML page", None),
-    (r"<", "XML and no GraphML", None),
-    (r"\*(partition|arcs|edges|matrix)\b", "Pajek without vertices", None),
-    (r">>digraph6<<|&[?-~]+$", "digraph6", None),
-    (r"dl\s+n\s*=", "DL of UCINET", None),
-    (r"@(nodes|arcs|edges|attributes)\b", "LGF of LEMON", None),
-    (r"nodedef\s*>", "GDF", None),
-    (r"\\documentclass|\\begin\b", "TeX", None),
-    (r"\[\s*\[", "a matrix or a list in brackets", "G = nx.from_numpy_array(numpy.array(json.load(open(FILE))))"),
-    (r"\[[\s\"'\[{\-0-9]", "JSON, and no object with `nodes` and `links`", None),
-]
-
-
-def refuse_heads(text: str, name: str) -> None:
-    """Refuses a text that begins like a form that is known and not read, after lines of comment."""
-    text = re.sub(r"\A(\s*[%#][^\n]*\n)+", "", text)
-    for head, what, reader in HEADS:
-        if re.match(head, text.lstrip(), re.I | re.S | re.M):
-            raise unread(name, what, reader)
-
-
-def unread(name: str, what: str, reader: str | None = None, otherwise: str = "") -> Wrong:
-    how = f"; networkx: {reader}; {WRITE}" if reader else f"; with networkx, {WRITE}"
-    return Wrong(f"{name}: it looks like {what}, which isn't read{how}{otherwise}")
-
 
 def refuse_rows(rows: list[tuple[int, list[str]]], separator: str | None, text: str, name: str) -> None:
     """Refuses rows of fields in a form that is known and not read."""
     fields = [row for _, row in rows]
-    if all(len(row) == 1 and is_of_graph6(row[0]) for row in fields):
-        raise Wrong(f"{name}: it looks like graph6, which --as graph6 reads by networkx; if each line is a node "
-                    "without a neighbour: --as pairs")
     if all(row[0] in ("c", "p") for row in fields):
         raise Wrong(f"{name}: it looks like DIMACS without an `e` line: is it cut? If these are pairs: --as pairs")
     mark = next((field for row in fields for field in row if field and not any(map(str.isalnum, field))), ":")
@@ -77,10 +45,10 @@ def refuse_rows(rows: list[tuple[int, list[str]]], separator: str | None, text: 
         raise wrong_line(name, inside[0][0], f"`{shown(inside[0][1])}` has a mark that separates fields elsewhere, and "
                                              "not each line has one (if these are names: --as pairs)")
     if is_trivial(text):
-        raise unread(name, "TGF, nodes and then `#` and edges")
+        raise Wrong(f"{name}: it looks like TGF, nodes and then `#` and edges, which isn't read")
     if is_grouped(text, {field for row in fields for field in row}):
-        raise unread(name, "LGL, nodes after `#` with their neighbours below", None, "; if these are pairs of nodes: "
-                     "--as pairs")
+        raise Wrong(f"{name}: it looks like LGL, nodes after `#` with their neighbours below, which isn't read; if "
+                    "these are pairs: --as pairs")
     if is_metis(text):
         raise Wrong(f"{name}: it looks like METIS, which isn't read: without weights, take its first line away and put "
                     "each node in front of its neighbours (sed 1d FILE | nl -ba -s' '), and say --as adjacency; if "
@@ -90,8 +58,8 @@ def refuse_rows(rows: list[tuple[int, list[str]]], separator: str | None, text: 
         raise Wrong(f"{name}: the first line (`{first}`) may be how many nodes and edges there are: remove it then; if "
                     "it is a pair or a node: --as pairs, or --as adjacency")
     if is_matrix(fields) or is_labelled(fields) or is_headed(fields) or is_triangle(fields):
-        reader = "G = nx.from_numpy_array(numpy.loadtxt(FILE))"
-        raise unread(name, "a matrix", reader, "; if these are pairs of nodes: --as pairs")
+        raise Wrong(f"{name}: it looks like a matrix, which isn't read; networkx: nx.from_numpy_array("
+                    "numpy.loadtxt(FILE)), and nx.write_graphml(G, FILE); if these are pairs of nodes: --as pairs")
     if counts_neighbours(fields):
         raise Wrong(f"{name}: the second field of each line may count the fields after it: leave it out, and say --as "
                     "adjacency (a node and its neighbours)")
@@ -105,8 +73,8 @@ def refuse_rows(rows: list[tuple[int, list[str]]], separator: str | None, text: 
     if all(len(row) < 2 or not any(row[1:]) for row in fields):
         if all("|" in row[0] for row in fields):
             raise Wrong(f"{name}: `|` isn't read between columns: write `;` or a comma in its place")
-        raise Wrong(f"{name}: no line has two nodes, so it may be a list of names; if each line is a node without a "
-                    "neighbour: --as pairs")
+        raise Wrong(f"{name}: no line has two nodes, so it may be a list of names, or graph6 without its head (--as "
+                    "graph6); if each line is a node without a neighbour: --as pairs")
 
 
 def is_trivial(text: str) -> bool:
@@ -190,11 +158,3 @@ def are_cut(row: list[str]) -> bool:
     """Whether an apostrophe opens in one field and closes in a later one."""
     opened = [at for at, field in enumerate(row) if field.startswith("'") and field.count("'") == 1]
     return bool(opened) and any(field.endswith("'") and len(field) > 1 for field in row[opened[0] + 1:])
-
-
-def is_of_graph6(line: str) -> bool:
-    """Whether it has a number of nodes and as many letters as their pairs need, by six a letter."""
-    if not re.fullmatch(r"[?-~]+", line) or line[0] == "~" and len(line) < 4:
-        return False
-    nodes, letters = count_six(line)
-    return not line.startswith("~~") and len(letters) == -(-nodes * (nodes - 1) // 12)
