@@ -1,11 +1,15 @@
 """The kinds of networks that `forestlab network KIND` makes. The same words make the same network, on every machine:
 what is chosen at random comes from `random()` of a seed alone, whose numbers Python keeps from version to version."""
+import inspect
 import random
+from collections.abc import Callable
 from itertools import combinations
 from math import cos, pi, sin
+from typing import NamedTuple
 
 from lab.networks.network_text import MAX_DEGREE, MAX_EDGES, MAX_NODES, Network
 from lab.networks.places import near
+from lab.networks.random_networks import alike_edges, below
 from lab.wrong import Wrong
 
 SIDE = 1000
@@ -13,12 +17,13 @@ SIDE = 1000
 WAYS_OF_A_QUEEN = ((1, 0), (0, 1), (1, 1), (-1, 1))
 
 
-def check_room(nodes, edges=0):
+def check(nodes, least=1, **sizes):
     """Refuses what would be no network, before anything is made."""
+    for name, size in (sizes or {"nodes": nodes}).items():
+        if size < least:
+            raise Wrong(f"{name.upper()} is {size}, and has to be at least {least}")
     if nodes > MAX_NODES:
         raise Wrong(f"that would be {nodes} nodes, and a network has at most {MAX_NODES}")
-    if edges > MAX_EDGES:
-        raise Wrong(f"that would be {edges} edges, and a network has at most {MAX_EDGES}")
 
 
 def checked(nodes, edges, places=None):
@@ -37,12 +42,6 @@ def checked(nodes, edges, places=None):
     return Network("", nodes, found, places)
 
 
-def at_least(least, **sizes):
-    for name, size in sizes.items():
-        if size < least:
-            raise Wrong(f"{name.upper()} is {size}, and has to be at least {least}")
-
-
 def circle(vertices):
     """The first vertex on top, then clockwise."""
     turn = 2 * pi / max(1, len(vertices))
@@ -55,40 +54,34 @@ def squares(rows, columns):
 
 
 def path(nodes):
-    at_least(1, nodes=nodes)
-    check_room(nodes, nodes - 1)
+    check(nodes)
     return checked(nodes, ((v, v + 1) for v in range(1, nodes)), {v: (v - 1, 0) for v in range(1, nodes + 1)})
 
 
 def ring(nodes):
-    at_least(3, nodes=nodes)
-    check_room(nodes, nodes)
+    check(nodes, least=3)
     return checked(nodes, ((v, v % nodes + 1) for v in range(1, nodes + 1)), circle(range(1, nodes + 1)))
 
 
 def star(nodes):
-    at_least(1, nodes=nodes)
-    check_room(nodes, nodes - 1)
+    check(nodes)
     return checked(nodes, ((v, nodes) for v in range(1, nodes)), circle(range(1, nodes)) | {nodes: (0, 0)})
 
 
 def complete(nodes):
-    at_least(1, nodes=nodes)
-    check_room(nodes, nodes * (nodes - 1) // 2)
+    check(nodes)
     return checked(nodes, combinations(range(1, nodes + 1), 2), circle(range(1, nodes + 1)))
 
 
 def grid(rows, columns):
-    at_least(1, rows=rows, columns=columns)
-    check_room(rows * columns, 2 * rows * columns - rows - columns)
+    check(rows * columns, rows=rows, columns=columns)
     edges = [(v, v + 1) for v in range(1, rows * columns + 1) if v % columns]
     edges += [(v, v + columns) for v in range(1, (rows - 1) * columns + 1)]
     return checked(rows * columns, edges, squares(rows, columns))
 
 
 def queen(rows, columns):
-    at_least(1, rows=rows, columns=columns)
-    check_room(rows * columns)
+    check(rows * columns, rows=rows, columns=columns)
     places = squares(rows, columns)
     number = {place: v for v, place in places.items()}
     edges = ((v, w) for v, place in places.items() for way in WAYS_OF_A_QUEEN for w in squares_on(place, way, number))
@@ -104,52 +97,38 @@ def squares_on(place, way, number):
 
 
 def tree(nodes, seed):
-    """Each node but the first is joined to one before it."""
-    at_least(1, nodes=nodes)
-    check_room(nodes)
+    check(nodes)
     source = random.Random(seed)
     return checked(nodes, ((1 + below(source, v - 1), v) for v in range(2, nodes + 1)))
 
 
-def below(source, bound):
-    """A number from 0 to bound - 1."""
-    return int(source.random() * bound)
-
-
-def shuffled(source, things):
-    """The things in an order by chance."""
-    order = list(things)
-    for at in range(len(order) - 1, 0, -1):
-        other = below(source, at + 1)
-        order[at], order[other] = order[other], order[at]
-    return order
-
-
-def disk(nodes, reach, seed):
-    """Places in a square of side 1000, and an edge if two are less than reach sides apart."""
-    at_least(1, nodes=nodes)
-    check_room(nodes)
-    if not 0 < reach <= 2:
-        raise Wrong(f"the radius is {reach}, and has to be above 0 and at most 2")
+def disk(nodes, radius, seed):
+    """Places in a square of side 1000, and an edge if two are less than `radius` sides apart."""
+    check(nodes)
+    if not 0 < radius <= 2:
+        raise Wrong(f"the radius is {radius}, and has to be above 0 and at most 2")
     source, free, places = random.Random(seed), set(), {}
     while len(places) < nodes:
         place = below(source, SIDE + 1), below(source, SIDE + 1)
         if place not in free:
             free.add(place)
             places[len(places) + 1] = place
-    pairs = near([(x, y, 0) for x, y in places.values()], reach * SIDE, is_globe=False)
+    pairs = near([(x, y, 0) for x, y in places.values()], radius * SIDE, is_globe=False)
     return checked(nodes, ((v + 1, w + 1) for v, w in pairs), places)
 
 
-def any_edges(nodes, edges, seed):
-    """So many different edges, each set of them as likely as any other."""
-    at_least(1, nodes=nodes)
-    at_least(0, edges=edges)
+def any_edges(nodes, edges, seed, connected=False, neighbours=None, forests=None):
+    """So many different edges, each set of them as likely as any other; or with the wishes of `alike_edges`."""
+    check(nodes)
     pairs = nodes * (nodes - 1) // 2
-    if edges > pairs:
-        raise Wrong(f"EDGES is {edges}, and {nodes} nodes have {pairs} pairs")
-    check_room(nodes, edges)
+    if not 0 <= edges <= min(pairs, MAX_EDGES):
+        raise Wrong(f"EDGES is {edges}, and {nodes} nodes have 0 to {min(pairs, MAX_EDGES)}")
     source, chosen = random.Random(seed), set()
+    if connected or (neighbours, forests) != (None, None):
+        chosen = alike_edges(source, nodes, edges, connected, neighbours, forests)
+        if chosen is None:
+            raise Wrong("no network with these wishes was found: change their numbers")
+        return checked(nodes, chosen)
     while len(chosen) < min(edges, pairs - edges):
         v, w = 1 + below(source, nodes), 1 + below(source, nodes)
         if v != w:
@@ -158,3 +137,50 @@ def any_edges(nodes, edges, seed):
         chosen = set(combinations(range(1, nodes + 1), 2)) - chosen
     return checked(nodes, chosen)
 
+
+class Kind(NamedTuple):
+    """What makes networks of a kind, what they are, more of it, and an example."""
+
+    make: Callable[..., Network]
+    does: str
+    example: str
+    more: str = ""
+
+    @property
+    def chosen(self):
+        """What `make` is told."""
+        return list(inspect.signature(self.make).parameters)
+
+    @property
+    def sizes(self):
+        """The words after the kind: how many of these there are."""
+        return [name for name in self.chosen if name in ("nodes", "rows", "columns", "edges")]
+
+    @property
+    def is_by_chance(self):
+        return "seed" in self.chosen
+
+
+KINDS = {
+    "path": Kind(path, "a row", "forestlab network path 20 | forestplan plain"),
+    "ring": Kind(ring, "a row whose ends are joined", "forestlab network ring 12 | forestplan plain"),
+    "star": Kind(star, "one centre, which is the last node; the others are its leaves",
+                 "forestlab network star 9 | forestplan forests",
+                 "So there is one forest; `number --by degree --reverse` gives the centre the number 1."),
+    "complete": Kind(complete, "each node is joined to each other", "forestlab network complete 8 | forestplan plan"),
+    "grid": Kind(grid, "squares of a board that share a side, numbered row by row",
+                 "forestlab network grid 10 10 > grid.col"),
+    "queen": Kind(queen, "squares of a board that a queen joins in one move",
+                  "forestlab network queen 5 5 | forestplan plain", "They are numbered row by row."),
+    "tree": Kind(tree, "each node but the first is joined to one before it, by chance",
+                 "forestlab network tree 30 --seed 7 > tree.col"),
+    "disk": Kind(disk, "places by chance in a square, joined if they are near",
+                 "forestlab network disk 30 --radius 0.26 --seed 5 > masts.col",
+                 "So transmitters interfere that are near each other (a unit-disk graph)."),
+    "random": Kind(any_edges, "that many edges, by chance",
+                   "forestlab network random 50 120 --seed 3 > net.col\n"
+                   "  forestlab network random 8 9 --connected --neighbours 3 --forests 2 --seed 7 > sheet.col",
+                   "Each choice of edges is as likely as any other. With wishes it isn't, but the networks of all\n"
+                   "seeds are equally hard: with --neighbours D and --forests U the last pulse of each is\n"
+                   "12 + 3·U·(D + 1)."),
+}

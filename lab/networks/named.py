@@ -2,7 +2,7 @@
 import os
 import re
 
-from lab.networks import kinds
+from lab.networks.kinds import KINDS
 from lab.networks.network_text import Network, read_network
 from lab.networks.texts import text_of
 from lab.programs import TOP
@@ -10,8 +10,6 @@ from lab.words import bytes_at, called
 from lab.wrong import Wrong
 
 EXAMPLES = [os.path.join(TOP, "examples", "workshop"), os.path.join(TOP, "examples")]
-OF_NODES = {"path": kinds.path, "ring": kinds.ring, "star": kinds.star, "complete": kinds.complete}
-OF_BOARDS = {"grid": kinds.grid, "queen": kinds.queen}
 
 
 def path_of(name: str) -> str | None:
@@ -23,28 +21,23 @@ def path_of(name: str) -> str | None:
 
 
 def network_bytes(name: str) -> bytes:
-    """The text of the network of a name."""
+    """The text of the network of a name: a file, or a kind with its size, as ring7 or grid3x4."""
     path = path_of(name)
     if path is not None:
         return bytes_at(path)
-    if re.fullmatch(r"[a-z]+[0-9]+(x[0-9]+)?", name):
-        return text_of(made(name)).encode()
-    raise Wrong(f"{name}: No such file or directory")
+    found = re.fullmatch(r"([a-z]+)([0-9]{1,5})(?:x([0-9]{1,5}))?", name)
+    if not found:
+        raise Wrong(f"{name}: No such file or directory")
+    kind, sizes = KINDS.get(found[1]), [int(size) for size in found.groups()[1:] if size]
+    if not kind or kind.is_by_chance or len(kind.sizes) != len(sizes):
+        names = ", ".join(kind + ("N" if len(of.sizes) == 1 else "RxC") for kind, of in KINDS.items()
+                          if not of.is_by_chance)
+        raise Wrong(f"{name}: there is no such file or example, and no network of this name is made, as {names} are")
+    return text_of(kind.make(*sizes)).encode()
 
 
 def network_text(name: str) -> str:
     return network_bytes(name).decode("utf-8", "replace")
-
-
-def made(name: str):
-    """The network of a kind with its size."""
-    found = re.fullmatch(r"([a-z]+)([0-9]{1,5})(?:x([0-9]{1,5}))?", name)
-    if found and found[1] in OF_NODES and not found[3]:
-        return OF_NODES[found[1]](int(found[2]))
-    if found and found[1] in OF_BOARDS and found[3]:
-        return OF_BOARDS[found[1]](int(found[2]), int(found[3]))
-    raise Wrong(f"{name}: there is no such file or example, and no network of this name is made, as "
-                f"{', '.join(f'{kind}N' for kind in OF_NODES)}, {', '.join(f'{kind}RxC' for kind in OF_BOARDS)} are")
 
 
 def network_at(name: str) -> Network:

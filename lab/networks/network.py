@@ -5,19 +5,19 @@ import csv
 import io
 import sys
 
-from lab.networks import edge_list, kinds, sites
+from lab.networks import edge_list, sites
 from lab.networks.channels import table_of
 from lab.networks.codes import code_of, is_like_a_code, tell_code
-from lab.networks.command_line import SIZES, command_line
+from lab.networks.command_line import command_line
 from lab.networks.costs import NotMeasured
 from lab.networks.describe import tell
 from lab.networks.edge_list import Listed
 from lab.networks.fields import Unread, shown
+from lab.networks.kinds import KINDS
 from lab.networks.named import network_bytes, network_text, path_of
 from lab.networks.network_text import read_network
 from lab.networks.numbering import renumbered
 from lab.networks.plan_text import clashes, read_plan
-from lab.networks.random_networks import alike
 from lab.networks.reading import listed_of, made_of, other_form
 from lab.networks.texts import text_of
 from lab.words import bytes_at, one_line, source_of, text_at, write
@@ -25,8 +25,6 @@ from lab.wrong import Wrong
 
 # Kilometres: less than that no two sites are apart, and numbers of places have no such digits.
 LEAST_REACH = 1e-6
-MAKERS = {"path": kinds.path, "ring": kinds.ring, "star": kinds.star, "complete": kinds.complete, "grid": kinds.grid,
-          "queen": kinds.queen, "tree": kinds.tree, "disk": kinds.disk, "random": kinds.any_edges}
 
 
 def bytes_of_file(path):
@@ -38,24 +36,19 @@ def say(what):
 
 
 def made(given):
-    """A network of a kind."""
-    sizes = [getattr(given, size) for size in SIZES[given.command]]
-    more = {"tree": ["seed"], "disk": ["radius", "seed"], "random": ["seed"]}.get(given.command, [])
-    chosen = {name: getattr(given, name) for name in more}
-    if more:
+    """A network of a kind, with the words that make it again."""
+    kind = KINDS[given.command]
+    chosen = {name: getattr(given, name) for name in kind.chosen}
+    words = [str(chosen[name]) for name in kind.sizes]
+    words += [f"--{name}" + f" {value}" * (value is not True) for name, value in chosen.items()
+              if name not in kind.sizes and value not in (None, False)]
+    if kind.is_by_chance:
         chosen["seed"] = source_of(given.seed)
-    wishes = [getattr(given, name, None) for name in ("connected", "neighbours", "forests")]
-    has_wishes = wishes[0] or wishes[1:] != [None, None]
     try:
-        network = alike(*sizes, *chosen.values(), *wishes) if has_wishes else MAKERS[given.command](
-            *sizes, *chosen.values())
+        network = kind.make(**chosen)
     except Wrong as why:
         given.refuse(str(why))
-    options = "".join(f" --{name} {getattr(given, name)}" for name in more)
-    if has_wishes:
-        options += " --connected" * given.connected + "".join(
-            f" --{name} {number}" for name, number in zip(("neighbours", "forests"), wishes[1:]) if number is not None)
-    return text_of(network, [f"Made by forestlab network {given.command} {' '.join(map(str, sizes))}{options}"])
+    return text_of(network, [f"Made by forestlab network {given.command} {' '.join(words)}"])
 
 
 def channels_asked(given):

@@ -2,8 +2,8 @@
 number; it keeps the identifier that a line gives it, and its barred channels."""
 import random
 
-from lab.networks.kinds import shuffled
 from lab.networks.network_text import Network, two_alike
+from lab.networks.random_networks import shuffled
 from lab.wrong import Wrong
 
 WAYS = ("random", "degree", "place")

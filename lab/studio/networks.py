@@ -4,8 +4,7 @@ import os
 from math import isqrt
 
 from lab.definitions.programs import PROGRAMS
-from lab.networks.command_line import CHANCE, SIZES
-from lab.networks.network import MAKERS
+from lab.networks.kinds import KINDS
 from lab.networks.network_text import read_network, stem
 from lab.networks.reading import read_any
 from lab.networks.texts import text_of
@@ -35,7 +34,7 @@ def hello(_asked, _tell):
         "proved": OPENED["is_proved"],
         "opened": OPENED["network"],
         "examples": sorted(stem(file) for file in os.listdir(EXAMPLES) if file.endswith(".col")),
-        "kinds": {kind: {"sizes": SIZES[kind], "chance": kind in CHANCE} for kind in MAKERS},
+        "kinds": {name: {"sizes": kind.sizes, "chance": kind.is_by_chance} for name, kind in KINDS.items()},
         "programs": [*PROGRAMS, *OPENED["own"]],
         "policies": HABITS,
         "rules": {"orders": said_of(OF_SCHEDULES),
@@ -63,12 +62,12 @@ def file_read(asked, _tell):
 
 def make(asked, _tell):
     kind = asked["kind"]
-    sizes = [int(asked["sizes"][size]) for size in SIZES[kind]]
+    sizes = [int(asked["sizes"][size]) for size in KINDS[kind].sizes]
     if max(sizes) > MOST_DRAWN or len(sizes) == 2 and kind != "random" and sizes[0] * sizes[1] > MOST_DRAWN:
         raise Wrong(f"the studio draws at most {MOST_DRAWN} nodes")
-    seed = [int(asked["seed"])] if kind in CHANCE else []
+    seed = [int(asked["seed"])] if KINDS[kind].is_by_chance else []
     more = [float(asked.get("reach") or 0.26), *seed] if kind == "disk" else seed
-    network = read_network(text_of(MAKERS[kind](*sizes, *more)), kind)
+    network = read_network(text_of(KINDS[kind].make(*sizes, *more)), kind)
     network.name = "-".join(map(str, [kind, *sizes, *more]))
     network.given = by_shape(kind, *sizes) or network.given
     return shown(network)
