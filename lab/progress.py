@@ -25,10 +25,6 @@ def fields_of(process: int) -> list[str] | None:
     return None if fields[0] in ("Z", "X") else fields
 
 
-def used_by(fields: list[str]) -> float:
-    return (int(fields[11]) + int(fields[12])) / os.sysconf("SC_CLK_TCK")
-
-
 def exactly(seconds: float) -> str:
     minutes, seconds = divmod(int(seconds), 60)
     return f"{minutes} min {seconds} s" if minutes else f"{seconds} s"
@@ -41,10 +37,9 @@ def about(process: int, command: str) -> str:
             if not stat.S_ISREG(os.fstat(file.fileno()).st_mode):
                 return ""
             run = Run(read_network(file.read().decode("utf-8", "replace"), "the network"))
-        takes = processor_seconds_for(run, command)
+        return f", of about {exactly(processor_seconds_for(run, command))} for {run.wires:,} wires"
     except (OSError, Wrong, MemoryError):
         return ""
-    return "" if takes is None else f", of about {exactly(takes)} for {run.wires:,} wires"
 
 
 def main(words: list[str]) -> int:
@@ -52,20 +47,20 @@ def main(words: list[str]) -> int:
     process, name, command = int(words[0]), words[1], words[2]
     start, begun, reckons = time.monotonic(), None, None
     for moment in MOMENTS:
-        if begun and moment < time.monotonic() - start:
-            continue
-        while time.monotonic() - start < moment:
+        while True:
             fields = fields_of(process)
             # The number of a process that has ended may be another's: its time of start is not.
             if fields is None or begun not in (None, fields[19]):
                 return 0
             begun = fields[19]
+            if time.monotonic() - start >= moment:
+                break
             time.sleep(0.5)
         if reckons is None:
             reckons = about(process, command)
-            fields = fields_of(process)
-            if fields is None:
+            if fields_of(process) is None:
                 return 0
-        took, used = exactly(time.monotonic() - start), exactly(used_by(fields))
+        took = exactly(time.monotonic() - start)
+        used = exactly((int(fields[11]) + int(fields[12])) / os.sysconf("SC_CLK_TCK"))
         print(f"{name}: {took}, {used} of processor time{reckons}", file=sys.stderr, flush=True)
     return 0

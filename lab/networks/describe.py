@@ -1,6 +1,5 @@
-"""`forestlab network tell`: what a network is, what a run on it comes to, and what is wrong with its text."""
+"""`forestlab network tell`: what a network is, and what a run on it comes to."""
 from lab.networks.costs import Run, times
-from lab.networks.network_text import network_of_reading, reading_of
 from lab.words import counted
 
 
@@ -12,9 +11,8 @@ def steps_in_turn(network):
     return max(step.values(), default=0)
 
 
-def facts(reading, path, is_counted):
-    """(name, what) of each line that `tell` prints; and warnings."""
-    network = network_of_reading(reading, path)
+def facts(reading, network, is_counted):
+    """(name, what) of each line that `tell` prints."""
     run = Run(network, is_counted)
     degrees = [len(network.neighbours[v]) for v in network.vertices]
     edges = len(network.edges)
@@ -22,42 +20,23 @@ def facts(reading, path, is_counted):
     alone = f", {degrees.count(0):,} of them without a neighbour" if 0 in degrees else ""
     more = f", {counted(again, 'line')} more with an edge that was there before" if again else ""
     most = "at most " if run.is_bound else ""
+    enough = f", so at most {counted(network.channels, 'channel')}"
+    bars = network.bars.values()
+    barred = (f"{counted(sum(map(len, bars)), 'channel')} at {counted(len(bars), 'node')}, "
+              f"at most {network.most_bars:,} at one{enough}")
     return [
         ("nodes", f"{network.nodes:,}{alone}"),
         ("edges", f"{edges:,}{more}; the `p` line says {reading.promised:,}"),
-        ("neighbours", f"{min(degrees, default=0):,} to {network.degree:,} of a node"
-         + ("" if network.bars else enough(network))),
-        *barred(network),
+        ("neighbours", f"{min(degrees, default=0):,} to {network.degree:,} of a node" + enough * (not bars)),
+        *[("barred", barred)] * bool(bars),
         ("forests",
          f"{run.forests:,}, so the last pulse is 12 + 3 * {run.forests:,} * {network.channels:,} = {run.last:,}"),
         ("in turn", f"{counted(steps_in_turn(network), 'round')}, if the nodes chose in the order of their numbers"),
         ("payloads", f"{most}{run.payloads:,}; {run.how}"),
         ("wires", f"{most}2 * {run.payloads:,} + 2 * {edges:,} * {run.last + 1:,} = {run.wires:,}"),
-        ("transcript", f"{most}{run.entries + 1:,} lines, {size(run.bytes)} without stamps"),
+        ("transcript", f"{most}{2 * run.wires + network.nodes * run.last + 1:,} lines"),
         ("time", times(run)),
     ]
-
-
-def enough(network):
-    return f", so at most {counted(network.channels, 'channel')}"
-
-
-def barred(network):
-    """The line that a network with barred channels has besides."""
-    if network.bars:
-        yield "barred", (
-            f"{counted(sum(map(len, network.bars.values())), 'channel')} at {counted(len(network.bars), 'node')}, "
-            f"at most {network.most_bars:,} at one" + enough(network)
-        )
-
-
-def size(count):
-    """Bytes, rounded up to two digits if they are many."""
-    for bound, unit in ((10 ** 9, "GB"), (10 ** 6, "MB"), (10 ** 3, "kB")):
-        if count >= bound:
-            tenths = -(-count * 10 // bound)
-            return f"{tenths / 10:g} {unit}" if tenths < 100 else f"{-(-count // bound)} {unit}"
-    return f"{count} bytes"
 
 
 def warnings(reading):
@@ -71,9 +50,3 @@ def warnings(reading):
         beyond = [v for v in listed if not 1 <= v <= reading.nodes]
         if beyond:
             yield f"a {what} is given for vertex {min(beyond)}, which there isn't"
-
-
-def tell(text, path, is_counted=False):
-    """The lines of a network, and what a reader is warned of; or what is wrong."""
-    reading = reading_of(text, path)
-    return [f"{name}: {what}" for name, what in facts(reading, path, is_counted)], list(warnings(reading))

@@ -9,13 +9,12 @@ from lab.networks import edge_list, sites
 from lab.networks.channels import table_of
 from lab.networks.codes import code_of, is_like_a_code, tell_code
 from lab.networks.command_line import command_line
-from lab.networks.costs import NotMeasured
-from lab.networks.describe import tell
+from lab.networks.describe import facts, warnings
 from lab.networks.edge_list import Listed
 from lab.networks.fields import Unread, shown
 from lab.networks.kinds import KINDS
 from lab.networks.named import network_bytes, network_text, path_of
-from lab.networks.network_text import read_network
+from lab.networks.network_text import network_of_reading, read_network, reading_of
 from lab.networks.numbering import renumbered
 from lab.networks.plan_text import clashes, read_plan
 from lab.networks.reading import listed_of, made_of, other_form
@@ -118,21 +117,18 @@ def was_told(given):
 def network_told(path, is_counted):
     data = network_bytes(path) if path_of(path) != path else bytes_of_file(path)
     path = one_line(path)
-    if is_counted and sys.stderr.isatty():
-        say("the payloads of a large network take some minutes to count")
     try:
-        lines, warned = tell(data.decode("utf-8", "replace"), path, is_counted)
-    except NotMeasured:
-        raise
+        reading = reading_of(data.decode("utf-8", "replace"), path)
+        network = network_of_reading(reading, path)
     except Wrong as why:
         # Of a network that is too large `read` would say the same.
         other = None if str(why).endswith(("(F7)", "(N1)")) else other_form(data, path)
         if other:
             raise Wrong(f"{why}\nnetwork: but `forestlab network read {path}` can read it: {other}") from None
         raise
-    for what in warned:
+    for what in warnings(reading):
         say(f"{path}: {what}")
-    return "".join(line + "\n" for line in lines)
+    return "".join(f"{name}: {what}\n" for name, what in facts(reading, network, is_counted))
 
 
 def was_numbered(given):

@@ -14,11 +14,8 @@ from lab.networks.network_text import read_network
 from lab.networks.reading import read_any
 from lab.wrong import Wrong
 from tests.cases import Case, called, example, forestlab, in_process
-from tests.programs.made_transcripts import made_transcript, transcript_text
 from tests.programs.plain_networks import payloads_of, reached
 from tests.settings import PLAN, PLAY
-
-SEED = 2026
 
 
 def call(*words, **more):
@@ -102,15 +99,6 @@ LONG_NAMES = b"p edge 4 4\ni 2 %d\ni 4 0\ne 1 2\ne 2 3\ne 1 4\ne 1 3\n" % (2**12
 BARRED = b"c name 4 Last\np edge 4 4\ne 1 2\ne 2 3\nb 4 2\ne 1 4\nb 4 2048\ne 1 3\nb 1 2\nb 4 2 again\n"
 
 
-def rounded(count):
-    """Bytes in words, rounded up to two digits above 999."""
-    unit = next((unit for unit in (10 ** 9, 10 ** 6, 10 ** 3) if count >= unit), None)
-    if unit is None:
-        return f"{count} bytes"
-    step = unit // 10 if count < 10 * unit else unit
-    return f"{(count + step - 1) // step * step / unit:g} {({10 ** 9: 'GB', 10 ** 6: 'MB', 10 ** 3: 'kB'})[unit]}"
-
-
 # (text, its fault, a part of what is said of it, whether `read` can read it)
 FAULTS = [
     ("", "F1", "there is no line", False),
@@ -168,27 +156,14 @@ FAULTS = [
 
 
 class OwnNetworks(Case):
-    def setUp(self):
-        # Every network that the test has written.
-        self.wrote = []
-
-    def tearDown(self):
-        """The program reads each network that was written, with as many nodes, and edges as triples."""
-        wrong = []
-        for text in self.wrote:
-            status, forests, fault = called(PLAN, "forests", data=text)
-            nodes = re.search(rb"^p edge (\d+)", text, re.M).group(1)
-            if status or not forests.startswith(b"forests " + nodes) or forests.count(b"\n") != 1 + len(edges_of(text)):
-                wrong.append((text[:200], fault))
-        if self.wrote:
-            self.note(f"the program reads {len(self.wrote)} networks that were written", not wrong, wrong[:1])
-
     def written(self, *words, data=b""):
-        """The network's text that a call writes."""
+        """The text that a call writes. The program reads it, with as many nodes, and edges as triples."""
         status, text, fault = call(*words, data=data)
-        self.note(f"network {' '.join(map(str, words))}", status == 0, fault)
-        if status == 0:
-            self.wrote.append(text)
+        done, forests, _ = called(PLAN, "forests", data=text)
+        nodes = text.partition(b"p edge ")[2].split(b" ")[0]
+        good = (status, done) == (0, 0) and forests.startswith(b"forests " + nodes)
+        good = good and forests.count(b"\n") == 1 + len(edges_of(text))
+        self.note(f"network {' '.join(map(str, words))}", good, fault)
         return text
 
     def test_kinds(self):
@@ -389,7 +364,6 @@ class OwnNetworks(Case):
             last, edges = last_pulse(net), len(net.number)
             payloads = payloads_of(net)
             wires = 2 * payloads + 2 * edges * (last + 1)
-            run = transcript_text(len(net.neighbours), made_transcript(random.Random(SEED), net, 4))
             degrees = [len(ws) for ws in net.neighbours.values()]
             got = {key: numbers(what) for key, what in told.items()}
             bars = [len(barred) for barred in net.barred.values() if barred]
@@ -401,11 +375,9 @@ class OwnNetworks(Case):
                 "in turn": [steps_in_order(net)],
                 "payloads": [payloads],
                 "wires": [2, payloads, 2, edges, last + 1, wires],
+                "transcript": [1 + len(degrees) * last + 2 * wires],
             }
             self.note(f"tell of {name}", {key: got.get(key) for key in wanted} == wanted, (told, wanted))
-            self.note(f"tell of {name}: the transcript's lines", got["transcript"][0] == run.count(b"\n"), told)
-            self.note(f"tell of {name}: the transcript's bytes",
-                      told["transcript"].endswith(f", {rounded(len(run))} without stamps"), (told, len(run)))
             self.note(f"tell of {name}: no warning", warned == b"", warned)
             self.note(f"tell of {name}: the time", told["time"] == "less than a second", told)
         for data, said in ((b"p edge 3 99\ne 1 2\n", b"the `p` line says 99 edges, and the text has 1: is it cut?"),
@@ -420,9 +392,9 @@ class OwnNetworks(Case):
         """What `network tell` says without the program of a network that is too large to be worked out: of a smaller
         one these bounds are above the counts."""
         for words in ("complete 8", "random 30 80", "grid 5 5", "star 7", "tree 12", "disk 20 --seed 3"):
-            run = Run(read_network(call(*words.split())[1].decode(), "net"))
-            self.note(f"the most payloads of {words}", run.payloads <= most_payloads(run) <= 2 * run.payloads,
-                      (run.payloads, most_payloads(run)))
+            net = read_network(call(*words.split())[1].decode(), "net")
+            payloads, most = Run(net).payloads, most_payloads(net)
+            self.note(f"the most payloads of {words}", payloads <= most <= 2 * payloads, (payloads, most))
 
     def test_faults(self):
         """The fault that the program reports, in words; and whether there is another way in."""
