@@ -54,32 +54,28 @@ def table_of(words: list[str]) -> list[int]:
 
 def numbers_in(path: str) -> list[int]:
     """The column of channels of a table."""
-    words, rows, *_ = site_tables.table(bytes_at(path), path)
-    named = [word for word in HEADINGS if word in words]
-    if len(named) != 1 or not rows:
-        raise Wrong(f"{path}: no column is named channel, or it has no row" if len(named) < 2 or not rows else
-                    f"{path}: {' and '.join(named)} are two columns of channels: leave one of them")
-    column = words.index(named[0])
-    for at, word in enumerate(words):
-        said = {fields[at].casefold() if at < len(fields) else "" for _, fields in rows}
+    found = site_tables.table(bytes_at(path), path)
+    columns = found.columns(HEADINGS)
+    if len(columns) != 1 or not found.rows:
+        raise Wrong(f"{path}: one column has to be named channel, with a row for each channel")
+    for at, word in enumerate(found.words):
+        said = {fields[at].casefold() for _, fields in found.rows}
         values = set(map(value_of, said))
-        if at != column and (said <= FLAGS and said & NOT or 0 in values or len(said) > 1 and None in values):
+        if at not in columns and (said <= FLAGS and said & NOT or 0 in values or len(said) > 1 and None in values):
             raise Wrong(f"{path}: the column {shown(word)} may say which channels may be used: leave out the others, "
                         "and this column")
-    for line, fields in rows:
-        if column >= len(fields) or not re.fullmatch(r"\d{1,%d}" % MOST_DIGITS, fields[column]):
-            raise wrong_line(path, line, f"no channel: `{shown(','.join(fields))}`")
-    return [int(fields[column]) for _, fields in rows]
+    for line, fields in found.rows:
+        if not re.fullmatch(r"\d{1,%d}" % MOST_DIGITS, fields[columns[0]]):
+            raise found.wrong(line, f"no channel: `{shown(','.join(fields))}`")
+    return [int(fields[columns[0]]) for _, fields in found.rows]
 
 
 def numbers_of(words: list[str]) -> list[int]:
     found = []
     for word in re.split(r"[\s,;]+", " ".join(words).strip(" ,;")):
         parts = re.fullmatch(r"(\d{1,%d})(?:-(\d{1,%d})(?:/(\d{1,6}))?)?" % (MOST_DIGITS, MOST_DIGITS), word)
-        if not parts and len(words) == 1 and re.search(r"[^\d\s,;/-]", words[0]):
-            raise Wrong(f"`{shown(words[0])}` is no file, no channel, and no range as 1-13 or 36-64/4")
         if not parts:
-            raise Wrong(f"`{shown(word)}` is no channel, and no range as 1-13 or 36-64/4")
+            raise Wrong(f"`{shown(word)}` is no file, no channel, and no range as 1-13 or 36-64/4")
         first, last, step = (int(part) if part else None for part in parts.groups())
         numbers = range(first, (first if last is None else last) + 1, step or 1) if step != 0 else ()
         if not numbers or len(numbers) > MAX_CHANNEL or last not in (None, numbers[-1]):

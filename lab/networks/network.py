@@ -75,7 +75,7 @@ def was_read(given):
     if given.sites:
         sites.by_names(found, name)
         table = one_line(given.sites)
-        sites.with_sites(found, sites.read_sites(bytes_of_file(given.sites), table), table, given.reach)
+        sites.with_sites(found, bytes_of_file(given.sites), table, given.reach)
     if given.bars:
         sites.with_bars(found, bytes_of_file(given.bars), one_line(given.bars), licence)
     network, said, left_out = made_of(found, name)

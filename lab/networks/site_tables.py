@@ -1,13 +1,12 @@
 """Tables with a heading, of sites, bars or channels: the words of their headings, their rows, and names that they don't
 have."""
 import difflib
-import math
 import re
+from dataclasses import dataclass
 
 from lab.networks.edge_list import decoded
+from lab.networks.fields import columns_left, shown
 from lab.networks.lines import table_of
-from lab.networks.network_text import shown
-from lab.networks.site_doubts import refuse_again
 from lab.wrong import Wrong, wrong_line
 
 # Headings of the columns, in small letters without blanks, lines and points.
@@ -32,9 +31,34 @@ MOST_NAMED, LONGEST = 4, 100
 KNOWN = {*NAMES, *CHANNELS, IDENTIFIER, *(word for pair in (*PLANES, *GLOBES) for word in pair[:2])}
 
 
-def table(data: bytes, name: str) -> tuple[list[str], list[tuple[int, list[str]]], str | None, list[str], list[str]]:
-    """The headings of a table, as the words above, its rows, what separates their fields, what was mended, and what
-    was guessed."""
+@dataclass
+class Table:
+    """The headings of a table, as the words above; for each row its line and a field for each heading; what separates
+    fields, and whether some are in quotes; what was mended, and what was guessed or isn't read."""
+
+    name: str
+    words: list[str]
+    rows: list[tuple[int, list[str]]]
+    separator: str | None
+    has_quotes: bool
+    notes: list[str]
+    left_out: list[str]
+
+    def columns(self, words) -> list[int]:
+        """The columns of these headings that there are."""
+        return [self.words.index(word) for word in words if word in self.words]
+
+    def wrong(self, line: int, what: str) -> Wrong:
+        return wrong_line(self.name, line, what)
+
+    def leave(self, read) -> None:
+        """Counts the columns that aren't `read`."""
+        if left := columns_left(self.words, self.rows, set(read), f"{self.name}: "):
+            self.left_out.append(left)
+
+
+def table(data: bytes, name: str) -> Table:
+    """The table of a text."""
     text, mended, guessed = decoded(data, name)
     if text.lstrip()[:1] in ("<", "{", "["):
         raise Wrong(f"{name}: it looks like XML or JSON, as KML, GPX and GeoJSON are: a table is read, with a heading "
@@ -46,10 +70,11 @@ def table(data: bytes, name: str) -> tuple[list[str], list[tuple[int, list[str]]
     if found.separator is None:
         rows = [(line, [" ".join(fields)]) for line, fields in rows]
     words = [heading_word(title) for title in rows[0][1]]
-    twice = next((word for at, word in enumerate(words) if word in KNOWN and word in words[:at]), None)
-    if twice:
-        raise Wrong(f"{name}: two columns are named {shown(twice)}: which one is meant?")
-    refuse_again(words, KNOWN, name)
+    # A second column of a kind may be named by a number, as `site 2`.
+    kinds = [bare if (bare := re.sub(r"\d+$", "", word)) in words else word for word in words]
+    twice = next((at for at, kind in enumerate(kinds) if kind in KNOWN and kind in kinds[:at]), None)
+    if twice is not None:
+        raise Wrong(f"{name}: the column {shown(words[twice])} is a second one: write a row for each")
     marked = [line for line in found.marked if line != rows[0][0]]
     if 0 < len(marked) < len(rows) - 1:
         raise wrong_line(name, marked[0], "it begins with # or %, and other rows don't: write a name that begins so in "
@@ -59,7 +84,9 @@ def table(data: bytes, name: str) -> tuple[list[str], list[tuple[int, list[str]]
             raise wrong_line(name, line, f"more fields than the heading: `{shown(','.join(fields))}`")
         if sorted(map(heading_word, filter(None, fields))) == sorted(filter(None, words)):
             raise wrong_line(name, line, "the heading of a second table: write both into one with the same columns")
-    return words, rows[1:], found.separator, mended + found.notes, [f"{name}: {what}" for what in guessed]
+    rows = [(line, (fields + [""] * len(words))[:len(words)]) for line, fields in rows[1:]]
+    return Table(name, words, rows, found.separator, b'"' in data, mended + found.notes,
+                 [f"{name}: {what}" for what in guessed])
 
 
 def heading_word(title: str) -> str:
@@ -69,24 +96,6 @@ def heading_word(title: str) -> str:
     word, unit = (re.fullmatch(r"([^(\[]*)[(\[](.*)[)\]]", title) or re.fullmatch("(.*)()", title)).groups()
     is_other = any(word in places[:2] for places in GLOBES) and unit not in DEGREES
     return word + unit if is_other or any(word in places[:2] for places in BARE) else word
-
-
-def number_of(field: str) -> float | None:
-    """A number with a point, or with a comma as spreadsheets write it; None for an empty field or another word."""
-    try:
-        number = float(field.replace(",", ".") if field.count(",") == 1 else field)
-    except ValueError:
-        return None
-    return number if math.isfinite(number) else None
-
-
-def identifier_of(field: str) -> int | None:
-    """A whole number, in decimal or after 0x in hexadecimal digits, or six pairs of these as hardware has them."""
-    if re.fullmatch(r"[0-9]{1,39}", field):
-        return int(field)
-    if re.fullmatch(r"0x[0-9a-fA-F]{1,32}|([0-9a-fA-F]{2}[:-]){5}[0-9a-fA-F]{2}", field):
-        return int(re.sub(r"0x|[:-]", "", field), 16)
-    return None
 
 
 def named(strange: list[tuple[int, str]], known: set[str]) -> str:

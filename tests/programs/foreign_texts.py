@@ -204,7 +204,7 @@ def ours_of_tables(places, bars):
     """The network and the bars that `read --sites --reach 3 --bars` makes of them, if it leaves out nothing."""
     try:
         found = Listed("sites")
-        sites.with_sites(found, sites.read_sites(places.encode(), "sites"), "sites", 3)
+        sites.with_sites(found, places.encode(), "sites", 3)
         sites.with_bars(found, bars.encode(), "bars", None)
         made, _, left_out = made_of(found, "sites")
     except Wrong:

@@ -441,7 +441,7 @@ def judge(case, kinds):
 def of_tables(places, bars=b"site,channel\n", reach=None, pairs=None):
     """What is listed of a table of sites, one of bars, and pairs."""
     found = Listed("sites") if pairs is None else listed_of(pairs, "pairs")
-    sites.with_sites(found, sites.read_sites(places, "sites"), "sites", reach)
+    sites.with_sites(found, places, "sites", reach)
     sites.with_bars(found, bars, "bars", None)
     return found
 
@@ -508,8 +508,8 @@ class NearTexts(Case):
     def test_exchanged(self):
         """Latitude and longitude that are exchanged for sure are refused; else it is said where the sites are."""
         with self.assertRaisesRegex(Wrong, "line 2: .*are they exchanged"):
-            sites.read_sites(b"site,lat,lon\nUlm,100.5,48.4\n", "sites")
-        said = sites.read_sites(b"site,lat,lon\nUlm,48.4,10\nAue,50.5,12.7\n", "sites").notes
+            of_tables(b"site,lat,lon\nUlm,100.5,48.4\n")
+        said = of_tables(b"site,lat,lon\nUlm,48.4,10\nAue,50.5,12.7\n").notes
         self.note("where", said == ["the sites of sites are at 48.4 to 50.5 degrees north, 10 to 12.7 east"], said)
 
     def test_counted(self):
