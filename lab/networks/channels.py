@@ -6,7 +6,8 @@ import sys
 from lab.networks import site_tables
 from lab.networks.edge_list import FLAGS, NOT, clean
 from lab.networks.fields import value_of
-from lab.networks.network_text import MAX_CHANNEL, shown, whole
+from lab.networks.network_text import MAX_CHANNEL, shown
+from lab.networks.plan_text import rows_of
 from lab.words import add_output, bytes_at, parser_of, text_at, write
 from lab.wrong import Wrong, wrong_line
 
@@ -84,26 +85,13 @@ def numbers_of(words: list[str]) -> list[int]:
     return found
 
 
-def rows_of(text: str, name: str) -> list[tuple[int, str, int]]:
-    """(line, vertex, channel) of the lines of a plan."""
-    lines = [(at, line.split()) for at, line in enumerate(text.split("\n"), 1) if line.strip()]
-    if not lines or lines[0][1] != ["plan"]:
-        raise wrong_line(name, lines[0][0] if lines else 1, "no line `plan`")
-    found = []
-    for at, fields in lines[1:]:
-        if len(fields) != 2 or None in map(whole, fields) or len(fields[1]) > MOST_DIGITS:
-            raise wrong_line(name, at, f"no vertex and its channel: `{shown(clean(' '.join(fields)))}`")
-        found.append((at, fields[0], int(fields[1])))
-    return found
-
-
-def rows_of_run(text: str, name: str) -> list[tuple[int, str, int]]:
-    """The same of the lines of a run whose nodes have found channels."""
+def rows_of_run(text: str, name: str) -> list[tuple[int, int, int]]:
+    """(line, vertex, channel) of the lines of a run whose nodes have found channels."""
     found = []
     for at, line in enumerate(text.split("\n"), 1):
         parts = re.fullmatch(r"node ([0-9]+) pulse [0-9]+ channel ([0-9]{1,%d})" % MOST_DIGITS, line)
         if parts:
-            found.append((at, parts[1], int(parts[2])))
+            found.append((at, int(parts[1]), int(parts[2])))
         elif line:
             raise wrong_line(name, at, f"no node with a channel: `{shown(clean(line))}`")
     return found
@@ -141,7 +129,8 @@ def main(words: list[str]) -> int:
         table = table_of(given.table) if given.table else None
     except Wrong as why:
         asked.error(str(why))
-    rows = rows_of_run(text_at("-"), "the run") if given.run else rows_of(text_at("-"), "the plan")
+    text = text_at("-")
+    rows = rows_of_run(text, "the run") if given.run else rows_of(text, "the plan", 0, 10 ** MOST_DIGITS)
     of = numbers_for(rows, table, given)
     write(given, "plan\n" + "".join(f"{vertex} {of[channel]}\n" for _, vertex, channel in rows))
     return 0

@@ -1,126 +1,122 @@
 """`forestlab network tell CODE`: what a code of a fault means, and what to do. docs/claim/FORMATS.md lists the codes,
 and docs/claim/DEFINITIONS.md defines them."""
 import re
-from dataclasses import dataclass
+from typing import NamedTuple
 
 from lab.networks.network_text import MAX_BARS, MAX_CHANNEL, MAX_DEGREE, MAX_EDGES, MAX_NODES
 
-MEMORY = "free memory, or take a smaller network"
-NETWORK, PLAN, EVENT, ENTRY, RUN = "a network", "a plan", "an event", "a transcript", "a run"
-EITHER, ANY = "an event or an entry of a transcript", "any command"
-LINE, VERTEX, TWO = "a line", "a vertex", "two vertices"
-WAIT = "A node makes its next pulse when its payloads are acknowledged and all its neighbours have said safe."
+FIRST, LEAVE = "put the `p` line first", "leave one of them"
+SAME = "is the plan of this network?"
 LINES = "Lines count from the first line of the input, the network's included."
 CHECK = f"`forestlab transcript check NETWORK TRANSCRIPT` says which rule the entry breaks. {LINES}"
+# By what is at fault: the names that the programs write, some with their numbers in the definitions, the fault in
+# words, and what to do. What is in braces is the line, the vertex or the two vertices that the programs name.
+CODES = {
+    "a network": {
+        "F1": ("there is no line `p edge NODES EDGES`", "begin the network with this line; if the input is empty, name "
+               "the file after a `<`: `forestplan plan < FILE`"),
+        "F2": ("{a line} is a second `p` line", f"{LEAVE}; perhaps two networks were joined"),
+        "F3": ("{a line} is an `e` line before the `p` line", FIRST),
+        "F4": ("in {a line} a field is missing or isn't a number, or the word after `p` is another than edge, edges "
+               "and col", "write `p edge NODES EDGES`, `e V W`, `i V NUMBER` or `b V CHANNEL`"),
+        "F5": ("in {a line} a vertex is 0 or above NODES", "vertices count from 1 to the NODES of the `p` line; "
+               "`forestlab network read FILE` takes a text that counts from 0"),
+        "F6": ("{a line} joins a vertex to itself", "take the line out; `forestlab network read FILE` does"),
+        "F7": (f"in {{a line}} NODES is above {MAX_NODES:,}, or it names one more than {MAX_EDGES:,} different edges",
+               "take a smaller network: these are the programs' limits"),
+        "F8": ("{a line} begins with a word that begins no line of a network",
+               "a comment begins with c, an event with pulse, put or take, and a network comes before them; "
+               "`forestlab network read FILE` reads other forms"),
+        "F10": ("{a line} is an `i` or a `b` line before the `p` line", FIRST),
+        "F11": ("in {a line} the identifier is 2^128 or more", "take a smaller identifier"),
+        "F12": ("{a line} is a second `i` line of its vertex", LEAVE),
+        "F13": (f"in {{a line}} the barred channel is 0 or above {MAX_CHANNEL:,}", "bar another channel"),
+        "F14": (f"{{a line}} bars one more than {MAX_BARS:,} different channels at its vertex", "bar fewer"),
+        "N1": (f"{{a vertex}} has more than {MAX_DEGREE:,} neighbours", "take edges out; no lower vertex has too many"),
+        "N2": ("{two vertices} have the same identifier", "give one of them another by a line `i V NUMBER`; without "
+               "such a line a vertex has its own number"),
+        "NoRoot": ("{a vertex}, which `--root` names, isn't in the network", "name a vertex from 1 to NODES"),
+    },
+    "a plan": {
+        "C1": ("{a vertex} has no line in the plan", f"add the line `V CHANNEL`; {SAME}"),
+        "C2": ("the plan has a line of {a vertex}, which isn't in the network", f"take the line out; {SAME}"),
+        "C3": ("{a vertex} has a second line in the plan", LEAVE),
+        "C4": ("{two vertices} are neighbours, and have the same channel", "give one of them another channel"),
+        "C5": ("{a vertex} has a channel above D + B + 1, with D as the most neighbours and B as the most barred "
+               "channels of a vertex",
+               "give it a lower channel; `forestlab channels --back` puts real channel numbers back"),
+        "C6": ("{a line} of the plan is neither `plan` nor `V CHANNEL`, or there is no plan (line 1)",
+               "after the network, which ends with a line feed, put a line `plan`, from which lines count here, and "
+               "then a line `V CHANNEL` for each vertex, channels from 1"),
+        "C8": ("{a vertex} has a channel that is barred at it",
+               "give it another channel, or take the line `b V CHANNEL` out of the network"),
+    },
+    "an event or an entry of a transcript": {
+        "NoEvent": ("{a line} is no event", f"write `pulse V`, `put V PORT` or `take V PORT` and no more. {LINES}"),
+        "NotReady E1": ("in {a line} a node can't make its next pulse yet",
+                        "let come first what the words after the line name: the payloads of a pulse are acknowledged, "
+                        "and all neighbours say safe, before the next one"),
+        "NothingToPut E2": ("in {a line} a node has nothing to put for this neighbour",
+                            "let the node take or pulse first: that is what gives it wires to put. An event has a "
+                            "port, from 0, and an entry a neighbour"),
+        "LinkEmpty E3": ("in {a line} the link has no wire to take", "let the neighbour put one first; of edition 1 "
+                         "`forestlab transcript replay` looks for an order"),
+        "NoSuch E4": ("in {a line} there is no such vertex or port, or the two aren't neighbours",
+                      "vertices count from 1, and the ports of a node from 0, by ascending neighbour"),
+    },
+    "a transcript": {
+        "X1": ("{a line} isn't a line of a transcript, or there is no transcript (line 1)",
+               "begin with `transcript 2 NODES`; each line after it is an entry, as `3 1 put 2 ack 0`; a payload of "
+               f"another program needs its `--program`. {CHECK}"),
+        "WrongProgram": ("{a line}, the first one of the transcript, names another program",
+                         "give the name that is said after the line: `--program NAME`"),
+        "WrongWire": ("the event of {a line} is possible, but with another wire or pulse",
+                      f"write the one that the words after the line name. {CHECK}"),
+        "WrongStamp E7": ("in {a line} the stamp isn't what its node's counter gives, or the entry comes too late",
+                          "a put or a pulse adds one to the node's counter; a take sets it to the greater of the "
+                          "counter and the stamp of the put, plus one. Entries come by stamp, and then by node. "
+                          f"{LINES}"),
+        "NotWhole E8": ("all entries are possible, but after {the last line} a node isn't done, or a wire wasn't taken",
+                        f"let the run go on to its end; is the text cut? {CHECK}"),
+    },
+    "a run": {
+        "stopped": ("the workers had made all their looks before all nodes were done", "give them more with `--turns`"),
+        "threads": ("the system refused a thread", "take fewer `--workers`, or try again"),
+        "stamps": ("a stamp would pass 2^64 - 1", "no run of the programs gets so far; please report it"),
+    },
+    "any command": {
+        "memory F9 N3 C7 X2 Memory E5": ("memory ran out", "free memory, or take a smaller network"),
+        "stream": ("the input couldn't be read to its end, or the output not written", "nothing is wrong if the reader "
+                   "left early, as `| head` does; else look at the file or the disk"),
+    },
+}
+# A fault as the programs write it, maybe without its beginning.
+WRITTEN = re.compile(r"(?:forest(?:plan|play): *)?(\w+)(?: (lines?|vertex|vertices) ([\d ]+))?(?:: *(.+))?")
 
 
-@dataclass(frozen=True)
-class Code:
-    """What the programs write (`name`) of a fault, of what (`of`), and in words. `{at}` is the line, the vertex or the
-    two vertices that the programs name, or the words of `at` if they aren't given."""
+class Told(NamedTuple):
+    """A fault: its name, its number in brackets, what it is of, what it is, what to do, and what the programs say."""
 
     name: str
+    number: str
     of: str
     what: str
     do: str
-    at: str = ""
-    # Its number in the definitions, if the programs write another name.
-    number: str = ""
-
-
-CODES = (
-    Code("F1", NETWORK, "there is no line `p edge NODES EDGES`",
-         "begin the network with this line; if the input is empty, name the file after a `<`: "
-         "`forestplan plan < FILE`"),
-    Code("F2", NETWORK, "{at} is a second `p` line", "leave one of them; perhaps two networks were joined", LINE),
-    Code("F3", NETWORK, "{at} is an `e` line before the `p` line", "put the `p` line first", LINE),
-    Code("F4", NETWORK, "in {at} a field is missing or isn't a number, or the word after `p` is another than edge, "
-         "edges and col", "write `p edge NODES EDGES`, `e V W`, `i V NUMBER` or `b V CHANNEL`", LINE),
-    Code("F5", NETWORK, "in {at} a vertex is 0 or above NODES",
-         "vertices count from 1 to the NODES of the `p` line; `forestlab network read FILE` takes a text that counts "
-         "from 0", LINE),
-    Code("F6", NETWORK, "{at} joins a vertex to itself", "take the line out; `forestlab network read FILE` does", LINE),
-    Code("F7", NETWORK,
-         f"in {{at}} NODES is above {MAX_NODES:,}, or it names one more than {MAX_EDGES:,} different edges",
-         "take a smaller network: these are the programs' limits", LINE),
-    Code("F8", NETWORK, "{at} begins with a word that begins no line of a network",
-         "begin a comment with c. A network comes before its plan, events or transcript: has it a `p` line, and "
-         "does an event begin with pulse, put or take? `forestlab network read FILE` reads other forms", LINE),
-    Code("F9", NETWORK, "memory ran out; the programs write `memory`", MEMORY),
-    Code("F10", NETWORK, "{at} is an `i` or a `b` line before the `p` line", "put the `p` line first", LINE),
-    Code("F11", NETWORK, "in {at} the identifier is 2^128 or more", "take a smaller identifier", LINE),
-    Code("F12", NETWORK, "{at} is a second `i` line of its vertex", "leave one of them", LINE),
-    Code("F13", NETWORK, f"in {{at}} the barred channel is 0 or above {MAX_CHANNEL:,}",
-         f"bar a channel of 1 to {MAX_CHANNEL:,}", LINE),
-    Code("F14", NETWORK, f"{{at}} bars one more than {MAX_BARS:,} different channels at its vertex", "bar fewer", LINE),
-    Code("N1", NETWORK, f"{{at}} has more than {MAX_DEGREE:,} neighbours",
-         "take edges out; no lower vertex has too many", VERTEX),
-    Code("N2", NETWORK, "{at} have the same identifier",
-         "give one of them another by a line `i V NUMBER`; without such a line a vertex has its own number", TWO),
-    Code("N3", NETWORK, "memory ran out; the programs write `memory`", MEMORY),
-    Code("NoRoot", NETWORK, "{at}, which `--root` names, isn't in the network",
-         "name one of its vertices: they are 1 to the NODES of the `p` line", VERTEX),
-    Code("C1", PLAN, "{at} has no line in the plan", "add the line `V CHANNEL`; is the plan of this network?", VERTEX),
-    Code("C2", PLAN, "the plan has a line of {at}, which isn't in the network",
-         "take the line out; is the plan of this network?", VERTEX),
-    Code("C3", PLAN, "{at} has a second line in the plan", "leave one of them", VERTEX),
-    Code("C4", PLAN, "{at} are neighbours, and have the same channel", "give one of them another channel", TWO),
-    Code("C5", PLAN, "{at} has a channel above D + B + 1, with D as the most neighbours and B as the most barred "
-         "channels of a vertex", "give it a lower channel; `forestlab channels --back` puts real channel numbers back",
-         VERTEX),
-    Code("C6", PLAN, "{at} of the plan is neither `plan` nor `V CHANNEL`, or there is no plan (line 1)",
-         "after the network put a line `plan` and then a line `V CHANNEL` for each vertex, channels from 1. The "
-         "line `plan` is line 1 here; the network has to end with a line feed", LINE),
-    Code("C7", PLAN, "memory ran out; the programs write `memory`", MEMORY),
-    Code("C8", PLAN, "{at} has a channel that is barred at it",
-         "give it another channel, or take the line `b V CHANNEL` out of the network", VERTEX),
-    Code("NoEvent", EVENT, "{at} is no event",
-         f"write `pulse V`, `put V PORT` or `take V PORT`, and nothing after it. {LINES}", LINE),
-    Code("NotReady", EITHER, "in {at} a node can't make its next pulse yet",
-         f"let come first what the words after the line name. {WAIT}", LINE, "E1"),
-    Code("NothingToPut", EITHER, "in {at} a node has nothing to put for this neighbour",
-         "let the node take or pulse first: that is what gives it wires to put. An event has a port, from 0, and "
-         "an entry a neighbour", LINE, "E2"),
-    Code("LinkEmpty", EITHER, "in {at} the link has no wire to take",
-         "let the neighbour put one first; a transcript of edition 1 needs `forestlab transcript replay`, which looks "
-         "for an order",
-         LINE, "E3"),
-    Code("NoSuch", EITHER, "in {at} there is no such vertex or port, or the two aren't neighbours",
-         "vertices count from 1, and the ports of a node from 0, by ascending neighbour", LINE, "E4"),
-    Code("Memory", EITHER, "memory ran out; the programs write `memory`", MEMORY, "", "E5"),
-    Code("X1", ENTRY, "{at} isn't a line of a transcript, or there is no transcript (line 1)",
-         "begin with `transcript 2 NODES`; each line after it is an entry, as `3 1 put 2 ack 0`; a payload of another "
-         f"program needs its `--program`. {CHECK}", LINE),
-    Code("X2", ENTRY, "memory ran out; the programs write `memory`", MEMORY),
-    Code("WrongProgram", ENTRY, "{at}, the first one of the transcript, names another program",
-         "give the name that is said after the line: `--program NAME`", LINE),
-    Code("WrongWire", ENTRY, "the event of {at} is possible, but with another wire or pulse",
-         f"write the one that the words after the line name. {CHECK}", LINE),
-    Code("WrongStamp", ENTRY, "in {at} the stamp isn't what its node's counter gives, or the entry comes too late",
-         "a put or a pulse adds one to the node's counter; a take sets it to the greater of the counter and the "
-         f"stamp of the put, plus one. Entries come by stamp, and then by node. {LINES}", LINE, "E7"),
-    Code("NotWhole", ENTRY, "all entries are possible, but after {at} a node isn't done, or a wire wasn't taken",
-         f"let the run go on to its end; is the text cut? {CHECK}", "the last line", "E8"),
-    Code("stopped", RUN, "the workers had made all their looks before all nodes were done",
-         "give them more with `--turns`"),
-    Code("threads", RUN, "the system refused a thread", "take fewer `--workers`, or try again"),
-    Code("memory", ANY, "memory ran out", MEMORY),
-    Code("stamps", RUN, "a stamp would pass 2^64 - 1", "no run of the programs gets so far; please report it"),
-    Code("stream", ANY, "the input couldn't be read to its end, or the output not written",
-         "nothing is wrong if the reader left early, as `| head` does; else look at the file or the disk"),
-)
+    more: str
 
 
 def code_of(words):
-    """(code, where the fault is, what the programs say besides) of the words of a fault, as `C8`, `C8 vertex 1` or
-    `forestplay: NotReady line 9: safe 0 of 2`; None if they are no fault."""
-    found = re.fullmatch(r"(?:forest(?:plan|play): *)?(\w+)(?: (lines?|vertex|vertices) ([\d ]+))?(?:: *(.+))?", words)
-    if not found:
-        return None
-    name, unit, numbers, more = found.groups()
-    code = next((code for code in CODES if name in (code.name, code.number)), None)
-    where = f"{unit} {' and '.join(numbers.split())}" if code and unit else ""
-    return code and (code, where, more)
+    """What is told of a fault, as `C8`, `C8 vertex 1` or `forestplay: NotReady line 9: safe 0 of 2`; None if the words
+    are no fault."""
+    found = WRITTEN.fullmatch(words)
+    for of, codes in CODES.items() if found else ():
+        for names, (what, do) in codes.items():
+            if found[1] in names.split():
+                name, *numbers = names.split()
+                number = f" ({', '.join(numbers)})" * bool(numbers)
+                at = found[2] and f"{found[2]} {' and '.join(found[3].split())}"
+                return Told(name, number, of, re.sub("{(.*?)}", lambda to: at or to[1], what), do, found[4] or "")
+    return None
 
 
 def is_like_a_code(words):
@@ -128,11 +124,7 @@ def is_like_a_code(words):
     return re.fullmatch(r"[A-Z]\d{1,2}", words) is not None
 
 
-def tell_code(found):
+def tell_code(told):
     """What it means, and what to do, a line each."""
-    code, where, more = found
-    name = code.name + f" ({code.number})" * bool(code.number)
-    lines = [f"{name}, a fault of {code.of}: {code.what.format(at=where or code.at)}"]
-    if more:
-        lines.append(f"here: {more}")
-    return lines + [f"what to do: {code.do}"]
+    return [f"{told.name}{told.number}, a fault of {told.of}: {told.what}", *[f"here: {told.more}"] * bool(told.more),
+            f"what to do: {told.do}"]

@@ -1,28 +1,37 @@
 """The plan of a text, beside its network."""
-from lab.networks.network_text import fields_of, whole
+from lab.networks.fields import fields_of, shown, whole
 from lab.wrong import Wrong, wrong_line
 
 
-def read_plan(text, name, network):
-    """{vertex: channel}. Neighbours may share a channel: a picture shows that."""
+def rows_of(text, name, least=1, below=2 ** 32):
+    """(line, vertex, channel) of the lines of a plan, with numbers in these bounds."""
     lines = [(number, [field for field in fields_of(raw) if field]) for number, raw in enumerate(text.split("\n"), 1)]
     lines = [(number, fields) for number, fields in lines if fields]
     if not lines or lines[0][1] != ["plan"]:
         raise wrong_line(name, lines[0][0] if lines else 1, "no line `plan` (C6)")
+    found = []
+    for line, fields in lines[1:]:
+        numbers = [whole(field) for field in fields]
+        if len(numbers) != 2 or None in numbers or max(numbers) >= below or numbers[1] < least:
+            raise wrong_line(name, line, f"no vertex and its channel: `{shown(' '.join(fields))}` (C6)")
+        found.append((line, *numbers))
+    return found
+
+
+def read_plan(text, name, network):
+    """{vertex: channel}, or the first fault that the programs would report. Neighbours may share a channel: a picture
+    shows that."""
     plan = {}
-    for number, fields in lines[1:]:
-        if len(fields) != 2 or None in map(whole, fields):
-            raise wrong_line(name, number, "no vertex and its channel (C6)")
-        vertex, channel = map(whole, fields)
+    for line, vertex, channel in rows_of(text, name):
         if vertex not in network.vertices:
-            raise wrong_line(name, number, f"vertex {vertex} is not one of 1 to {network.nodes} (C2)")
+            raise wrong_line(name, line, f"vertex {vertex} is not one of 1 to {network.nodes} (C2)")
         if vertex in plan:
-            raise wrong_line(name, number, f"a second line of vertex {vertex} (C3)")
-        if not 1 <= channel <= network.channels:
-            hint = "; if it is a real channel number: forestlab channels --back TABLE" if channel else ""
-            raise wrong_line(name, number, f"channel {channel} is not one of 1 to {network.channels} (C5){hint}")
+            raise wrong_line(name, line, f"vertex {vertex} has a second line (C3)")
+        if channel > network.channels:
+            raise wrong_line(name, line, f"vertex {vertex} has channel {channel}, which is above {network.channels} "
+                             "(C5); if it is a real channel number: forestlab channels --back TABLE")
         if channel in network.barred(vertex):
-            raise wrong_line(name, number, f"channel {channel} is barred at vertex {vertex} (C8)")
+            raise wrong_line(name, line, f"vertex {vertex} has channel {channel}, which is barred at it (C8)")
         plan[vertex] = channel
     for vertex in network.vertices:
         if vertex not in plan:

@@ -41,10 +41,9 @@ def check(asked, _tell):
     found = code_of(said)
     if found is None:
         raise Wrong(said)
-    code, where, _ = found
     at = [int(n) for n in re.findall(r"\d+", said.partition(" ")[2])]
-    return {"ok": False, "said": said, "code": code.name, "at": at if code.name != "C6" else [],
-            "words": of_nodes(code.what.format(at=where or code.at)), "do": of_nodes(code.do)}
+    return {"ok": False, "said": said, "code": found.name, "at": at if found.name != "C6" else [],
+            "words": of_nodes(found.what), "do": of_nodes(found.do)}
 
 
 def of_nodes(words):

@@ -4,29 +4,20 @@ import re
 
 from tests.cases import Case, called, forestlab, text, text_in
 from tests.commands import EDGE, PROGRAM_OF, TRIANGLE
-from tests.programs.own_networks import call
+from tests.programs.own_networks import FAULTS as NETWORK_FAULTS, call
 from tests.settings import PATHS
 
-TOO_MANY = "".join(f"e 1 {v}|" for v in range(2, 1026))
-BARS = "".join(f"b 1 {channel}|" for channel in range(1, 1026))
 RUN = EDGE + "transcript 2 2|"
+# Words that say what a fault of a network is; own_networks.py has inputs.
+OF_NETWORKS = {
+    "F1": "there is no line `p edge NODES EDGES`", "F2": "is a second `p` line", "F3": "is an `e` line before the `p`",
+    "F4": "a field is missing", "F5": "a vertex is 0", "F6": "joins a vertex to itself", "F7": "NODES is above 20,000",
+    "F8": "a word that begins no line", "F10": "is an `i` or a `b` line before", "F11": "identifier is 2^128 or more",
+    "F12": "is a second `i` line", "F13": "barred channel is 0 or above 2,048", "F14": "bars one more than 1,024",
+    "N1": "has more than 1,023 neighbours", "N2": "have the same identifier",
+}
 # (command, input, the line of its fault by FORMATS, words that say what it is)
 FAULTS = [
-    ("plain", "c x|", "F1", "there is no line `p edge NODES EDGES`"),
-    ("plain", "p edge 1 0|p edge 1 0|", "F2 line 2", "line 2 is a second `p` line"),
-    ("plain", "e 1 2|p edge 2 1|", "F3 line 1", "line 1 is an `e` line before the `p` line"),
-    ("plain", "p edge 2|", "F4 line 1", "in line 1 a field is missing"),
-    ("plain", "p edge 2 1|e 0 1|", "F5 line 2", "in line 2 a vertex is 0"),
-    ("plain", "p edge 2 1|e 2 2|", "F6 line 2", "line 2 joins a vertex to itself"),
-    ("plain", "p edge 20001 0|", "F7 line 1", "in line 1 NODES is above 20,000"),
-    ("plain", EDGE + "Put(1,0)|", "F8 line 3", "line 3 begins with a word that begins no line"),
-    ("plain", "b 1 1|p edge 1 0|", "F10 line 1", "line 1 is an `i` or a `b` line before"),
-    ("plain", f"p edge 1 0|i 1 {2 ** 128}|", "F11 line 2", "in line 2 the identifier is 2^128 or more"),
-    ("plain", "p edge 1 0|i 1 5|i 1 5|", "F12 line 3", "line 3 is a second `i` line"),
-    ("plain", "p edge 1 0|b 1 2049|", "F13 line 2", "in line 2 the barred channel is 0 or above 2,048"),
-    ("plain", "p edge 1 0|" + BARS, "F14 line 1026", "line 1026 bars one more than 1,024"),
-    ("plain", "p edge 1025 1024|" + TOO_MANY, "N1 vertex 1", "vertex 1 has more than 1,023 neighbours"),
-    ("plain", "p edge 2 1|i 1 2|", "N2 vertices 1 2", "vertices 1 and 2 have the same identifier"),
     ("check", TRIANGLE + "plan|1 2|3 1|", "C1 vertex 2", "vertex 2 has no line in the plan"),
     ("check", TRIANGLE + "plan|4 2|", "C2 vertex 4", "a line of vertex 4, which isn't in the network"),
     ("check", TRIANGLE + "plan|1 2|1 3|", "C3 vertex 1", "vertex 1 has a second line"),
@@ -50,7 +41,7 @@ FAULTS = [
     ("plan", TRIANGLE, "stopped", "the workers had made all their looks"),
 ]
 # Codes that the programs print as `memory`, and words for which no input is wrong.
-WITHOUT_INPUT = {"F9", "N3", "C7", "X2", "Memory", "memory", "threads", "stamps", "stream"}
+WITHOUT_INPUT = {"F9", "N3", "C7", "X2", "Memory", "memory", "threads", "stamps", "stream", "NoRoot"}
 
 
 def tell(*words):
@@ -59,33 +50,25 @@ def tell(*words):
     return status, output.decode(), errors.decode()
 
 
-def of_formats():
-    """{code or name: its number in DEFINITIONS, or ''} of the tables of FORMATS, and the one words of its statuses."""
-    page = text_in("docs", "claim", "FORMATS.md")
-    codes = {name: "" for name in re.findall(r"^\| ([FNC]\d+) \|", page, re.M)}
-    events = page.partition("### Events after a network")[2].partition("\n## ")[0]
-    for name, more in re.findall(r"^\| `(\w+)` \| (.*) \|$", events, re.M):
-        number = re.search(r"\bE\d\b", more)
-        codes.setdefault(name, "")
-        codes[name] = codes[name] or (number.group() if number else "")
-    return codes | {word: "" for word in re.findall(r"nothing \| `forestplan: (\w+)` \|", page)}
-
-
 class Codes(Case):
     needs_programs = False
 
     def test_all_of_formats(self):
         """Each code of the page, and its number in DEFINITIONS, has a sentence and what to do."""
-        codes = of_formats()
-        self.note("codes are found", len(codes) > 35 and codes["NotWhole"] == "E8" and codes["NotReady"] == "E1", codes)
-        for name, number in codes.items():
+        page = text_in("docs", "claim", "FORMATS.md")
+        events = page.partition("### Events after a network")[2].partition("\n## ")[0]
+        codes = {*re.findall(r"^\| ([FNC]\d+) \|", page, re.M), *re.findall(r"^\| `(\w+)` \|", events, re.M),
+                 *re.findall(r"nothing \| `forestplan: (\w+)` \|", page)}
+        for name in codes:
             status, said, fault = tell(name)
-            self.note(name, (status, fault) == (0, "") and re.fullmatch(
-                rf"{name}( \({number}\))?, a fault of an?y? .+: .+\nwhat to do: .+\n", said), (status, said, fault))
-            if number:
-                self.note(number, tell(number) == (status, said, fault), tell(number))
-        told = {name for name, *_ in (fault.split(" ") for _, _, fault, _ in FAULTS)} | WITHOUT_INPUT
-        self.note("each of them is tried here", set(codes) <= told, set(codes) - told)
+            good = re.fullmatch(r"\w+( \(.+\))?, a fault of an?y? .+: .+\nwhat to do: .+\n", said)
+            self.note(name, (status, fault) == (0, "") and good and name in re.findall(r"\w+", said.split(":")[0]),
+                      (status, said, fault))
+        numbers = re.findall(r"^\| `(\w+)` \|.*\b(E\d)\b", events, re.M)
+        for name, number in numbers:
+            self.same(number, tell(number), tell(name))
+        told = {fault.split(" ")[0] for _, _, fault, _ in reported()} | WITHOUT_INPUT
+        self.note("each of them is tried here", codes <= told and len(codes) > 35 and len(numbers) > 5, codes - told)
 
     def test_what_is_no_code(self):
         for words, wanted, said in (
@@ -103,17 +86,26 @@ class Codes(Case):
         self.note("a file C8", (status, fault) == (0, b"") and said.startswith(b"nodes: 2\n"), (status, said, fault))
 
 
+def reported():
+    """The rows of FAULTS and those of networks."""
+    return FAULTS + [("forests", data, fault, OF_NETWORKS[fault.split(" ")[0]])
+                     for data, fault, _, _ in NETWORK_FAULTS]
+
+
 class Faults(Case):
     def test_what_the_programs_report(self):
         """The program's line of a fault, given as it stands, is told in words with its place."""
-        for command, data, fault, words in FAULTS:
+        for command, data, fault, words in reported():
             program = PROGRAM_OF[command]
             more = ("--turns", "0") if fault == "stopped" else ()
             line = f"{program}: {fault}"
-            errors = called(PATHS[program], command, *more, data=text(data))[2]
-            self.same(f"the program reports {fault}", errors, f"{line}\n".encode())
+            data = data.encode() if command == "forests" else text(data)
+            self.same(f"the program reports {fault} of {data[:40]}", called(PATHS[program], command, *more, data=data),
+                      (3 if more else 1, b"", f"{line}\n".encode()))
             here = fault.partition(": ")[2]
+            place = fault.partition(":")[0].partition(" ")[2].replace(" 1 ", " 1 and ")
             for given in ([line], line.split(" ")[1:]):
                 status, said, errors = tell(*given)
-                self.note(f"tell {' '.join(given)}", (status, errors) == (0, "") and words in said.split("\n")[0]
+                first = said.split("\n")[0]
+                self.note(f"tell {' '.join(given)}", (status, errors) == (0, "") and words in first and place in first
                           and (not here or f"\nhere: {here}\n" in said), (status, said, errors))

@@ -349,7 +349,7 @@ class OwnNetworks(Case):
         path, plan = self.file("net.col", BARRED), b"plan\n1 1\n2 3\n3 2\n4 %d\n"
         self.same("names with bars", call("names", path, data=plan % 3), (0, b"1 1\n2 3\n3 2\nLast 3\n", b""))
         done = call("names", path, data=plan % 2)
-        self.refusal("names of a barred channel", done, 1, b"channel 2 is barred at vertex 4 (C8)")
+        self.refusal("names of a barred channel", done, 1, b"vertex 4 has channel 2, which is barred at it (C8)")
 
     def test_tell(self):
         """Beside the definitions: the rounds' payloads, and the lines and bytes of a run's transcript."""
@@ -397,7 +397,7 @@ class OwnNetworks(Case):
             self.note(f"the most payloads of {words}", payloads <= most <= 2 * payloads, (payloads, most))
 
     def test_faults(self):
-        """The fault that the program reports, in words; and whether there is another way in."""
+        """The fault that the program reports (codes.py), in words; and whether there is another way in."""
         for text, fault, said, is_read in FAULTS:
             status, wrote, told = call("tell", "-", data=text.encode())
             code, _, place = fault.partition(" ")
@@ -408,8 +408,6 @@ class OwnNetworks(Case):
             self.note(f"the fault {fault} of {text[:40]!r}", good, told)
             self.note(f"another way in for {text[:40]!r}",
                       (len(lines) == 3 and "`forestlab network read -` can read it" in lines[1]) == is_read, told)
-            wanted = 1, b"", f"forestplan: {fault}\n".encode()
-            self.same(f"the program's fault of {text[:40]!r}", called(PLAN, "forests", data=text.encode()), wanted)
         pairs = [(v, v + d) for d in range(1, 22) for v in range(1, 20001 - d)][:400_001]
         text = "p edge 20000 1\n" + "".join("e %d %d\n" % pair for pair in pairs)
         said = b"line 400002: more than 400000 different edges (F7)"

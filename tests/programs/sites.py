@@ -232,7 +232,7 @@ class Channels(Case):
         path = self.file("net.col", call("read", "-", data=b"source,target\nUlm,Aue\n")[1])
         got = call("names", path, "--channels", "36 40", data=b"plan\n1 2\n2 1\n")
         self.same("names with real channels", got, (0, b"Ulm 40\nAue 36\n", b""))
-        hint = b"channel 40 is not one of 1 to 2 (C5); if it is a real channel number: forestlab channels --back"
+        hint = b"channel 40, which is above 2 (C5); if it is a real channel number: forestlab channels --back"
         self.refusal("a plan of real channels", call("names", path, data=b"plan\n1 40\n2 36\n"), 1, hint)
         got = call("names", path, "--channels", "36", data=b"plan\n1 2\n2 1\n")
         self.refusal("more channels than the licence", got, 1, b"takes 2 channels")

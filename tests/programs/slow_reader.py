@@ -1,6 +1,7 @@
 """What each command answers to any bytes, slow and plain: the texts are read here as docs/claim/FORMATS.md says, byte
-by byte, but networks by lab/networks/network_text.py, so that this is compared with the programs; what is written of a
-text that has no fault comes from the definitions. An answer is (status, standard output, standard error)."""
+by byte, but networks, plans and transcripts by the readers of lab/, so that these are compared with the programs; what
+is written of a text that has no fault comes from the definitions. An answer is (status, standard output, standard
+error)."""
 import functools
 import re
 
@@ -8,16 +9,15 @@ from lab.definitions.colours import forests_text, network_of, plan_text
 from lab.definitions.nodes import NetState, Refused, entry_words, make
 from lab.definitions.rounds import rounds_text
 from lab.networks.network_text import read_network
+from lab.networks.plan_text import clashes, read_plan
+from lab.networks.texts import plain_text
 from lab.transcripts.reading import Wrong, read
 from lab.transcripts.stamps import Clock, unfinished
-from lab.wrong import Wrong as NoNetwork
+from lab.wrong import Wrong as Refusal
 from tests.commands import PROGRAM_OF
 from tests.programs.events import answer_of, state_text
 
-MOST_VERTEX = 2**32 - 1
 EVENTS = (b"pulse", b"put", b"take")
-# Where the words of a fault of a whole network have its vertices.
-AT_VERTICES = {"N1": r"vertex (\d+) has", "N2": r"vertices (\d+) and (\d+) have"}
 
 
 class Fault(Exception):
@@ -44,34 +44,22 @@ def rows_of(data):
             for line in data.split(b"\n")]
 
 
-def number(field):
-    """A number of any length, or None; all those above 2 to the 200th are one."""
-    if not field.isdigit():
-        return None
-    digits = field.lstrip(b"0") or b"0"
-    return int(digits) if len(digits) < 61 else 2**200
-
-
-def numbers(fields, count):
-    """The first numbers of some fields, or None if a field is missing or no number."""
-    found = [number(field) for field in fields[:count]]
-    return None if len(found) < count or None in found else found
+def read_by(reader, rows, *more):
+    """What a reader of the commands makes of some lines; its fault as the programs print it, without the words."""
+    text = b"".join(b" ".join(fields) + b"\r\n" for fields in rows).decode("utf-8", "replace")
+    try:
+        return reader(text, "it", *more)
+    except Refusal as why:
+        line, words, code = re.match(r"it(?: line (\d+))?: (.*) \((\w+)\)", str(why)).groups()
+        if code[0] == "C" and code != "C6" or code[0] == "N":
+            word, *vertices = filter(None, re.match(r"(vert\w+) (\d+)(?: and (\d+))?", words).groups())
+            raise Fault(f"{code} {word} {' '.join(vertices)}") from None
+        raise Fault(f"{code} line {line}" if line else code) from None
 
 
 def network_in(rows):
-    """The plainest text of the network that the reader of the commands reads in some lines; its faults as the programs
-    print them, without the words."""
-    text = b"".join(b" ".join(fields) + b"\r\n" for fields in rows).decode("utf-8", "replace")
-    try:
-        read = read_network(text, "net")
-    except NoNetwork as why:
-        line, words, code = re.fullmatch(r"net(?: line (\d+))?: (.*) \((\w+)\)", str(why)).groups()
-        vertices = re.search(AT_VERTICES[code], words).groups() if code in AT_VERTICES else ()
-        place = f"line {line}" if line else f"{'vertex' if code == 'N1' else 'vertices'} {' '.join(vertices)}"
-        raise Fault(f"{code} {place}" if line or vertices else code) from None
-    bars = [(v, channel) for v, channels in read.bars.items() for channel in channels]
-    found = (("i", sorted(read.said.items())), ("b", bars), ("e", read.edges))
-    return (f"p edge {read.nodes} 0\n" + "".join(f"{word} {v} {x}\n" for word, of in found for v, x in of)).encode()
+    """The plainest text of a network."""
+    return plain_text(read_by(read_network, rows)).encode()
 
 
 def split(rows, is_first):
@@ -95,47 +83,11 @@ def rounds_of(text):
 
 def check(rows):
     before, behind = split(rows, lambda first: first == b"plan")
-    net = network_of(network_in(before))
-    verdict = wrong_plan(net, plan_in(behind))
-    if not verdict.startswith("proper"):
-        raise Fault(verdict)
-    return f"{verdict}\n".encode()
-
-
-def wrong_plan(net, plan):
-    """Of a plan the first fault, or that it is proper."""
-    channels = {}
-    for v, channel in plan:
-        if v not in net.neighbours:
-            return f"C2 vertex {v}"
-        if v in channels:
-            return f"C3 vertex {v}"
-        if channel > net.span + 1:
-            return f"C5 vertex {v}"
-        if channel - 1 in net.barred[v]:
-            return f"C8 vertex {v}"
-        channels[v] = channel
-    missing = sorted(net.neighbours.keys() - channels.keys())
-    clashes = sorted(tuple(sorted(edge)) for edge in net.number if len({channels.get(v) for v in edge}) == 1)
-    if missing:
-        return f"C1 vertex {missing[0]}"
-    if clashes:
-        return "C4 vertices %d %d" % clashes[0]
-    return f"proper {max(channels.values(), default=0)}"
-
-
-def plan_in(rows):
-    """The rows of a plan text; its first line that has a field is `plan`."""
-    if not rows or rows[0] != [b"plan"]:
-        raise Fault("C6 line 1")
-    plan = []
-    for line, fields in enumerate(rows[1:], 2):
-        if fields:
-            found = numbers(fields, 2) if len(fields) == 2 else None
-            if found is None or found[0] > MOST_VERTEX or not 1 <= found[1] <= MOST_VERTEX:
-                raise Fault(f"C6 line {line}")
-            plan.append(tuple(found))
-    return plan
+    network = read_by(read_network, before)
+    plan = read_by(read_plan, behind, network)
+    for edge in clashes(network, plan):
+        raise Fault("C4 vertices %d %d" % edge)
+    return f"proper {max(plan.values(), default=0)}\n".encode()
 
 
 def events(rows):
@@ -152,11 +104,11 @@ def events(rows):
 
 
 def event_in(line, fields):
-    count = 1 if fields[0] == b"pulse" else 2
-    found = numbers(fields[1:], count)
-    if fields[0] not in EVENTS or len(fields) != count + 1 or found is None:
+    # Eleven digits are no vertex and no port, whatever comes after them.
+    numbers = [int(field.lstrip(b"0")[:11] or b"0") for field in fields[1:] if field.isdigit()]
+    if fields[0] not in EVENTS or len(fields) != 3 - (fields[0] == b"pulse") or len(numbers) != len(fields) - 1:
         raise Fault(f"NoEvent line {line}")
-    vertex, port = (found + [None])[:2]
+    vertex, port = (numbers + [None])[:2]
     return line, fields[0].decode().title(), vertex, port
 
 
