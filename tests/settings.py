@@ -18,10 +18,6 @@ SETTINGS = {
     "crate-tests": (os.path.join(TOP, "crates", "checks", "out", "checks_tests"), "the tests of crates/checks"),
     "texts": ("60000", "how many random texts programs.hostile makes, over all commands"),
     "seed": ("2026", "the seed of these random texts"),
-    "first": ("1", "the first part of these random texts, which come in parts of 100,000, each from the seed and its "
-              "number; from 2 on programs.hostile has nothing but random texts, so that a long run goes on after an "
-              "interruption"),
-    "only": ("", "the commands, with commas between them, whose texts programs.hostile makes; all of them by default"),
     "runs": ("90", "how many whole runs of threads programs.merged checks; 1000 take some minutes"),
     "sequels": ("12", "how many networks by chance programs.sequel_runs plays; 1000 take some minutes"),
     "spoiled": ("2000", "how many spoiled transcripts programs.merged makes"),

@@ -3,7 +3,7 @@ written from docs/claim/FORMATS.md (slow_reader.py).
 
 Besides the random texts: each byte at each place of a small text, byte order marks and other bytes before each place,
 numbers around powers of two, lines of a megabyte, about as many bars of a vertex as the limit. It needs a C compiler,
-`cc`. The settings --texts, --seed, --first and --only of the runner are for long runs by hand."""
+`cc`. The settings --texts and --seed of the runner are for long runs by hand."""
 import tempfile
 from itertools import chain, islice, product
 
@@ -16,7 +16,7 @@ from tests.programs.hostile_texts import NUMBERS, texts_of
 from tests.programs.slow_reader import answer_to
 from tests.settings import PATHS, setting
 
-PART, BATCH = 100_000, 5_000
+BATCH = 5_000
 
 # Texts of which each beginning is a text besides.
 WHOLE = {
@@ -92,38 +92,26 @@ def crowds_of_bars(data):
 class Hostile(Case):
     @classmethod
     def setUpClass(cls):
-        folder = cls.enterClassContext(tempfile.TemporaryDirectory())
-        cls.front = build_front(folder, "run_each")
-        cls.first, cls.texts, cls.seed = int(setting("first")), int(setting("texts")), setting("seed")
-        only = setting("only").split(",") if setting("only") else PROGRAM_OF
-        if not set(only) <= set(PROGRAM_OF):
-            raise AssertionError(f"--only has a word that is no command: {setting('only')}")
-        cls.commands = [command for command in COMMANDS if command.name in only]
+        cls.front = build_front(cls.enterClassContext(tempfile.TemporaryDirectory()), "run_each")
 
-    def differences(self, command, texts):
-        """Of texts in batches: how many there were, how many had no fault, and the first that is answered otherwise.
-        The slow reader reads a batch while the program does."""
-        count, good, rest = 0, 0, iter(texts)
-        while batch := list(islice(rest, BATCH)):
+    def row(self, name, command, texts):
+        """How many texts there were, and how many had no fault. The slow reader reads a batch while the program
+        does."""
+        count, good, different, rest = 0, 0, None, iter(texts)
+        while different is None and (batch := list(islice(rest, BATCH))):
             running = Running(self.front, [PATHS[PROGRAM_OF[command]]] + WORDS[command], batch)
             answers = [answer_to(command, data) for data in batch]
             for data, wanted, got in zip(batch, answers, running.answers()):
-                if got != wanted:
-                    return count, good, (data[:3000], len(data), wanted, got)
+                if got != wanted and different is None:
+                    different = data[:3000], len(data), wanted, got
                 count, good = count + 1, good + (wanted[0] != 1)
-        return count, good, None
-
-    def row(self, name, command, texts):
-        count, good, different = self.differences(command, texts)
         self.note(f"{name}, {command}", different is None and count > 0, different)
         return count, good
 
     def test_texts(self):
         """All but the random texts, of some commands."""
-        if self.first > 1:
-            self.skipTest("a later part has random texts alone")
         count = 0
-        for command, odd, is_reader in [(it.name, it.odd, it.is_reader) for it in self.commands]:
+        for command, odd, is_reader in [(it.name, it.odd, it.is_reader) for it in COMMANDS]:
             data = text(odd)
             wholes = chain.from_iterable(beginnings(text(whole)) for whole in WHOLE.get(command, [odd]))
             numbers = each_number(data)
@@ -140,14 +128,10 @@ class Hostile(Case):
         print(f"{count} texts that aren't random")
 
     def test_random(self):
-        """In parts, each of which is the same whatever the others are, and whatever commands are left out."""
-        count = 0
-        for part in range(self.first, self.first + -(-self.texts // PART)):
-            size = min(PART, self.texts - PART * (part - self.first))
-            for command, share in [(it.name, it.share) for it in self.commands]:
-                texts = islice(texts_of(command, f"{self.seed} {part}"), size * share // 100)
-                made, good = self.row(f"random texts, seed {self.seed}, part {part}", command, texts)
-                self.note(f"some of the texts are good, and most are not, {command}",
-                          made < 100 or made // 10 < good < made // 2, (made, good))
-                count += made
-            print(f"seed {self.seed}, parts {self.first} to {part}: {count} random texts", flush=True)
+        """Of each command the same, whatever the others are."""
+        size, seed = int(setting("texts")), setting("seed")
+        for command, share in [(it.name, it.share) for it in COMMANDS]:
+            made, good = self.row(f"random texts, seed {seed}", command,
+                                  islice(texts_of(command, seed), size * share // 100))
+            self.note(f"some of the texts are good, and most are not, {command}",
+                      made < 100 or made // 10 < good < made // 2, (made, good))
