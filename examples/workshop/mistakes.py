@@ -195,17 +195,17 @@ MATCHING = {
 INDEPENDENT_SET = {
     "set_beside": Mistake(
         "a node joins though a neighbour has",
-        "if p - self.start != self.merged or self.is_beside:", "if p - self.start != self.merged:"),
+        "if turn != self.merged or self.is_beside:", "if turn != self.merged:"),
     "set_forgets": Mistake(
         "it forgets that a neighbour has joined", "self.is_beside or bool(inbox)", "bool(inbox)"),
     "set_channel": Mistake(
         "it joins in the turn of its channel, and not of its colour",
-        "if p - self.start != self.merged or", "if p - self.start != self.merged + 1 or"),
+        "if turn != self.merged or", "if turn != self.merged + 1 or"),
 }
 RECOLOURING = {
     "anew_least": Mistake(
         "the least channel chooses first",
-        "if p - self.start != self.width - 1 - self.merged:", "if p - self.start != self.merged:"),
+        "if turn != self.width - 1 - self.merged:", "if turn != self.merged:"),
     "anew_bars": Mistake(
         "barred channels are forgotten in the second choice",
         "self.anew = self.least_free(self.heard)", "self.anew = min(set(range(self.width)) - self.heard)"),
@@ -216,8 +216,7 @@ RECOLOURING = {
 }
 SEQUELS = MATCHING | INDEPENDENT_SET | RECOLOURING
 
-FILES = {"colouring.py": COLOURING, "alpha_node.py": ALPHA, "layers.py": LAYERS, "matching.py": MATCHING,
-         "independent_set.py": INDEPENDENT_SET, "recolouring.py": RECOLOURING}
+FILES = {"colouring.py": COLOURING, "alpha_node.py": ALPHA, "programs.py": LAYERS | SEQUELS}
 MISTAKES = COLOURING | ALPHA | LAYERS | SEQUELS
 
 

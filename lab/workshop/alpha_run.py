@@ -1,15 +1,13 @@
 """A run without a clock: the workshop holds the links and delivers one wire at a time. What the nodes put, take and
 make is written down with Lamport's stamps, and `forestplay replay` judges it."""
-from bisect import bisect_left, insort
 from collections import deque
 from typing import NamedTuple
 
 from lab.schedules.policies import Policy, Step
 from lab.workshop.findings import Fault
-from lab.workshop.judge import Entry, verdict_on
+from lab.workshop.judge import Entry, transcript_text, verdict_on
 from lab.workshop.nodes import PATIENCE, Nodes
-from lab.workshop.protocol import (COLOURING, FORMS, is_number, no_such_line, own_data, port_of, pulse_of, result_of,
-                                   shown, wire_of)
+from lab.workshop.protocol import FORMS, PULSES, is_number, no_such_line, own_data, port_of, result_of, wire_of
 from lab.workshop.right_rounds import RightRounds
 
 OWN_DATA = "its own data"
@@ -22,58 +20,31 @@ class Wire(NamedTuple):
     count: int
 
 
-def link_of(step: Step) -> tuple[int, int]:
-    return step.link
+class Link(deque[Wire]):
+    """The wires of a link; `step` is the take of the oldest."""
 
+    def __init__(self, v: int, w: int):
+        super().__init__()
+        self.step = Step("take", w, v)
 
-class Links:
-    """`steps` has a take for each link that holds a wire, by link, ascending; it takes the link's oldest wire."""
-
-    def __init__(self, network):
-        self.wires = {(v, w): deque() for v in network.vertices for w in network.neighbours[v]}
-        self.steps: list[Step] = []
-        self.count = 0
-
-    def put(self, v: int, w: int, words: str, stamp: int) -> None:
-        self.count += 1
-        self.wires[v, w].append(Wire(words, stamp, self.count))
-        if len(self.wires[v, w]) == 1:
-            insort(self.steps, Step("take", w, v), key=link_of)
-        self.renew(self.steps[bisect_left(self.steps, (v, w), key=link_of)])
-
-    def take(self, step: Step) -> Wire:
-        """The oldest wire of the step's link."""
-        wires = self.wires[step.link]
-        wire = wires.popleft()
-        if wires:
-            self.renew(step)
-        else:
-            del self.steps[bisect_left(self.steps, step.link, key=link_of)]
-        return wire
-
-    def renew(self, step: Step) -> None:
-        """Says of a step what its link holds now."""
-        wires = self.wires[step.link]
-        step.wire, step.since, step.latest = wires[0].words.split(" ", 1)[0], wires[0].count, wires[-1].count
-
-
-class Stop(NamedTuple):
-    """A node that gave no answer to a message, whose last line was `asked`."""
-    node: int
-    fault: Fault
-    asked: str
+    def renew(self) -> None:
+        """Says of the step what the link holds now."""
+        if self:
+            self.step.wire, self.step.since, self.step.latest = self[0].words.split()[0], self[0].count, self[-1].count
 
 
 class AlphaRun:
-    """`entries` in the order in which they happened; `results[v]`, what v said that it has found; `stop`, the node that
-    gave no answer."""
+    """`entries` in the order in which they happened; `results[v]`, what v said that it has found; `stop`, of a node
+    that gave no answer (node, fault, the last line of the message)."""
+    kept = "run.transcript"
 
     def __init__(self, rounds: RightRounds, policy: Policy):
         self.rounds, self.network, self.policy = rounds, rounds.network, policy
-        self.links, self.counters = Links(self.network), dict.fromkeys(self.network.vertices, 0)
+        self.links = {(v, w): Link(v, w) for v in self.network.vertices for w in self.network.neighbours[v]}
+        self.count, self.counters = 0, dict.fromkeys(self.network.vertices, 0)
         self.entries: list[Entry] = []
         self.results: dict[int, str] = {}
-        self.stop: Stop | None = None
+        self.stop: tuple[int, Fault, str] | None = None
 
     def play(self, nodes: Nodes) -> None:
         """Until nothing is on its way, a node gives no answer, or there are more entries than any right run has: then
@@ -82,10 +53,11 @@ class AlphaRun:
             data = own_data(self.network, v, "alpha", self.rounds.forests, self.rounds.last)
             if not self.is_answered(nodes, v, data, OWN_DATA):
                 return
-        while self.links.steps and len(self.entries) <= self.rounds.events:
-            step = self.policy.choose(self.links.steps)
-            v, w = step.node, step.neighbour
-            wire = self.links.take(step)
+        while len(self.entries) <= self.rounds.events and any(self.links.values()):
+            step = self.policy.choose([link.step for link in self.links.values() if link])
+            v, w, link = step.node, step.neighbour, self.links[step.link]
+            wire = link.popleft()
+            link.renew()
             self.write(v, f"take {w} {wire.words}", wire.stamp)
             line = f"take {self.rounds.ports[v][w]} {wire.words}"
             if not self.is_answered(nodes, v, [line], f"`{line}`"):
@@ -98,7 +70,7 @@ class AlphaRun:
             for line in nodes.ask(v, lines, self.if_late):
                 self.answered(v, line)
         except Fault as fault:
-            self.stop = Stop(v, fault, asked)
+            self.stop = v, fault, asked
         return self.stop is None
 
     def if_late(self) -> None:
@@ -108,22 +80,20 @@ class AlphaRun:
 
     def answered(self, v: int, line: str) -> None:
         program = self.rounds.program
-        forms = ", ".join(["`put PORT WIRE`", "`pulse P`", *FORMS[program]])
         match line.split():
-            case ["pulse", pulse]:
-                self.write(v, f"pulse {pulse_of(line, pulse)}")
-            case ["put", port, *wire] if is_number(port):
+            case ["pulse", pulse] if is_number(pulse, PULSES):
+                self.write(v, f"pulse {int(pulse)}")
+            case ["put", port, *wire] if is_number(port) and wire:
                 w = self.network.neighbours[v][port_of(line, port, len(self.rounds.ports[v]))]
                 words = wire_of(line, wire, program)
                 self.write(v, f"put {w} {words}")
-                self.links.put(v, w, words, self.counters[v])
-            case ["colour" | "chose", *_] if program == COLOURING:
-                raise Fault("garbage", f"{shown(line)} is a line of rounds alone; the lines of alpha are {forms} and "
-                                       "`end`")
+                self.count += 1
+                self.links[v, w].append(Wire(words, self.counters[v], self.count))
+                self.links[v, w].renew()
             case fields if result := result_of(program, fields):
                 self.results[v] = result
             case _:
-                raise no_such_line(line, forms)
+                raise no_such_line(line, ", ".join(["`put PORT WIRE`", "`pulse P`", *FORMS[program]]))
 
     def write(self, v: int, words: str, after: int = 0) -> None:
         self.counters[v] = 1 + max(self.counters[v], after)
@@ -132,3 +102,6 @@ class AlphaRun:
     def in_order(self) -> list[Entry]:
         """The entries in the order of a transcript: by stamp, and then by vertex."""
         return sorted(self.entries, key=lambda entry: entry[:2])
+
+    def text(self) -> str:
+        return transcript_text(self.network.nodes, self.in_order(), self.rounds.program)

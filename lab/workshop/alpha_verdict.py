@@ -1,14 +1,86 @@
-"""The verdict on a run without a clock, in words: the first wrong entry, a program that gave no answer, or a run
-that is stuck."""
-from lab.transcripts.rules import rule_of, rules_of_dues
-from lab.workshop.alpha_run import OWN_DATA, AlphaRun
-from lab.workshop.findings import Finding
-from lab.workshop.judge import Entry, Verdict, verdict_on
-from lab.workshop.protocol import FORMS
-from lab.workshop.reasons import why_of
-from lab.workshop.why_alpha import At, at_node, hints, right_words, with_port
+"""The verdict on a run without a clock, in words: the first wrong entry, a program that gave no answer, a run that is
+stuck, or a wrong result; and what a node knew there and could do, by the ports that it counts with. What it could do
+is asked of the machine."""
+import re
+from dataclasses import dataclass
 
-MOST_STUCK, MOST_WAITING = 4, 6
+from lab.transcripts.rules import Standing, rule_of, rules_of_dues
+from lab.workshop.alpha_run import OWN_DATA, AlphaRun
+from lab.workshop.findings import Finding, listed
+from lab.workshop.judge import Entry, Verdict, due_at, verdict_on
+from lab.workshop.protocol import FORMS
+from lab.workshop.right_rounds import RightRounds
+from lab.workshop.why import Why
+
+MOST_STUCK, MOST_WAITING, SO_FAR, MOST_EARLY = 4, 6, 8, 3
+
+
+@dataclass
+class At(Standing):
+    """Node `v` after the entries `before`; links are named by their ports."""
+    rounds: RightRounds
+    before: list[Entry]
+    v: int
+
+    def why_payload(self, link: int) -> str:
+        return Why(self.rounds, self.v).of(self.pulse, link)
+
+    def has_payload_due(self) -> bool:
+        return any(wire.startswith("payload") for wire in self.puts.values())
+
+    def owes(self, payloads: str) -> str:
+        return f"in pulse {self.pulse} it has to send {payloads} first; {self.rounds.heard_words(self.v, self.pulse)}"
+
+    def right(self) -> str:
+        """What a right node could do there."""
+        dues = self.dues()
+        if dues:
+            return "one of: " * (len(dues) > 1) + "; ".join(dues)
+        if self.pulse == self.last:
+            return "nothing more: it has made its last pulse and put all that it has to"
+        return f"nothing yet: before its next pulse it waits for {self.lacks}"
+
+    def own(self) -> list[str]:
+        """What the node did, in its own words."""
+        return [with_port(self.rounds, self.v, words) for _, u, words in self.before if u == self.v]
+
+    def hints(self, about_payload: bool) -> list[tuple[str, str]]:
+        """What the node had got: the inbox of its pulse, what came early, and what it did last."""
+        own = self.own()
+        inbox = [("inbox", self.rounds.heard_words(self.v, self.pulse))] if self.pulse and about_payload else []
+        so_far = (".. " if len(own) > SO_FAR else "") + "; ".join(own[-SO_FAR:]) if own else "nothing"
+        return [*inbox, *(("early", words) for words in self.early(about_payload)), ("so far", so_far)]
+
+    def early(self, about_payload: bool) -> list[str]:
+        """What came a pulse early and matters now: the safes that aren't used up yet, and the payloads. If what is
+        wrong may come from a payload, all of them matter: one that was lost can show late."""
+        found, pulse = [], 0
+        for words in self.own():
+            match words.split():
+                case ["pulse", _]:
+                    pulse += 1
+                case ["take", _, "safe" | "payload" as wire, of, *_] if int(of) == pulse + 1 and (
+                        pulse + 1 >= self.pulse or about_payload and wire == "payload"):
+                    found.append(f"`{words}` came at pulse {pulse}, and is to be kept until pulse {of} is made")
+        return [f"{len(found) - MOST_EARLY} more before these"] * (len(found) > MOST_EARLY) + found[-MOST_EARLY:]
+
+
+def at_node(rounds: RightRounds, before: list[Entry], v: int) -> At:
+    """Asks the machine what v can do after these entries, all of which are right."""
+    due = due_at(rounds.network, before, v, rounds.program)
+    pulse = sum(1 for _, u, words in before if u == v and words.startswith("pulse"))
+    puts = {rounds.ports[v][w]: wire for w, wire in due.puts.items() if wire}
+
+    def by_ports(found):
+        return " by " + listed("port", [rounds.ports[v][int(w)] for w in re.findall("[0-9]+", found[1])])
+    lacks = re.sub(r" of ([0-9]+(?:(?:, | and )[0-9]+)*)", by_ports, due.lacks)
+    return At(pulse, rounds.last, due.pulse is not None, lacks, puts, "by port {}", rounds, before, v)
+
+
+def with_port(rounds: RightRounds, v: int, words: str) -> str:
+    """An entry as its node says it, with a port in place of the neighbour."""
+    what, first, *wire = words.split()
+    return words if what == "pulse" else f"{what} {rounds.ports[v][int(first)]} {' '.join(wire)}"
 
 
 def finding_of(run: AlphaRun) -> Finding | None:
@@ -20,18 +92,16 @@ def finding_of(run: AlphaRun) -> Finding | None:
         return wrong_entry(run, entries, verdict)
     if run.stop:
         return no_answer(run, entries)
-    if verdict.name == "NotWhole":
-        return stuck(run, entries, verdict)
-    return wrong_result(run)
+    return stuck(run, entries, verdict) if verdict.name == "NotWhole" else wrong_result(run)
 
 
 def wrong_entry(run: AlphaRun, entries: list[Entry], verdict: Verdict) -> Finding:
     stamp, v, words = entries[verdict.at]
-    at = at_node(run.rounds, entries[:verdict.at], v)
-    where = f"node {v} at pulse {at.pulse}, entry {verdict.at + 1} of the run, stamp {stamp}"
-    why = rule_of(at, with_port(run.rounds, v, words))
-    lines = [("where", where), ("wrong", with_port(run.rounds, v, words, True)), ("right", right_words(at)),
-             ("why", why), *hints(at, " payload " in words or at.has_payload_due()), ("judge", verdict.line)]
+    at, own = at_node(run.rounds, entries[:verdict.at], v), with_port(run.rounds, v, words)
+    neighbour = f" (to node {words.split()[1]})" * words.startswith("put")
+    lines = [("where", f"node {v} at pulse {at.pulse}, entry {verdict.at + 1} of the run, stamp {stamp}"),
+             ("wrong", own + neighbour), ("right", at.right()), ("why", rule_of(at, own)),
+             *at.hints(" payload " in words or at.has_payload_due()), ("judge", verdict.line)]
     return Finding(verdict.name, v, at.pulse, lines, verdict.at, way=kind_of(words))
 
 
@@ -40,27 +110,21 @@ def no_answer(run: AlphaRun, entries: list[Entry]) -> Finding:
     at = at_node(run.rounds, entries, v)
     inbox = f"; {run.rounds.heard_words(v, at.pulse + 1)}" if at.can_pulse else ""
     lines = [("where", f"node {v} at pulse {at.pulse}, after it got {asked}"), ("wrong", fault.words),
-             ("right", right_words(at) + inbox), *hints(at, fault.kind == "ended"),
+             ("right", at.right() + inbox), *at.hints(fault.kind == "ended"),
              ("judge", "all that was done before is right")]
     return Finding(fault.kind, v, at.pulse, lines, is_first=asked == OWN_DATA)
 
 
 def stuck(run: AlphaRun, entries: list[Entry], verdict: Verdict) -> Finding:
     """Nothing is on its way, and not all is done: who could do something, and who waits for what."""
-    owing, waiting = [], []
-    for v in run.network.vertices:
-        at = at_node(run.rounds, entries, v)
-        if at.dues():
-            owing.append(at)
-        elif at.pulse < at.last:
-            waiting.append(f"node {v} for {at.lacks}")
+    all_at = [at_node(run.rounds, entries, v) for v in run.network.vertices]
+    owing = [at for at in all_at if at.dues()]
+    waiting = [f"node {at.v} for {at.lacks}" for at in all_at if not at.dues() and at.pulse < at.last]
     first, *others = [("wrong", f"node {at.v} at pulse {at.pulse} doesn't {at.undone()}") for at in owing]
+    waits = " | ".join(waiting[:MOST_WAITING]) + " | .." * (len(waiting) > MOST_WAITING)
     where = f"nothing is on its way after {len(entries)} of {run.rounds.events} entries, and not all is done"
-    more = " | .." if len(waiting) > MOST_WAITING else ""
-    waits = [("waits", " | ".join(waiting[:MOST_WAITING]) + more)] if waiting else []
-    lines = [("where", where), first, ("why", why_due(owing[0])),
-             *hints(owing[0], owing[0].has_payload_due()), *others[:MOST_STUCK - 1], *waits]
-    lines.append(("judge", verdict.line))
+    lines = [("where", where), first, ("why", rules_of_dues(owing[0])), *owing[0].hints(owing[0].has_payload_due()),
+             *others[:MOST_STUCK - 1], *[("waits", waits)] * bool(waits), ("judge", verdict.line)]
     return Finding("stuck", owing[0].v, owing[0].pulse, lines, way=kind_of(owing[0].dues()[0]))
 
 
@@ -70,19 +134,12 @@ def kind_of(words: str) -> str:
     return fields[0] if fields[0] == "pulse" else " ".join(field for field in fields[2:5] if not field.isdecimal())
 
 
-def why_due(at: At) -> str:
-    if at.can_pulse and not at.rounds.ports[at.v]:
-        return "a node without neighbours waits for nobody, so it makes all its pulses at its start"
-    return rules_of_dues(at)
-
-
 def wrong_result(run: AlphaRun) -> Finding | None:
     """Of a run that is right and whole: the first node that said another channel, or another result."""
-    form = " or ".join(FORMS[run.rounds.program])
     for v, result in run.rounds.results.items():
         if run.results.get(v) != result:
-            said = f"it said {run.results[v]}" if v in run.results else f"it never said {form}"
+            said = run.results.get(v) or f"no line {' or '.join(FORMS[run.rounds.program])}"
             lines = [("where", f"node {v}, at its end"), ("wrong", said), ("right", result),
-                     ("why", why_of(run.rounds, v).of_result())]
+                     ("why", Why(run.rounds, v).of())]
             return Finding("result", v, run.rounds.last, lines)
     return None

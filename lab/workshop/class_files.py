@@ -9,7 +9,6 @@ from typing import Iterator
 from lab import checksums, version
 from lab.programs import FIRST, SCRIPT, TOP, program_file
 from lab.words import parser_of
-from lab.wrong import Wrong
 
 # Files and whole folders, each at the path that it has here; a folder means all files below it.
 COPIED = ("LICENSE-MIT", "LICENSE-APACHE", "bin/forestlab", "docs/learn/TUTORIAL.md", "docs/learn/GALLERY.md",
@@ -106,7 +105,7 @@ def main(words: list[str]) -> int:
     line.add_argument("dir", metavar="DIR", help="the folder that is made")
     folder = os.path.abspath(line.parse_args(words).dir)
     if os.path.exists(folder) and not (os.path.isdir(folder) and not os.listdir(folder)):
-        raise Wrong(f"{folder} is there already")
+        line.error(f"{folder} is there already")
     os.makedirs(os.path.dirname(folder), exist_ok=True)
     with tempfile.TemporaryDirectory(prefix=".class-", dir=os.path.dirname(folder)) as room:
         made = os.path.join(room, "made")

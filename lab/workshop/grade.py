@@ -3,9 +3,9 @@ seed, several at a time, each in a process and a folder of its own, guarded and 
 import argparse
 import contextlib
 import json
+import multiprocessing
 import os
 import secrets
-import select
 import shlex
 import shutil
 import signal
@@ -14,15 +14,16 @@ import sys
 import tempfile
 import time
 from dataclasses import dataclass, field
+from multiprocessing.connection import Connection, wait
 
 from lab.door import held
 from lab.programs import TOP
 from lab.schedules.policies import POLICIES
 from lab.workshop.findings import NoVerdict
-from lab.workshop.guard import USERS, Guard, end_all, give, keep_apart, kept_in, shut
+from lab.workshop.guard import USERS, Guard, end_all, give, kept_in, shut
 from lab.workshop.judge import ask
 from lab.workshop.options import parsed, seconds
-from lab.workshop.playing import played
+from lab.workshop.playing import Player
 from lab.workshop.protocol import shown
 from lab.workshop.report import aligned, as_json, report
 from lab.words import count, parser_of
@@ -41,6 +42,7 @@ SECONDS, GRACE = 600, 60
 AGAIN = 3
 MOST_COPIED = 16 << 20
 EDITION = 1
+FORK = multiprocessing.get_context("fork")
 
 HELP = f"""\
 Grades all submissions of a folder: each folder in it is a student's. The program of an
@@ -77,32 +79,35 @@ Examples:
 
 @dataclass
 class Part:
-    """An assignment of a student's folder: its command, or none; and then the result as the workshop prints it for a
-    program, with its report for people, and whether a signal ended one of its programs; or why there is no result."""
+    """An assignment of a student's folder: its command, or none; and what is found of it: `result` as the workshop
+    prints it for a program, with its `report` for people, or `why` there is no result."""
     student: str
     folder: str
     assignment: str
     command: list[str] = field(default_factory=list)
-    why: str = ""
-    result: dict | None = None
-    report: list[str] = field(default_factory=list)
-    was_ended: bool = False
+    found: dict = field(default_factory=dict)
+
+    @property
+    def result(self) -> dict | None:
+        return self.found.get("result")
 
     @property
     def points(self) -> int:
         return points(self.result) if self.result else 0
 
-    def verdicts(self) -> str:
-        """The verdicts of wrong runs."""
-        return ", ".join(sorted({case["verdict"] for case in self.result["cases"]} - {"right"}))
+    def said(self) -> str:
+        """The verdicts of wrong runs, or why there is no result."""
+        verdicts = {case["verdict"] for case in self.result["cases"]} if self.result else set()
+        return self.found.get("why") or ", ".join(sorted(verdicts - {"right"}))
 
     def words(self) -> str:
         return f"{self.result['right']}/{self.result['runs']}" if self.result else "?" if self.command else "-"
 
     def is_in_doubt(self) -> bool:
-        """Whether another's program or a busy machine may be the reason."""
-        return bool(self.command) and (self.result is None or self.was_ended or any(
-            case["verdict"] in ("silent", "late") for case in self.result["cases"]))
+        """Whether another's program or a busy machine may be the reason: an answer was late, or a signal ended it."""
+        return bool(self.command) and (
+            self.result is None or any(case["verdict"] in ("silent", "late") for case in self.result["cases"])
+            or any("it ended with signal" in line for line in self.found["report"]))
 
 
 def points(result: dict) -> int:
@@ -124,25 +129,23 @@ def parts_of(folder: str) -> list[Part]:
     try:
         students = sorted(entry.name for entry in os.scandir(folder) if entry.is_dir())
     except OSError as why:
-        raise Wrong(f"{folder}: {why.strerror}") from None
+        raise NoVerdict(f"{folder}: {why.strerror}") from None
     if not students:
-        raise Wrong(f"{folder} has no folder of a submission in it")
-    found = []
-    for student in students:
-        path = os.path.join(folder, student)
-        for assignment in RUNS:
-            part = Part(student, path, assignment)
-            try:
-                if os.path.islink(path):
-                    raise Wrong("its folder is a link")
-                part.command = command_of(path, assignment)
-                part.why = "" if part.command else "no program"
-                if part.command:
-                    check_folder(path)
-            except (Wrong, OSError) as why:
-                part.command, part.why = [], str(why)
-            found.append(part)
-    return found
+        raise NoVerdict(f"{folder} has no folder of a submission in it")
+    return [part_of(student, os.path.join(folder, student), assignment) for student in students for assignment in RUNS]
+
+
+def part_of(student: str, folder: str, assignment: str) -> Part:
+    try:
+        if os.path.islink(folder):
+            raise Wrong("its folder is a link")
+        command = command_of(folder, assignment)
+        if not command:
+            raise Wrong("no program")
+        check_folder(folder)
+        return Part(student, folder, assignment, command)
+    except (Wrong, OSError) as why:
+        return Part(student, folder, assignment, found={"why": str(why)})
 
 
 def check_folder(folder: str) -> None:
@@ -150,10 +153,9 @@ def check_folder(folder: str) -> None:
     if kept_in(folder) > MOST_COPIED:
         raise Wrong(f"its folder has more than {MOST_COPIED >> 20} megabytes, or is too deep")
     for at, _, names in os.walk(folder):
-        strange = next((name for name in names if not os.path.isfile(os.path.join(at, name))
-                        and not os.path.islink(os.path.join(at, name))), None)
-        if strange is not None:
-            raise Wrong(f"its folder has a named pipe or a device in it: {clean(strange)}")
+        for path in (os.path.join(at, name) for name in names):
+            if not os.path.isfile(path) and not os.path.islink(path):
+                raise Wrong(f"its folder has a named pipe or a device in it: {clean(os.path.basename(path))}")
 
 
 def command_of(folder: str, assignment: str) -> list[str]:
@@ -169,28 +171,25 @@ def command_of(folder: str, assignment: str) -> list[str]:
         if "--" in found:
             raise Wrong("`commands`: `--` stands between commands, and one is played")
         return found
-    names = [name for name in sorted(os.listdir(folder)) if os.path.splitext(name)[0] in STEMS[assignment]]
+    names = [name for name in sorted(os.listdir(folder)) if os.path.splitext(name)[0] in STEMS[assignment]
+             and os.path.isfile(os.path.join(folder, name))]
     # Of a class in Java the source isn't compiled again at each start.
     names = [name for name in names if not (name.endswith(".java") and name[:-5] + ".class" in names)]
     ways = [way for name in names if (way := way_to_run(folder, name))]
     if len(ways) > 1:
         raise Wrong(f"{' and '.join(way[-1] for way in ways)}: which one?")
-    if names and os.path.isdir(os.path.join(folder, names[0])):
-        raise Wrong(f"{names[0]} is a folder")
     if names and not ways:
         raise Wrong(f"{names[0]} can't be run: it has to be compiled, or `chmod +x {names[0]}`")
     return ways[0] if ways else []
 
 
 def way_to_run(folder: str, name: str) -> list[str]:
-    path, ending = os.path.join(folder, name), os.path.splitext(name)[1]
-    if not os.path.isfile(path):
-        return []
+    stem, ending = os.path.splitext(name)
     if ending in RUNNERS:
         return [RUNNERS[ending], name]
     if ending == ".class":
-        return class_of(name.removesuffix(ending))
-    return [os.path.join(".", name)] if os.access(path, os.X_OK) else []
+        return class_of(stem)
+    return [os.path.join(".", name)] if os.access(os.path.join(folder, name), os.X_OK) else []
 
 
 # One part, in a process of its own.
@@ -208,11 +207,10 @@ def play(part: Part, given: argparse.Namespace, room: str) -> dict:
     options = parsed([part.assignment, "--runs", str(given.runs or RUNS[part.assignment]), "--seed", given.seed,
                       "--timeout", str(given.timeout), "--memory", str(given.memory), "--", *before, *command])
     try:
-        found = played(options, guard, time.monotonic() + given.seconds)
+        found = Player(options, guard, time.monotonic() + given.seconds).played()
     except NoVerdict as why:
         return {"why": str(why)}
-    was_ended = any("it ended with signal" in line for case in found[0] if case.finding for line in case.finding.text())
-    return {"result": as_json(options, *found), "report": report(*found), "ended": was_ended}
+    return {"result": as_json(options, *found), "report": report(*found)}
 
 
 def compiled(command: list[str], copy: str, guard: Guard) -> list[str]:
@@ -244,63 +242,20 @@ def programs_at_home(closed: list[str]) -> list[str]:
     return sorted(found)
 
 
-class Play:
-    """The process that plays a part, and the pipe by which it says what it found."""
-
-    def __init__(self, part: Part, given: argparse.Namespace, room: str):
-        self.part, self.said = part, bytearray()
-        self.pipe, to = os.pipe()
-        self.until = time.monotonic() + given.seconds + GRACE
-        with held():
-            self.number = os.fork()
-            if self.number == 0:
-                status = 2              # nothing leaves this process, whatever is wrong in it
-                try:
-                    status = self.run(given, room, to)
-                finally:
-                    os._exit(status)
-        os.close(to)
-
-    def run(self, given: argparse.Namespace, room: str, to: int) -> int:
-        """In the process itself: its status is 0 if it has said what there is to say."""
-        try:
-            os.setpgid(0, 0)            # so that Ctrl-C ends the one that grades, which ends this one
-            signal.pthread_sigmask(signal.SIG_SETMASK, ())
-            keep_apart()
-            shut()
-            with open(to, "w", encoding="utf-8") as pipe:
-                json.dump(play(self.part, given, room), pipe)
-            return 0
-        except (shutil.Error, OSError, Wrong) as why:
-            os.write(2, f"grade: {clean(self.part.student)} {self.part.assignment}: {clean(str(why))}\n".encode())
-            return 1
-        except BaseException:           # ended from outside, or a mistake of the workshop's own
-            return 2
-
-    def read(self) -> bool:
-        """Whether there is more to come."""
-        got = os.read(self.pipe, 1 << 16)
-        self.said += got
-        return bool(got)
-
-    def finish(self, kept: list[int]) -> None:
-        """Collects it. Only what it says itself and ends well on is a result."""
-        os.close(self.pipe)
-        if time.monotonic() > self.until:
-            os.kill(self.number, signal.SIGKILL)
-        status = os.waitstatus_to_exitcode(os.waitpid(self.number, 0)[1])
-        end_all(kept)
-        part = self.part
-        if status:
-            part.result, part.why = None, f"no result: its process ended with {ending(status)}"
-            return
-        found = json.loads(self.said)
-        part.why, part.result, part.report = found.get("why", ""), found.get("result"), found.get("report", [])
-        part.was_ended = found.get("ended", False)
-
-
-def ending(status: int) -> str:
-    return f"status {status}" if status > 0 else f"signal {signal.Signals(-status).name}"
+def run(part: Part, given: argparse.Namespace, room: str, to: Connection) -> None:
+    """In the process itself: its status is 0 if it has said what there is to say."""
+    status = 2              # ended from outside, or a mistake of the workshop's own
+    try:
+        os.setpgid(0, 0)            # so that Ctrl-C ends the one that grades, which ends this one
+        signal.pthread_sigmask(signal.SIG_SETMASK, ())
+        shut()
+        to.send_bytes(json.dumps(play(part, given, room)).encode())
+        status = 0
+    except (shutil.Error, OSError, Wrong) as why:
+        print(f"grade: {clean(part.student)} {part.assignment}: {clean(str(why))}", file=sys.stderr, flush=True)
+        status = 1
+    finally:
+        os._exit(status)            # nothing else leaves this process
 
 
 def play_all(parts: list[Part], given: argparse.Namespace, jobs: int, room: str) -> None:
@@ -309,21 +264,42 @@ def play_all(parts: list[Part], given: argparse.Namespace, jobs: int, room: str)
     try:
         while waiting or running:
             while waiting and len(running) < jobs:
-                one = Play(waiting.pop(), given, room)
-                running[one.pipe] = one
-            ready = select.select(list(running), [], [], 1.0)[0]
-            for pipe in [pipe for pipe in ready if not running[pipe].read()] + [
-                    pipe for pipe, one in running.items() if time.monotonic() > one.until]:
-                one = running.pop(pipe, None)
-                if one:
-                    one.finish([other.number for other in running.values()])
-                    tell(one.part)
+                part, (pipe, to) = waiting.pop(), FORK.Pipe(duplex=False)
+                process = FORK.Process(target=run, args=(part, given, room, to))
+                with held():
+                    process.start()
+                    running[pipe] = part, process, time.monotonic() + given.seconds + GRACE
+                to.close()
+            ready = wait(list(running), 1.0)
+            for pipe, (part, process, until) in list(running.items()):
+                if pipe in ready or time.monotonic() > until:
+                    del running[pipe]
+                    part.found = finished(process, pipe if pipe in ready else None)
+                    end_all([other.pid for _, other, _ in running.values()])
+                    print(f"grade: {clean(part.student)} {part.assignment}: {clean(part.words())} {clean(part.said())}",
+                          file=sys.stderr, flush=True)
     finally:
         with held():
-            for one in running.values():
-                os.kill(one.number, signal.SIGTERM)
-            wait_for([one.number for one in running.values()])
+            for _, process, _ in running.values():
+                process.terminate()
+            for _, process, _ in running.values():
+                process.join(3)             # a moment to end its programs
             end_all()
+
+
+def finished(process, pipe: Connection | None) -> dict:
+    """What a process has found: only what it says itself and ends well on is a result."""
+    said = b""
+    if pipe:
+        with contextlib.suppress(EOFError):
+            said = pipe.recv_bytes()
+    else:
+        process.kill()
+    process.join()
+    if process.exitcode == 0:
+        return json.loads(said)
+    ending = f"status {process.exitcode}" if process.exitcode > 0 else signal.Signals(-process.exitcode).name
+    return {"why": f"no result: its process ended with {ending}"}
 
 
 def play_again(parts: list[Part], given: argparse.Namespace, room: str) -> None:
@@ -331,24 +307,10 @@ def play_again(parts: list[Part], given: argparse.Namespace, room: str) -> None:
     both results counts."""
     until = time.monotonic() + AGAIN * given.seconds
     for at, part in enumerate(parts):
-        first = part.result, part.why, part.report, part.was_ended
-        share = (until - time.monotonic()) / (len(parts) - at)
+        first, share = part.found, (until - time.monotonic()) / (len(parts) - at)
         play_all([part], argparse.Namespace(**vars(given) | {"seconds": max(1.0, min(given.seconds, share))}), 1, room)
-        if first[0] and (not part.result or part.result["right"] < first[0]["right"]):
-            part.result, part.why, part.report, part.was_ended = first
-
-
-def wait_for(numbers: list[int]) -> None:
-    """Gives processes a moment to end their programs."""
-    until = time.monotonic() + 3
-    while numbers and time.monotonic() < until:
-        numbers = [number for number in numbers if os.waitpid(number, os.WNOHANG) == (0, 0)]
-        time.sleep(0.02)
-
-
-def tell(part: Part) -> None:
-    said = f"{part.words()} {part.verdicts()}".strip() if part.result else part.why
-    print(f"grade: {clean(part.student)} {part.assignment}: {clean(said)}", file=sys.stderr, flush=True)
+        if "result" in first and (not part.result or part.result["right"] < first["result"]["right"]):
+            part.found = first
 
 
 def clean(words: str) -> str:
@@ -363,8 +325,7 @@ def table(parts: list[Part]) -> list[str]:
     for student in dict.fromkeys(part.student for part in parts):
         own = [part for part in parts if part.student == student]
         rows.append([clean(student), *(word for part in own for word in (part.words(), str(part.points))), in_all(own)])
-        said = [f"{part.assignment}: {part.why or part.verdicts()}" for part in own
-                if part.why or part.points < POINTS[part.assignment]]
+        said = [f"{part.assignment}: {part.said()}" for part in own if part.points < POINTS[part.assignment]]
         remarks.append(clean("; ".join(said)))
     return [f"{line}  {remark}".rstrip() for line, remark in zip(aligned(rows), remarks)]
 
@@ -380,7 +341,7 @@ def as_one(parts: list[Part], seed: str) -> dict:
         found = {"points": part.points if part.result else None, "command": part.command}
         if part.result:
             return found | {name: part.result[name] for name in ("runs", "right", "seconds", "cases")}
-        return found | {"why": part.why}
+        return found | part.found
     return {"grade": EDITION, "seed": seed, "submissions": [
         {"student": student, "in_all": in_all([part for part in parts if part.student == student]),
          **{part.assignment: one(part) for part in parts if part.student == student}}
@@ -394,7 +355,7 @@ def write_reports(parts: list[Part], folder: str) -> None:
         lines = []
         for part in (part for part in parts if part.student == student):
             lines += [f"{part.assignment}: {part.points} of {POINTS[part.assignment]} points",
-                      *(part.report or [part.why]), ""]
+                      *(part.found.get("report") or [part.said()]), ""]
         try:
             with open(os.path.join(folder, f"{student}.txt"), "w", encoding="utf-8", errors="replace") as file:
                 file.write("".join(line + "\n" for line in lines))

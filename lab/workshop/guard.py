@@ -20,7 +20,7 @@ import stat
 import struct
 import time
 from dataclasses import dataclass
-from typing import Collection, Iterator, Sequence
+from typing import Collection, Iterator, NamedTuple, Sequence
 
 from lab.workshop.findings import Fault
 
@@ -38,7 +38,6 @@ NAMES = ("HOME", "LANG", "PATH", "TMPDIR")
 # Numbers of Linux, the same on all machines.
 PDEATHSIG, DUMPABLE, DROP_CAPABILITY, SUBREAPER, IS_SUBREAPER, NO_NEW_PRIVS = 1, 4, 24, 36, 37, 38
 CAPABILITIES = 64           # more than there are
-OWN_MESSAGES = 0x08000000   # a namespace for memory that is shared, semaphores and queues
 CREATE_RULESET, ADD_RULE, RESTRICT_SELF = 444, 445, 446
 EXECUTE, WRITE, READ, LIST, MAKE_BLOCK, TRUNCATE = (1 << bit for bit in (0, 1, 2, 3, 11, 14))
 OF_FILES, LOOKS = EXECUTE | WRITE | READ | TRUNCATE, EXECUTE | READ | LIST
@@ -54,23 +53,21 @@ FCNTL, LOCKS = 72, (5, 6, 7, 36, 37, 38)
 SYSTEM = ctypes.CDLL(None, use_errno=True)
 
 
-@dataclass
-class Limits:
-    """`timeout`, in seconds, of an answer; the first may take three times as long, since the program starts
-    meanwhile. `memory` in bytes; `written`, the bytes of each file that it writes, its standard error too; `children`,
-    how many processes and threads all programs of a run may have. `over` is the time at which all runs end."""
-    timeout: float = 10.0
-    memory: int = 2048 * MEGABYTE
-    written: int = 16 * MEGABYTE
-    first_factor: int = 3
-    children: int = CHILDREN
-    over: float = float("inf")
+class Limits(NamedTuple):
+    """`timeout`, in seconds, of an answer; `memory` in bytes; `written`, the bytes of each file that a program writes,
+    its standard error too; `children`, how many processes and threads all programs of a run may have. `over` is the
+    time at which all runs end."""
+    timeout: float
+    memory: int
+    written: int
+    children: int
+    over: float
 
 
 def limits_of(timeout: float, megabytes: int, programs: int, over: float = float("inf")) -> Limits:
     """The limits of a number of programs, which share what may be written."""
     written = max(MEGABYTE, min(16 * MEGABYTE, WRITTEN_IN_ALL // max(1, programs)))
-    return Limits(timeout, megabytes * MEGABYTE, written, children=CHILDREN + CHILDREN_EACH * programs, over=over)
+    return Limits(timeout, megabytes * MEGABYTE, written, CHILDREN + CHILDREN_EACH * programs, over)
 
 
 def limit(limits: Limits, tasks: int) -> None:
@@ -98,13 +95,6 @@ def shut() -> None:
     """Nobody reads this process, and it gets what its programs leave behind."""
     control(DUMPABLE, 0)
     control(SUBREAPER, 1)
-
-
-def keep_apart() -> None:
-    """What this process and its programs share by System V, as memory and queues, is theirs alone, and ends with them,
-    if it is root and may say so."""
-    if os.geteuid() == 0:
-        SYSTEM.unshare(OWN_MESSAGES)
 
 
 class Guard:
@@ -315,10 +305,10 @@ def processes() -> Iterator[Running]:
 
 
 def is_reaper() -> bool:
-    """Whether this process gets what its programs leave behind, and has something below it."""
+    """Whether this process gets what its programs leave behind."""
     said = ctypes.c_int(0)
     control(IS_SUBREAPER, ctypes.addressof(said))
-    return bool(said) and any(process.parent == os.getpid() for process in processes())
+    return bool(said)
 
 
 def below_this(kept: Collection[int] = ()) -> Iterator[Running]:

@@ -5,12 +5,10 @@ from typing import NamedTuple
 
 from lab.networks.network_text import Network
 from lab.networks.texts import plain_text
-from lab.workshop.findings import Fault, Finding, NoVerdict, listed
+from lab.workshop.clock_run import MOST_NAMED, ClockRun
+from lab.workshop.findings import Fault, NoVerdict, listed
 from lab.workshop.judge import ask
-from lab.workshop.nodes import PATIENCE, Answer, Nodes
-from lab.workshop.protocol import MOST_LETTERS, is_number, no_such_line, own_data, port_of, shown
-
-FORMS = "`put PORT WORDS..`, `channel CHANNEL`"
+from lab.workshop.protocol import MOST_LETTERS, is_number, own_data, shown
 
 
 class League(NamedTuple):
@@ -20,73 +18,54 @@ class League(NamedTuple):
     channels: int
 
 
-class OpenRun:
+class OpenRun(ClockRun):
     """`channels[v]` as nodes said them; `league` once the plan is right. A run has at most `most_pulses`, by default 20
     for each node and each pulse of the lessons' algorithm."""
+    forms, kept = "`put PORT WORDS..`, `channel CHANNEL`", "plan"
 
     def __init__(self, network: Network, most_pulses: int | None = None):
-        self.network = network
+        super().__init__(network)
         self.most_pulses = most_pulses or 20 * (network.nodes + 12 + 3 * network.degree * network.channels)
-        self.ports = {v: {w: port for port, w in enumerate(network.neighbours[v])} for v in network.vertices}
         self.channels: dict[int, int] = {}
         self.payloads, self.league = 0, None
 
-    def play(self, nodes: Nodes) -> Finding | None:
-        """Until every node has said its channel and nothing is on its way."""
-        questions, p = {v: own_data(self.network, v, "open") for v in self.network.vertices}, 0
-        while True:
-            inboxes = {v: {} for v in self.network.vertices}
-            for v, answer in nodes.ask_all(questions).items():
-                try:
-                    self.read(v, answer, inboxes)
-                except Fault as fault:
-                    lines = [("where", f"node {v}, pulse {p}"), ("wrong", fault.words)]
-                    return Finding(fault.kind, v, p, lines, is_first=p == 0)
-            self.payloads += sum(map(len, inboxes.values()))
-            if len(self.channels) == self.network.nodes and not any(inboxes.values()):
-                break
-            if p == self.most_pulses:
-                return self.endless(p)
-            p += 1
-            questions = {v: [f"pulse {p}", *(f"take {port} {words}" for port, words in sorted(inbox.items()))]
-                         for v, inbox in inboxes.items()}
-        nodes.stop(PATIENCE)
-        return self.judged(p)
+    def first_message(self, v):
+        return own_data(self.network, v, "open")
 
-    def read(self, v: int, answer: Answer, inboxes: dict[int, dict[int, str]]) -> None:
-        if isinstance(answer, Fault):
-            raise answer
-        for line in answer:
-            self.read_line(v, line, inboxes)
+    def payload(self, line, words):
+        return " ".join(words) if len(line) <= MOST_LETTERS else None
 
-    def read_line(self, v: int, line: str, inboxes: dict[int, dict[int, str]]) -> None:
-        neighbours = self.network.neighbours[v]
-        match line.split():
-            case ["put", port, _, *_] as fields if is_number(port) and len(line) <= MOST_LETTERS:
-                w = neighbours[port_of(line, port, len(neighbours))]
-                if self.ports[w][v] in inboxes[w]:
-                    raise Fault("garbage", f"{shown(line)} is a second payload by this port in one pulse")
-                inboxes[w][self.ports[w][v]] = " ".join(fields[2:])
+    def is_said(self, v, line, fields):
+        match fields:
             case ["channel", channel] if is_number(channel):
                 if int(channel) == 0:
                     raise Fault("garbage", f"{shown(line)}: channels count from 1; a channel is a colour plus 1")
                 if self.channels.setdefault(v, int(channel)) != int(channel):
                     raise Fault("garbage", f"{shown(line)}, but it has said channel {self.channels[v]} before")
-            case _:
-                raise no_such_line(line, FORMS)
+                return True
+        return False
 
-    def endless(self, p: int) -> Finding:
-        silent = [v for v in self.network.vertices if v not in self.channels]
-        words = f"after {p} pulses {listed('node', silent[:8])} said no channel" if silent else \
-            f"after {p} pulses all nodes have their channels, and payloads are still sent"
-        return Finding("endless", silent[0] if silent else 1, p, [("where", f"pulse {p}"), ("wrong", words)])
+    def is_done(self) -> bool:
+        """Whether every node has said its channel, and nothing is on its way."""
+        return len(self.channels) == self.network.nodes and not any(self.puts[-1].values())
 
-    def plan_text(self) -> str:
+    def is_over(self, p):
+        self.payloads += sum(map(len, self.puts[p].values()))
+        if p:
+            self.puts[p - 1] = {}           # it has come
+        return self.is_done() or p == self.most_pulses
+
+    def text(self) -> str:
         return "plan\n" + "".join(f"{v} {channel}\n" for v, channel in sorted(self.channels.items()))
 
-    def judged(self, p: int) -> Finding | None:
+    def judged(self, p):
         """The verdict of the proved check. A channel that is too great for it to be read has C6."""
-        status, _, line = ask("forestplan", "check", plain_text(self.network) + self.plan_text())
+        if not self.is_done():
+            silent = [v for v in self.network.vertices if v not in self.channels]
+            words = f"after {p} pulses " + (f"{listed('node', silent[:MOST_NAMED])} said no channel" if silent else
+                                            "all nodes have their channels, and payloads are still sent")
+            return self.finding("endless", p, (silent or [1])[0], [("wrong", words)])
+        status, _, line = ask("forestplan", "check", plain_text(self.network) + self.text())
         if status == 0:
             self.league = League(p, self.payloads, max(self.channels.values(), default=0))
             return None
@@ -100,5 +79,4 @@ class OpenRun:
         words = {"C4": f"nodes {v} and {w} are neighbours, and both have channel {channel}",
                  "C5": f"channel {channel} of node {v} isn't one of 1 to {self.network.channels}, which are enough",
                  "C8": f"channel {channel} of node {v} is barred there"}[code]
-        where = f"nodes {v} and {w}" if w else f"node {v}"
-        return Finding(code, v, p, [("where", where), ("wrong", words), ("judge", line)])
+        return self.finding(code, p, v, [("wrong", words), ("judge", line)])

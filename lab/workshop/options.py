@@ -4,9 +4,8 @@ import argparse
 from lab.schedules.policies import POLICIES
 from lab.transcripts.fields import PAYLOADS
 from lab.workshop.cases import NETWORKS
-from lab.workshop.protocol import COLOURING, program_of
+from lab.workshop.protocol import COLOURING
 from lab.words import add_seed, count, parser_of
-from lab.wrong import Wrong
 
 HELP = """\
 Runs programs that students write as the nodes of a network, and has the proved
@@ -48,12 +47,12 @@ def command_line() -> argparse.ArgumentParser:
     words.add_argument("assignment", choices=["rounds", "alpha", "open"],
                        help="with a clock, without one, or your own algorithm")
     words.add_argument("networks", nargs="*", metavar="NETWORK", help=f"default: {NETWORKS.replace(',', ' ')}")
-    words.add_argument("--program", metavar="P",
+    words.add_argument("--program", metavar="P", choices=list(PAYLOADS),
                        help=f"of rounds and alpha, what nodes do: {', '.join(PAYLOADS)}; default: {COLOURING}")
     words.add_argument("--runs", type=count, metavar="N",
                        help="the number of runs; default: 1 for each NETWORK, or 100")
     add_seed(words)
-    words.add_argument("--policies", metavar="LIST",
+    words.add_argument("--policies", type=policies, metavar="LIST",
                        help=f"of alpha, with commas: {', '.join(POLICIES)}; default: all, in turn")
     words.add_argument("--case", type=int, metavar="K", help="run number K of these alone")
     words.add_argument("--first", action="store_true", help="end with the first run that isn't right")
@@ -83,6 +82,13 @@ def seconds(text: str) -> float:
     return found
 
 
+def policies(text: str) -> list[str]:
+    for name in text.split(","):
+        if name not in POLICIES:
+            raise argparse.ArgumentTypeError(f"there is no policy {name}, which are {', '.join(POLICIES)}")
+    return text.split(",")
+
+
 def parsed(words: list[str]) -> argparse.Namespace:
     """The options, with `commands`, `program`, `policies` and `runs` as the runs need them."""
     at = words.index("--") if "--" in words else len(words)
@@ -93,18 +99,12 @@ def parsed(words: list[str]) -> argparse.Namespace:
         line.error("there is no command after `--`")
     if options.assignment == "open" and options.program:
         line.error("--program is of rounds and alpha")
-    options.program = program_of(options.program or COLOURING)
     if options.assignment != "alpha" and (options.policies or options.picture):
         line.error("--policies and --picture are of alpha alone")
-    options.policies = (options.policies or ",".join(POLICIES)).split(",") if options.assignment == "alpha" else [""]
-    for policy in options.policies:
-        if policy not in (*POLICIES, ""):
-            raise Wrong(f"there is no policy {policy}, which are {', '.join(POLICIES)}")
-    if options.runs is None:
-        options.runs = len(options.networks) or 100
+    options.program = options.program or COLOURING
+    options.policies = options.policies or (list(POLICIES) if options.assignment == "alpha" else [""])
+    options.runs = options.runs or len(options.networks) or 100
     options.networks = options.networks or NETWORKS.split(",")
-    if options.case is not None and options.case < 0:
-        line.error("--case is a number from 0 on")
     return options
 
 

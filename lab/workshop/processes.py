@@ -1,7 +1,6 @@
 """One student's program as a process: a message goes to its standard input, and its answer, up to a line `end`,
 comes from its standard output. Whatever it does, the workshop goes on: what is no answer is a Fault, and `stop`
 leaves no process."""
-import errno
 import os
 import select
 import signal
@@ -17,13 +16,13 @@ from lab.workshop.protocol import MOST_BYTES, end_of, lines_of, shown
 SOON = 0.3                  # seconds after which an answer is late, and it is looked whether it still matters
 LOOK = 0.004                # seconds between two looks whether a program has ended
 LOOK_AT_FILES = 1.0         # seconds between two looks at what a program that says nothing writes
+FIRST_FACTOR = 3            # the first answer may take so many times as long
 FIRST_HINT = " (does it flush standard output after `end`, and answer before it reads on after the line `end`?)"
 LAST_LINES, LAST_LETTERS, LAST_BYTES = 5, 600, 1 << 14
 MOST_CALLS = 2              # lines `at ..` that are kept of each list of calls, as Java and JavaScript print them
 MARKS = " \t^~"             # of these letters alone are the lines with which Python marks a place in the line above
-HINTS = {errno.EMFILE: "; three files are open for each program: raise `ulimit -n`, or use --one-process",
-         errno.EACCES: "; `chmod +x FILE` lets a file be started",
-         errno.ENOEXEC: "; the first line of a script says what runs it, as `#!/usr/bin/env python3`"}
+START_HINT = ("; is it `chmod +x`, does its first line say what runs it, as `#!/usr/bin/env python3`, and is it called "
+              "as `./FILE` or `python3 FILE`?")
 
 
 class Process:
@@ -43,7 +42,7 @@ class Process:
         except OSError as why:
             if self.errors:
                 self.errors.close()
-            words = f"{shown(' '.join(command))} can't be started: {why.strerror}{hint(why.errno, command[0])}"
+            words = f"{shown(' '.join(command))} can't be started: {why.strerror}{START_HINT}"
             raise Fault("start", words) from None
         guard.programs.add(self.process.pid)
         self.input, self.output = self.process.stdin.fileno(), self.process.stdout.fileno()
@@ -65,8 +64,8 @@ class Process:
         if self.asked and self.readable.poll(0):
             got = os.read(self.output, 1 << 16)
             raise after_its_end(got) if got else self.ended()
-        factor = 1 if self.asked else self.limits.first_factor
-        self.asked, self.until = self.asked + 1, time.monotonic() + factor * self.limits.timeout
+        self.asked += 1
+        self.until = time.monotonic() + self.seconds()
         text = "".join(line + "\n" for line in [*lines, "end"]).encode()
         while text:
             try:
@@ -84,7 +83,8 @@ class Process:
         while not (ends := end_of(got)):
             if len(got) > MOST_BYTES:
                 raise Fault("flood", f"it wrote more than {MOST_BYTES} bytes without a line `end`")
-            self.wait(self.readable, lambda: self.why_silent(got))
+            nothing = "it wrote nothing" + FIRST_HINT * (self.asked == 1)
+            self.wait(self.readable, f"it wrote {shown(got)}, and no line `end`" if got else nothing)
             part = os.read(self.output, 1 << 16)
             if not part:
                 raise self.ended(got)
@@ -93,7 +93,7 @@ class Process:
             raise after_its_end(got[ends[1]:])
         return lines_of(got[:ends[0]])
 
-    def wait(self, poll, silent) -> None:
+    def wait(self, poll: select.poll, silent: str) -> None:
         until = min(self.until, self.limits.over)
         while not poll.poll(1000 * max(0.0, min(LOOK_AT_FILES, until - time.monotonic()))):
             self.look()
@@ -104,14 +104,11 @@ class Process:
                 continue
             if until < self.until:
                 raise Fault("late", "the time for all runs is over")
-            words = silent if isinstance(silent, str) else silent()
-            factor = self.limits.first_factor if self.asked == 1 else 1
-            raise Fault("silent", f"{words} within {factor * self.limits.timeout:g} seconds{self.last_errors()}")
+            raise Fault("silent", f"{silent} within {self.seconds():g} seconds{self.last_errors()}")
 
-    def why_silent(self, got: bytearray) -> str:
-        if got:
-            return f"it wrote {shown(got)}, and no line `end`"
-        return "it wrote nothing" + FIRST_HINT * (self.asked == 1)
+    def seconds(self) -> float:
+        """How long an answer may take: the first one longer, since the program starts meanwhile."""
+        return self.limits.timeout * (FIRST_FACTOR if self.asked == 1 else 1)
 
     def ended(self, got: bytes | bytearray = b"") -> Fault:
         """How it ended in the middle."""
@@ -148,13 +145,6 @@ class Process:
         self.guard.programs.discard(self.process.pid)
         self.process.stdout.close()
         self.errors.close()
-
-
-def hint(error: int, name: str) -> str:
-    """Why a program can't be started, in words that help."""
-    if error == errno.ENOENT and "/" not in name and os.path.isfile(name):
-        return f"; there is a file {name} here: `./{name}`, or with what runs it, as `python3 {name}`"
-    return HINTS.get(error, "")
 
 
 def after_its_end(got: bytes | bytearray) -> Fault:

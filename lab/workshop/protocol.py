@@ -3,9 +3,8 @@ answer before its line `end`."""
 import re
 
 from lab.networks.network_text import Network
-from lab.transcripts.fields import PAYLOADS, bound_of, payloads_words
+from lab.transcripts.fields import PAYLOADS, why_no_wire
 from lab.workshop.findings import Fault
-from lab.wrong import Wrong
 
 EDITION = 1
 COLOURING = "colouring"
@@ -16,7 +15,6 @@ FORMS = {COLOURING: ["`channel C`"], "leader": ["`leader IDENTIFIER`"],
          "recolouring": ["`channel C`"]}
 # Those that go on after the colouring, by forests and colours.
 SEQUELS = ("matching", "independent-set", "recolouring")
-WIRES = "`payload P WORD NUMBER`, `ack P`, `safe P` and `close`"
 PULSES = 1 << 32
 MOST_BYTES = 1 << 20
 MOST_LINES = 20_000
@@ -76,15 +74,6 @@ def port_of(line: str, number: str, degree: int) -> int:
     raise Fault("garbage", f"{shown(line)}: there is no port {number[:9]}; the node has {ports}")
 
 
-def program_of(name: str) -> str:
-    """A program's name, if a proved program judges it."""
-    if name in PAYLOADS:
-        return name
-    if name.endswith(".py"):
-        raise Wrong(f"{name}: no program of your own is taken here, since no proved program judges it")
-    raise Wrong(f"there is no program {name}, which are {', '.join(PAYLOADS)}")
-
-
 def result_of(program: str, fields: list[str]) -> str | None:
     """The words of a result, without zeros before its numbers; None if the fields are none of the program."""
     match program, fields:
@@ -98,33 +87,9 @@ def result_of(program: str, fields: list[str]) -> str | None:
     return None
 
 
-def pulse_of(line: str, field: str) -> int:
-    return number_of(line, field, PULSES)
-
-
-def number_of(line: str, field: str, below: int) -> int:
-    if not is_number(field, below):
-        raise Fault("garbage", f"{shown(line)}: {shown(field)} is no number below {below}")
-    return int(field)
-
-
 def wire_of(line: str, fields: list[str], program: str) -> str:
     """The words of the wire that a line names, without zeros before its numbers; a payload is one of the program."""
-    match fields:
-        case ["close"]:
-            return "close"
-        case ["ack" | "safe" as kind, pulse]:
-            return f"{kind} {pulse_of(line, pulse)}"
-        case ["payload", pulse, word, number]:
-            below = below_of(line, word, program)
-            return f"payload {pulse_of(line, pulse)} {word} {number_of(line, number, below)}"
-    raise Fault("garbage", f"{shown(line)}: {shown(' '.join(fields))} is no wire, which are {WIRES}")
-
-
-def below_of(line: str, word: str, program: str) -> int:
-    """What the number of a payload is below."""
-    try:
-        return bound_of(program, word.encode())
-    except ValueError:
-        which = ", ".join(payloads_words(program))
-        raise Fault("garbage", f"{shown(line)}: {shown(word)} is no payload{which}") from None
+    why = why_no_wire([field.encode() for field in fields], program)
+    if why:
+        raise Fault("garbage", f"{shown(line)}: {why}")
+    return " ".join(str(int(field)) if field.isdecimal() else field for field in fields)

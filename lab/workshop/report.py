@@ -1,34 +1,10 @@
 """What the workshop prints: a table of right runs, a league, the case that isn't right; or all of it for a program."""
-import sys
-import time
 from argparse import Namespace
 
 from lab.workshop.cases import Case
 
 EDITION = 1
 MOST_NAMES, MOST_EDGES = 6, 80
-PROGRESS_SECONDS = 10
-
-
-class Progress:
-    """Says on standard error how far the runs are: at a terminal in one line, otherwise now and then."""
-
-    def __init__(self, stream=sys.stderr):
-        self.stream, self.said = stream, time.monotonic()
-
-    def __call__(self, count: int, of: int) -> None:
-        if of == 1:
-            return
-        if self.stream.isatty():
-            print(f"\rrun {count} of {of}", end="\n" if count == of else "", file=self.stream, flush=True)
-        elif time.monotonic() - self.said > PROGRESS_SECONDS:
-            self.said = time.monotonic()
-            print(f"workshop: run {count} of {of}", file=self.stream, flush=True)
-
-    def smaller(self, count: int) -> None:
-        if time.monotonic() - self.said > PROGRESS_SECONDS:
-            self.said = time.monotonic()
-            print(f"workshop: looking for a smaller case that is wrong, {count} tried", file=self.stream, flush=True)
 
 
 def table(cases: list[Case]) -> list[str]:

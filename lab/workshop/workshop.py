@@ -2,55 +2,49 @@
 import json
 import os
 import sys
-import traceback
+import time
 
 from lab.workshop import class_files, grade
 from lab.workshop.findings import NoVerdict
-from lab.workshop.guard import Guard, shut
+from lab.workshop.guard import shut
 from lab.workshop.keeping import draw, keep
 from lab.workshop.options import parsed
-from lab.workshop.playing import played
-from lab.workshop.report import Progress, as_json, report
-from lab.wrong import Wrong
+from lab.workshop.playing import Player
+from lab.workshop.report import as_json, report
 
-NOT_RIGHT, REFUSED = 1, 2
+PROGRESS_SECONDS = 10
 OTHERS = {"grade": grade.main, "class": class_files.main}
 
 
+class Progress:
+    """Says on standard error now and then how far the runs are."""
+
+    def __init__(self):
+        self.said = time.monotonic()
+
+    def __call__(self, words: str) -> None:
+        if time.monotonic() - self.said > PROGRESS_SECONDS:
+            self.said = time.monotonic()
+            print(f"workshop: {words}", file=sys.stderr, flush=True)
+
+
 def main(words: list[str]) -> int:
+    """Whatever keeps it from a verdict has a status of its own."""
     try:
-        if words[:1] and words[0] in OTHERS:
-            return OTHERS[words[0]](words[1:])
-        options = parsed(words)
-    except (Wrong, NoVerdict) as why:
-        return failed(why, REFUSED)
-    try:
-        shut()
-        return run(options)
-    except Wrong as why:
-        return failed(why, NOT_RIGHT)
+        return OTHERS[words[0]](words[1:]) if words[:1] and words[0] in OTHERS else run(parsed(words))
     except (NoVerdict, OSError) as why:
-        return failed(why, REFUSED)
-    except Exception as why:        # a mistake of the workshop's own is no verdict on anybody
-        place = traceback.extract_tb(why.__traceback__)[-1]
-        where = f"{os.path.basename(place.filename)} line {place.lineno}"
-        return failed(f"a mistake of the workshop itself: {type(why).__name__}: {why} ({where})", REFUSED)
-
-
-def failed(why, status: int) -> int:
-    print(f"workshop: {why}", file=sys.stderr)
-    return status
+        print(f"workshop: {why}", file=sys.stderr)
+        return 2
 
 
 def run(options) -> int:
-    progress = Progress()
-    cases, shown, seconds = played(options, Guard(is_open=options.no_guard), progress=progress,
-                                   smaller_ones=progress.smaller)
+    shut()
+    cases, shown, seconds = Player(options, say=Progress()).played()
     if options.keep:
-        keep(shown or cases[-1], options.keep)
+        keep(shown or cases[-1], options.keep, options.program)
     write(json.dumps(as_json(options, cases, shown, seconds)) if options.json else
           "\n".join(report(cases, shown, seconds)))
-    if options.picture and (why := draw(shown or cases[-1], options.picture)):
+    if options.picture and (why := draw(shown or cases[-1], options.picture, options.program)):
         print(f"workshop: there is no picture: {why}", file=sys.stderr)
     return 1 if shown else 0
 

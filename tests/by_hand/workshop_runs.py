@@ -9,16 +9,17 @@ import sys
 
 from lab.schedules.policies import POLICIES
 from lab.workshop.cases import NETWORKS, cases_of
-from lab.workshop.playing import Player
 from tests.by_hand.numbered_runs import all_runs, last_line, options
-from tests.workshop.base import ALPHA, ROUNDS, in_c
+from tests.workshop.base import ALPHA, ROUNDS, in_c, played
 
 
 def one_run(ways, seed, number):
     kind, commands, is_shared = ways[number % len(ways)]
     policies = list(POLICIES) if kind == "alpha" else [""]
     case, = cases_of(NETWORKS.split(","), policies, number, seed, number - 1)
-    if Player(kind, commands, 60.0, 2048, is_shared, 1000).play(case):
+    case = played(kind, case.network, *commands, policy=case.policy, seed=case.seed, timeout=60.0,
+                  one_process=is_shared)
+    if case.finding is None:
         return {"runs": 1}, None
     return {"runs": 1}, "\n".join([f"{number}, {kind} on {case.network.name} {case.policy}", *case.finding.text()])
 

@@ -10,8 +10,9 @@ from types import SimpleNamespace
 
 from lab.networks.network_text import Network
 from lab.workshop.cases import Case, Chance, network_of
+from lab.workshop.guard import Guard
+from lab.workshop.options import parsed
 from lab.workshop.playing import Player
-from lab.workshop.protocol import COLOURING
 from tests import FORESTLAB, TOP
 from tests.cases import Case as Rows
 
@@ -34,12 +35,12 @@ def network(name: str) -> Network:
 
 
 def played(assignment: str, name: str | Network, *commands: list[str], policy: str = "random", seed: str = "1",
-           timeout: float = 20.0, is_shared: bool = False, most_pulses: int = 1000,
-           program: str = COLOURING) -> Case:
-    """One run, in this process."""
-    player = Player(assignment, list(commands), timeout, 2048, is_shared, most_pulses, program)
+           guard: Guard | None = None, **options) -> Case:
+    """One run, in this process, with these options of the command line."""
+    given = parsed([assignment, *(word for command in commands for word in ("--", *command))])
+    vars(given).update({"timeout": 20.0} | options)
     case = Case(0, network(name) if isinstance(name, str) else name, policy, seed)
-    player.play(case)
+    Player(given, guard).play(case)
     return case
 
 

@@ -6,7 +6,7 @@ import subprocess
 import sys
 
 from tests.cases import text_in
-from tests.workshop.base import ALPHA, GREEDY, ROUNDS, Played, call
+from tests.workshop.base import ALPHA, GREEDY, ROUNDS, Played, answering, call
 
 WAITS = [sys.executable, "-S", "-c", "import time; time.sleep(100)"]
 # A node whose messages and answers are written down.
@@ -28,6 +28,8 @@ class Command(Played):
             (["rounds", "ring2", "--", *ROUNDS], 1, "NODES is 2, and has to be at least 3"),
             (["rounds", "two", "--policies", "oldest", "--", *ROUNDS], 2, "of alpha alone"),
             (["alpha", "two", "--policies", "odd", "--", *ALPHA], 2, "there is no policy odd"),
+            (["alpha", "two", "--program", "my.py", "--", *ALPHA], 2, "invalid choice: 'my.py'"),
+            (["open", "two", "--program", "layers", "--", *ALPHA], 2, "--program is of rounds and alpha"),
             (["rounds", "two", "--runs", "0", "--", *ROUNDS], 2, "0 is no number from 1 to 999,999,999"),
             (["rounds", "two", "--", "/nonexistent/node"], 2, "can't be started: No such file"),
         ):
@@ -42,7 +44,7 @@ class Command(Played):
             self.note(name, done.returncode == 0 and "2 of 2 runs right" in done.stdout, done)
 
     def test_a_file_that_can_t_be_started(self):
-        for mode, words in ((0o644, "Permission denied; `chmod +x FILE` lets"), (0o755, "`#!/usr/bin/env python3`")):
+        for mode, words in ((0o644, "Permission denied; is it `chmod +x`"), (0o755, "Exec format error; is it")):
             os.chmod(self.file("node", "print('end')\n"), mode)
             done = call("rounds", "two", "--", self.path("node"))
             self.note(words, (done.returncode, done.stdout) == (2, "") and words in done.stderr, done)
@@ -54,8 +56,9 @@ class Command(Played):
         stuck = {"case": 0, "network": "alone4", "nodes": 4, "policy": "newest", "verdict": "stuck", "node": 1,
                  "pulse": 30}
         self.assertEqual(done.returncode, 1)
-        self.assertEqual({name: got[name] for name in ("workshop", "assignment", "seed", "runs", "right")},
-                         {"workshop": 1, "assignment": "alpha", "seed": "1", "runs": 3, "right": 1})
+        self.assertEqual({name: got[name] for name in ("workshop", "assignment", "program", "seed", "runs", "right")},
+                         {"workshop": 1, "assignment": "alpha", "program": "colouring", "seed": "1", "runs": 3,
+                          "right": 1})
         self.assertEqual(got["cases"][:2], [right | {"verdict": "right"}, stuck])
         self.assertEqual([row["verdict"] for row in got["cases"]], ["right", "stuck", "stuck"])
 
@@ -81,14 +84,18 @@ class Command(Played):
 
     def test_anybody_can_repeat_the_verdict(self):
         """The commands in verdict.txt are run as they stand, in the folder in which the workshop was called."""
-        rows = (("alpha", self.wrong_node("safes_none", "alpha_node.py"), ["forestplay: NotReady line", "NotReady"]),
-                ("rounds", self.wrong_node("bit_root", "rounds_node.py"), ["", "payload 3 colour"]),
-                ("open", [sys.executable, "-S", "-c", ALL_ONE], ["forestplan: C4 vertices 1 2"]))
-        for kind, command, expected in rows:
-            with self.subTest(kind):
-                kept, here = f"kept of {kind}", self.path("a folder")
+        layers = [self.wrong_node("layers_again", f"{kind}_node.py", "layers") for kind in ("alpha", "rounds")]
+        safes = self.wrong_node("safes_none", "alpha_node.py")
+        rows = (("alpha", [], safes, ["forestplay: NotReady line", "NotReady"]),
+                ("rounds", [], self.wrong_node("bit_root", "rounds_node.py"), ["", "payload 3 colour"]),
+                ("open", [], answering("channel 1"), ["forestplan: C4 vertices 1 2"]),
+                ("alpha", ["--program", "layers"], layers[0], ["forestplay: WrongWire line", "WrongWire"]),
+                ("rounds", ["--program", "layers"], layers[1], ["", "1 put 2 payload 1 hops 0"]))
+        for kind, program, command, expected in rows:
+            with self.subTest(f"{kind} {program}"):
+                kept, here = f"kept of {kind}{program}", self.path("a folder")
                 os.makedirs(here, exist_ok=True)
-                self.assertEqual(call(kind, "path3", "--keep", kept, "--", *command, cwd=here).returncode, 1)
+                self.assertEqual(call(kind, "path3", *program, "--keep", kept, "--", *command, cwd=here).returncode, 1)
                 lines = text_in(here, kept, "verdict.txt").partition("The same without the workshop:\n")[2].splitlines()
                 self.assertEqual(len(lines), len(expected))
                 for line, words in zip(lines, expected):
@@ -117,9 +124,7 @@ class Command(Played):
     def test_the_league_counts(self):
         done = call("open", "path5", "--", *GREEDY)
         self.assertEqual(done.stdout.splitlines()[-1].split(), ["path5", "6", "16", "2"])
-        endless = [sys.executable, "-S", "-c", "import sys\nfor line in sys.stdin:\n    if line == 'end\\n': "
-                                               "print('end', flush=True)"]
-        done = call("open", "two", "--most-pulses", "5", "--", *endless)
+        done = call("open", "two", "--most-pulses", "5", "--", *answering())
         self.assertIn("after 5 pulses nodes 1 and 2 said no channel", done.stdout)
 
 
@@ -130,10 +135,4 @@ class Node(RoundsNode):
     def react(self, lines):
         return [line for line in super().react(lines) if not line.startswith("channel")]
 talk.serve(Node)
-"""
-ALL_ONE = """\
-import sys
-for line in sys.stdin:
-    if line == 'end\\n':
-        print('channel 1\\nend', flush=True)
 """

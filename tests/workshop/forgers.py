@@ -9,12 +9,10 @@ import sys
 import tempfile
 import unittest
 
-from lab.workshop.cases import Case
 from lab.workshop.findings import Fault
 from lab.workshop.guard import USERS, Guard, beside, give, kept_in
-from lab.workshop.playing import Player
 from tests.shell import wait_until
-from tests.workshop.base import LIMIT, call, command_line, network
+from tests.workshop.base import LIMIT, call, command_line, played
 from tests.workshop.misbehaving import MARK, left, left_at_last
 
 BEGIN = """\
@@ -191,8 +189,7 @@ class Guards(unittest.TestCase):
         guard = Guard(folder, closed)
         if guard.user is not None:
             give(folder, guard.user)
-        case = Case(0, network(given), "", "1")
-        Player("rounds", [["python3", "-S", "-c", code]], 30.0, 2048, False, None, guard=guard).play(case)
+        case = played("rounds", given, ["python3", "-S", "-c", code], guard=guard, timeout=30.0)
         return " ".join(case.finding.text())
 
     def test_files_without_a_name(self):

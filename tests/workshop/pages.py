@@ -11,8 +11,8 @@ from build.pack import name_of, write
 from lab.schedules.policies import POLICIES
 from lab.transcripts.fields import PAYLOADS
 from lab.workshop import cases, class_files, guard, options, processes, protocol
-from tests import FORESTLAB, TOP
-from tests.cases import Case, called, text_in
+from tests import TOP
+from tests.cases import Case, called, said_by, text_in
 from tests.workshop.base import MISTAKES, call, python
 
 
@@ -32,7 +32,7 @@ class Pages(Case):
         """All words that a finding is called by in the code."""
         said = set()
         for path in glob.glob(os.path.join(TOP, "lab", "workshop", "*.py")):
-            said |= set(re.findall(r'(?:Finding|Fault)\("(\w+)"', text_in(path)))
+            said |= set(re.findall(r'(?:[Ff]inding|Fault)\("(\w+)"', text_in(path)))
         self.assertGreater(len(said), 6)
         table = page("PROTOCOL.md").partition("## What is wrong")[2]
         self.assertEqual({word for word in said - {"start"} if f"`{word}`" not in table}, set())
@@ -130,8 +130,7 @@ class ClassFolder(Case):
             differ = subprocess.run(["diff", "-rq", like, to], capture_output=True, text=True).stdout
             self.assertEqual([line for line in differ.splitlines() if not (
                 sums and line.endswith(("share", "SHA256SUMS differ")) or ".pyc" in line or "__pycache__" in line)], [])
-        done = subprocess.run([FORESTLAB, "workshop", "class", made], capture_output=True, text=True)
-        self.assertEqual((done.returncode, done.stderr), (2, f"workshop: {made} is there already\n"))
+        self.refusal("a folder that is there", said_by("workshop", "class", made), 2, f"{made} is there already\n")
 
     def test_its_archive_has_a_name_of_its_own(self):
         self.assertIn("forestplan-class-0", name_of(self.folder))

@@ -8,6 +8,7 @@ from tests.cases import Case, text_in
 from tests.workshop.base import EXAMPLES, call, of_c, of_java
 
 FOLDER = os.path.join(EXAMPLES, "skeletons")
+IN_PYTHON = {"rounds": "rounds_node.py", "alpha": "alpha_node.py", "open": "rounds_node.py"}
 IN_JAVA = ("RoundsNode.java", "AlphaNode.java")
 # Two nodes in one process: after both have started, each is asked for its own identifier.
 OWN = "to {0}\nworkshop 1 {1}\nidentifier {2}\ndegree 1\nnodes 2\ndelta 1\nbars 0\nforests 1\nlast 18\nbarred 0\nend\n"
@@ -49,7 +50,7 @@ class Skeletons(Case):
         """They greet in pulse 0, so what is wrong is what comes after it; and in one process it is the same."""
         right = {"rounds": "node 1, pulse 1 (orient)", "alpha": "doesn't put 0 ack 0",
                  "open": "nodes 1, 2 and 3 said no channel"}
-        rows = [*((kind, [sys.executable, os.path.join(FOLDER, f"{kind}_node.py")]) for kind in right),
+        rows = [*((kind, [sys.executable, os.path.join(FOLDER, IN_PYTHON[kind])]) for kind in right),
                 *((kind, of_c(os.path.join(FOLDER, f"{kind}_node.c"), self.folder)) for kind in ("rounds", "alpha")),
                 *zip(("rounds", "alpha"), self.in_java(*(os.path.join(FOLDER, name) for name in IN_JAVA)))]
         for kind, command in rows:
@@ -65,7 +66,7 @@ class Skeletons(Case):
         java, c = "put(0, \"label \" + identifier); //", "printf(\"put 0 label %s\\n\", me->identifier); /*"
         label, wires, inboxes = ["label {}"] * 2, ["0 payload 3 hops.12. 18 {}", "0 safe 4 .. 18 {}"], [
             "hops.12 18 {}", "none 18 {}"]
-        rows = [*((kind, self.python_with(f"{kind}_node.py", python), label) for kind in ("rounds", "alpha", "open")),
+        rows = [*((kind, self.python_with(name, python), label) for kind, name in IN_PYTHON.items()),
                 ("rounds", self.in_c_with("rounds_node.c", ("/* yours:", f"if (pulse > 0) {c}")), label),
                 ("alpha", self.in_c_with("alpha_node.c", ("/* yours:", WIRE_IN_C)), wires),
                 *zip(("rounds", "alpha"), self.in_java(

@@ -1,15 +1,16 @@
 """What the workshop says, against numbers that are worked by hand."""
+import contextlib
 import io
 from unittest import mock
 
 from lab.networks.network_text import Network
 from lab.transcripts.rules import rule_of, rules_of_dues
+from lab.workshop.alpha_verdict import At
 from lab.workshop.judge import Entry
 from lab.workshop.processes import last_errors
-from lab.workshop.report import PROGRESS_SECONDS, Progress
 from lab.workshop.right_rounds import RightRounds
-from lab.workshop.why_alpha import At, early
-from lab.workshop.why_rounds import Why
+from lab.workshop.why import Why
+from lab.workshop.workshop import PROGRESS_SECONDS, Progress
 from tests.cases import Case
 from tests.workshop.base import network
 
@@ -17,67 +18,54 @@ from tests.workshop.base import network
 # 11 (0010, 0111, 1011) give 2*0+0, 2*2+1 and 2*0+1, so 0, 5 and 1, and the next three keep them. The shift gives node 2
 # the 5, node 1 the 1, and the root 0. Node 2 drops 5: it had 0, its parent has 1, so it takes 2.
 ROW = Network("row", 3, [(1, 2), (1, 3)], {}, {}, {1: 7, 2: 2, 3: 11})
+# Node, pulse, what `Why` is asked of besides, and this node's numbers at the end of what it says.
 OF_ROW = (
-    (1, 1, 3, "its parents are the neighbours above its own identifier, 7, by ascending identifier: 11 (port 1) in "
-              "forest 0; each gets the label of its forest"),
-    (3, 1, 1, "no neighbour has an identifier above its own, 11: it has no parent, and labels nobody"),
-)
-OF_COLOURS = (
-    (2, 2, "in each forest a node begins with its identifier, 2, and sends it to its children there: it has none"),
-    (1, 2, "in each forest a node begins with its identifier, 7, and sends it to its children there: port 0 in "
-           "forest 0"),
-    (2, 3, "bit step in forest 0: it had 2 (binary 10), and its parent, by port 0, sent 7 (binary 111); counted from "
-           "the right, from 0, they differ first in digit 0, where its own is 0: 2*0 + 0 = 0; it has no child in "
-           "forest 0, so it sends 0 to nobody"),
-    (1, 3, "bit step in forest 0: it had 7 (binary 111), and its parent, by port 1, sent 11 (binary 1011); counted "
-           "from the right, from 0, they differ first in digit 2, where its own is 1: 2*2 + 1 = 5; its children in "
-           "forest 0 get it, by port 0"),
-    (3, 3, "bit step in forest 0: it had 11 (binary 1011), and is a root, so digit 0 counts, which is 1: 2*0 + 1 = 1; "
-           "its children in forest 0 get it, by port 0"),
-    (2, 7, "shift in forest 0: it takes the colour that its parent sent, by port 0: 5; it has no child in forest 0, "
-           "so it sends 5 to nobody"),
-    (3, 7, "shift in forest 0: it is a root, and takes the least of 0, 1, 2 other than its own 1: 0; "
-           "its children in forest 0 get it, by port 0"),
-    (2, 8, "drop of 5 in forest 0: it has 5; its parent, by port 0, sent 1, and its children have 0, which it had "
-           "itself before the shift; it takes the least of 0, 1, 2 that is neither: 2; it has no child in forest 0, so "
-           "it sends 2 to nobody"),
-    (1, 8, "drop of 5 in forest 0: it has 1, and keeps it: 1; its children in forest 0 get it, by port 0"),
-    (1, 12, "drop of 3 in forest 0: it has 1, and keeps it: 1; in pulse 12 nothing is sent"),
+    (1, 1, {"port": 1}, "its parents are the neighbours above its own identifier, 7, by ascending identifier: 11 (port "
+                        "1) in forest 0; each gets the label of its forest"),
+    (3, 1, {"port": 0}, "its own identifier, 11, by ascending identifier: none; each gets the label of its forest"),
+    (2, 2, {"port": 0}, "its identifier, 2, and sends it to its children there; in forest 0 its parent is by port 0 "
+                        "and it has no child"),
+    (1, 3, {"forest": 0}, "in forest 0 it had 7 (binary 111), its parent is by port 1 and sent 11 (binary 1011) and "
+                          "its children are by port 0"),
+    (3, 7, {"forest": 0}, "in forest 0 it had 1 (binary 1), it is a root and its children are by port 0"),
+    (2, 8, {"forest": 0}, "in forest 0 it had 5 (binary 101), its parent is by port 0 and sent 1 (binary 1) and it has "
+                          "no child"),
+    (1, 8, {"port": 0}, "drop of 5: who has 5 takes the least of 0, 1, 2 that neither its parent nor its children "
+                        "have; these have what it had itself before the shift. In pulse 12 nothing is sent, before "
+                        "that its children get it; in forest 0 it had 1 (binary 1), its parent is by port 1 and sent "
+                        "0 (binary 0) and its children are by port 0 and have 5"),
+    (1, 12, {}, "nodes choose in the pulses after 12 alone"),
 )
 
 
 class Words(Case):
     def test_of_a_row_of_three(self):
         rounds = RightRounds(ROW)
-        for v, p, w, words in OF_ROW:
-            self.same(f"port of node {v} in pulse {p}", Why(rounds, v).of_port(p, w), words)
-        for v, p, words in OF_COLOURS:
-            self.same(f"colour of node {v} in pulse {p}", Why(rounds, v).of_forest(p, 0), words)
+        for v, p, of, words in OF_ROW:
+            said = Why(rounds, v).of(p, **of)
+            self.note(f"node {v} in pulse {p}", said.endswith(words), said)
 
     def test_of_a_merge_of_two_nodes(self):
         """By hand: their three-colours are 0 and 1, both have the merged colour 0, and there are 2 colours. So node
         1 chooses in the first pulse, and node 2, which hears of it, in the third."""
         rounds = RightRounds(network("two"))
         turn = "pulse {} is the turn of the nodes that have colour {} in forest 0 and had merged colour 0 before " \
-               "this merge; this node has {} and had 0: {}"
-        for v, p, colour, own, rest in (
-            (1, 13, 0, 0, "it is its turn. In this merge neighbours sent it no colour; the least that is left is 0; "
-                          "its neighbours in forest 0 get it, by port 0"),
-            (2, 13, 0, 1, "it isn't its turn, and it sends nothing"),
-            (2, 15, 1, 1, "it is its turn. In this merge neighbours sent it colour 0; the least that is left is 1; "
-                          "its neighbours in forest 0 get it, by port 0"),
+               "this merge: such a node takes the least colour that isn't barred at it and that didn't come in this " \
+               "merge, and sends it to its neighbours in forests 0 to 0, but nothing in the last pulse of a merge; " \
+               "in forest 0 it had {}, {}; it had merged colour 0; {}"
+        above, below = "its parent is by port 0 and it has no child", "it is a root and its children are by port 0"
+        for v, p, colour, own, links, rest in (
+            (1, 13, 0, "0 (binary 0)", above, "nothing has come"),
+            (2, 13, 0, "1 (binary 1)", below, "nothing has come"),
+            (2, 15, 1, "1 (binary 1)", below, "`chosen 0` came by port 0 in pulse 14"),
         ):
-            self.same(f"node {v} in pulse {p}", Why(rounds, v).of_choice(p), turn.format(p, colour, own, rest))
+            self.same(f"node {v} in pulse {p}", Why(rounds, v).of(p), turn.format(p, colour, own, links, rest))
         self.assertEqual(rounds.results, {1: "channel 1", 2: "channel 2"})
 
 
-# What comes to node 1 of the row: its port 0 is to node 2, and port 1 to node 3. A pulse by pulse, in words.
-EARLY_LABEL = "take 2 payload 1 label 0"
-EARLY_LABEL_WORDS = "`take 0 payload 1 label 0` came at pulse 0; it is for the inbox of pulse 2"
-
-
 def pulses(first, last):
-    """Pulses with the safes that come between them, so many entries that none of before is among the last eight."""
+    """Pulses of node 1 of the row with the safes that come between them; its port 0 is to node 2, and port 1 to node
+    3."""
     return [words for p in range(first, last + 1)
             for words in (f"take 2 safe {p - 1}", f"take 3 safe {p - 1}", f"pulse {p}", f"put 2 safe {p}")]
 
@@ -92,37 +80,27 @@ class AlphaWords(Case):
         pulse = sum(entry.startswith("pulse") for entry in words)
         return At(pulse, self.rounds.last, False, lacks, {}, "by port {}", self.rounds, entries, 1)
 
-    def test_what_came_early_is_shown_however_long_ago(self):
-        long_ago = self.at(EARLY_LABEL, *pulses(1, 20))
-        self.assertEqual(early(long_ago, True), [EARLY_LABEL_WORDS])
-        self.assertEqual(early(long_ago, False), [])
-        self.assertEqual(early(self.at(EARLY_LABEL), False), [EARLY_LABEL_WORDS])
-        # What came in time isn't early.
-        self.assertEqual(early(self.at("pulse 1", EARLY_LABEL), True), [])
-
-    def test_of_many_the_last_three_and_how_many_more(self):
-        words = [EARLY_LABEL, *pulses(1, 4), "take 3 payload 5 colour 1", *pulses(5, 6), "take 3 payload 7 colour 0",
-                 *pulses(7, 8), "take 3 payload 9 colour 0", *pulses(9, 9), "take 3 payload 10 colour 0"]
-        self.assertEqual(early(self.at(*words), True), [
-            "2 more came a pulse early before these, of pulses 1 and 5",
-            "`take 1 payload 7 colour 0` came at pulse 6; it is for the inbox of pulse 8",
-            "`take 1 payload 9 colour 0` came at pulse 8; it is for the inbox of pulse 10",
-            "`take 1 payload 10 colour 0` came at pulse 9; it is for the inbox of pulse 11"])
-
-    def test_a_safe_is_early_until_its_pulse_is_over(self):
-        came = ["take 3 safe 0", "take 3 safe 1", "pulse 1"]
-        words = "`take 1 safe 1` came at pulse 0; it is to be kept until pulse 1 is made"
-        self.assertEqual(early(self.at(*came), False), [words])
-        self.assertEqual(early(self.at(*came, "pulse 2"), False), [])
+    def test_what_came_early(self):
+        """A payload is shown however long ago it came, if what is wrong may come from it; a safe until its pulse is
+        over; of many the last three."""
+        label, long_ago = "take 2 payload 1 label 0", pulses(1, 20)
+        words = "`take 0 payload 1 label 0` came at pulse 0, and is to be kept until pulse 1 is made"
+        safe = "`take 1 safe 1` came at pulse 0, and is to be kept until pulse 1 is made"
+        many = [word for p in range(1, 5) for word in (f"take 3 payload {p} colour 0", f"pulse {p}")]
+        for came, about_payload, right in (
+            ([label, *long_ago], True, [words]), ([label, *long_ago], False, []), ([label], False, [words]),
+            (["pulse 1", label], True, []), (["take 3 safe 0", "take 3 safe 1", "pulse 1"], False, [safe]),
+            (["take 3 safe 0", "take 3 safe 1", "pulse 1", "pulse 2"], False, []),
+            (many, True, ["1 more before these", *(
+                f"`take 1 payload {p} colour 0` came at pulse {p - 1}, and is to be kept until pulse {p} is made"
+                for p in (2, 3, 4))]),
+        ):
+            self.same(f"{came[:3]} {about_payload}", self.at(*came).early(about_payload), right)
 
     def test_whose_messages_an_inbox_has(self):
-        for v, p, words in (
-            (2, 1, "in pulse 0 node 2's neighbours sent it hello 7 by port 0: the inbox of its pulse 1"),
-            (1, 1, "in pulse 0 node 1's neighbours sent it hello 2 by port 0, hello 11 by port 1: the inbox of its "
-                   "pulse 1"),
-            (3, 2, "in pulse 1 node 3's neighbours sent it label 0 by port 0: the inbox of its pulse 2"),
-            (2, 2, "node 2's neighbours sent it nothing in pulse 1, so the inbox of its pulse 2 is empty"),
-        ):
+        for v, p, words in ((1, 1, "in pulse 0 node 1's neighbours sent it hello 2 by port 0, hello 11 by port 1: the "
+                                   "inbox of its pulse 1"),
+                            (2, 2, "in pulse 1 node 2's neighbours sent it nothing: the inbox of its pulse 2")):
             self.same(f"node {v} in pulse {p}", self.rounds.heard_words(v, p), words)
 
     def test_a_node_that_can_t_have_said_safe(self):
@@ -180,19 +158,6 @@ Exception in thread "main" java.lang.NullPointerException: Cannot read "String.l
 \tat java.base/java.util.List.all(List.java:16)
 \tat AlphaNode.main(AlphaNode.java:52)
 """
-JAVASCRIPT = """\
-/home/a/node.js:3
-function start() { return colours.length; }
-                                  ^
-
-TypeError: Cannot read properties of null (reading 'length')
-    at start (/home/a/node.js:3:35)
-    at Interface.<anonymous> (/home/a/node.js:4:47)
-    at Interface.emit (node:events:524:28)
-    at Readable.push (node:internal/streams/readable:392:5)
-
-Node.js v20.20.2
-"""
 
 
 class LastErrors(Case):
@@ -203,24 +168,15 @@ class LastErrors(Case):
                      '"int") to str`'),
             (JAVA, '`debugging | Exception in thread "main" java.lang.NullPointerException: Cannot read '
                    '"String.length()" | at AlphaNode.take(AlphaNode.java:28) | at AlphaNode.read(AlphaNode.java:35)`'),
-            (JAVASCRIPT, "`function start() { return colours.length; } | TypeError: Cannot read properties of null "
-                         "(reading 'length') | at start (/home/a/node.js:3:35) | at Interface.<anonymous> "
-                         "(/home/a/node.js:4:47) | Node.js v20.20.2`"),
-            ("", ""), ("\n  ^^^ \n", ""),
+            ("\n  ^^^ \n", ""),
         ):
             self.same(repr(text[:20]), last_errors(text.encode()), words)
 
-
-class Smaller(Case):
-    def test_a_smaller_case_is_looked_for(self):
-        """It is said every ten seconds."""
-        stream = io.StringIO()
-        with mock.patch("time.monotonic") as now:
-            now.return_value = 0
-            progress = Progress(stream)
-            for count in range(1, 23):
-                now.return_value = count
-                progress.smaller(count)
-        self.assertEqual(PROGRESS_SECONDS, 10)
-        self.assertEqual(stream.getvalue(), "".join(
-            f"workshop: looking for a smaller case that is wrong, {count} tried\n" for count in (11, 22)))
+    def test_how_far_it_is_is_said_now_and_then(self):
+        errors = io.StringIO()
+        with mock.patch("time.monotonic", side_effect=[0, 1, PROGRESS_SECONDS + 1, PROGRESS_SECONDS + 1]), \
+                contextlib.redirect_stderr(errors):
+            progress = Progress()
+            progress("run 1 of 9")
+            progress("run 2 of 9")
+        self.assertEqual(errors.getvalue(), "workshop: run 2 of 9\n")

@@ -1,6 +1,6 @@
 """A node without a clock, under synchroniser alpha: each message is a wire that it takes, and the answer is what it
-then puts, and the pulses that it makes."""
-from colouring import Colouring
+then puts, and the pulses that it makes. The synchroniser is the same for each program: alpha_node.py [PROGRAM]"""
+from programs import PROGRAMS
 from talk import serve
 
 
@@ -12,8 +12,8 @@ class Port:
 
 
 class AlphaNode:
-    def __init__(self, own, program=Colouring):
-        self.program, self.last = program(own), own["last"]
+    def __init__(self, own, program="colouring"):
+        self.program, self.last = PROGRAMS[program](own), own["last"]
         self.ports = [Port() for _ in range(own["degree"])]
         self.pulse, self.said, self.answer = 0, False, []
 

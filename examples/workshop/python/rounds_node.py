@@ -1,11 +1,12 @@
-"""A node with a clock: each message is a pulse and its inbox, and the answer is what the node sends in that pulse."""
-from colouring import Colouring
+"""A node with a clock: each message is a pulse and its inbox, and the answer is what the node sends in that pulse.
+rounds_node.py [PROGRAM]"""
+from programs import PROGRAMS
 from talk import serve
 
 
 class RoundsNode:
-    def __init__(self, own, program=Colouring):
-        self.program = program(own)
+    def __init__(self, own, program="colouring"):
+        self.program = PROGRAMS[program](own)
 
     def start(self):
         return self.answer(0, self.program.greet())

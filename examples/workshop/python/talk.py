@@ -28,11 +28,11 @@ def own_data(lines):
 
 
 def serve(make):
-    """Makes a node at the first message, and has it react to each later one."""
+    """Makes a node at the first message, and has it react to each later one. The words of the command go to it."""
     nodes = {}
     for slot, lines in messages():
         if lines[0][0] == "workshop":
-            nodes[slot] = make(own_data(lines))
+            nodes[slot] = make(own_data(lines), *sys.argv[1:])
             answer(nodes[slot].start())
         else:
             answer(nodes[slot].react(lines))

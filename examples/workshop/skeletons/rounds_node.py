@@ -1,5 +1,5 @@
-"""A node with a clock: the talking is done, the algorithm is yours. docs/learn/PROTOCOL.md says what the words
-mean."""
+"""A node with a clock, of `rounds` or of `open`: the talking is done, the algorithm is yours. docs/learn/PROTOCOL.md
+says what the words mean."""
 import sys
 
 KNOWN = ("identifier", "degree", "nodes", "delta", "bars", "forests", "last", "barred")
@@ -7,14 +7,16 @@ KNOWN = ("identifier", "degree", "nodes", "delta", "bars", "forests", "last", "b
 
 class Node:
     def __init__(self, own):
-        """`own` has identifier, degree, nodes, delta, bars, forests and last, and the list of the barred channels."""
+        """`own` has identifier, degree, nodes, delta, bars, and the list of the barred channels; `rounds` has forests
+        and last, too."""
         self.own = own
 
     def pulse(self, p, inbox):
-        """What the node does in pulse p, as lines; `inbox` is {port: (word, number)}, and empty in pulse 0."""
+        """What the node does in pulse p, as lines; `inbox` is {port: words}, as {0: ["hello", "3"]}, and empty in pulse
+        0."""
         if p == 0:
             return [f"put {port} hello {self.own['identifier']}" for port in range(self.own["degree"])]
-        return []           # yours: `put PORT WORD NUMBER`, and in the last pulse `channel C`
+        return []           # yours: `put PORT WORD NUMBER`, and in the last pulse, of `open` once, `channel C`
 
 
 def own_data(lines):
@@ -36,7 +38,7 @@ def main():
             nodes[which] = Node(own_data(message[1:]))
             answer = nodes[which].pulse(0, {})
         else:
-            inbox = {int(port): (word, int(number)) for _, port, word, number in message[1:]}
+            inbox = {int(port): words for _, port, *words in message[1:]}
             answer = nodes[which].pulse(int(message[0][1]), inbox)
         print("\n".join([*answer, "end"]), flush=True)
         message = []

@@ -1,0 +1,249 @@
+"""Nodes, and what is found of each: right ones in each language, with and without a clock, alone and together, and each
+typical mistake with its verdict, node and pulse.
+
+What is right of other programs on path4, a row of the nodes 1 to 4: of the layers node 1 sends `hops 0` in pulse 0,
+node 2 `hops 1` in pulse 1, node 3 `hops 2` in pulse 2, and pulse 3 is the last. On a triangle after the colouring: in
+forest 0 node 1 is below 2, and 2 below 3, and in forest 1 node 1 is below 3. The colours of 1, 2, 3 are 0, 1, 0 in
+forest 0, and 1, 2, 0 in the plan, after pulse 30. So node 3 takes node 2 in pulse 14. Node 3 joins the set in pulse 31,
+and the others hear of it. Node 2 chooses anew in pulse 31 and takes 0, node 1 in pulse 32 and takes 1, node 3 in
+pulse 33."""
+import os
+
+from lab.networks.network_text import Network
+from lab.schedules.policies import POLICIES
+from lab.workshop.cases import NETWORKS, cases_of
+from lab.workshop.protocol import SEQUELS
+from lab.workshop.right_rounds import RightRounds
+from tests.workshop.base import (ALPHA, EXAMPLES, GREEDY, MISTAKES, ROUNDS, Played, answering, in_c, in_java, network,
+                                 played)
+
+NODES = {"rounds": ROUNDS, "alpha": ALPHA}
+# A ring of four whose root is node 3: node 1 is two edges away on both sides, and its port 0 leads to node 2. Node 5
+# has no neighbour.
+RING = Network("ring and one", 5, [(1, 2), (2, 3), (3, 4), (1, 4)], {}, {}, {1: 40, 2: 1 << 100, 3: 1, 4: 7, 5: 2})
+BARRED_RING = Network("barred ring", 5, RING.edges, {}, {}, RING.identifiers, {1: [1], 4: [2]})
+# Its colour is 1, since 0 is barred, and 1 again. The last pulse is 14, two after those of the colouring.
+BARRED = Network("barred one", 1, [], {}, {}, {1: 1}, {1: [1]})
+
+# By mistake, what is found on most4 and on rest3: (node, pulse) of a difference, or None where all is right. On rest3
+# by hand: node 2 has the parents 3 and 13, in this order, and as texts in the other. The bit steps of 13, 3 and 2 give
+# 1, 3 and 0, and then the same again; the shift gives node 2 the 3, which is dropped in pulse 12 and not in pulse 8.
+COLOURING = {
+    "shift_root": ((1, 7), (1, 7)), "no_shift": ((3, 7), (2, 7)), "drop_parent": ((3, 8), None),
+    "drop_children": ((3, 8), None), "drop_all": (None, (2, 8)), "bit_highest": ((3, 3), (2, 3)),
+    "bit_root": ((1, 3), (1, 3)), "bit_parent": ((3, 3), (2, 3)), "label_ports": ((3, 1), (2, 1)),
+    "label_falling": ((3, 1), (2, 1)), "names_text": (None, (2, 1)), "names_64": ((1, 0), None),
+    "names_float": ((3, 3), None), "merge_this": ((1, 31), (1, 26)), "merge_all": ((1, 13), (2, 13)),
+    "merge_old": ((2, 38), (3, 19)), "merge_keep": ((3, 55), (3, 27)), "bars_forgotten": ((4, 19), (1, 13)),
+    "bars_channels": ((4, 19), (1, 13)), "bars_first": ((4, 19), (1, 13)), "bars_width": ((4, 19), (3, 16)),
+    # Nobody ever chooses in the last pulse of a merge, and nothing is sent in it.
+    "merge_last": (None, None), "merge_first_heard": (None, None),
+}
+# By mistake, what is found on alone4.
+SYNCHRONISER = {
+    "acks_unwaited": ("NothingToPut", 1, 0), "acks_own_pulse": ("WrongWire", 2, 2),
+    "acks_first": ("NothingToPut", 2, 0), "early_present": ("WrongWire", 2, 23), "early_lost": ("WrongWire", 2, 23),
+    "early_safe_lost": ("stuck", 2, 1), "early_safe_now": ("stuck", 2, 29), "safes_any": ("NotReady", 2, 0),
+    "safes_none": ("NotReady", 3, 0), "safes_counted": ("NotReady", 2, 0), "safe_unsaid": ("NotReady", 2, 1),
+    "safe_twice": ("NothingToPut", 3, 0), "safe_with_ack": ("WrongWire", 1, 1), "said_kept": ("NotReady", 2, 1),
+    "close_early": ("NothingToPut", 1, 29), "close_safe": ("WrongWire", 1, 30), "close_never": ("stuck", 1, 30),
+    "one_pulse": ("stuck", 4, 1), "leaves": ("ended", 2, 29), "no_channel": ("result", 1, 30),
+    # A payload completes nothing, so nothing else is in the answer to it.
+    "acks_after": None,
+}
+# By program and mistake, (node, pulse) of what is found with a clock on path4 or a triangle, the verdict and the pulse
+# without one, and the rule and this node's numbers.
+OTHERS = {
+    "layers": {
+        "layers_again": (1, 1, "WrongWire", 1, "a node sends `hops N` by each port as soon as it knows that it is in"),
+        "layers_last": (2, 3, "result", 3, "the node of identifier 1 is in layer 0, any other in layer N + 1"),
+        "layers_port": (2, 3, "result", 3, "by the least port by which it comes; if none comes, in none"),
+    },
+    "matching": {
+        "matching_again": (2, 16, "WrongWire", 16, "; in forest 0 it had 1 (binary 1), its parent is by port 1 and its "
+                           "children are by port 0; it sent `free 0` by port 1 in pulse 13, `free 0` came by port 0 in "
+                           "pulse 14, `take 0` came by port 1 in pulse 15, `free 0` came by port 0 in pulse 16"),
+        "matching_all": (1, 13, "NothingToPut", 13, "pulse 13 is the first of the turn of colour 0 in forest 0: a node "
+                         "without a partner sends `free 0` to its parent in this forest, and nothing else is sent; in "
+                         "forest 0 it had 0 (binary 0), its parent is by port 0 and it has no child; nothing has come"),
+        "matching_turn": (2, 14, "WrongWire", 14, "pulse 14 is the second of the turn of colour 0 in forest 0"),
+        "matching_untold": (3, 14, "NothingToPut", 14, "its children are by port 1; `free 0` came by port 1 in pulse"),
+        # Up to the cut the words are those of the colouring.
+        "label_falling": (1, 1, "WrongWire", 1, "its parents are the neighbours above its own identifier, 1, by"),
+    },
+    "independent-set": {
+        "set_beside": (1, 32, "WrongWire", 32, "pulse 32 is the turn of the nodes of colour 1, channel 2: one of them "
+                       "joins if no neighbour has sent `joined`, and then sends `joined 1` by each port, but nothing "
+                       "in the last pulse; it had merged colour 1; `joined 0` came by port 1 in pulse 32"),
+        "set_forgets": (2, 33, "result", 33, "a node is in if it has joined in the turn of its colour; it had merged "
+                        "colour 2; `joined 0` came by port 1 in pulse 32"),
+        "set_channel": (3, 31, "WrongWire", 31, "pulse 31 is the turn of the nodes of colour 0, channel 1"),
+    },
+    "recolouring": {
+        "anew_least": (2, 31, "WrongWire", 31, "pulse 31 is the turn of the nodes that have colour 2, channel 3"),
+        "anew_bars": (1, 14, "result", 14, "a node's channel is the colour that it has chosen anew, plus one; it had "
+                      "merged colour 1, and barred at it: colour 0; nothing has come"),
+        "anew_last": (3, 33, "result", 33, "plus one; it had merged colour 0; `anew 0` came by port 1 in pulse 32, "
+                      "`anew 1` came by port 0 in pulse 33"),
+        "anew_old": (2, 31, "WrongWire", 31, "takes the least colour that isn't barred at it and that no neighbour"),
+    },
+}
+
+
+class RightNodes(Played):
+    def test_with_a_clock(self):
+        for name in ("path1", "two", "most4", "rest3", "alone4", "random6", "drops", "barred"):
+            for command in (ROUNDS, in_c()):
+                self.right("rounds", name, command)
+
+    def test_without_a_clock(self):
+        for name in ("alone4", "triangle"):
+            for policy in POLICIES:
+                self.right("alpha", name, ALPHA, policy=policy, one_process=True)
+        for name in ("path1", "two", "most4"):
+            self.right("alpha", name, ALPHA)
+
+    def test_of_other_programs(self):
+        for program in ("layers", *SEQUELS):
+            for given in ("path1", "two", "triangle", "most4", "rest3", "drops", BARRED_RING, BARRED):
+                for assignment, command in NODES.items():
+                    self.right(assignment, given, [*command, program], one_process=True, program=program)
+        for policy, program in zip(POLICIES, ("layers", *SEQUELS) * len(POLICIES)):
+            self.right("alpha", BARRED_RING, [*ALPHA, program], policy=policy, one_process=True, program=program)
+        # A node alone is silent, and says its result in each pulse.
+        for program, line in (("leader", "leader 01"), ("layers", "layer 00"), ("matching", "partner none"),
+                              ("independent-set", "in"), ("recolouring", "channel 001")):
+            self.right("rounds", "path1", answering(line), program=program)
+        self.right("rounds", "alone4", answering("layer none"), program="layers")
+
+    def test_nodes_of_several_programs(self):
+        self.right("rounds", "star4", ROUNDS, in_c())
+        self.right("rounds", "ring5", ROUNDS, ROUNDS, one_process=True)
+        if in_java():
+            self.right("alpha", "path3", ALPHA, in_java())
+
+    def test_the_same_seed_gives_the_same_run(self):
+        """Whatever the language, and in one process or several."""
+        first, *others = (
+            played("alpha", "path3", command, policy="bursts", seed="5", one_process=is_shared).run.in_order()
+            for command, is_shared in ((ALPHA, False), (ALPHA, True), (in_java(), False)) if command)
+        self.same("the same run", others, [first] * len(others))
+        other = played("alpha", "path3", ALPHA, policy="bursts", seed="6", one_process=True)
+        self.assertNotEqual(other.run.in_order(), first)
+
+    def test_an_own_algorithm(self):
+        """In a row whose identifiers ascend the last node chooses in pulse 1, and each other one a pulse after its
+        higher neighbour; the last message is heard a pulse later. Each node sends its name and its channel by
+        each port."""
+        for name, league in (("path5", (6, 16, 2)), ("ring6", (7, 24, 2)), ("complete4", (5, 24, 4)),
+                             ("path1", (0, 0, 1))):
+            case = played("open", name, GREEDY)
+            self.same(name, (case.finding, case.league), (None, league))
+
+    def test_from_how_many_nodes_on_the_lessons_are_faster(self):
+        """The teacher's answer to exercise 5: from 21 on a row and from 30 on a ring, each with one node less not yet.
+        A node more makes the greedy run a pulse longer, and the last pulse of the rounds stays."""
+        for kind, first, last in (("path", 21, 21), ("ring", 30, 30)):
+            for nodes, pulses in ((first - 1, last), (first, last + 1)):
+                case = played("open", f"{kind}{nodes}", GREEDY, one_process=True)
+                self.same(f"{kind} {nodes}", (case.finding, case.league.pulses), (None, pulses))
+                self.same(f"rounds of {kind} {nodes}", RightRounds(network(f"{kind}{nodes}")).last, last)
+
+
+class Mistakes(Played):
+    def test_each_has_a_row(self):
+        others = {name for names in OTHERS.values() for name in names}
+        self.assertEqual(set(COLOURING) | set(SYNCHRONISER) | others, set(MISTAKES.MISTAKES))
+
+    def test_the_two_networks_show_all_that_can_show(self):
+        """Those that rest3 is there for are in its comment, and how many most4 shows in that of most4."""
+        can_show = {name for name, rights in COLOURING.items() if rights != (None, None)}
+        on_most4 = {name for name in can_show if COLOURING[name][0]}
+        self.assertEqual(can_show - on_most4, {"drop_all", "names_text"})
+        self.assertLessEqual({"rest3", "most4"}, set(NETWORKS.split(",")))
+        with open(os.path.join(EXAMPLES, "most4.col"), encoding="ascii") as text:
+            self.assertIn(f"{len(on_most4)} of the {len(can_show)} typical mistakes", text.readline())
+
+    def test_of_the_colouring(self):
+        for name, rights in COLOURING.items():
+            for given, right in zip(("most4", "rest3"), rights):
+                self.found(right and ("differs", *right), "rounds", given, self.wrong_node(name, "rounds_node.py"),
+                           one_process=True)
+
+    def test_of_the_synchroniser(self):
+        for name, right in SYNCHRONISER.items():
+            self.found(right, "alpha", "alone4", self.wrong_node(name, "alpha_node.py"), policy="newest",
+                       one_process=name != "leaves")
+
+    def test_of_other_programs(self):
+        for program, names in OTHERS.items():
+            for name, (node, pulse, verdict, later, why) in names.items():
+                given = BARRED if name == "anew_bars" else "path4" if program == "layers" else "triangle"
+                more = {"program": program, "one_process": True, "policy": "newest"}
+                found = self.found(("differs", node, pulse), "rounds", given,
+                                   self.wrong_node(name, "rounds_node.py", program), **more)
+                self.note(f"why {name} is wrong", why in dict(found.lines)["why"], dict(found.lines)["why"])
+                # Which of two nodes that are wrong in one pulse is the first is the policy's matter.
+                found = played("alpha", given, self.wrong_node(name, "alpha_node.py", program), **more).finding
+                self.same(f"{name} without a clock", (found.kind, found.pulse), (verdict, later))
+
+    def test_a_whole_report(self):
+        wrong = self.wrong_node("layers_port", "rounds_node.py", "layers")
+        self.same("its words", played("rounds", "path4", wrong, program="layers").finding.text(), [
+            "where  node 2, pulse 3", "came   hops 2 by port 1", "wrong  layer 1", "right  layer 1 by 0",
+            "why    the node of identifier 1 is in layer 0, any other in layer N + 1 where N is the number of the "
+            "first `hops N` that comes, by the least port by which it comes; if none comes, in none",
+            "also   in the same pulse nodes 3 and 4"])
+
+    def test_a_result_that_isn_t_said(self):
+        """A node that is silent is right in every pulse if nobody is the root, up to the last."""
+        found = self.found(("differs", 1, 3), "rounds", "alone4", answering(), program="layers")
+        said = "wrong  no line `layer N by PORT` or `layer 0` or `layer none`"
+        self.note("its words", said in found.text(), found.text())
+
+    def test_blame_is_of_the_node_whose_mistake_it_is(self):
+        """Two right nodes, and one at the end of the row that makes pulses without its neighbours' safes."""
+        self.found(("NotReady", 3, 0), "alpha", "path3", ALPHA, ALPHA, self.wrong_node("safes_none", "alpha_node.py"))
+
+
+class Lines(Played):
+    def test_what_is_no_line_or_no_wire_of_the_program(self):
+        forms = "`layer N by PORT`, `layer 0`, `layer none` and `end`"
+        for program, assignment, line, words in (
+            ("layers", "rounds", "colour 0 1", f"which are `put PORT WORD NUMBER`, {forms}"),
+            ("layers", "rounds", "layer 1 by", "`layer 1 by` is no line of an answer"),
+            ("layers", "rounds", "layer far", "`layer far` is no line of an answer"),
+            ("layers", "alpha", "chose 1", f"which are `put PORT WIRE`, `pulse P`, {forms}"),
+            ("layers", "alpha", "put 0 payload 0 hello 1", "`hello` is no payload, which is hops"),
+            ("layers", "alpha", f"put 0 payload 0 hops {1 << 32}", f"`{1 << 32}` is no number of a hops, which is"),
+            ("matching", "rounds", "channel 1",
+             "which are `put PORT WORD NUMBER`, `partner PORT`, `partner none` and "),
+            ("matching", "rounds", "partner", "`partner` is no line of an answer"),
+            ("independent-set", "rounds", "in 1", "`in 1` is no line of an answer"),
+            ("recolouring", "rounds", "colour 0 1", "`colour 0 1` is no line of an answer"),
+            ("matching", "alpha", "put 0 payload 0 joined 1",
+             "`joined` is no payload, which are hello, label, colour, chosen, free, take"),
+            ("colouring", "alpha", "put 0 safe", "`safe` isn't a wire of 2 words"),
+            ("colouring", "alpha", f"pulse {1 << 32}", f"`pulse {1 << 32}` is no line of an answer"),
+            ("colouring", "alpha", "colour 0 3", "`colour 0 3` is no line of an answer, which are `put PORT WIRE`"),
+            ("colouring", "rounds", "put 7 hello 1", "there is no port 7; the node has port 0 alone"),
+            ("colouring", "rounds", "my colours: [3, 1]", "`my colours: [3, 1]` is no line of an answer"),
+        ):
+            found = played(assignment, "two", answering(line), program=program).finding
+            said = dict(found.lines)["wrong"]
+            self.note(f"{assignment} of {program}: {line}", found.kind == "garbage" and words in said, found.text())
+
+
+class Cases(Played):
+    def test_most_networks_have_a_root(self):
+        """And those of the colouring are as they always were; bars come by chance where they count."""
+        made = cases_of(NETWORKS.split(","), [""], 100, "1", program="layers")
+        self.assertIn(sum(1 in case.network.identifiers.values() for case in made), range(80, 100))
+        for case in made:
+            with self.subTest(case=case.number):
+                self.assertEqual(len(set(case.network.identifiers.values())), case.network.nodes)
+                self.assertEqual(bool(case.network.bars), case.network.name in ("most4", "rest3"))
+        for program, has_bars in (("colouring", True), ("matching", False), ("independent-set", True),
+                                  ("recolouring", True)):
+            made = cases_of(["ring5"], [""], 20, "1", program=program)
+            self.same(f"bars of {program}", any(case.network.bars for case in made), has_bars)
