@@ -47,8 +47,8 @@ class Server(Case):
         self.token = address.partition("token=")[2]
 
     def tearDown(self):
-        self.process.kill()
-        self.process.wait()
+        self.process.send_signal(signal.SIGINT)  # and not SIGKILL, which leaves its folder
+        self.process.wait(60)
         self.process.stderr.close()
 
     def ask(self, path, body="{}", method="POST", **headers):
