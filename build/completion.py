@@ -1,11 +1,16 @@
-"""What completes the words of the three commands in bash and zsh, made of what their `--help` prints."""
+"""What is made of the help of the three commands: what completes their words in bash and zsh, and a manual page of
+each."""
+import functools
 import os
 import re
+import subprocess
 import sys
 
-from build.manuals import COMMANDS_OF, commands_of, help_of
 from build.crate_lists import TOP
 
+COMMANDS = ("forestplan", "forestplay", "forestlab")
+# What of forestlab has commands of its own, each in a line of the help.
+WITH_COMMANDS = ((), ("picture",), ("network",), ("transcript",))
 HEAD = """\
 # Completes the words of forestplan, forestplay and forestlab: `source` it in bash or zsh. Made by `python3 build
 # completion`.
@@ -26,34 +31,53 @@ complete -o filenames -F _forestplan forestplan forestplay forestlab
 """
 
 
-def options_of(text):
-    """The options that a help text lists."""
-    return sorted(set(re.findall(r"^ +(?:-\w(?: [A-Z.]+)?, )?(--[a-z-]+)", text, re.M)))
+def commands_in(words, text):
+    """The commands that the help text of some words lists."""
+    listed = re.search(r"^Commands:\n((?:  .*\n)+)", text, re.M)
+    if listed:
+        return re.findall(r"^  ([a-z]+) ", listed.group(1), re.M)
+    if words[0] != "forestlab" or words[1:] not in WITH_COMMANDS:
+        return []
+    before = re.split("positional arguments:|^Example", text, flags=re.M)[0]
+    return re.findall(r"^  ([a-z]+) (?:[A-Z]+ )* *[a-z]", before, re.M)
 
 
-def tree(help_text, *words):
-    """(words, commands, options) of a command and of those below it; `help_text` has the help of each."""
-    text = help_text(*words)
-    below = commands_of(" ".join(words), text)
-    for name in below:
-        yield from tree(help_text, *words, name)
-    yield words, below, options_of(text)
+@functools.cache
+def helps(folder, *words):
+    """[(words, what their help prints, the commands below)] of a command in a folder, and then of each below it."""
+    text = subprocess.run([os.path.join(folder, words[0]), *words[1:], "--help"], stdin=subprocess.DEVNULL, check=True,
+                          stdout=subprocess.PIPE, text=True, env=dict(os.environ, COLUMNS="80")).stdout
+    below = commands_in(words, text)
+    return [(words, text, below), *(found for name in below for found in helps(folder, *words, name))]
 
 
-def completion(help_text):
-    """The file; `help_text(word, ..)` is the help of each command."""
+def completion(folder):
+    """The file that completes the words of the commands in a folder."""
     lines = []
-    for command in COMMANDS_OF:
-        for words, below, options in tree(help_text, command):
-            # A path may be before the command's name, and more words after all of them.
-            pattern = "*" + "".join(f"{word}\\ " for word in words) + "*"
-            lines.append(f'    {pattern}) words="{" ".join(options)}" commands="{" ".join(below)}" ;;\n')
+    # The shell takes the first pattern that fits, so those of more words come first.
+    for words, text, below in sorted((found for name in COMMANDS for found in helps(folder, name)),
+                                     key=lambda found: -len(found[0])):
+        options = sorted(set(re.findall(r"^ +(?:-\w(?: [A-Z.]+)?, )?(--[a-z-]+)", text, re.M)))
+        # A path may be before the command's name, and more words after all of them.
+        pattern = "*" + "".join(f"{word}\\ " for word in words) + "*"
+        lines.append(f'    {pattern}) words="{" ".join(options)}" commands="{" ".join(below)}" ;;\n')
     return HEAD + "".join(lines) + TAIL
 
 
-def of_folder(folder):
-    """The help of each command in a folder."""
-    return lambda name, *words: help_of(os.path.join(folder, name), *words)
+def as_roff(text):
+    """A text that is printed line by line, unchanged."""
+    lines = [line.replace("\\", "\\e").replace("-", "\\-") for line in text.rstrip("\n").split("\n")]
+    return ".nf\n" + "".join(("\\&" if line[:1] in (".", "'") else "") + line + "\n" for line in lines) + ".fi\n"
+
+
+def manual(folder, name):
+    """The manual page of a command: its purpose, the first sentence of its help that isn't its usage, and each help."""
+    (_, text, _), *below = helps(folder, name)
+    first = re.sub(r"\Ausage: .*\n(?: +.*\n)*", "", text).lstrip("\n").split("\n\n")[0].replace("\n", " ")
+    purpose = re.split(r"(?<=[a-z])\.(?:\s|$)", first)[0]
+    page = f'.TH "{name.upper()}" 1 "" "forestplan" "User Commands"\n.SH NAME\n'
+    page += f"{name} \\- {purpose[:1].lower()}{purpose[1:]}\n.SH DESCRIPTION\n{as_roff(text)}"
+    return page + "".join(f'.SH "{" ".join(words).upper()}"\n{as_roff(said)}' for words, said, _ in below)
 
 
 def main():
@@ -61,5 +85,5 @@ def main():
         print("Prints what completes the words of forestplan, forestplay and forestlab in bash and zsh.\n\n"
               "Example:\n  source <(python3 build completion)")
         return 0
-    sys.stdout.write(completion(of_folder(os.path.join(TOP, "bin"))))
+    sys.stdout.write(completion(os.path.join(TOP, "bin")))
     return 0

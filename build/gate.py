@@ -17,7 +17,7 @@ import time
 
 from build import kit
 from build.crate_lists import TOP, lines_of, listed, with_below
-from lab.door import STOPPED
+from lab.progress import exactly
 
 # What `rt ci` isn't given of a crate: what was built of it, and edits.
 LEFT_OUT = ("out", "must-fail", "wrong-bodies")
@@ -41,7 +41,7 @@ def new_room(name):
     os.makedirs(os.path.dirname(room), mode=0o700, exist_ok=True)
     with open(f"{room}.lock", "w", encoding="ascii") as lock:
         if not is_taken(lock):
-            print(f"{name}: another call is proving already; waiting for its end", file=sys.stderr, flush=True)
+            tell(name, "another call is proving already; waiting for its end")
             # In one call that waits, a signal that came just before it would wait, too.
             while not is_taken(lock):
                 time.sleep(0.2)
@@ -67,48 +67,36 @@ def copy(crates, room, edits):
             shutil.copy(edit, os.path.join(there, "must-fail"))
 
 
-class Shown:
-    """The progress on standard error: on a terminal one line that is rewritten, else a line when crates are proved."""
-
-    def __init__(self, name, total):
-        self.name, self.total, self.start, self.count = name, total, time.monotonic(), -1
-        self.is_terminal = sys.stderr.isatty()
-
-    def time(self):
-        minutes, seconds = divmod(int(time.monotonic() - self.start), 60)
-        return f"{minutes} min {seconds} s" if minutes else f"{seconds} s"
-
-    def tick(self, proved):
-        """Called about twice a second with the crates that are proved so far."""
-        line = f"{self.name}: {len(proved)} of {self.total} crates proved, {self.time()}"
-        line += f", the last one {proved[-1]}" if proved else ""
-        if self.is_terminal:
-            print(f"\r\033[K{line[:shutil.get_terminal_size().columns - 1]}", end="", file=sys.stderr, flush=True)
-        elif len(proved) > self.count:
-            print(line, file=sys.stderr, flush=True)
-        self.count = len(proved)
-
-    def end(self, text):
-        print(("\r\033[K" if self.is_terminal else "") + f"{self.name}: {text}", file=sys.stderr, flush=True)
-
-
-def followed(rt, log, shown):
-    """What `rt ci` has said when it ends, or when a crate isn't proved."""
-    said = ""
+def followed(name, rt, log, total, start):
+    """What `rt ci` has said when it ends, or when a crate isn't proved. Meanwhile standard error gets a line when one
+    is."""
+    said, count = "", -1
     with open(log, encoding="utf-8", errors="replace") as text:
         while True:
             has_ended = rt.poll() is not None
             said += text.read()
-            shown.tick(PROVED.findall(said))
+            proved = PROVED.findall(said)
+            if len(proved) > count:
+                count = len(proved)
+                last = f", the last one {proved[-1]}" if proved else ""
+                tell(name, f"{count} of {total} crates proved, {since(start)}{last}")
             if has_ended or NOT_PROVED.search(said):
                 return said
             time.sleep(0.5)
 
 
-def tell_failure(shown, status, said, log):
+def tell(name, what):
+    print(f"{name}: {what}", file=sys.stderr, flush=True)
+
+
+def since(start):
+    return exactly(time.monotonic() - start)
+
+
+def tell_failure(name, status, said, log):
     found = NOT_PROVED.search(said)
     what = f"the crate {found[1]} isn't proved" if found else f"rt ci ended with status {status}"
-    shown.end(f"{what}; the last lines of {os.path.relpath(log, TOP)} are:")
+    tell(name, f"{what}; the last lines of {os.path.relpath(log, TOP)} are:")
     for line in said[:found.end() if found else None].splitlines()[-12:]:
         print(f"  {line}", file=sys.stderr)
 
@@ -117,7 +105,7 @@ def run(name, crates, edits=None, take=None):
     """Has these crates proved with those below them, and these edits of each tried, and calls `take` with the folder in
     which all is built. Returns what `rt ci` said, or None if a crate isn't proved, which standard error says then."""
     wanted, edits = with_below(crates, listed()), edits or {}
-    log, shown = os.path.join(TOP, "out", "build", f"{name}.log"), Shown(name, len(wanted))
+    log, start = os.path.join(TOP, "out", "build", f"{name}.log"), time.monotonic()
     os.makedirs(os.path.dirname(log), exist_ok=True)
     try:
         with new_room(name) as (room, lock):
@@ -127,17 +115,17 @@ def run(name, crates, edits=None, take=None):
                     [kit.command(), "ci"], cwd=room, stdin=subprocess.DEVNULL, stdout=to, stderr=subprocess.STDOUT,
                     pass_fds=[lock.fileno()]) as rt:
                 try:
-                    said = followed(rt, log, shown)
+                    said = followed(name, rt, log, len(wanted), start)
                 finally:
                     # All that it has started ends with it.
                     rt.kill()
             if NOT_PROVED.search(said) or rt.returncode not in ((0, 1) if edits else (0,)):
-                tell_failure(shown, rt.returncode, said, log)
+                tell_failure(name, rt.returncode, said, log)
                 return None
             if take:
                 take(room)
-    except (KeyboardInterrupt, SystemExit) as why:
-        shown.end(f"interrupted after {shown.time()}; what is proved is kept, so the next call goes on from here")
-        sys.exit(why.code if isinstance(why, SystemExit) else STOPPED)
-    shown.end(f"{len(wanted)} crates proved in {shown.time()}")
+    except (KeyboardInterrupt, SystemExit):
+        tell(name, f"stopped after {since(start)}; what is proved is kept, so the next call goes on from here")
+        raise
+    tell(name, f"{len(wanted)} crates proved in {since(start)}")
     return said

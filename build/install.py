@@ -3,24 +3,25 @@
 All is made in a folder inside the target and moved file by file, so that a full disk leaves nothing half; SHA256SUMS
 says what may be removed later."""
 import os
+import re
 import shutil
 import subprocess
 import sys
 import tempfile
 
-from build import completion, kit, manuals, note, program, readme
-from build.crate_lists import PROGRAMS
+from build import kit, program
+from build.completion import COMMANDS, completion, manual
+from build.crate_lists import PROGRAMS, TOP
+from build.vendor import reason
 from lab import checksums, version
 from lab.door import held
 from lab.words import parser_of
-from lab.workshop.class_files import IS_CLASS, class_files, finish_class, write, write_scripts
-
-TOP = os.path.dirname(os.path.dirname(os.path.realpath(__file__)))
+from lab.workshop import class_files
+from lab.workshop.class_files import write
 
 # What is copied, each at the path that it has here.
-COMMANDS = (*PROGRAMS, "forestlab")
 FOLDERS = ("examples", "docs", "lab")
-FILES = ("README.md", "CHANGELOG.md", "LICENSE-MIT", "LICENSE-APACHE")
+FILES = ("CHANGELOG.md", "LICENSE-MIT", "LICENSE-APACHE", "bin/forestlab")
 # What pip reads, which is at the top of an installed folder.
 PYPROJECT = os.path.join("lab", "python", "pyproject.toml")
 
@@ -37,8 +38,8 @@ SHA256SUMS. The programs need the C library alone, the scripts bash and Python 3
 folder serves every machine of the same kind: copy it with cp -r, or `python3 build pack`
 makes one archive of it. After `pip install DIR` Python can import forestplan.
 
-With --class it is the folder of a class that writes the nodes itself: without the right
-nodes, the definitions and the commands that are written with them, and the answers.
+With --class it is what `forestlab workshop class DIR` makes: the folder of a class that
+writes the nodes itself.
 
 Programs that aren't built from these sources are proved and built first. That takes
 the minutes that README.md says, and needs the toolchain's command rt.
@@ -58,69 +59,55 @@ Example:
   forestplan plain < examples/triangle.col
 """
 
+# In place of README's section on the first call and the tests, up to the table of the commands.
+SECTION = """\
+## In this folder
 
-def say(what):
-    print(f"install: {what}", file=sys.stderr, flush=True)
+    PATH=$PWD/bin:$PATH
+    forestplan plan < examples/triangle.col     prints the plan
 
+The programs need no toolchain, `forestlab` bash and Python 3. With `bin/` on the PATH the commands work anywhere, and
+`man` finds their pages; `source share/forestlab.bash` completes their words in bash and zsh. VERSION says from which
+commit the folder was made, and SHA256SUMS has a sum of each file. What a page says of `crates/`, `bench/`, `tests/`,
+the toolchain and `python3 build` is about the repository of that commit.
 
-def files_to_copy(is_class):
-    """(source, path in the folder) of each file."""
-    yield from ((note.program_at(name), os.path.join("lib", name)) for name in PROGRAMS)
-    if is_class:
-        yield from ((os.path.join(TOP, path), path) for path in class_files(TOP))
-        return
-    yield os.path.join(TOP, "bin", "forestlab"), os.path.join("bin", "forestlab")
-    yield from ((os.path.join(TOP, name), name) for name in FILES)
-    for folder in FOLDERS:
-        for at, below, names in os.walk(os.path.join(TOP, folder)):
-            below[:] = sorted(name for name in below if name != "__pycache__")
-            for name in sorted(names):
-                source = os.path.join(at, name)
-                yield source, os.path.relpath(source, TOP)
+"""
 
 
-def version_text(is_class):
-    """What the file VERSION says; of the kit, which one is here if it isn't the one that the sources name."""
-    text = version.text() + f"{IS_CLASS}\n" * is_class
-    if kit.command() and kit.found() not in (None, kit.wanted()):
-        text += f"built where rt is of {kit.found()}\n"
-    return text
+def readme():
+    """The text of README as it is in a folder: with the commands that the folder has, as they are called."""
+    with open(os.path.join(TOP, "README.md"), encoding="utf-8") as file:
+        text = file.read()
+    return re.sub(r"^## Two commands\n.*?(?=^Command \| )", SECTION, text, flags=re.M | re.S).replace("./forestplan",
+                                                                                                      "forestplan")
 
 
-def make(room, is_class=False):
+def make(room):
     """Makes all that is installed in an empty folder."""
-    for source, path in files_to_copy(is_class):
-        os.makedirs(os.path.dirname(os.path.join(room, path)), exist_ok=True)
-        shutil.copy(source, os.path.join(room, path))
-    write_scripts(room)
-    if not is_class:
-        os.rename(os.path.join(room, PYPROJECT), os.path.join(room, "pyproject.toml"))
-        with open(os.path.join(TOP, "README.md"), encoding="utf-8") as file:
-            write(os.path.join(room, "README.md"), readme.installed(file.read()))
+    os.makedirs(os.path.join(room, "lib"))
+    for name in PROGRAMS:
+        shutil.copy(program.program_at(name), os.path.join(room, "lib"))
+    for folder in FOLDERS:
+        shutil.copytree(os.path.join(TOP, folder), os.path.join(room, folder),
+                        ignore=shutil.ignore_patterns("__pycache__"))
+    class_files.write_scripts(room)
+    for path in FILES:
+        shutil.copy(os.path.join(TOP, path), os.path.join(room, path))
+    os.rename(os.path.join(room, PYPROJECT), os.path.join(room, "pyproject.toml"))
+    write(os.path.join(room, "README.md"), readme())
     for name in COMMANDS:
-        page = os.path.join(room, "share", "man", "man1", f"{name}.1")
-        write(page, manuals.page_of(name, os.path.join(room, "bin", name)))
-    words = completion.completion(completion.of_folder(os.path.join(room, "bin")))
-    write(os.path.join(room, "share", "forestlab.bash"), words)
-    if is_class:
-        finish_class(room)
-    write(os.path.join(room, "VERSION"), version_text(is_class))
+        write(os.path.join(room, "share", "man", "man1", f"{name}.1"), manual(os.path.join(room, "bin"), name))
+    write(os.path.join(room, "share", "forestlab.bash"), completion(os.path.join(room, "bin")))
+    # Which kit is here, if it isn't the one that the sources name.
+    kits = {kit.found()} - {kit.wanted()} if kit.command() else ()
+    write(os.path.join(room, "VERSION"), version.text() + "".join(f"built where rt is of {it}\n" for it in kits))
     write(os.path.join(room, checksums.NAME), checksums.text_of(room))
 
 
 def put(room, folder):
-    """Moves all from a folder beside it into place, each file in place of what was there, even if that is being run or
-    is a link; and removes what an earlier install put there and this one doesn't. Where a folder is in the place of a
-    file, or the other way round, nothing is moved."""
+    """Moves all from a folder inside into place, each file in place of what was there, even if that is being run or is
+    a link; and removes what an earlier install put there and this one doesn't."""
     before, now = checksums.read(folder), checksums.read(room)
-    for path in [*now, checksums.NAME]:
-        *above, last = path.split("/")
-        for at in range(1, len(above) + 1):
-            place = os.path.join(folder, *above[:at])
-            if os.path.lexists(place) and not os.path.isdir(place):
-                raise OSError(f"{place} is no folder")
-        if os.path.isdir(os.path.join(folder, path)) and not os.path.islink(os.path.join(folder, path)):
-            raise OSError(f"{os.path.join(folder, path)} is a folder")
     for path in [*now, checksums.NAME]:
         os.makedirs(os.path.dirname(os.path.join(folder, path)), exist_ok=True)
         os.replace(os.path.join(room, path), os.path.join(folder, path))
@@ -129,7 +116,7 @@ def put(room, folder):
             os.remove(os.path.join(folder, path))
 
 
-def install(folder, is_class=False):
+def install(folder):
     is_new = not os.path.isdir(folder)
     os.makedirs(folder, exist_ok=True)
     for name in os.listdir(folder):
@@ -141,7 +128,7 @@ def install(folder, is_class=False):
         with held():
             kept = tempfile.TemporaryDirectory(prefix=".install-", dir=folder)
         with kept as room:
-            make(room, is_class)
+            make(room)
             put(room, folder)
     except BaseException:
         if is_new:
@@ -159,12 +146,13 @@ def main():
     if inside == "." or inside.split(os.sep)[0] in FOLDERS:
         words.error("the folder has to be another one than this tree, and not inside of what is copied")
     status = program.built(PROGRAMS)
-    if status:
-        return status
+    if status or given.is_class:
+        return status or class_files.main([folder])
     try:
-        install(folder, given.is_class)
+        install(folder)
     except (OSError, shutil.Error, subprocess.CalledProcessError) as failed:
-        say(f"{failed}; {folder} is as it was")
+        print(f"install: {folder}: {reason(failed)}", file=sys.stderr)
         return 1
-    say(f"{folder} has all; with {folder}/bin on the PATH the commands work anywhere, and man finds their pages")
+    print(f"install: {folder} has all; with {folder}/bin on the PATH the commands work anywhere, and man finds their "
+          "pages", file=sys.stderr)
     return 0

@@ -22,21 +22,18 @@ def wanted():
 
 
 def found():
-    """The line of the kit that `rt` is of, or None if it is no command of a kit."""
+    """The line of the kit that `rt` is of, if it says so."""
     try:
         with open(os.path.join(os.path.dirname(os.path.dirname(command())), "KIT-ID"), encoding="utf-8") as line:
             return line.read().strip()
     except OSError:
-        return None
+        return "no kit that says its name"
 
 
 def is_there(name):
     """Whether the toolchain's command is there; says if it isn't, and if it is of another kit."""
     if not command():
         print(f"{name}: the toolchain's command rt is not on the PATH: {wanted()} is wanted", file=sys.stderr)
-        return False
-    if not found():
-        print(f"{name}: {command()} is no command of a kit, which has a KIT-ID; {wanted()} is wanted", file=sys.stderr)
         return False
     if found() != wanted():
         print(f"{name}: these sources are for {wanted()}, and rt is of {found()}: proofs may fail", file=sys.stderr)
@@ -49,17 +46,6 @@ def in_cache(path):
     return os.path.join(cache, "forestplan", path)
 
 
-def files_of(folder):
-    """What a crate is proved from, in a fixed order: each file's path in the crate, and what it says."""
-    found = []
-    for part in PARTS:
-        for at, _, names in os.walk(os.path.join(folder, part)):
-            found += [os.path.join(at, name) for name in names]
-    for file in sorted(found):
-        with open(file, "rb") as text:
-            yield os.path.relpath(file, folder), text.read()
-
-
 def sum_of(*parts):
     total = hashlib.sha256()
     for part in parts:
@@ -68,7 +54,14 @@ def sum_of(*parts):
 
 
 def sum_of_texts(folder):
-    return sum_of(*(part for path, text in files_of(folder) for part in (path.encode(), text)))
+    """A sum of what a crate is proved from: each file's path in the crate, and what it says."""
+    files = [os.path.join(at, name) for part in PARTS for at, _, names in os.walk(os.path.join(folder, part))
+             for name in names]
+    parts = []
+    for file in sorted(files):
+        with open(file, "rb") as text:
+            parts += [os.path.relpath(file, folder).encode(), text.read()]
+    return sum_of(*parts)
 
 
 def sums(crates, top=TOP):

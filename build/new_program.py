@@ -1,26 +1,32 @@
 """Makes a crate with a node program, from the crate `silent`; or with one that goes on after the colouring, from
 `independent_set`."""
+import glob
 import os
 import re
 import shutil
-import sys
 
 from build.crate_lists import TOP
 from lab.words import parser_of
+from lab.workshop.class_files import write
 from lab.wrong import Wrong
 
 # The crates that are copied: what each is called as a crate, as a type, and as a name in texts.
 MODEL, SEQUEL = ("silent", "Silent", "silent"), ("independent_set", "IndependentSet", "independent-set")
 PARTS = ("src", "specs", "proofs")
-LONGEST = 20
-# What has to be changed, one after another.
-CHANGES = (("specs/Knowing.antt", "what a node knows and does"),
-           ("specs/Lawful.antt", "the laws"),
-           ("src/{payload}.rt", "what nodes send, with specs/Words.antt"),
-           ("src/node.rt", "the code"),
-           ("src/laws.rt", "what the nodes find"),
-           ("src/texts.rt", "what is printed, with specs/Texts.antt"))
-PAYLOADS = {MODEL: "payload", SEQUEL: "joined"}
+# The first lines of the crate's page.
+HEAD = """\
+//! {}: say here what the nodes find, in the words of the subject, and where the
+//! algorithm is published.
+"""
+# What has to be changed, one after another, in a copy of either.
+CHANGES = """\
+  specs/Knowing.antt  what a node knows, and what it does: the definition
+  specs/Lawful.antt   that it keeps the laws of every program
+  src/payload.rt      what nodes send, with specs/Words.antt (of a sequel: src/joined.rt)
+  src/node.rt         the same in code (of a copy of `silent`: at places 1 to 4)
+  src/laws.rt         what the nodes have found at the end, in the words of the subject
+  src/texts.rt        what is printed of it, with specs/Texts.antt
+"""
 # Words that can't name a crate beside those of the model's code.
 TAKEN = set("""as break const continue crate dyn else enum false fn for ghost if impl in let loop match mod move mut pub
 ref return self static struct super trait true type unsafe use where while core std""".split())
@@ -35,17 +41,11 @@ With --sequel it is a copy of the crate `{SEQUEL[0]}`, which goes on after the
 colouring: its payloads beside the colouring's, its laws, its theorem, and a test.
 """
 
-MORE_HELP = """\
+MORE_HELP = f"""\
 Then change it, one place after another (docs/work/OWN_PROGRAM.md goes along with an
 example):
 
-  specs/Knowing.antt  what a node knows, and what it does: the definition
-  specs/Lawful.antt   that it keeps the laws of every program
-  src/payload.rt      what nodes send, with specs/Words.antt (of a sequel: src/joined.rt)
-  src/node.rt         the same in code (of a copy of `silent`: at places 1 to 4)
-  src/laws.rt         what the nodes have found at the end, in the words of the subject
-  src/texts.rt        what is printed of it, with specs/Texts.antt
-
+{CHANGES}
 In the crate's folder `rt try --test` runs its test unproved, within a minute, and
 `rt check` proves it.
 
@@ -58,28 +58,25 @@ Example:
 
 
 def files_of(model):
-    """(part, folder, file, text) of all that is copied, the folder below the model's."""
+    """(path below the crate, text) of all that is copied."""
     source = os.path.join(TOP, "crates", model[0])
     for part in PARTS:
-        for folder, _, files in os.walk(os.path.join(source, part)):
-            for file in files:
-                with open(os.path.join(folder, file), encoding="utf-8") as text:
-                    yield part, os.path.relpath(folder, source), file, text.read()
+        for path in glob.glob(os.path.join(source, part, "**", "*.*"), recursive=True):
+            with open(path, encoding="utf-8") as text:
+                yield os.path.relpath(path, source), text.read()
 
 
 def words_in(model):
     """The words of a model's code and of its files' names, without comments: if the program had one of them as its
     name, the code would have two things of one name."""
-    texts = (f"{file} " + re.sub("(--|//).*", "", text) for _, _, file, text in files_of(model))
+    texts = (f"{path} " + re.sub("(--|//).*", "", text) for path, text in files_of(model))
     return {word for text in texts for word in re.findall("[A-Za-z_]+", text)}
 
 
 def check_name(name, top, model=MODEL):
     """Refuses a name that no new crate can have."""
-    if not re.fullmatch("[a-z]+", name):
-        raise Wrong(f"{name}: a program's name is one word of small letters, a to z")
-    if len(name) > LONGEST:
-        raise Wrong(f"{name}: a program's name has at most {LONGEST} letters")
+    if not re.fullmatch("[a-z]{1,20}", name):
+        raise Wrong(f"{name}: a program's name is one word of at most 20 small letters, a to z")
     if name in TAKEN or words_in(model) & {name, name.title()}:
         raise Wrong(f"{name}: this word is taken in the language or in the crate itself")
     if os.path.exists(os.path.join(top, "crates", name)) or name == "colouring":
@@ -92,31 +89,18 @@ def renamed(text, model, name):
     return text.replace(title, name.title()).replace(crate, name).replace(words, name)
 
 
-def head_of(name):
-    """The first lines of the crate's page."""
-    return (f"//! {name.title()}: say here what the nodes find, in the words of the subject, and where the\n"
-            "//! algorithm is published.\n")
-
-
 def copy(name, top, model=MODEL):
     """Writes the crate; nothing of it is there before, and nothing is left if that fails."""
     to = os.path.join(top, "crates", name)
     try:
-        for part, folder, file, text in files_of(model):
-            there, made = os.path.join(to, renamed(folder, model, name)), renamed(text, model, name)
-            os.makedirs(there, exist_ok=True)
-            if (part, file) == ("src", "lib.rt"):
-                made = head_of(name) + made[made.index("//!\n"):]
-            with open(os.path.join(there, file), "w", encoding="utf-8") as to_file:
-                to_file.write(made)
+        for path, text in files_of(model):
+            made = renamed(text, model, name)
+            if path == os.path.join("src", "lib.rt"):
+                made = HEAD.format(name.title()) + made[made.index("//!\n"):]
+            write(os.path.join(to, renamed(path, model, name)), made)
     except BaseException:
         shutil.rmtree(to, ignore_errors=True)
         raise
-
-
-def changes(model):
-    """(file, what is there) of what has to be changed, one after another."""
-    return [(file.format(payload=PAYLOADS[model]), what) for file, what in CHANGES]
 
 
 def add_line(name, top, model=MODEL):
@@ -126,8 +110,7 @@ def add_line(name, top, model=MODEL):
         lines = file.read().split("\n")
     at = next(k for k, line in enumerate(lines) if line.startswith(model[0] + ":"))
     lines.insert(at + 1, renamed(lines[at], model, name))
-    with open(path, "w", encoding="utf-8") as file:
-        file.write("\n".join(lines))
+    write(path, "\n".join(lines))
 
 
 def main():
@@ -136,15 +119,10 @@ def main():
     words.add_argument("--sequel", action="store_true", help="a program that goes on after the colouring")
     given = words.parse_args()
     name, model = given.name, SEQUEL if given.sequel else MODEL
-    try:
-        check_name(name, TOP, model)
-        copy(name, TOP, model)
-        add_line(name, TOP, model)
-    except OSError as why:
-        print(f"new-program: {why}", file=sys.stderr)
-        return 1
-    listed = "".join(f"  crates/{name}/{file:<18}  {what}\n" for file, what in changes(model))
-    print(f"crates/{name} is there, and its line in crates.txt. Change, one after another:\n{listed}"
+    check_name(name, TOP, model)
+    copy(name, TOP, model)
+    add_line(name, TOP, model)
+    print(f"crates/{name} is there, and its line in crates.txt. Change, one after another:\n{CHANGES}"
           f"Try it: cd crates/{name} && rt try --test    Prove it: rt check\n"
           "docs/work/OWN_PROGRAM.md goes along with an example, to forestplay run --program.")
     return 0

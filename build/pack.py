@@ -1,13 +1,14 @@
 """Packs an installed folder into one archive with its sum, so that a class needs no build."""
-import filecmp
 import gzip
+import hashlib
+import io
 import os
 import platform
 import sys
 import tarfile
 
 from lab import checksums
-from lab.words import parser_of
+from lab.words import parser_of, write_apart
 from lab.workshop.class_files import IS_CLASS
 
 HELP = """\
@@ -34,58 +35,52 @@ def name_of(folder):
     """The name of the archive without its ending, by the folder's VERSION and this machine."""
     with open(os.path.join(folder, "VERSION"), encoding="utf-8") as file:
         first, *others = file.read().splitlines()
-    words = first.split()
-    if len(words) != 2:
-        raise OSError(f"{folder}/VERSION has no name and version in its first line")
-    what = f"{words[0]}-class" if IS_CLASS in others else words[0]
-    return f"{what}-{words[1]}-{platform.system().lower()}-{platform.machine()}"
+    return "-".join([*first.replace(" ", "-class-" if IS_CLASS in others else "-").split(),
+                     platform.system().lower(), platform.machine()])
 
 
-def entry(folder, path, name):
-    """A file of the archive, whose owner and time are no one's."""
-    made = tarfile.TarInfo(f"{name}/{path}")
-    made.size = os.path.getsize(os.path.join(folder, path))
-    made.mode = 0o755 if os.access(os.path.join(folder, path), os.X_OK) else 0o644
-    return made
+def packed(folder, paths, name):
+    """The bytes of the archive, whose owners and times are no one's."""
+    made = io.BytesIO()
+    with gzip.GzipFile("", "wb", fileobj=made, mtime=0) as file, \
+            tarfile.open(fileobj=file, mode="w", format=tarfile.PAX_FORMAT) as archive:
+        for path in sorted(paths):
+            entry = tarfile.TarInfo(f"{name}/{path}")
+            with open(os.path.join(folder, path), "rb") as content:
+                entry.size = os.fstat(content.fileno()).st_size
+                entry.mode = 0o755 if os.access(content.name, os.X_OK) else 0o644
+                archive.addfile(entry, content)
+    return made.getvalue()
 
 
-def write(folder, name, to):
-    """Writes the archive apart, and then renames it. One that is there already, with another content, stays."""
-    new = f"{to}.new"
-    try:
-        with open(new, "wb") as file, gzip.GzipFile("", "wb", fileobj=file, mtime=0) as packed, \
-                tarfile.open(fileobj=packed, mode="w", format=tarfile.PAX_FORMAT) as archive:
-            for path in sorted([*checksums.read(folder), checksums.NAME]):
-                with open(os.path.join(folder, path), "rb") as content:
-                    archive.addfile(entry(folder, path, name), content)
-        if os.path.exists(to) and not filecmp.cmp(new, to, shallow=False):
-            raise OSError(f"{to} is there already, with another content: remove it first")
-        os.replace(new, to)
-    finally:
-        if os.path.exists(new):
-            os.remove(new)
+def pack(folder, to):
+    """Writes the archive and its sum, and returns its path. One that is there already, with another content, stays."""
+    listed = checksums.read(folder)
+    changed = [path for path, known in listed.items() if checksums.of(os.path.join(folder, path)) != known]
+    if changed:
+        raise OSError(f"{len(changed)} files aren't as they were installed, first: {changed[0]}")
+    name = name_of(folder)
+    path, data = os.path.join(to, f"{name}.tar.gz"), packed(folder, [*listed, checksums.NAME], name)
+    there = checksums.of(path)
+    known = hashlib.sha256(data).hexdigest()
+    if there not in (None, known):
+        raise OSError(f"{path} is there already, with another content: remove it first")
+    write_apart(path, data)
+    write_apart(f"{path}.sha256", f"{known}  {os.path.basename(path)}\n".encode())
+    return path
 
 
 def main():
     words = parser_of("pack", "FOLDER [TO]", HELP, MORE_HELP, "python3 build")
     words.add_argument("folder", metavar="FOLDER", help="a folder that python3 build install made")
     words.add_argument("to", metavar="TO", nargs="?", default=".", help="the folder of the archive; default: this one")
-    asked = words.parse_args()
-    listed = checksums.read(asked.folder)
-    if not listed:
-        words.error(f"{asked.folder} has no {checksums.NAME}: it isn't what python3 build install makes")
-    changed = [path for path, known in listed.items() if checksums.of(os.path.join(asked.folder, path)) != known]
-    if changed:
-        print(f"pack: {len(changed)} files aren't as they were installed, first: {changed[0]}", file=sys.stderr)
-        return 1
+    given = words.parse_args()
+    if not checksums.read(given.folder):
+        words.error(f"{given.folder} has no {checksums.NAME}: it isn't what python3 build install makes")
     try:
-        name = name_of(asked.folder)
-        to = os.path.join(asked.to, f"{name}.tar.gz")
-        write(asked.folder, name, to)
-        with open(f"{to}.sha256", "w", encoding="utf-8") as file:
-            file.write(f"{checksums.of(to)}  {os.path.basename(to)}\n")
+        path = pack(given.folder, given.to)
     except OSError as failed:
         print(f"pack: {failed}", file=sys.stderr)
         return 1
-    print(f"{to} and {to}.sha256")
+    print(f"{path} and {path}.sha256")
     return 0

@@ -1,10 +1,16 @@
-"""Proves and builds a program, if it isn't built from the sources as they are now; the script `forestplan` calls it."""
+"""Proves and builds a program, if it isn't built from the sources as they are now; the script `forestplan` calls it.
+
+Beside a program is a note of what it was made from: a sum of the program, and one of its sources. The toolchain is no
+part of it. So a copy of a built tree is as good as the tree, and a program stays built where there is another toolchain
+or none. The script asks for a look only if a file is newer than the note."""
+import contextlib
 import os
 import shutil
 import sys
+import time
 
-from build import gate, kit, note, offered
-from build.crate_lists import PROGRAMS
+from build import gate, kit, offered
+from build.crate_lists import PROGRAMS, TOP
 from lab.words import parser_of
 
 # The status if a program can't be built.
@@ -24,25 +30,72 @@ Example:
 """
 
 
+def program_at(name, top=TOP):
+    return os.path.join(top, "crates", name, "out", name)
+
+
+def sources_of(name, top=TOP):
+    """The sum of what a program is made from in a repository: its crates, and their lines of crates.txt."""
+    return kit.sums([name], top)[name]
+
+
+def note_of(name, sources):
+    """What the note says, of the program as it is."""
+    with open(program_at(name), "rb") as program:
+        return f"{kit.sum_of(program.read())}\n{sources}\n"
+
+
+def write_note(name, sources, since):
+    """Writes the note, of the time since which nobody has looked at the sources: what is changed later is newer. It is
+    written apart and then renamed, so that a second call meets no half of it; where it can't be written, the next call
+    looks at all again."""
+    note = f"{program_at(name)}.made-from"
+    with contextlib.suppress(OSError):
+        with open(f"{note}.{os.getpid()}", "w", encoding="ascii") as file:
+            file.write(note_of(name, sources))
+        os.utime(file.name, (since, since))
+        os.replace(file.name, note)
+
+
+def take_note(name, sources):
+    """Takes note that the program was made from sources of this sum, if they still are so."""
+    since = time.time()
+    if sources_of(name) == sources:
+        write_note(name, sources, since)
+
+
+def is_built(name):
+    """Whether the program is there and was made from the sources as they are now. The note is then written again, so
+    that it is newer than all of them."""
+    since, sources = time.time(), sources_of(name)
+    try:
+        with open(f"{program_at(name)}.made-from", encoding="ascii") as note:
+            is_so = note.read() == note_of(name, sources) and os.access(program_at(name), os.X_OK)
+    except OSError:
+        return False
+    if is_so:
+        write_note(name, sources, since)
+    return is_so
+
+
 def put(name, room):
     """Puts a program into place that was proved in a room, and a note beside it, if the sources are still those."""
-    to = note.program_at(name)
+    to = program_at(name)
     os.makedirs(os.path.dirname(to), exist_ok=True)
-    shutil.copy(note.program_at(name, room), f"{to}.new")
+    shutil.copy(program_at(name, room), f"{to}.new")
     os.replace(f"{to}.new", to)
-    note.take(name, note.sources_of(name, room))
+    take_note(name, sources_of(name, room))
     offered.share(room)
 
 
 def build(name):
     """Proves and builds a program, and returns the status."""
-    if not kit.command():
-        print(f"{name}: not built, and the toolchain's command rt is not on the PATH: {kit.wanted()} is wanted",
-              file=sys.stderr)
+    print(f"{name}: not built from these sources yet", file=sys.stderr)
+    if not kit.is_there(name):
         return NOT_BUILT
-    print(f"{name}: not built from these sources yet; it is proved and built now, once: 15 to 33 minutes on four free "
-          "processors, twice as long on two", file=sys.stderr, flush=True)
-    if kit.is_there(name) and gate.run(name, [name], take=lambda room: put(name, room)) is not None:
+    print(f"{name}: it is proved and built now, once: 15 to 33 minutes on four free processors, twice as long on two",
+          file=sys.stderr, flush=True)
+    if gate.run(name, [name], take=lambda room: put(name, room)) is not None:
         return 0
     print(f"{name}: it could not be built; the lines above say why", file=sys.stderr)
     return NOT_BUILT
@@ -51,7 +104,7 @@ def build(name):
 def built(names):
     """Builds those of these programs that aren't built, one after the other, and returns the first status that isn't
     0."""
-    return next(filter(None, (build(name) for name in names if not note.is_built(name))), 0)
+    return next(filter(None, (build(name) for name in names if not is_built(name))), 0)
 
 
 def main():
@@ -64,12 +117,12 @@ def main():
     words.add_argument("names", nargs="+", metavar="NAME", choices=PROGRAMS, help=" or ".join(PROGRAMS))
     given = words.parse_args()
     if given.ask:
-        return 0 if all(map(note.is_built, given.names)) else 1
+        return 0 if all(map(is_built, given.names)) else 1
     if given.sources:
-        print(*map(note.sources_of, given.names), sep="\n")
+        print(*map(sources_of, given.names), sep="\n")
         return 0
     if given.made_from is not None:
         for name in given.names:
-            note.take(name, given.made_from)
+            take_note(name, given.made_from)
         return 0
     return built(given.names)

@@ -1,4 +1,5 @@
 """Copies crates, and all below them, into another repository, so that a program there can use them."""
+import filecmp
 import os
 import shutil
 import sys
@@ -9,7 +10,7 @@ from build.crate_lists import TOP, lines_of, listed, with_below
 from lab.words import parser_of
 
 # What of a crate is copied: what it is proved from, and what shows that its contracts refuse wrong bodies.
-PARTS = ("src", "specs", "proofs", "must-fail")
+PARTS = (*kit.PARTS, "must-fail")
 
 HELP = """\
 Copies crates of this tree, and all below them, into another repository.
@@ -33,61 +34,39 @@ Examples:
 """
 
 
-def differs(crate, top):
-    """Whether another repository has a crate of this name that says something else."""
-    there = os.path.join(top, "crates", crate)
-    here = os.path.join(TOP, "crates", crate)
-    return os.path.isdir(there) and kit.sum_of_texts(there) != kit.sum_of_texts(here)
+def differs(crate, top, there):
+    """Whether another repository, with the lines `there`, has a crate of this name that says something else."""
+    folders = [os.path.join(at, "crates", crate) for at in (TOP, top)]
+    return there.get(crate, lines_of()[crate]) != lines_of()[crate] or os.path.isdir(folders[1]) and (
+        kit.sum_of_texts(folders[0]) != kit.sum_of_texts(folders[1]))
 
 
-def copy(crate, room):
-    """Copies the parts of a crate."""
-    for part in PARTS:
-        source = os.path.join(TOP, "crates", crate, part)
-        if os.path.isdir(source):
-            shutil.copytree(source, os.path.join(room, "crates", crate, part))
+def copy(crates, room, there):
+    """Makes all that is copied in an empty folder: the crates, the lines of crates.txt, and HANDLES."""
+    for crate in crates:
+        for part in os.listdir(os.path.join(TOP, "crates", crate)):
+            if part in PARTS:
+                shutil.copytree(*(os.path.join(top, "crates", crate, part) for top in (TOP, room)))
+    lines = [lines_of()[crate] for crate in crates] + [line for name, line in there.items() if name not in crates]
+    with open(os.path.join(room, "crates.txt"), "w", encoding="utf-8") as file:
+        file.write("# one line a crate, lowest layer first:  NAME: DEP DEP ..\n")
+        file.writelines(f"{line}\n" for line in lines)
+    shutil.copy(os.path.join(TOP, "HANDLES"), room)
 
 
 def put(room, top, crates):
-    """Moves all from a folder beside it into place, whole folders where none is there. A crate loses its old parts."""
+    """Moves it into place. A crate that is there loses its old parts; a file HANDLES that is there stays."""
+    os.makedirs(os.path.join(top, "crates"), exist_ok=True)
     for crate in crates:
+        os.makedirs(os.path.join(top, "crates", crate), exist_ok=True)
         for part in PARTS:
-            shutil.rmtree(os.path.join(top, "crates", crate, part), ignore_errors=True)
-    for at, below, names in os.walk(room):
-        to = os.path.join(top, os.path.relpath(at, room))
-        moved = [name for name in below if not os.path.lexists(os.path.join(to, name))]
-        below[:] = [name for name in below if name not in moved]
-        for name in [*moved, *names]:
-            os.replace(os.path.join(at, name), os.path.join(to, name))
-
-
-def handles(top):
-    """What a repository's file HANDLES allows; without one it allows none."""
-    try:
-        with open(os.path.join(top, "HANDLES"), encoding="utf-8") as file:
-            return file.read().strip()
-    except FileNotFoundError:
-        return None
-
-
-def vendor(top, crates, replaces):
-    """Copies crates in the order of crates.txt, and adds their lines."""
-    lines, there = lines_of(), lines_of(top) if os.path.exists(os.path.join(top, "crates.txt")) else {}
-    changed = [crate for crate in crates if differs(crate, top) or there.get(crate, lines[crate]) != lines[crate]]
-    if changed and not replaces:
-        raise OSError(f"{top} has another crate {changed[0]}, or another line of it: --replace replaces it")
-    with tempfile.TemporaryDirectory(prefix=".vendor-", dir=top) as room:
-        for crate in crates:
-            copy(crate, room)
-        new = [lines[crate] for crate in crates if crate not in there]
-        kept = [line for name, line in there.items() if name not in crates]
-        if new or changed:
-            text = "".join(f"{line}\n" for line in [*(lines[crate] for crate in crates), *kept])
-            with open(os.path.join(room, "crates.txt"), "w", encoding="utf-8") as file:
-                file.write("# one line a crate, lowest layer first:  NAME: DEP DEP ..\n" + text)
-        if handles(top) is None:
-            shutil.copy(os.path.join(TOP, "HANDLES"), room)
-        put(room, top, crates)
+            new, old = (os.path.join(at, "crates", crate, part) for at in (room, top))
+            shutil.rmtree(old, ignore_errors=True)
+            if os.path.isdir(new):
+                os.replace(new, old)
+    for name in ("crates.txt", "HANDLES"):
+        if name != "HANDLES" or not os.path.exists(os.path.join(top, name)):
+            os.replace(os.path.join(room, name), os.path.join(top, name))
 
 
 def reason(failed):
@@ -101,20 +80,25 @@ def main():
     words.add_argument("crates", metavar="CRATE", nargs="+", help="crates of crates.txt")
     words.add_argument("--replace", action="store_true", help="crates that say something else are replaced")
     asked = words.parse_args()
-    below = listed()
-    unknown = [crate for crate in asked.crates if crate not in below]
+    unknown = [crate for crate in asked.crates if crate not in listed()]
     if unknown:
         words.error(f"crates.txt names no crate {unknown[0]}")
     top = os.path.abspath(asked.dir)
     if not os.path.isdir(top) or os.path.realpath(top) == os.path.realpath(TOP):
         words.error("DIR has to be a folder that is there, and not this tree")
-    crates = with_below(asked.crates, below)
+    crates = with_below(asked.crates, listed())
     try:
-        vendor(top, crates, asked.replace)
+        there = lines_of(top) if os.path.exists(os.path.join(top, "crates.txt")) else {}
+        changed = [crate for crate in crates if differs(crate, top, there)]
+        if changed and not asked.replace:
+            raise OSError(f"{top} has another crate {changed[0]}, or another line of it: --replace replaces it")
+        with tempfile.TemporaryDirectory(prefix=".vendor-", dir=top) as room:
+            copy(crates, room, there)
+            put(room, top, crates)
     except OSError as failed:
         print(f"vendor: {reason(failed)}", file=sys.stderr)
         return 1
     print(f"vendor: {len(crates)} crates are in {top}/crates: {' '.join(crates)}", file=sys.stderr)
-    if handles(top) != handles(TOP):
-        print(f"vendor: HANDLES here is `{handles(TOP)}`, and there `{handles(top)}`", file=sys.stderr)
+    if not filecmp.cmp(*(os.path.join(at, "HANDLES") for at in (TOP, top)), shallow=False):
+        print("vendor: HANDLES there isn't what it is here; it has to allow as much", file=sys.stderr)
     return 0

@@ -1,12 +1,11 @@
 """Tries the wrong bodies of crates/NAME/wrong-bodies/ against the prover, and prints each that is proved all the same.
 
-  python3 build wrong-bodies [--since REV | CRATE .. | CRATE/NAME ..]    default: all crates/NAME/wrong-bodies/
-
-Each crates/CRATE/wrong-bodies/NAME.edit is a change of code that turns the meaning of a function, in the form of the
-gate's own edits in crates/CRATE/must-fail/. The gate's command `rt ci` tries them, in a repository of their crates and
-those below, where they are in the place of must-fail/ (gate.py). It takes what is proved already, proves the rest
-first, tries as many side by side as there are processors and memory, and says at the end what each came to; what it
-has tried of a crate isn't tried again until the crate or the edit changes. The log is out/build/wrong-bodies.log.
+Without words all are tried. Each crates/CRATE/wrong-bodies/NAME.edit is a change of code that turns the meaning of a
+function, in the form of the gate's own edits in crates/CRATE/must-fail/. The gate's command `rt ci` tries them, in a
+repository of their crates and those below, where they are in the place of must-fail/ (gate.py). It takes what is proved
+already, proves the rest first, tries as many side by side as there are processors and memory, and says at the end what
+each came to; what it has tried of a crate isn't tried again until the crate or the edit changes. The log is
+out/build/wrong-bodies.log.
 
 With --since REV, the crates are those whose sources or wrong bodies differ from the commit REV, and those that list in
 crates.txt a crate whose contracts or definitions (src/, specs/) differ from it.
@@ -19,14 +18,14 @@ The last line is 'N refused, W of them WEAK, M PROVED, K not run'. Status: 0 eve
 proved or not run, 2 the command line is refused, 3 all were refused, some of them WEAK. It takes about 20 seconds an
 edit, so it is run by hand, with --since before each change is handed in; `./test` doesn't call it.
 """
-import argparse
 import os
 import re
 import subprocess
-import sys
 
 from build import gate, kit
 from build.crate_lists import TOP, listed
+from lab.words import parser_of
+from lab.wrong import Wrong
 
 # What the kit says of a refusal for a name alone.
 NAME_ALONE = "only because a proof file names"
@@ -42,9 +41,9 @@ def edits_of(crate):
 def changed_since(rev, given, at_hand):
     """The crates with wrong bodies that a change since the commit `rev` may concern."""
     asked = ["git", "-C", TOP, "diff", "--name-only", "--no-renames", rev, "--", "crates"]
-    done = subprocess.run(asked, stdout=subprocess.PIPE, stderr=subprocess.PIPE, text=True)
+    done = subprocess.run(asked, capture_output=True, text=True)
     if done.returncode:
-        sys.exit(f"wrong-bodies: git knows no commit {rev}")
+        raise Wrong(f"git knows no commit {rev}")
     parts = [line.split("/") for line in done.stdout.splitlines()]
     own = {part[1] for part in parts if part[2] in ("wrong-bodies", "src", "specs", "proofs")}
     said = {part[1] for part in parts if part[2] in ("src", "specs")}
@@ -55,14 +54,12 @@ def chosen(names, at_hand):
     """{crate: its edits} of crates, and of single edits, CRATE/NAME, with `.edit` after it or without."""
     edits = {}
     for name in names:
-        crate, _, edit = name.partition("/")
-        if crate not in at_hand:
-            sys.exit(f"wrong-bodies: there is no crate {crate} with a folder crates/NAME/wrong-bodies/")
-        there = edits_of(crate)
-        found = [path for path in there if os.path.basename(path) == edit.removesuffix(".edit") + ".edit"]
-        if edit and not found:
-            sys.exit(f"wrong-bodies: there is no edit crates/{crate}/wrong-bodies/{edit.removesuffix('.edit')}.edit")
-        edits[crate] = list(dict.fromkeys(edits.get(crate, []) + (found if edit else there)))
+        crate, _, edit = name.removesuffix(".edit").partition("/")
+        there = edits_of(crate) if crate in at_hand else []
+        found = [path for path in there if not edit or os.path.basename(path) == f"{edit}.edit"]
+        if not found:
+            raise Wrong(f"there is no crates/{crate}/wrong-bodies/{edit}")
+        edits[crate] = list(dict.fromkeys(edits.get(crate, []) + found))
     return edits
 
 
@@ -70,8 +67,7 @@ def tell(said, edits):
     """Prints each edit that `rt ci` doesn't say is refused, or refused for a name alone, and returns the status."""
     found = {name: (verdict, why) for name, verdict, why in VERDICT.findall(said)}
     counts = dict.fromkeys(("refused", "WEAK", "PROVED", "not run"), 0)
-    for path in (path for crate in edits for path in edits[crate]):
-        path = os.path.relpath(path, TOP)
+    for path in (os.path.relpath(path, TOP) for crate in edits for path in edits[crate]):
         verdict, why = found.get(path.removeprefix("crates/").replace("/wrong-bodies/", "/"), ("NOT TRIED", ""))
         counts[COUNTED.get(verdict, "not run")] += 1
         if NAME_ALONE in why:
@@ -85,9 +81,8 @@ def tell(said, edits):
 
 
 def main():
-    summary, _, more = __doc__.partition("\n")
-    words = argparse.ArgumentParser(prog="python3 build wrong-bodies", description=summary, epilog=more,
-                                    formatter_class=argparse.RawDescriptionHelpFormatter)
+    summary, _, more = __doc__.partition("\n\n")
+    words = parser_of("wrong-bodies", "[--since REV | CRATE .. | CRATE/NAME ..]", summary, more, "python3 build")
     words.add_argument("--since", metavar="REV", help="only what a change since the commit REV may concern")
     words.add_argument("names", nargs="*", metavar="CRATE", help="a crate, or one edit of it, as CRATE/NAME")
     asked = words.parse_args()

@@ -20,7 +20,7 @@ import sys
 import tempfile
 from concurrent.futures import ThreadPoolExecutor
 
-from build import note
+from build import program
 from tests import TOP
 
 # The modules that take longest, which begin first.
@@ -77,7 +77,7 @@ def what_is_missing(chosen, settings, setting):
         path = setting(option)
         if not os.access(path, os.X_OK):
             return f"{os.path.relpath(path)} isn't built: ./test builds it, and so does bin/{name}"
-        if path == settings[option][0] and not note.is_built(name):
+        if path == settings[option][0] and not program.is_built(name):
             return (f"{os.path.relpath(path)} wasn't built from the sources as they are, and no test proves anything: "
                     f"./test builds it, and so does bin/{name}; --{option} FILE names another")
     return "" if shutil.which("cc") else "there is no C compiler cc"

@@ -13,13 +13,13 @@ def without_rt(path):
     return ":".join(folder for folder in path.split(":") if not os.path.exists(os.path.join(folder, "rt")))
 
 
-def run_line(line, *words, limit, **given):
+def run_line(line, *words, limit, given=None, **more):
     """The status and both outputs of a line with its words, `$0` onwards, in bash. The line has a process group of its
     own, which is killed as a whole: if bash alone were, the programs of a pipeline would go on."""
     with subprocess.Popen(["bash", "-c", line, *words], stdout=subprocess.PIPE, stderr=subprocess.PIPE,
-                          start_new_session=True, **given) as started:
+                          start_new_session=True, **more) as started:
         try:
-            out, err = started.communicate(timeout=limit)
+            out, err = started.communicate(given, timeout=limit)
         except BaseException:
             with contextlib.suppress(ProcessLookupError):
                 os.killpg(started.pid, signal.SIGKILL)

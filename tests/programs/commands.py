@@ -116,7 +116,7 @@ class Commands(Case):
     def test_completion(self):
         """What completes the words knows each command of forestlab and its options, in bash, and in zsh if it is
         there."""
-        script = completion.completion(completion.of_folder(os.path.join(TOP, "bin")))
+        script = completion.completion(os.path.join(TOP, "bin"))
         for shell in ("bash", "zsh"):
             if not shutil.which(shell):
                 continue

@@ -2,26 +2,23 @@
 build/gate.py.
 
 They run in a tree of three crates, over a command `rt` that proves nothing: it says what `rt ci` says, keeps what it
-has passed, and its program prints a line. And each script of tests/, lab/, build/ and bench/ has to say with --help
-what it does, where nothing is built and there is no toolchain."""
-import ast
-import itertools
+has passed, and its program prints a line. And each script of tests/ and bench/ has to say with --help what it does."""
+import contextlib
+import glob
 import os
 import re
-import shutil
 import signal
 import subprocess
 import sys
 import tempfile
-import time
 
 from tests import TOP
-from tests.cases import Case, text_in
-from tests.commands import HELPS
-from tests.shell import wait_until, without_rt
+from tests.cases import Case, copied, text_in
+from tests.shell import run_line, wait_until, without_rt
 
 # Seconds; a busy machine is slow.
 LIMIT = 300
+KIT = text_in("build", "kit_name.txt").strip()
 
 # In place of the toolchain's command. A crate whose source has the word `wrong` isn't proved, and one with `slow` not
 # before a minute has passed, or the file `go` is there. Ctrl-C doesn't end it at once, as `rt` waits for its provers.
@@ -105,7 +102,8 @@ def ci():
     return 1 if failed else 0
 
 
-if __name__ == "__main__":
+# build/offered.py takes it as a module.
+if __name__ != "rt_of_kit":
     raise SystemExit(ci())
 """
 CRATES = "# below\nlower:\nmiddle: lower\n\n# not of the program\naside: lower\n\nforestplan: middle\n"
@@ -122,72 +120,64 @@ class Tree:
     """A tree with three crates of a program, one that isn't of it, and a command `rt`."""
 
     def __init__(self, folder):
-        self.top = os.path.join(folder, "tree")
-        for name in ("forestplan", "build", "lab"):
-            whole, part = os.path.join(TOP, name), os.path.join(self.top, name)
-            if os.path.isdir(whole):
-                shutil.copytree(whole, part, ignore=shutil.ignore_patterns("__pycache__"))
-            else:
-                os.makedirs(self.top, exist_ok=True)
-                shutil.copy(whole, part)
-        write(os.path.join(self.top, "HANDLES"), "Handles allowed: none.\n")
-        write(os.path.join(self.top, "crates.txt"), CRATES)
+        self.top, self.cache = (os.path.join(folder, name) for name in ("tree", "cache"))
+        copied(self.top, "forestplan", "build", "lab")
+        self.write("HANDLES", "Handles allowed: none.\n")
+        self.write("crates.txt", CRATES)
         for crate in ("lower", "middle", "aside", "forestplan"):
             self.source(crate, "fine")
-            write(os.path.join(self.top, "crates", crate, "must-fail", "bug.edit"), "NOT REFUSED: an edit of the gate")
-            write(os.path.join(self.top, "crates", crate, "out", "old"), "")
-        kit = os.path.join(folder, "kits", "rattle", "bin")
-        write(os.path.join(kit, "rt"), RT, 0o755)
-        self.kit = os.path.join(folder, "kits", "rattle", "KIT-ID")
-        shutil.copy(os.path.join(TOP, "build", "kit_name.txt"), self.kit)
-        self.environment = dict(os.environ, PATH=f"{kit}:{os.environ['PATH']}",
-                                XDG_CACHE_HOME=os.path.join(folder, "cache"))
-        self.cache = os.path.join(folder, "cache")
+            self.write(f"crates/{crate}/must-fail/bug.edit", "NOT REFUSED: an edit of the gate")
+            self.write(f"crates/{crate}/out/old", "")
+        self.program = os.path.join(self.top, "crates", "forestplan", "out", "forestplan")
+        kit = os.path.join(folder, "kits", "rattle")
+        self.kit = os.path.join(kit, "KIT-ID")
+        write(os.path.join(kit, "bin", "rt"), RT, 0o755)
+        write(self.kit, KIT)
+        self.environment = dict(os.environ, PATH=f"{kit}/bin:{os.environ['PATH']}", XDG_CACHE_HOME=self.cache)
+
+    def write(self, path, text):
+        write(os.path.join(self.top, path), text)
 
     def source(self, crate, text):
-        write(os.path.join(self.top, "crates", crate, "src", "lib.rt"), f"//! {text}\n")
+        self.write(f"crates/{crate}/src/lib.rt", f"//! {text}\n")
 
-    def begun(self, *words):
-        return subprocess.Popen([os.path.join(self.top, "forestplan"), *words], stdin=subprocess.PIPE,
-                                stdout=subprocess.PIPE, stderr=subprocess.PIPE, text=True, env=self.environment,
-                                start_new_session=True)
+    def run(self, *words, given=""):
+        """The status and both outputs of words that are called at the top."""
+        return run_line('exec "$0" "$@"', *words, limit=LIMIT, given=given, stdin=subprocess.PIPE, text=True,
+                        cwd=self.top, env=self.environment)
 
     def call(self, *words, given=""):
-        with self.begun(*words) as started:
+        return self.run("./forestplan", *words, given=given)
+
+    def build(self, *words):
+        return self.run(sys.executable, "-S", "build", *words)
+
+    @contextlib.contextmanager
+    def begun(self):
+        """A call of the program's script, and what gives what it has said. All that it has started ends with it."""
+        with tempfile.TemporaryFile("w+") as errors, subprocess.Popen(
+                ["./forestplan", "plan"], stdin=subprocess.DEVNULL, stdout=errors, stderr=errors, cwd=self.top,
+                env=self.environment, start_new_session=True) as started:
             try:
-                out, err = started.communicate(given, timeout=LIMIT)
-            except subprocess.TimeoutExpired:
-                os.killpg(started.pid, signal.SIGKILL)
-                raise
-        return started.returncode, out, err
+                yield started, lambda: os.pread(errors.fileno(), 10_000, 0).decode()
+            finally:
+                with contextlib.suppress(ProcessLookupError):
+                    os.killpg(started.pid, signal.SIGKILL)
 
     def at_work(self):
         """The provers that are in the user's cache."""
         found = []
         for process in filter(str.isdigit, os.listdir("/proc")):
-            try:
-                where = os.readlink(f"/proc/{process}/cwd")
-            except OSError:
-                continue
-            if where.startswith(os.path.realpath(self.cache)):
-                found.append(process)
+            with contextlib.suppress(OSError):
+                if os.readlink(f"/proc/{process}/cwd").startswith(os.path.realpath(self.cache)):
+                    found.append(process)
         return found
 
-    def log(self, name="forestplan"):
-        with open(os.path.join(self.top, "out", "build", f"{name}.log"), encoding="utf-8") as text:
-            return text.read()
+    def log(self):
+        return text_in(self.top, "out", "build", "forestplan.log")
 
     def kept(self, name):
         return os.path.join(self.cache, "kept", name)
-
-
-def is_called(path):
-    """Whether a file is a Python script that can be called. The doors of lab/ and build/ want a command."""
-    if not path.endswith(".py") or path.endswith(("lab/__main__.py", "build/__main__.py")):
-        return False
-    with open(path, encoding="utf-8") as file:
-        statements = ast.parse(file.read()).body
-    return any(isinstance(it, ast.If) and ast.unparse(it.test) == "__name__ == '__main__'" for it in statements)
 
 
 class FirstRun(Case):
@@ -196,14 +186,12 @@ class FirstRun(Case):
     def setUp(self):
         # A shell has what it runs in the background ignore SIGINT, and what is started from there would, too.
         self.addCleanup(signal.signal, signal.SIGINT, signal.signal(signal.SIGINT, signal.default_int_handler))
-        self.folder = self.enterContext(tempfile.TemporaryDirectory(prefix="first-run-"))
 
     def test_calls(self):
         tree = Tree(self.folder)
-        self.run_stored_helps(tree)
-        self.run_python(tree)
+        self.run_unbuilt(tree)
         self.run_first(tree)
-        self.run_elsewhere(tree, os.path.join(self.folder, "other"))
+        self.run_elsewhere(tree)
         self.run_offered(tree)
         self.run_failures(tree)
         self.run_stopped(tree)
@@ -211,140 +199,118 @@ class FirstRun(Case):
         self.run_versions(tree)
         self.run_kits(tree)
 
-    def run_stored_helps(self, tree):
-        """Help is asked for before anything is built: it is the stored text."""
-        texts = [(words, name) for (program, *words), name in HELPS if program == "forestplan"]
-        for (words, name), option in itertools.product(texts, ("--help", "-h")):
-            with open(os.path.join(TOP, "lab", "help", f"{name}.txt"), encoding="utf-8") as file:
-                wanted = file.read()
-            got = tree.call(*words, option)
-            self.note(f"{' '.join([*words, option])} of a program that isn't built", got == (0, wanted, ""), got)
-            if words:
-                done = subprocess.run([os.path.join(TOP, "try"), *words, option], capture_output=True, text=True)
-                self.note(f"try {' '.join([*words, option])}", (done.returncode, done.stdout) == (0, wanted), done)
-        for redirected in (">/dev/full", ">&-"):
-            done = subprocess.run(["bash", "-c", f'exec "$0" plain --help {redirected}',
-                                   os.path.join(tree.top, "forestplan")], capture_output=True, env=tree.environment)
-            self.note(f"a stored help {redirected}", done.returncode == 4 and done.stderr.count(b"\n") == 1, done)
-        self.note("help builds nothing",
-                  not os.path.exists(os.path.join(tree.top, "crates", "forestplan", "out", "forestplan")))
-
-    def run_python(self, tree):
-        """Python refuses a program that isn't built, and draws rounds, and a plan that it says isn't the program's."""
-        write(os.path.join(tree.top, "crates", "forestplay", "src", "lib.rt"), "")
-        for words, wanted in ((["rounds"], (0, True, "")),
-                              (["plan"], (0, True, "picture: forestplan isn't built, so ")),
-                              (["run"], (1, False, "picture: forestplan isn't built: a first call of it, as "))):
-            done = subprocess.run([sys.executable, "-S", "lab", "picture", *words, "-"], input="p edge 2 1\ne 1 2\n",
-                                  capture_output=True, text=True, cwd=tree.top, env=tree.environment, timeout=LIMIT)
-            got = done.returncode, done.stdout.startswith("<svg "), done.stderr[:len(wanted[2])] or done.stderr
-            self.note(f"picture {words[0]} where nothing is built", got == wanted, done)
-        self.note("no picture builds anything",
-                  not os.path.exists(os.path.join(tree.top, "crates", "forestplan", "out", "forestplan")))
+    def run_unbuilt(self, tree):
+        """Before anything is built help is the stored text, and Python refuses a program that isn't built, and draws
+        rounds, and a plan that it says isn't the program's."""
+        for script, words, name in ((f"{tree.top}/forestplan", ["--help"], "forestplan"),
+                                    (f"{tree.top}/forestplan", ["plan", "-h"], "forestplan-plan"),
+                                    (f"{TOP}/try", ["rounds", "--help"], "forestplay-rounds")):
+            wanted = text_in("lab", "help", f"{name}.txt")
+            self.same(f"{script} {words}", tree.run(script, *words), (0, wanted, ""))
+        for where in (">/dev/full", ">&-"):
+            done = tree.run("bash", "-c", f"./forestplan plain --help {where}")
+            self.note(f"a stored help {where}", done[0] == 4 and done[2].count("\n") == 1, done)
+        tree.source("forestplay", "")
+        for words, status, is_drawn, said in (("rounds", 0, True, ""),
+                                              ("plan", 0, True, "picture: forestplan isn't built, so "),
+                                              ("run", 1, False, "picture: forestplan isn't built: a first call of it")):
+            done = tree.run(sys.executable, "-S", "lab", "picture", words, "-", given="p edge 2 1\ne 1 2\n")
+            good = (done[0], done[1].startswith("<svg ")) == (status, is_drawn) and done[2].startswith(said)
+            self.note(f"picture {words} where nothing is built", good and bool(done[2]) == bool(said), done)
+        self.note("nothing is built by these", not os.path.exists(tree.program))
 
     def run_first(self, tree):
-        got = tree.call("--help")
-        self.note("the help of a program that isn't built",
-                  got[0] == 0 and got[1].startswith("Plans channels") and not got[2], got)
         status, out, err = tree.call("plain", "x", given="input\n")
         self.note("what the program prints", (status, out) == (0, "plain x\ninput\n"), (status, out))
-        lines = err.splitlines()
-        self.note("a line of progress",
-                  re.search(r"^forestplan: 3 of 3 crates proved, \d+ s, the last one forestplan$", err, re.M), err)
-        self.note("the last line", re.fullmatch(r"forestplan: 3 crates proved in \d+ s", lines[-1]), err)
+        self.note("a line of progress", re.search(
+            r"^forestplan: 3 of 3 crates proved, \d+ s, the last one forestplan\n"
+            r"forestplan: 3 crates proved in \d+ s\n\Z", err, re.M), err)
         self.note("the log", "== middle\nlogic=proved\nrt: middle proved\n" in tree.log(), tree.log())
         self.note("the gate's edits are left to the gate", "must-fail" not in tree.log(), tree.log())
-        got = tree.call("plan", given="again")
-        self.note("a second call builds nothing", got == (0, "plan\nagain", ""), got)
-        tree.source("some_checks", "tests")
-        got = tree.call("plan")
-        self.note("a crate of tests is no part of the program", got == (0, "plan\n", ""), got)
-        tree.source("aside", "changed")
-        got = tree.call("plan")
-        self.note("nor is another crate", got == (0, "plan\n", ""), got)
-        write(os.path.join(tree.top, "crates.txt"), f"{CRATES}mine: nothing\n")
-        got = tree.call("plan")
-        self.note("nor is a line of it, be it wrong", got == (0, "plan\n", ""), got)
-        write(os.path.join(tree.top, "crates.txt"), CRATES)
+        for what, path, text in (("a second call", "crates/forestplan/out/old", ""),
+                                 ("a crate of tests", "crates/some_checks/src/lib.rt", "tests"),
+                                 ("another crate", "crates/aside/src/lib.rt", "changed"),
+                                 ("a line of it, be it wrong", "crates.txt", f"{CRATES}mine: nothing\n")):
+            tree.write(path, text)
+            self.same(f"{what} builds nothing", tree.call("plan", given="again"), (0, "plan\nagain", ""))
+        tree.write("crates.txt", CRATES)
         tree.source("middle", "changed")
-        status, out, err = tree.call("plan")
-        self.note("a changed source is proved, and what lies above it",
-                  (status, out, re.findall("^== (.*)", tree.log(), re.M)) == (0, "plan\n", ["middle", "forestplan"]),
-                  (err, tree.log()))
+        got = tree.call("plan")
+        self.same("a changed source is proved, and what lies above it",
+                  (*got[:2], re.findall("^== (.*)", tree.log(), re.M)), (0, "plan\n", ["middle", "forestplan"]))
         tree.source("middle", "fine")
         got = tree.call("plan")
         self.note("the state before is still known", got[:2] == (0, "plan\n") and "== " not in tree.log(), tree.log())
-        self.note("no room is left", sorted(os.listdir(os.path.join(tree.cache, "forestplan")))
-                  == ["checkout", "room.lock"])
+        write(tree.program, "#!/bin/sh\necho another\n", 0o755)
+        self.same("a program that nobody vouches for is built anew", tree.call("plan")[:2], (0, "plan\n"))
+        self.same("no room is left", sorted(os.listdir(os.path.join(tree.cache, "forestplan"))),
+                  ["checkout", "room.lock"])
 
-    def run_elsewhere(self, tree, folder):
+    def run_elsewhere(self, tree):
         """Another checkout of the same user, with the same sources."""
-        other = Tree(folder)
-        other.environment, other.cache = tree.environment, tree.cache
+        other = Tree(os.path.join(self.folder, "other"))
+        other.environment = tree.environment
         got = other.call("plan")
         self.note("another checkout takes over what is proved",
                   got[:2] == (0, "plan\n") and "== " not in other.log(), (got, other.log()))
+
+    def run_offered(self, tree):
+        """What is proved is offered to `rt check`: each library, with the stamp of its text."""
+        tree.source("middle", "to be offered")
+        os.remove(tree.kept("offered"))
+        self.same("a program to offer of", tree.call("plan")[:2], (0, "plan\n"))
+        self.same("both libraries are offered as they are", sorted(text_in(tree.kept("offered")).splitlines()),
+                  ["lower True", "middle True"])
 
     def run_failures(self, tree):
         for crate in ("middle", "forestplan"):
             tree.source(crate, "wrong")
             status, out, err = tree.call("plan")
-            self.note(f"{crate}, which isn't proved",
-                      status == 70 and not out and f"the crate {crate} isn't proved" in err, (status, out, err))
-            self.note(f"the end of what is said of {crate}", f"  fn {crate}::f: not proved\n" in err
-                      and "out/build/forestplan.log" in err and "forestplan: it could not be built" in err, err)
+            self.note(f"{crate}, which isn't proved", status == 70 and not out and all(said in err for said in (
+                f"the crate {crate} isn't proved", f"  fn {crate}::f: not proved\n", "out/build/forestplan.log",
+                "forestplan: it could not be built")), (status, out, err))
             tree.source(crate, "fine once more")
-            status, out, _ = tree.call("plan")
-            self.note(f"{crate} is mended", (status, out) == (0, "plan\n"), (status, out))
+            self.same(f"{crate} is mended", tree.call("plan")[:2], (0, "plan\n"))
         tree.source("middle", "to be refused")
-        write(os.path.join(tree.top, "HANDLES"), "all")
+        tree.write("HANDLES", "all")
         status, out, err = tree.call("plan")
         self.note("a repository that is refused", status == 70 and not out and "rt ci ended with status 2" in err
                   and "  rt: HANDLES is one line\n" in err, (status, out, err))
-        write(os.path.join(tree.top, "HANDLES"), "Handles allowed: none.\n")
+        tree.write("HANDLES", "Handles allowed: none.\n")
 
     def run_stopped(self, tree):
+        """A call that is stopped keeps what is proved, and leaves nothing at work; a second one waits meanwhile."""
         tree.source("lower", "anew")
         tree.source("middle", "slow")
-        for at, sent in enumerate((signal.SIGINT, signal.SIGTERM, signal.SIGKILL)):
-            with tree.begun("plan") as first:
-                try:
-                    self.note(f"at work {at}", wait_until(lambda: tree.at_work() and "== middle" in tree.log(), LIMIT))
-                    self.note(f"what is proved is kept {at}", at == 0 or "rt: lower is kept" in tree.log(), tree.log())
-                    if at == 0:
-                        with tree.begun("plan") as second:
-                            line = second.stderr.readline() + second.stderr.readline()
-                            self.note("a second call waits",
-                                      "forestplan: another call is proving already; waiting for its end" in line, line)
-                            os.killpg(second.pid, signal.SIGINT)
-                            self.note("and is stopped", second.wait(LIMIT) == 130, second.returncode)
-                    os.killpg(first.pid, sent)
-                    _, err = first.communicate(timeout=LIMIT)
-                except BaseException:
-                    os.killpg(first.pid, signal.SIGKILL)
-                    raise
-            if sent != signal.SIGKILL:
-                said = "what is proved is kept, so the next call goes on from here"
-                self.note(f"what it says {at}", said in err and err.count("interrupted") == 1, err)
-            if sent == signal.SIGINT:
-                self.note("the status of a stopped call", first.returncode == 130, first.returncode)
-            self.note(f"nothing goes on {at}", wait_until(lambda: not tree.at_work(), LIMIT), tree.at_work())
-        self.run_on(tree)
-
-    def run_on(self, tree):
-        """If the script alone is killed, the prover goes on, and the next call waits for it."""
-        with tree.begun("plan") as killed:
-            self.note("at work once more", wait_until(tree.at_work, LIMIT))
+        for number, status in ((signal.SIGINT, 130), (signal.SIGTERM, -15), (signal.SIGKILL, -9)):
+            with tree.begun() as (first, said):
+                at_work = wait_until(lambda: tree.at_work() and "== middle" in tree.log(), LIMIT)
+                self.note(f"at work until {number.name}", at_work, said())
+                if number != signal.SIGINT:
+                    self.note("what is proved is kept", "rt: lower is kept" in tree.log(), tree.log())
+                else:
+                    with tree.begun() as (second, heard):
+                        waits = wait_until(lambda: "waiting for its end" in heard(), LIMIT)
+                        self.note("a second call waits", waits, heard())
+                        os.killpg(second.pid, number)
+                        self.same("and is stopped", second.wait(LIMIT), status)
+                os.killpg(first.pid, number)
+                self.same(f"the status by {number.name}", first.wait(LIMIT), status)
+                goes_on = "what is proved is kept, so the next call goes on from here"
+                self.note(f"what it says at {number.name}", number == signal.SIGKILL or wait_until(
+                    lambda: goes_on in said(), LIMIT), said())
+            self.note(f"nothing goes on after {number.name}", wait_until(lambda: not tree.at_work(), LIMIT), said)
+        # If the script alone is killed, the prover goes on, and the next call waits for it.
+        with tree.begun() as (killed, said):
+            self.note("at work once more", wait_until(tree.at_work, LIMIT), said())
             parent = int(text_in(f"/proc/{tree.at_work()[0]}/stat").rpartition(")")[2].split()[1])
             os.kill(parent, signal.SIGKILL)
-            killed.communicate(timeout=LIMIT)
-        with tree.begun("plan") as after:
-            line = after.stderr.readline() + after.stderr.readline()
-            self.note("the next call waits", "waiting for its end" in line and tree.at_work(), line)
-            write(tree.kept("go"), "")
-            out, err = after.communicate("", timeout=LIMIT)
-        self.note("and takes over what went on", (after.returncode, out) == (0, "plan\n") and "== " not in tree.log(),
-                  (err, tree.log()))
+            killed.wait(LIMIT)
+            with tree.begun() as (after, heard):
+                waits = wait_until(lambda: "waiting for its end" in heard(), LIMIT)
+                self.note("the next call waits", waits and tree.at_work(), heard())
+                write(tree.kept("go"), "")
+                self.note("and takes over what went on", after.wait(LIMIT) == 0 and "== " not in tree.log(), tree.log())
 
     def run_wrong_bodies(self, tree):
         """Edits are tried in the place of the gate's, and each is counted by what `rt ci` says of it."""
@@ -358,94 +324,63 @@ class FirstRun(Case):
                   "PROVED crates/middle/wrong-bodies/two.edit: still proved",
                   "1 refused, 0 of them WEAK, 1 PROVED, 1 not run"], 1)):
             for name, said in edits.items():
-                write(os.path.join(tree.top, "crates", "middle", "wrong-bodies", f"{name}.edit"), said)
-            done = subprocess.run([sys.executable, "-S", "build", "wrong-bodies", "middle"], cwd=tree.top, text=True,
-                                  env=tree.environment, capture_output=True, timeout=LIMIT)
-            self.note(f"wrong bodies {edits}", (done.returncode, done.stdout.splitlines()) == (status, wanted), done)
+                tree.write(f"crates/middle/wrong-bodies/{name}.edit", said)
+            done = tree.build("wrong-bodies", "middle")
+            self.note(f"wrong bodies {edits}", (done[0], done[1].splitlines()) == (status, wanted), done)
         tree.source("lower", "wrong")
-        done = subprocess.run([sys.executable, "-S", "build", "wrong-bodies", "middle/one"], cwd=tree.top, text=True,
-                              env=tree.environment, capture_output=True, timeout=LIMIT)
-        self.note("a crate below that isn't proved", done.returncode == 1 and "lower isn't proved" in done.stderr
-                  and done.stdout.endswith("\n0 refused, 0 of them WEAK, 0 PROVED, 1 not run\n"), done)
+        done = tree.build("wrong-bodies", "middle/one")
+        self.note("a crate below that isn't proved", done[0] == 1 and "lower isn't proved" in done[2]
+                  and done[1].endswith("\n0 refused, 0 of them WEAK, 0 PROVED, 1 not run\n"), done)
         tree.source("lower", "fine")
-
-    def test_helps(self):
-        """Each script that can be called, in a tree without crates."""
-        top = os.path.join(self.folder, "scripts")
-        found = []
-        for name in ("docs", "examples", "tests", "lab", "build", "bench"):
-            shutil.copytree(os.path.join(TOP, name), os.path.join(top, name),
-                            ignore=shutil.ignore_patterns("__pycache__"))
-            for at, _, files in os.walk(os.path.join(top, name)) if name != "examples" else ():
-                found += [os.path.join(at, file) for file in files if is_called(os.path.join(at, file))]
-        for script in sorted(found):
-            name = os.path.relpath(script, top).removesuffix(".py").removesuffix("/__main__")
-            done = subprocess.run([sys.executable, "-m", name.replace("/", "."), "--help"], stdin=subprocess.DEVNULL,
-                                  capture_output=True, text=True, timeout=LIMIT, cwd=top,
-                                  env=dict(os.environ, COLUMNS="120"))
-            good = done.returncode == 0 and len(done.stdout) > 60 and not done.stderr
-            self.note(f"{name} --help", good, done)
-        self.note("no script has made anything", not os.path.exists(os.path.join(top, "crates")))
-
-    def run_offered(self, tree):
-        """What is proved is offered to `rt check`: each library, with the stamp of its text."""
-        tree.source("middle", "to be offered")
-        os.remove(tree.kept("offered"))
-        self.note("a program to offer of", tree.call("plan")[:2] == (0, "plan\n"))
-        lines = text_in(tree.kept("offered")).splitlines()
-        self.note("both libraries are offered as they are", sorted(lines) == ["lower True", "middle True"], lines)
 
     def run_versions(self, tree):
         """The version without a build, and a build without a run."""
-        for words in (["forestplan", "--version"], ["bin/forestlab", "--version"]):
-            done = subprocess.run([os.path.join(TOP, *words[0].split("/")), *words[1:]], capture_output=True, text=True)
+        for name in ("forestplan", "bin/forestlab"):
+            done = tree.run(os.path.join(TOP, name), "--version")
             said = r"forestplan \d+\.\d+\.\d+\ncommit [^\n]+\nkit rattle-kit-[^\n]+\n"
-            self.note(" ".join(words), done.returncode == 0 and re.fullmatch(said, done.stdout), done)
+            self.note(f"{name} --version", done[0] == 0 and re.fullmatch(said, done[1]), done)
         tree.source("middle", "built alone")
-        built = os.path.join(tree.top, "crates", "forestplan", "out", "forestplan")
-        before = os.stat(built).st_ino
+        before = os.stat(tree.program).st_ino
         for words, status, is_new in ((["--ask"], 1, False), ([], 0, True), (["--ask"], 0, True)):
-            done = subprocess.run([sys.executable, "-S", "build", "program", *words, "forestplan"], cwd=tree.top,
-                                  env=tree.environment, capture_output=True, text=True, timeout=LIMIT)
-            good = (done.returncode, done.stdout, os.stat(built).st_ino != before) == (status, "", is_new)
+            done = tree.build("program", *words, "forestplan")
+            good = (*done[:2], os.stat(tree.program).st_ino != before) == (status, "", is_new)
             self.note(f"build program {words}, which doesn't run it", good, done)
 
     def run_kits(self, tree):
-        """Another kit is named before proofs begin, and so is a command that is of none, or none at all."""
-        tree.source("lower", "by another kit")
+        """Another kit, or a command that says none, is named before proofs begin; without a command nothing begins."""
         write(tree.kit, "rattle-kit-99z logic 0\n")
-        status, out, err = tree.call("plan")
-        with open(os.path.join(TOP, "build", "kit_name.txt"), encoding="utf-8") as file:
-            wanted = file.read().strip()
-        self.note("another kit is named, and tried", (status, out) == (0, "plan\n"), (status, out))
-        first = err.split(" crates proved")[0]
-        self.note("both kits", f"for {wanted}, and rt is of rattle-kit-99z logic 0" in first, err)
-        tree.source("lower", "by no kit")
-        os.remove(tree.kit)
-        status, out, err = tree.call("plan")
-        self.note("a command of no kit", (status, out) == (70, "") and f"KIT-ID; {wanted} is wanted" in err, err)
+        for kit in ("rattle-kit-99z logic 0", "no kit that says its name"):
+            tree.source("lower", kit)
+            status, out, err = tree.call("plan")
+            self.same("another kit is tried", (status, out), (0, "plan\n"))
+            self.note("both kits are named", f"for {KIT}, and rt is of {kit}" in err.split(" crates proved")[0], err)
+            with contextlib.suppress(FileNotFoundError):
+                os.remove(tree.kit)
+        tree.source("lower", "by no command")
         tree.environment["PATH"] = without_rt(tree.environment["PATH"])
         status, out, err = tree.call("plan")
-        self.note("no command", (status, out) == (70, "") and f"rt is not on the PATH: {wanted} is wanted" in err, err)
+        self.note("no command", (status, out) == (70, "") and f"rt is not on the PATH: {KIT} is wanted" in err, err)
         self.note("what it would take isn't said then", "minutes" not in err and "Traceback" not in err, err)
-        for words, status in ((["--help"], 0), (["plan"], 70)):
-            done = subprocess.run([os.path.join(TOP, "try"), *words], capture_output=True, text=True,
-                                  stdin=subprocess.DEVNULL, env=tree.environment)
-            said = done.stderr if status else done.stdout
-            self.note(f"try {words}", done.returncode == status and (wanted if status else "usage: try") in said, done)
+        status, out, err = tree.run(os.path.join(TOP, "try"), "plan")
+        self.note("try without a command", (status, out) == (70, "") and KIT in err, err)
+
+    def test_helps(self):
+        """Each script of the tests and the benchmarks."""
+        found = [path for folder in ("tests", "bench")
+                 for path in glob.glob(os.path.join(TOP, folder, "**", "*.py"), recursive=True)
+                 if "\nif __name__ == " in text_in(path)]
+        self.note("scripts", len(found) > 6, found)
+        for name in (os.path.relpath(path, TOP).removesuffix(".py").replace("/", ".") for path in found):
+            done = run_line('exec "$0" -m "$1" --help', sys.executable, name, limit=LIMIT, cwd=TOP)
+            self.note(f"{name} --help", done[0] == 0 and len(done[1]) > 60 and not done[2], done)
 
     def test_watch(self):
         """A line of a run now and then, until it ends; of another process, or none, nothing."""
         script = ("import sys; from lab import progress; progress.MOMENTS = [0.1, 0.2, 60]; "
                   "sys.exit(progress.main(sys.argv[1:]))")
+        line = ('sleep "$3" <"$0" & "$1" -c "$2" $! forestplan plan 2>&1 | '
+                '{ read -r first; kill $!; echo "$first"; exec cat; }')
         network = os.path.join(TOP, "examples", "triangle.col")
-        with open(network, "rb") as given, subprocess.Popen(["sleep", str(LIMIT)], stdin=given) as run:
-            with subprocess.Popen([sys.executable, "-c", script, str(run.pid), "forestplan", "plan"], cwd=TOP,
-                                  stdout=subprocess.PIPE, stderr=subprocess.PIPE, text=True) as watching:
-                first = watching.stderr.readline()
-                run.kill()
-                out, more = watching.communicate(timeout=LIMIT)
-        shape = r"forestplan: \d+ s, 0 s of processor time(, of about 0 s for 284 wires)?"
-        good = watching.returncode == 0 and all(re.fullmatch(shape, it) for it in (first + more).splitlines())
-        self.note("lines of a run", first and good, (watching.returncode, first, more))
-        self.note("nothing on standard output", out == "", out)
+        done = run_line(line, network, sys.executable, script, str(LIMIT), limit=LIMIT, cwd=TOP, text=True)
+        shape = r"(forestplan: \d+ s, 0 s of processor time(, of about 0 s for 284 wires)?\n)+"
+        self.note("lines of a run", (done[0], done[2]) == (0, "") and re.fullmatch(shape, done[1]), done)

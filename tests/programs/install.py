@@ -10,12 +10,11 @@ import shutil
 import signal
 import subprocess
 import sys
-import tarfile
 import tempfile
 
 from lab.__main__ import COMMANDS as OF_LAB
 from lab.definitions.colours import plan_text
-from tests import FORESTLAB, TOP
+from tests import TOP
 from tests.cases import Case, called, contents, copied, example, text
 from tests.commands import APART, COMMANDS, HELPS, PROGRAMS, listed_below
 from tests.commands import SCRIPTS as OF_BIN
@@ -24,7 +23,6 @@ from tests.shell import run_line, wait_until
 
 # Seconds; a busy machine takes long for the many calls of help that the manual pages are made of.
 LIMIT = 600
-TRIES = 5
 NAMES = [*PROGRAMS, "forestlab"]
 BUILD = [sys.executable, os.path.join(TOP, "build")]
 ENVIRONMENT = dict(os.environ, COLUMNS="80")
@@ -85,7 +83,6 @@ class Install(Case):
 
     def test_installed(self):
         self.note("install", self.installed[:2] == (0, b"") and b"install: " in self.installed[2], self.installed)
-        self.run_rows("installed", self.target)
 
     def line(self, command):
         path = f"{os.path.join(self.target, 'bin')}:{ENVIRONMENT['PATH']}"
@@ -126,77 +123,70 @@ class Install(Case):
         self.note("docs/pictures/draw.sh", done[0] == 0 and all_of(folder) == stored, done)
 
     def test_copy(self):
-        """A copy of the folder, called through links, where the folder itself is away."""
+        """Each program and script of a copy of the folder, called through links from elsewhere, without the
+        toolchain, where the folder itself is away."""
         copy, links, away = (os.path.join(self.folder, name) for name in ("copy", "links", "away"))
         subprocess.run(["cp", "-r", self.target, copy], check=True)
         os.makedirs(os.path.join(links, "bin"))
         for name in NAMES:
             os.symlink(os.path.join(copy, "bin", name), os.path.join(links, "bin", name))
-        os.symlink(os.path.join(copy, "examples"), os.path.join(links, "examples"))
         os.rename(self.target, away)
-        try:
-            self.run_rows("a copy of it, through links", links)
-        finally:
-            os.rename(away, self.target)
+        self.addCleanup(os.rename, away, self.target)
 
-    def run_rows(self, name, folder):
-        """Each program and script of a folder, called by its path from another folder, without the toolchain."""
         def call(*words, given=b""):
-            return run([os.path.join(folder, "bin", words[0]), *words[1:]], given, cwd=self.elsewhere)
-
-        def check(what, good, got):
-            self.note(f"{name}: {what}", good, got)
+            return run([os.path.join(links, "bin", words[0]), *words[1:]], given, cwd=self.elsewhere)
 
         for it in COMMANDS:
             got = call(it.program, *it.line, given=text(it.data))
-            check(f"{it.program} {it.name}", got == (0, text(it.answer), b""), got)
+            self.same(f"{it.program} {it.name}", got, (0, text(it.answer), b""))
         own = self.file(os.path.join(self.elsewhere, "net.col"), text(APART))
         for it in OF_BIN:
             got = call(*(own if word == "FILE" else word for word in it.line), given=text(it.data))
-            check(it.name, got[::2] == (0, b"") and re.fullmatch(it.answer, got[1].decode()), got)
-        got = call("forestlab", "explore", "two")
-        check("a network by its name", got[::2] == (0, b"") and got[1].startswith(b"every schedule of two: 281 "), got)
+            self.note(it.name, got[::2] == (0, b"") and re.fullmatch(it.answer, got[1].decode()), got)
         for kind in ("plan", "rounds", "run", "player"):
-            got = call("forestlab", "picture", kind, os.path.join(folder, "examples", "triangle.col"))
-            check(f"picture {kind}", got[::2] == (0, b"") and re.search(rb"<svg|<!doctype html", got[1][:200]), got)
+            got = call("forestlab", "picture", kind, "triangle")
+            self.note(f"picture {kind}", got[::2] == (0, b"") and re.search(rb"<svg|<!doctype html", got[1][:200]), got)
 
     def test_manual(self):
+        """A page for each of the three, with the help of each of its commands; that of the programs is stored."""
         pages = os.path.join(self.target, "share", "man", "man1")
         self.same("a manual page for each", sorted(os.listdir(pages)), sorted(f"{name}.1" for name in NAMES))
-        for name in PROGRAMS:
-            texts = {" ".join(words).upper() if words[1:] else "DESCRIPTION": file
-                     for words, file in HELPS if words[0] == name}
-            wanted = {title: contents(os.path.join(TOP, "lab", "help", f"{file}.txt")).decode()
-                      for title, file in texts.items()}
-            for option in ("-h", "--help"):
-                got = run([os.path.join(self.target, "bin", name), option])
-                self.note(f"{name} {option}", got == (0, wanted["DESCRIPTION"].encode(), b""), got)
+        stored = {" ".join(words): contents(os.path.join(TOP, "lab", "help", f"{file}.txt")) for words, file in HELPS}
+        for name in NAMES:
             page = contents(os.path.join(pages, f"{name}.1")).decode()
-            self.note(f"the manual page of {name} is its help", lines_of_page(page) == wanted, page[:500])
-        page = contents(os.path.join(pages, "forestlab.1")).decode()
-        blocks = lines_of_page(page)
-        words = {title: title.lower().split()[1:] if title != "DESCRIPTION" else [] for title in blocks}
-        texts = {title: run([FORESTLAB, *words[title], "--help"])[1].decode() for title in blocks}
-        self.note("the manual page of forestlab is its help", "DESCRIPTION" in blocks and blocks == texts, page[:500])
-        self.note("it has its purpose", re.search(r"^\.SH NAME\nforestlab \\- [a-z][^\n]*[a-z]$", page, re.M),
-                  page[:200])
-        wanted = {f"forestlab {it.name}".upper() for it in OF_BIN}
-        wanted |= {f"{title} {below}".upper() for title in wanted for below in listed_below(texts.get(title, ""))}
-        self.same("it has its commands", set(blocks) - {"DESCRIPTION"}, wanted)
-        if shutil.which("groff"):
-            for page in sorted(os.listdir(pages)):
-                status, _, said = run(["groff", "-man", "-Tutf8", "-ww", os.path.join(pages, page)])
-                self.note(f"groff sets {page}", (status, said) == (0, b""), said)
+            blocks = {name if title == "DESCRIPTION" else title.lower(): said
+                      for title, said in lines_of_page(page).items()}
+            texts = {words: run([os.path.join(self.target, "bin", name), *words.split()[1:], "--help"])[1]
+                     for words in blocks}
+            wanted = {words: said for words, said in stored.items() if words.split()[0] == name} or texts
+            self.same(f"the help of {name}", texts, wanted)
+            self.same(f"the manual page of {name}", blocks, {words: said.decode() for words, said in texts.items()})
+            purpose = re.search(rf"^\.SH NAME\n{name} \\- [a-z][^\n]*[a-z]$", page, re.M)
+            self.note(f"the purpose of {name}", purpose, page)
+            if shutil.which("groff"):
+                got = run(["groff", "-man", "-Tutf8", "-ww", os.path.join(pages, f"{name}.1")])
+                self.note(f"groff sets the page of {name}", got[::2] == (0, b""), got)
+        wanted = {"forestlab", *(f"forestlab {it.name}" for it in OF_BIN)}
+        wanted |= {f"{words} {below}" for words in wanted - {"forestlab"}
+                   for below in listed_below(texts.get(words, b"").decode())}
+        self.same("the commands of forestlab", set(blocks), wanted)
 
     def test_again(self):
-        """Once more, while a program of the folder runs; what is there besides stays."""
-        own = self.file(os.path.join(self.target, "examples", "own.col"), b"p edge 2 1\ne 1 2\n")
+        """Once more, while a program of the folder runs: what is there besides stays, and what an earlier install put
+        there and this one doesn't is removed, if it is as it was."""
+        own, old, changed = (self.file(os.path.join(self.target, "examples", name), b"x")
+                             for name in ("own", "old", "changed"))
+        for path, said in ((old, b"x"), (changed, b"y")):
+            line = f"{hashlib.sha256(said).hexdigest()}  {os.path.relpath(path, self.target)}\n"
+            self.file(os.path.join(self.target, "SHA256SUMS"), line, "ab")
+        os.mkdir(os.path.join(self.target, ".install-before"))
         with subprocess.Popen([os.path.join(self.target, "bin", "forestplan"), "forests"], stdin=subprocess.PIPE,
                               stdout=subprocess.PIPE) as running:
             got = run([*self.script, self.target])
             out, _ = running.communicate(b"p edge 2 1\ne 1 2\n", timeout=LIMIT)
         self.note("install once more", got[:2] == (0, b"") and out == b"forests 2 1\n0 1 2\n", (got, out))
-        self.note("what else is in the folder stays", contents(own) == b"p edge 2 1\ne 1 2\n")
+        self.same("what is there", [os.path.exists(path) for path in (own, changed, old)], [True, True, False])
+        self.note("nothing of an install that didn't end", ".install-before" not in os.listdir(self.target))
 
     def test_refused(self):
         for words in ([], [self.folder, self.folder], ["--all"], [TOP], [os.path.join(TOP, "docs", "new")]):
@@ -204,53 +194,21 @@ class Install(Case):
         file = self.file(os.path.join(self.folder, "a file"), b"")
         got = run([*self.script, os.path.join(file, "below")])
         self.note("install below a file", got[:2] == (1, b"") and re.fullmatch(rb"install: [^\n]+\n", got[2]), got)
-        got = run([*self.script, "--help"])
-        is_shown = b"  python3 build install ~/forestplan\n" in got[1]
-        self.note("install --help", (got[0], got[2]) == (0, b"") and is_shown, got)
 
-    def test_in_the_place(self):
-        """A folder in the place of a file, or a file in that of a folder, leaves all as it was."""
-        for name, path in (("a folder", "bin/forestplan/mine"), ("a file", "lab")):
-            folder = os.path.join(self.folder, f"with {name}")
-            for own in (path, "README.md"):
-                self.file(os.path.join(folder, own), b"own")
-            got = run([*self.script, folder])
-            place = os.path.join(folder, "/".join(path.split("/")[:2]))
-            self.note(f"{name} in the place", got[:2] == (1, b"") and place.encode() in got[2]
-                      and got[2].endswith(b" is as it was\n") and got[2].count(b"\n") == 1, got)
-            there = sorted(os.path.relpath(os.path.join(at, one), folder) for at, _, names in os.walk(folder)
-                           for one in names)
-            self.note(f"{name}: what is there", there == sorted([path, "README.md"])
-                      and contents(os.path.join(folder, "README.md")) == b"own", there)
-
-    def test_signals(self):
-        """SIGTERM and SIGHUP leave nothing of an installation or an archive that isn't whole, nor does the next
-        installation what was left before."""
-        os.makedirs(os.path.join(self.folder, "ended", ".install-before"))
-        os.makedirs(os.path.join(self.folder, "packs that end"))
-        for name, words, has_begun in (
-            ("ended", self.script, lambda there: there not in ([], [".install-before"])),
-            ("packs that end", [*BUILD, "pack", self.target], lambda there: any(one.endswith(".new") for one in there)),
-        ):
-            folder = os.path.join(self.folder, name)
-            for number in (signal.SIGTERM, signal.SIGHUP):
-                # On a busy machine all may be done before the signal comes; then once more.
-                for _ in range(TRIES):
-                    status, said = self.ended_by(number, [*words, folder], lambda: has_begun(os.listdir(folder)))
-                    got = status, os.listdir(folder)
-                    if status:
-                        break
-                    shutil.rmtree(folder)
-                    os.mkdir(folder)
-                self.note(f"{name} by {number.name}: nothing is left", got == (128 + number, []), (got, said))
-
-    def ended_by(self, number, words, has_begun):
-        """The status of a command that gets a signal once it has begun, and what it says."""
-        with subprocess.Popen(words, stdout=subprocess.DEVNULL, stderr=subprocess.PIPE) as started:
-            wait_until(lambda: has_begun() or started.poll() is not None, LIMIT, 0.001)
-            started.send_signal(number)
-            _, said = started.communicate(timeout=LIMIT)
-        return started.returncode, said
+    def test_nothing_half(self):
+        """A full disk and a signal leave a folder as it was, and a new one isn't left."""
+        there = os.path.join(self.folder, "there")
+        self.file(os.path.join(there, "README.md"), b"mine\n")
+        for folder, left in ((there, ["README.md"]), (os.path.join(self.folder, "new"), None)):
+            got = run([*self.script, folder], most=200_000)  # The programs are larger.
+            self.note(f"no room in {folder}", got[:2] == (1, b"") and got[2].count(b"\n") == 1, got)
+            self.same("what is left", os.path.exists(folder) and os.listdir(folder), left or False)
+            with subprocess.Popen([*self.script, folder], stderr=subprocess.DEVNULL) as started:
+                wait_until(lambda: started.poll() is not None or os.path.isdir(folder) and any(
+                    name.startswith(".install-") for name in os.listdir(folder)), LIMIT, 0.001)
+                started.terminate()
+                self.same("the status", started.wait(LIMIT), 128 + signal.SIGTERM)
+            self.same("what a signal leaves", os.path.exists(folder) and os.listdir(folder), left or False)
 
     def test_limit(self):
         """Where a file may not grow, the output can't be written: that is a fault of the stream, and no death."""
@@ -277,16 +235,15 @@ class Install(Case):
         self.same("a plan in Python", got, (0, wanted.encode(), b""))
 
     def test_unbuilt(self):
-        """From a tree that isn't built, without the toolchain: what it would cost is said, and nothing is installed."""
+        """From a tree that isn't built from its sources, without the toolchain, nothing is installed."""
         tree, target = os.path.join(self.folder, "a tree"), os.path.join(self.folder, "target")
         copied(tree, "forestplan", "crates.txt", "bin", "build", "lab")
         got = run([sys.executable, os.path.join(tree, "build"), "install", target])
-        self.note("install from a tree that isn't built",
-                  got[0] == 70 and b"not built, and the toolchain's command rt is not on the PATH" in got[2], got)
-        self.note("nothing is installed then", got[0] != 0 and not os.path.exists(target), got)
+        self.refusal("install from a tree that isn't built", got, 70, b"not on the PATH")
+        self.note("nothing is installed then", not os.path.exists(target), got)
 
     def test_contents(self):
-        """What says which forestplan it is, the texts of the licences, README and pages, and a sum of each file."""
+        """What says which forestplan it is, the texts of the licences and pages, and a sum of each file."""
         version = contents(os.path.join(self.target, "VERSION")).decode()
         lines = r"forestplan \d+\.\d+\.\d+\ncommit [^\n]+\nkit rattle-kit-[^\n]+\n(built where rt is of [^\n]+\n)?"
         self.note("VERSION", re.fullmatch(lines, version), version)
@@ -296,11 +253,9 @@ class Install(Case):
         for name in ("LICENSE-MIT", "LICENSE-APACHE", "CHANGELOG.md", "docs/claim/FORMATS.md"):
             there, here = (contents(os.path.join(top, name)) for top in (self.target, TOP))
             self.note(f"{name} is there", there == here)
-        rows = [line.split("  ", 1) for line in contents(os.path.join(self.target, "SHA256SUMS")).decode().splitlines()]
-        wrong = [path for known, path in rows
-                 if hashlib.sha256(contents(os.path.join(self.target, path))).hexdigest() != known]
-        self.note("each sum is its file's", not wrong and len(rows) > 100, wrong)
-        self.note("the programs have sums", {"lib/forestplan", "lib/forestplay"} <= {path for _, path in rows})
+        sums = contents(os.path.join(self.target, "SHA256SUMS")).decode()
+        self.note("the programs have sums", all(f"  lib/{name}\n" in sums for name in PROGRAMS), sums)
+        self.same("each sum is its file's", run(["sha256sum", "-c", "--quiet", "SHA256SUMS"], cwd=self.target)[0], 0)
 
     def test_readme(self):
         """README there has the claim and the links of the repository's, and names nothing that it alone has."""
@@ -315,86 +270,24 @@ class Install(Case):
         shown = re.search(r"\$ (forestplan plan < \S+)", there)
         self.same("its first command", self.line(shown[1]), (0, b"plan\n1 2\n2 3\n3 1\n", b""))
 
-    def small_tree(self, name):
-        """A tree of this one's scripts, whose programs are of one crate each, and were built by another command."""
-        tree = os.path.join(self.folder, name)
-        copied(tree, "bin", "build", "lab", "examples", "docs", "forestplan", "README.md", "CHANGELOG.md",
-               "LICENSE-MIT", "LICENSE-APACHE")
-        self.file(os.path.join(tree, "crates.txt"), b"forestplan:\nforestplay:\n")
-        for program in PROGRAMS:
-            folder = os.path.join(tree, "crates", program)
-            self.file(os.path.join(folder, "src", "main.rt"), b"// as it was built\n")
-            os.makedirs(os.path.join(folder, "out"))
-            shutil.copy(os.path.join(self.target, "lib", program), os.path.join(folder, "out", program))
-        self.vouch(tree)
-        return tree
-
-    def vouch(self, tree):
-        """Has it noted that the programs are made from the sources, as ./test does after the gate."""
-        for name in PROGRAMS:
-            build = [sys.executable, "-S", os.path.join(tree, "build"), "program"]
-            sources = run([*build, "--sources", name])[1].decode().strip()
-            done = run([*build, "--made-from", sources, name])
-            self.same(f"a note of {name}", done, (0, b"", b""))
-
-    def test_changed(self):
-        """A tree whose sources have changed since installs nothing old, and a full disk leaves nothing half."""
-        tree, target = self.small_tree("small tree"), os.path.join(self.folder, "of the small tree")
-        script = [sys.executable, os.path.join(tree, "build"), "install"]
-        os.makedirs(os.path.join(target, "lab"))
-        self.file(os.path.join(target, "README.md"), b"mine\n")
-        for folder in (target, os.path.join(self.folder, "nowhere yet")):
-            got = run([*script, folder], most=200_000)  # The programs are larger.
-            self.note(f"no room in {folder}", got[:2] == (1, b"") and got[2].count(b"\n") == 1, got)
-        self.note("what was there stays",
-                  sorted(os.listdir(target)) == ["README.md", "lab"] and not os.listdir(os.path.join(target, "lab"))
-                  and contents(os.path.join(target, "README.md")) == b"mine\n", os.listdir(target))
-        self.note("a new folder isn't left", not os.path.exists(os.path.join(self.folder, "nowhere yet")))
-        got = run([*script, target])
-        self.note("with room", got[:2] == (0, b""), got)
-        old, kept = (os.path.join(target, "lab", name) for name in ("old.py", "own.py"))
-        for path in (old, kept):
-            self.file(path, b"x")
-        sum_of_old = f"{hashlib.sha256(b'x').hexdigest()}  lab/old.py\n"
-        self.file(os.path.join(target, "SHA256SUMS"), sum_of_old.encode(), "ab")
-        self.file(os.path.join(tree, "crates", "forestplan", "src", "main.rt"), b"// changed\n", "ab")
-        before = os.stat(os.path.join(target, "lib", "forestplan")).st_ino
-        self.refusal("from changed sources", run([*script, target]), 70, b"forestplan: not built")
-        self.note("the old program isn't put there again",
-                  os.stat(os.path.join(target, "lib", "forestplan")).st_ino == before)
-        out = os.path.join(tree, "crates", "forestplan", "out")
-        os.remove(os.path.join(out, "forestplan.made-from"))
-        shutil.copy(os.path.join(self.target, "lib", "forestplan"), out)
-        got = run([*script, target])
-        self.refusal("a newer program that nobody vouches for", got, 70, b"forestplan: not built")
-        self.vouch(tree)
-        got = run([*script, target])
-        after = os.stat(os.path.join(target, "lib", "forestplan")).st_ino
-        self.note("built again by another command", got[0] == 0 and after != before, got)
-        self.note("what an earlier install put there is removed, and nothing else",
-                  (os.path.exists(old), os.path.exists(kept)) == (False, True))
-
     def test_pack(self):
         """An archive of an installed folder is that folder again, and nothing that was put there besides."""
-        packs, out = os.path.join(self.folder, "packs"), os.path.join(self.folder, "unpacked")
+        pack, packs, out = [*BUILD, "pack"], os.path.join(self.folder, "packs"), os.path.join(self.folder, "unpacked")
         os.mkdir(packs)
+        os.mkdir(out)
         self.file(os.path.join(self.target, "mine.txt"), b"mine\n")
-        pack = [*BUILD, "pack"]
-        sums = set()
+        made = []
         for _ in range(2):
             got = run([*pack, self.target, packs])
             self.note("pack", got[0] == 0 and got[2] == b"", got)
-            archive = next(name for name in os.listdir(packs) if name.endswith(".tar.gz"))
-            made = contents(os.path.join(packs, archive))
-            sums.add(hashlib.sha256(made).hexdigest())
-        self.note("the same archive again", len(sums) == 1, sums)
-        self.note("its sum", contents(os.path.join(packs, f"{archive}.sha256")).decode() == f"{min(sums)}  {archive}\n")
-        with tarfile.open(os.path.join(packs, archive)) as packed:
-            packed.extractall(out)
+            made.append(all_of(packs))
+        self.note("the same archive again", made[0] == made[1])
+        archive = next(name for name in os.listdir(packs) if name.endswith(".tar.gz"))
+        for words in (["sha256sum", "-c", "--quiet", f"{archive}.sha256"], ["tar", "xf", archive, "-C", out]):
+            self.same(" ".join(words[:2]), run(words, cwd=packs), (0, b"", b""))
         top = os.path.join(out, archive.removesuffix(".tar.gz"))
-        paths = [line[66:] for line in contents(os.path.join(top, "SHA256SUMS")).decode().splitlines()]
-        same = all(contents(os.path.join(top, path)) == contents(os.path.join(self.target, path)) for path in paths)
-        self.note("it has what was installed", same and not os.path.exists(os.path.join(top, "mine.txt")))
+        self.same("it is as it was installed", run(["sha256sum", "-c", "--quiet", "SHA256SUMS"], cwd=top)[0], 0)
+        self.note("nothing of one's own", not os.path.exists(os.path.join(top, "mine.txt")))
         data = example("petersen")
         got = run([os.path.join(top, "bin", "forestplan"), "plain"], data)
         self.same("its program plans", got, (0, plan_text(data), b""))
@@ -408,30 +301,27 @@ class Install(Case):
         os.mkdir(there)
         got = run([*vendor, there, "cole_vishkin"])
         self.note("vendor", got[:2] == (0, b"") and b"2 crates" in got[2], got)
-        lines = re.findall(r"(?m)^[^#\n].*$", contents(os.path.join(there, "crates.txt")).decode())
-        self.same("their lines", lines, ["colour_base:", "cole_vishkin: colour_base"])
+        crates, lines = os.path.join(there, "crates"), os.path.join(there, "crates.txt")
+        self.same("their lines", re.findall(rb"(?m)^[^#\n].*$", contents(lines)),
+                  [b"colour_base:", b"cole_vishkin: colour_base"])
         for crate in ("colour_base", "cole_vishkin"):
-            for part in ("src", "specs", "proofs"):
-                here, copy = (os.path.join(top, "crates", crate, part) for top in (TOP, there))
-                self.note(f"{part} of {crate}", subprocess.run(["diff", "-r", here, copy]).returncode == 0)
-        self.note("nothing else of a crate", not os.path.exists(os.path.join(there, "crates", "cole_vishkin", "out")))
-        self.file(os.path.join(there, "crates.txt"), b"mine: cole_vishkin\n", "ab")
-        changed = self.file(os.path.join(there, "crates", "colour_base", "src", "lib.rt"), b"// changed\n", "ab")
-        got = run([*vendor, there, "shift_down"])
-        is_refused = got[:2] == (1, b"") and b"another crate colour_base" in got[2]
-        self.note("a changed crate isn't replaced", is_refused and b"// changed" in contents(changed), got)
-        self.note("nor is anything copied then", not os.path.exists(os.path.join(there, "crates", "shift_down")))
+            parts = sorted(os.listdir(os.path.join(crates, crate)))
+            good = {"src", "specs"} <= set(parts) <= {"src", "specs", "proofs", "must-fail"}
+            self.note(f"parts of {crate}", good, parts)
+            for part in parts:
+                folders = [os.path.join(top, "crates", crate, part) for top in (TOP, there)]
+                self.same(f"{part} of {crate}", run(["diff", "-r", *folders]), (0, b"", b""))
+        self.file(lines, b"mine: cole_vishkin\n", "ab")
+        changed = self.file(os.path.join(crates, "colour_base", "src", "lib.rt"), b"// changed\n", "ab")
+        before = all_of(there)
+        self.refusal("a changed crate", run([*vendor, there, "shift_down"]), 1, b"another crate colour_base")
+        self.note("nothing is copied then", all_of(there) == before)
         got = run([*vendor, there, "shift_down", "--replace"])
-        text_of_lines = contents(os.path.join(there, "crates.txt"))
         self.note("it is if that is asked for", got[0] == 0 and b"// changed" not in contents(changed), got)
-        self.note("a line of one's own stays", b"\nmine: cole_vishkin\n" in text_of_lines, text_of_lines)
-        empty = os.path.join(self.folder, "empty repository")
-        os.mkdir(empty)
-        for top in (there, empty):
-            before = all_of(top)
-            got = run([*vendor, top, "sync_rounds", "--replace"], most=8_000)
-            is_one_line = re.fullmatch(rb"vendor: \[Errno \d+\] File too large: [^\n\[]+\n", got[2])
-            self.note(f"no room in {top}", got[:2] == (1, b"") and is_one_line, got)
-            self.note(f"{top} is as it was", all_of(top) == before)
+        self.note("a line of one's own stays", b"\nmine: cole_vishkin\n" in contents(lines), contents(lines))
+        before = all_of(there)
+        got = run([*vendor, there, "sync_rounds", "--replace"], most=8_000)
+        is_one_line = re.fullmatch(rb"vendor: \[Errno \d+\] File too large: [^\n\[]+\n", got[2])
+        self.note("no room", got[:2] == (1, b"") and is_one_line and all_of(there) == before, got)
         for words in ([there, "nothing"], [TOP, "forests"], [os.path.join(there, "away"), "forests"]):
             self.refusal(f"vendor {words}", run([*vendor, *words]), 2, b"vendor: error: ")

@@ -6,8 +6,7 @@ import re
 import subprocess
 import tempfile
 
-from build.install import install
-from build.pack import name_of, write
+from build.pack import pack
 from lab.schedules.policies import POLICIES
 from lab.transcripts.fields import PAYLOADS
 from lab.workshop import cases, class_files, guard, options, processes, protocol
@@ -78,7 +77,7 @@ class ClassFolder(Case):
     @classmethod
     def setUpClass(cls):
         cls.folder = cls.enterClassContext(tempfile.TemporaryDirectory())
-        install(cls.folder, is_class=True)
+        class_files.copy_class(cls.folder)
         cls.found = {os.path.relpath(os.path.join(at, name), cls.folder)
                      for at, _, names in os.walk(cls.folder) for name in names}
 
@@ -119,27 +118,28 @@ class ClassFolder(Case):
             self.assertNotRegex(self.text(path), r"def (bit_step|merge|recolour|settle)\(self, t|def bit_step")
 
     def test_any_folder_makes_it(self):
-        """The command makes the same without what builds, here and from the folder of a class itself; of manual pages
-        it copies those that there are."""
+        """The command makes the same here and from the folder of a class itself; of manual pages it copies those that
+        there are."""
         made, again = (os.path.join(self.enterContext(tempfile.TemporaryDirectory()), name) for name in ("a b", "c"))
-        for door, to, like, sums in ((TOP, made, self.folder, True), (self.folder, again, self.folder, False)):
+        for door, to in ((TOP, made), (self.folder, again)):
             done = subprocess.run([os.path.join(door, "bin", "forestlab"), "workshop", "class", to],
                                   capture_output=True, text=True)
             self.assertEqual((done.returncode, done.stderr), (0, ""))
             self.assertEqual(subprocess.run(["sha256sum", "-c", "--quiet", "SHA256SUMS"], cwd=to).returncode, 0)
-            differ = subprocess.run(["diff", "-rq", like, to], capture_output=True, text=True).stdout
-            self.assertEqual([line for line in differ.splitlines() if not (
-                sums and line.endswith(("share", "SHA256SUMS differ")) or ".pyc" in line or "__pycache__" in line)], [])
+            differ = called("diff", "-rq", "-x", "__pycache__", self.folder, to)
+            self.assertEqual(differ, (0, b"", b""))
         self.refusal("a folder that is there", said_by("workshop", "class", made), 2, f"{made} is there already\n")
 
     def test_its_archive_has_a_name_of_its_own(self):
-        self.assertIn("forestplan-class-0", name_of(self.folder))
-        to = os.path.join(self.enterContext(tempfile.TemporaryDirectory()), "a.tar.gz")
-        write(self.folder, "a", to)
-        write(self.folder, "a", to)
+        to = self.enterContext(tempfile.TemporaryDirectory())
+        path = pack(self.folder, to)
+        self.assertIn("forestplan-class-0", path)
+        self.assertEqual(pack(self.folder, to), path)
+        with open(path, "ab") as file:
+            file.write(b"more")
         with self.assertRaisesRegex(OSError, "is there already, with another content"):
-            write(self.folder, "b", to)
-        self.assertEqual(os.listdir(os.path.dirname(to)), ["a.tar.gz"])
+            pack(self.folder, to)
+        self.assertEqual(sorted(os.listdir(to)), [os.path.basename(path), f"{os.path.basename(path)}.sha256"])
 
     def test_it_works(self):
         self.assertLessEqual({"README.md", "LICENSE-MIT", "LICENSE-APACHE"}, self.found)
