@@ -4,7 +4,7 @@ from math import sqrt
 
 from lab.pictures.overview_picture import USUAL
 from lab.pictures.palette import HAIRLINE, INK, PAPER, SOFT, WIRES
-from lab.pictures.sizes import MANY_WIRES, least_wires
+from lab.pictures.sizes import MANY_WIRES
 from lab.pictures.svg import Svg
 from lab.pictures.synchroniser import steps_of
 from lab.words import counted
@@ -28,7 +28,7 @@ FILLS = {0: "#E8F1F8", 1: "#FBEFE4", 2: "#FBE3CF"}
 
 def usual(network, last):
     """The pulses that are counted if none are asked for: all, or the first ones of a long run."""
-    return (0, last) if least_wires(network) <= MANY_WIRES else (0, min(USUAL - 1, last))
+    return (0, last) if 2 * len(network.edges) * (last + 1) <= MANY_WIRES else (0, min(USUAL - 1, last))
 
 
 def draw(run, pulses=None):

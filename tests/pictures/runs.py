@@ -5,6 +5,9 @@ from collections import Counter
 from lab.definitions.colours import network_of
 from lab.definitions.nodes import NetState, last_pulse
 from lab.definitions.rounds import rounds_text
+from lab.networks.named import network_text
+from lab.networks.network_text import read_network
+from lab.pictures.automaton_picture import usual as usual_of_node
 from lab.transcripts.check import find_order
 from lab.transcripts.reading import read
 from lab.transcripts.stamps import Clock
@@ -306,6 +309,10 @@ class Runs(PictureCase):
                   ": pulses 0 to 39 of 1848," in said[0] and "the first 40 pulses of 1849:" in said[-1], said[-1])
         self.note("node of a long run: what it says",
                   "in pulses 0 to 39 of the run" in texts(parsed(self.draw("node", network, text)))[1])
+        # By the program's own last pulse: 2 · 199 · 201 wires, and 2 · 199 · 25 of the colouring.
+        path = read_network(network_text("path200"), "path200")
+        self.same("node of a long run of another program", (usual_of_node(path, 200), usual_of_node(path, 24)),
+                  ((0, 39), (0, 24)))
         root, whole = parsed(self.draw("tally", network, text)), parsed(
             self.by_rounds(network, rounds_text(net), "--pulses", f"0..{last}")
         )
