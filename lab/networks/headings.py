@@ -1,10 +1,10 @@
 """Whether the first row of pairs is a heading, and which columns name the ends of an edge."""
 import re
-from dataclasses import dataclass, field
 
 from lab.networks.network_text import shown, whole
 from lab.networks.fields import is_number
-from lab.wrong import Wrong, wrong_line
+from lab.words import counted
+from lab.wrong import Wrong
 
 # Headings of the two columns that name an edge's ends, as Gephi, networkx, igraph and people write them.
 ENDS = {"source": "target", "from": "to", "src": "dst", "start": "end", "node": "neighbour", "from_id": "to_id",
@@ -26,50 +26,39 @@ OF_CHANNELS = ("channel", "frequency", "kanal", "kanäl", "kanael", "frequenz")
 OF_PLACES = {"lat", "latitude", "easting", "breite", "breitengrad", "rechtswert", "ostwert"}
 # Words that nobody calls two neighbours.
 OF_TABLES = TITLES | OF_PLACES | {*OF_CHANNELS, "lon", "long", "longitude", "northing", "height", "power"}
+# Kinds of columns, as some programs write them below the heading.
+KINDS = {"string", "text", "str", "char", "varchar", "character", "integer", "int", "long", "float", "double", "number",
+         "numeric", "real", "id", "object", "object_", "bool", "boolean", "date", "time", "zahl"}
 
 
-@dataclass
-class Heading:
-    """What is known of the first row: whether it `is_there` as a heading; the `columns` of both ends, if it names them;
-    the rows of the `body`; what of the rows is left out; and the refusal if it may be a heading or a pair."""
-
-    is_there: bool
-    columns: tuple[int, int] | None
-    body: list
-    left_out: list[str] = field(default_factory=list)
-    doubt: Wrong | None = None
-
-
-def heading_of(rows: list, separator: str | None, name: str, heading: bool | None) -> Heading:
-    """The heading of rows. `heading` is what the caller knows of it; if it isn't known and the rows don't show it, they
-    are refused."""
+def heading_of(rows: list, separator: str | None, name: str, heading: bool | None) -> tuple:
+    """Whether the first row is a heading, the columns of both ends if it names them, the rows without headings, what of
+    them is counted, and the refusal if it may be a heading or a pair. `heading` is what the caller knows of it."""
     line, first = rows[0]
-    again = [row for row in rows[1:] if row[1][0].casefold() == first[0].casefold()
-             and list(map(str.casefold, row[1])) == list(map(str.casefold, first))]
-    repeated = {number for number, _ in again}
-    body = [row for row in rows[1:] if row[0] not in repeated]
-    columns, is_guess, said = None, False, []
-    if heading is None:
-        columns = columns_named(rows[0], body, name)
-        heading = columns is not None
-        if not heading:
-            refuse_tables(first, name)
-            heading = is_guess = shows_numbers(first, body, name, line)
-        if not heading and may_be_heading(first, rows[1:]):
-            return Heading(False, None, body or rows, doubt=unsure(name, line, first))
-        if not heading and separator and are_columns(first, rows[1:]):
+    head = list(map(str.casefold, first))
+    body = [row for row in rows[1:] if row[1][0].casefold() != head[0] or list(map(str.casefold, row[1])) != head]
+    said, columns = [], None
+    if heading is not False:
+        columns = columns_named(rows[0], body, name, heading is None)
+    if heading is None and columns is None:
+        of_tables = next((word for word in first if word.lower() in OF_PLACES or any(
+            part in word.lower() for part in OF_CHANNELS)), None)
+        if of_tables:
+            raise Wrong(f"{name}: the column `{shown(of_tables)}` is no end of an edge: --sites reads a table of "
+                        "places, --bars one of site and channel, --channels one of channels (if these are pairs: "
+                        "--heading yes or --heading no)")
+        heading = shows_numbers(first, body, name, line)
+        if heading:
+            said = [f"line {line} (`{shown(','.join(first))}`) is taken for a heading (else: --heading no)"]
+        elif may_be_heading(first, rows[1:]):
+            return False, None, body or rows, [], unsure(name, line, first)
+        elif separator and are_columns(first, rows[1:]):
             said = [f"line {line} (`{shown(','.join(first))}`) is taken for a pair, no heading (else: --heading yes)"]
-    elif heading:
-        columns = one_of(all_ends_named(first), first, name)
-    if not heading:
-        return Heading(False, None, rows, said)
-    found = Heading(True, columns, body)
-    if is_guess:
-        found.left_out.append(f"line {line} (`{shown(','.join(first))}`) is taken for a heading (else: --heading no)")
-    if again:
-        count = "1 line" if len(again) == 1 else f"{len(again):,} lines"
-        found.left_out.append(f"{count} with the heading again left out, first at line {again[0][0]}")
-    return found
+    if columns is None and not heading:
+        return False, None, rows, said, None
+    if again := len(rows) - 1 - len(body):
+        said.append(f"{counted(again, 'line')} with the heading again left out")
+    return True, columns, body, said, None
 
 
 def unsure(name: str, line: int, fields: list[str]) -> Wrong:
@@ -77,14 +66,12 @@ def unsure(name: str, line: int, fields: list[str]) -> Wrong:
                  "--heading no")
 
 
-def refuse_tables(first: list[str], name: str) -> None:
-    """Refuses a first row that is the heading of another table."""
-    of_channels = next((word for word in first if any(part in word.lower() for part in OF_CHANNELS)), None)
-    if of_channels:
-        raise Wrong(f"{name}: the column `{shown(of_channels)}` is no end of an edge: --bars reads a table of site and "
-                    "channel, and --channels one of channels (if these are pairs: --heading yes or --heading no)")
-    if OF_PLACES & {word.lower() for word in first}:
-        raise Wrong(f"{name}: these columns look like places, which --sites reads (if they are pairs: --heading yes)")
+def all_ends_named(first: list[str]) -> list[tuple[int, int]]:
+    """The columns that a row names as ends, of all pairs of such columns."""
+    words = [word.lower() for word in first]
+    lettered = [re.fullmatch(NOUN + r"[ _.-]?[a1]", word) for word in words]
+    pairs = {word: word[:-1] + SECOND[word[-1]] for word, found in zip(words, lettered) if found} | ENDS
+    return [(words.index(one), words.index(other)) for one, other in pairs.items() if one in words and other in words]
 
 
 def ends_named(first: list[str]) -> tuple[int, int] | None:
@@ -92,57 +79,39 @@ def ends_named(first: list[str]) -> tuple[int, int] | None:
     return next(iter(all_ends_named(first)), None)
 
 
-def all_ends_named(first: list[str]) -> list[tuple[int, int]]:
-    words = [word.lower() for word in first]
-    lettered = [re.fullmatch(NOUN + r"[ _.-]?[a1]", word) for word in words]
-    pairs = {word: word[:-1] + SECOND[word[-1]] for word, found in zip(words, lettered) if found} | ENDS
-    return [(words.index(one), words.index(other)) for one, other in pairs.items() if one in words and other in words]
-
-
-def one_of(columns: list[tuple[int, int]], first: list[str], name: str) -> tuple[int, int] | None:
-    """The columns of both ends; two pairs of columns are refused."""
-    if len(columns) > 1:
-        both = " and ".join(f"`{shown(first[one])}`, `{shown(first[other])}`" for one, other in columns[:2])
-        raise Wrong(f"{name}: the columns {both} may be the ends of the edges: leave two of them")
-    return columns[0] if columns else None
-
-
-def columns_named(row: tuple[int, list[str]], body: list, name: str) -> tuple[int, int] | None:
+def columns_named(row: tuple[int, list[str]], body: list, name: str, is_guess: bool) -> tuple[int, int] | None:
     """The columns that the first row names as ends, unless its words may be names of nodes, as `Site 1` and `Site 2`
-    are. Rows that have these words again are refused."""
+    are. Two pairs of columns are refused, and rows that have these words again."""
     line, first = row
-    columns = one_of(all_ends_named(first), first, name)
-    if columns is None:
+    named = all_ends_named(first)
+    if len(named) > 1:
+        both = " and ".join(f"`{shown(first[one])}`, `{shown(first[other])}`" for one, other in named[:2])
+        raise Wrong(f"{name}: the columns {both} may be the ends of the edges: leave two of them")
+    if not named or not is_guess:
+        return named[0] if named else None
+    wanted = [first[at].lower() for at in named[0]]
+    below = {fields[at].lower() for _, fields in body for at in named[0] if at < len(fields)}
+    if wanted[0] not in ENDS and any(re.fullmatch(NOUN + NUMBERED, end) for end in below):
         return None
-    wanted = [first[at].lower() for at in columns]
-    below = [(number, [fields[at].lower() if at < len(fields) else "" for at in columns]) for number, fields in body]
-    if wanted[0] not in ENDS and any(re.fullmatch(NOUN + NUMBERED, end) for _, ends in below for end in ends):
-        return None
-    second = next((number for number, ends in below if ends == wanted), None)
-    if second:
-        raise wrong_line(name, second, "the heading of a second table: write both into one with the same columns")
-    if any(end in wanted for _, ends in below for end in ends):
+    if not below.isdisjoint(wanted):
         raise unsure(name, line, first)
-    return columns
+    return named[0]
 
 
 def shows_numbers(first: list[str], body: list, name: str, line: int) -> bool:
     """Whether a column has numbers, but for its first row: both ends, or one after them. If one end of the first row
     is a number, or comes again, it may be a pair."""
-    if not body or len(first) < 2:
-        return False
     ends = {end for _, fields in body for end in fields[:2] if end}
-    if ends and all(whole(end) is not None for end in ends) and None in map(whole, first[:2]):
-        if any(whole(end) is not None for end in first[:2]):
-            raise unsure(name, line, first)
-        return True
-    for at in range(2, len(first)):
-        below = [fields[at] for _, fields in body if at < len(fields) and fields[at]]
-        if below and all(map(is_number, below)) and not is_number(first[at]) and first[at].lower() not in MISSING:
-            if ends & set(first[:2]):
-                raise unsure(name, line, first)
-            return True
-    return False
+    if len(first) < 2 or not ends:
+        return False
+    are_whole = None not in map(whole, ends) and None in map(whole, first[:2])
+    below = [[fields[at] for _, fields in body if at < len(fields) and fields[at]] for at in range(2, len(first))]
+    is_above = any(column and all(map(is_number, column)) and not is_number(word) and word.lower() not in MISSING
+                   for word, column in zip(first[2:], below))
+    if are_whole and any(whole(end) is not None for end in first[:2]) or (
+            not are_whole and is_above and not ends.isdisjoint(first[:2])):
+        raise unsure(name, line, first)
+    return are_whole or is_above
 
 
 def may_be_heading(first: list[str], body: list) -> bool:

@@ -131,9 +131,8 @@ REFUSED = [
     ("a matrix as numpy prints it", "[[0 1 0]\n [1 0 1]\n [0 1 0]]\n", "a matrix or a list in brackets"),
     ("JSON that is cut", '{"nodes": [{"id": 0}', "begins like JSON, and isn't JSON"),
     ("METIS", "10 15\n" + "".join(" ".join(str(w + 1) for w in BESIDE[v]) + "\n" for v in range(10)),
-     "looks like METIS"),
-    ("METIS with weights", "3 2 011\n5 2 1\n4 1 1 3 7\n9 2 7\n", "looks like METIS"),
-    ("METIS without edges", "2 0\n\n\n", "looks like METIS"),
+     "it may be METIS"),
+    ("METIS with weights", "3 2 011\n5 2 1\n4 1 1 3 7\n9 2 7\n", "say what it is"),
     ("a matrix", "".join(" ".join(row) + "\n" for row in MATRIX), "a matrix"),
     ("a matrix with weights", "0 2 0.5\n2 0 1\n0.5 1 0\n", "a matrix"),
     ("a matrix with names", ",A,B,C\nA,0,1,1\nB,1,0,0\nC,1,0,0\n", "a matrix"),
@@ -143,25 +142,25 @@ REFUSED = [
     ("counts in two lines", "9\n3\n1 2\n2 4\n4 1\n", "how many nodes and edges"),
     ("rows, columns and entries", "3 3 2\n1 2 1\n2 3 1\n", "how many nodes and edges"),
     ("a table of channels", "Channel,Frequency (MHz)\n36,5180\n40,5200\n", "the column `Channel` is no end of an edge"),
-    ("places with a heading", "name,lat,lon\nUlm,48.4,10.0\n", "look like places, which --sites reads"),
-    ("several nodes in a field", "A;B,C\nB;A\nC;A\n", "line 1: `B,C` may name more than one node"),
+    ("places with a heading", "name,lat,lon\nUlm,48.4,10.0\n", "the column `lat` is no end of an edge"),
+    ("several nodes in a field", "A;B,C\nB;A\nC;A\n", "line 1: `B,C` may be no name, or more than one"),
     ("names with blanks and a line without a tab", "Upper Hill\tMill\nMill\tDam\nOld Dam\n", "line 3: no tab"),
-    ("a table of bars", "Site,Barred Channels\nUlm,6 11\nAue,1\n", "--bars reads a table of site and channel"),
-    ("columns between bars", "site_a|site_b\nUlm|Aue\nAue|Hof\n", "`|` isn't read between columns"),
+    ("a table of bars", "Site,Barred Channels\nUlm,6 11\nAue,1\n", "--bars one of site and channel"),
+    ("columns between bars", "site_a|site_b\nUlm|Aue\nAue|Hof\n", "a table with bars, which isn't read"),
     ("a small matrix", "0 1\n1 0\n", "--as pairs"),
     ("TGF", "1 First\n2 Second\n#\n1 2\n", "TGF"),
     ("UCINET", "dl n=3 format=edgelist1\ndata:\n1 2\n2 3\n", "UCINET"),
     ("GDF", "nodedef>name VARCHAR\na\nb\nedgedef>node1,node2\na,b\n", "GDF"),
-    ("settings", "a = 1\nb = 2\n", "`=` is no name of a node"),
-    ("arrows", "1 -> 2\n2 -> 3\n", "`->` is no name of a node"),
+    ("settings", "a = 1\nb = 2\n", "`=`, which is no name of a node"),
+    ("arrows", "1 -> 2\n2 -> 3\n", "`->`, which is no name of a node"),
     ("prose", "The quick brown fox\njumps over the lazy\ndog and goes away\n", "--as pairs"),
     ("tuples of networkx", "(0, 0) 1\n(0, 1) {}\n(0, 1) 1\n(0, 0) {}\n", "convert_node_labels_to_integers"),
-    ("nodes without neighbours, or pairs", "0 0\n1 0\n2 0\n", "--as pairs or --as multiline"),
+    ("nodes without neighbours, or pairs", "0 0\n1 0\n2 0\n", "--as multiline"),
     ("a ring with weights, or five nodes that know two each", "1 2 3\n2 3 4\n3 4 5\n4 5 1\n5 1 2\n",
      "pairs with a weight"),
     ("the same from 0", "0 1 2\n1 2 3\n2 3 4\n3 4 0\n4 0 1\n", "--as adjacency"),
     ("names and numbers", "site,power\nUlm,1\nAue,6\n", "names beside numbers"),
-    ("names and channels", "site,channel\nUlm,1\nAue,6\n", "--bars reads a table of site and channel"),
+    ("names and channels", "site,channel\nUlm,1\nAue,6\n", "--bars one of site and channel"),
     ("a table with a number of each line", "link,one,other,km\n1,Ulm,Aue,5\n2,Aue,Hof,6\n", "--as pairs"),
     ("neighbours without lines", "Ulm Aue Hof\nBonn Kiel Jena\n", "--as adjacency"),
     ("a heading or a pair", "one,other\nUlm,Aue\nAue,Hof\nHof,Ulm\n", "--heading yes or --heading no"),
@@ -333,7 +332,7 @@ class ForeignForms(Case):
             got = call("tell", "-", data=data)
             self.note(f"tell of {data[:60]}", got[0] == status and said in got[2], got)
         network = call("random", "3000", "9000")[1]
-        with mock.patch("lab.networks.costs.built", lambda name: "false"):
+        with mock.patch("lab.networks.costs.program_file", lambda name: "false"):
             got = call("tell", "-", "--payloads", data=network)
         said = b"network: forestplay rounds ended with status 1; is there too little memory?\n"
         self.note("a program that fails", got == (1, b"", said), got)

@@ -161,7 +161,7 @@ class Sites(Case):
                       ["--channels", "x", sites], ["-", "--sites", "-"], ["-", "--channels", "6 6"]):
             self.refusal(f"refused words: {words}", call("read", *words), 2, b"error: ")
         odd = self.file("a\nb.csv", "Ulm,NA\n")
-        self.refused("a name of two lines", "a\\nb.csv line 1: `NA` may mean", odd)
+        self.refused("a name of two lines", "a\\nb.csv line 1: `NA` may be no name", odd)
         self.refused("no file of two lines", "n\\no: No such file", "n\no")
         self.note("no such table", call("read", "-", "--sites", "/nowhere.csv", data=b"1 2\n")[0] == 1)
 
