@@ -7,7 +7,6 @@ that failed or was skipped, and last 'N passed, M failed'."""
 import glob
 import importlib
 import os
-import shutil
 import sys
 import unittest
 
@@ -74,7 +73,7 @@ def name_of(test):
 def main():
     counted, (module, *chosen) = Counting(), sys.argv[1:]
     # No test proves anything.
-    os.environ |= {"PATH": without_rt(os.environ["PATH"]), "TESTS_RT": shutil.which("rt") or ""}
+    os.environ["PATH"] = without_rt(os.environ["PATH"])
     tests = tests_of(module)
     unittest.TestSuite(tests[name] for name in chosen or tests if name in tests).run(counted)
     if counted.passed + counted.failed == 0:

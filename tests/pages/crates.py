@@ -1,15 +1,14 @@
 """Checks of the files of crates/ by their text alone; nothing is compiled.
 
-- Each wrong body (crates/NAME/must-fail/ and wrong-bodies/) still applies: it names files of its crate, each with pairs
-  of an `old:` and a `new:` line, and each `old:` text is exactly once in its file, as the pairs before it left that
-  file, and is changed.
+- Each wrong body (crates/NAME/must-fail/ and wrong-bodies/) still applies: each `old:` text is exactly once in its file
+  and is changed.
 - Each crate of crates.txt lists each crate that its own files name, and no other. A crate that the head of a `lib.rt`
   names as a caller ("`answers` calls ..") lists the crate. No file passes a name of another crate on: no `pub use` of a
   lower crate in src/, specs/ or proofs/, and no import by way of one (`below`).
-- A lemma stands once: no statement of a crate's proofs is one of another file, or of the library. Two are the same if
-  they are equal once their variables are named in the order in which they come, and the types of type variables are
-  left out. Only lemmas at the head of a line are compared, not those in a module or `where`, and none that names a
-  goal, whose type each function has for itself. LEFT has the doubles that stay, and why.
+- A lemma stands once: no statement of a crate's proofs is one of another file. Two are the same if they are equal once
+  their variables are named in the order in which they come, and the types of type variables are left out. Only lemmas
+  at the head of a line are compared, not those in a module or `where`, and none that names a goal, whose type each
+  function has for itself. LEFT has the doubles that stay, and why.
 """
 import collections
 import glob
@@ -31,30 +30,28 @@ LEFT = {
     # one text, but words of other crates: `is_vertex` by two tests, `run_rules`, and variants of two enums
     "vertex-from", "vertex_from", "vertex-is", "vertex_is", "run_expected", "memory-isnt_full", "memory_isnt_stamp",
 }
-LEMMA = re.compile(r"^((?:pub )?)([^\s(){}:]+) : (.*(?:\n +.*)*)", re.M)
+LEMMA = re.compile(r"^(?:pub )?([^\s(){}:]+) : (.*(?:\n +.*)*)", re.M)
 # What a goal of one function has.
 OWN = re.compile(r"\bgoal\.|\bc\.(?:args|self)\b")
 BINDER = re.compile(r"[({]((?:[^\s(){}:]+ )+): ")
 
 
-def fault_of(path):
-    """Why an edit doesn't apply, or nothing."""
-    crate, texts = os.path.dirname(os.path.dirname(path)), {}
-    lines = [line for line in text_in(path).splitlines() if line.strip() and not line.startswith(("#", "--", "//"))]
-    parts = [(word, rest.removeprefix(" ")) for word, _, rest in (line.partition(":") for line in lines)]
-    if not re.fullmatch("(file( old new)+( |$))+", " ".join(word for word, _ in parts)):
-        return "its lines aren't `file:`, and `old:` and `new:` in pairs"
-    for word, rest in parts:
+def unfound(path):
+    """What an edit changes and isn't exactly once in its file, as the pairs before it left that file."""
+    crate, texts, old = os.path.dirname(os.path.dirname(path)), {}, None
+    for word, _, rest in (line.partition(":") for line in text_in(path).splitlines()):
+        rest = rest.removeprefix(" ")
         if word == "file":
-            file = os.path.join(crate, rest.strip())
-            if not rest.startswith(("src/", "specs/", "proofs/")) or not os.path.isfile(file):
-                return f"the crate has no file {rest}"
-            texts.setdefault(file, text_in(file))
+            file = rest.strip()
+            texts.setdefault(file, text_in(crate, file))
+        elif word == "old":
+            old = rest
+            if texts[file].count(old) != 1:
+                yield f"{file}: {old}"
         elif word == "new":
             texts[file] = texts[file].replace(old, rest)
-        elif texts[file].count(old := rest) != 1:
-            return f"an 'old:' text is in {file} {texts[file].count(old)} times"
-    return "it changes nothing" if all(text == text_in(file) for file, text in texts.items()) else ""
+    if all(text == text_in(crate, file) for file, text in texts.items()):
+        yield "it changes nothing"
 
 
 def files_of(crate):
@@ -82,32 +79,12 @@ def plain(statement):
     return re.sub(r"\bv\d+\b", lambda m: order.setdefault(m[0], f"w{len(order)}"), text)
 
 
-def lemmas_in(pattern, head=""):
-    """Each lemma at the head of a line in some files, or each that begins so: its name, its file, and its plain
-    statement."""
-    for path in sorted(glob.glob(pattern, recursive=True)):
-        for public, name, statement in LEMMA.findall(text_in(path)):
-            if public.startswith(head) and not OWN.search(statement):
-                yield name, path, plain(statement)
-
-
-def of_library():
-    """The names of the library's lemmas, by their plain statements, if the toolchain is here: those of its folder of
-    lemmas, and those that this passes on."""
-    rt = os.environ.get("TESTS_RT")
-    top = os.path.join(os.path.dirname(os.path.dirname(os.path.realpath(rt))), "rattle") if rt else ""
-    lemmas, passed = os.path.join(top, "std", "proofs", "lemmas", "**", "*.antt"), {}
-    for path in glob.glob(lemmas, recursive=True):
-        for names in re.findall(r"^pub use [\w.+-]+\.\{([^}]*)\}", text_in(path), re.M):
-            for name in names.split(","):
-                own, _, outer = name.strip().partition(" as ")
-                passed[own] = outer or own
-    found = {statement: name for name, _, statement in lemmas_in(lemmas, "pub ")}
-    for part in ("core/proofs", "logic/Borrow/Author", "logic/Lib"):
-        for name, _, statement in lemmas_in(os.path.join(top, part, "**", "*.antt"), "pub "):
-            if name in passed:
-                found.setdefault(statement, passed[name])
-    return found
+def lemmas():
+    """Each lemma at the head of a line in proofs/: its name, its file, and its plain statement."""
+    for path in sorted(glob.glob(os.path.join(TOP, "crates", "*", "proofs", "**", "*.antt"), recursive=True)):
+        for name, statement in LEMMA.findall(text_in(path)):
+            if not OWN.search(statement):
+                yield name, os.path.relpath(path, TOP), plain(statement)
 
 
 class Crates(Case):
@@ -118,7 +95,7 @@ class Crates(Case):
                  for path in sorted(glob.glob(os.path.join(TOP, "crates", "*", name, "*")))]
         self.note("there are edits", len(edits) > 100, len(edits))
         for path in edits:
-            self.same(os.path.relpath(path, TOP), fault_of(path), "")
+            self.same(os.path.relpath(path, TOP), list(unfound(path)), [])
 
     def test_lists(self):
         """What a crate lists, who a head says that calls it, and names that are passed on."""
@@ -141,12 +118,9 @@ class Crates(Case):
     def test_doubles(self):
         """No statement stands twice."""
         found = collections.defaultdict(list)
-        for name, path, statement in lemmas_in(os.path.join(TOP, "crates", "*", "proofs", "**", "*.antt")):
-            found[statement].append((name, os.path.relpath(path, TOP)))
-        twice = [lemmas for lemmas in found.values()
-                 if len({path for _, path in lemmas}) > 1 and not {name for name, _ in lemmas} <= LEFT]
-        library = of_library()
-        cited = [f"{lemmas[0]} is {library[statement]}" for statement, lemmas in found.items() if statement in library]
-        self.note("statements of proofs/ that the library has", not cited, cited)
+        for name, path, statement in lemmas():
+            found[statement].append((name, path))
+        twice = [places for places in found.values()
+                 if len({path for _, path in places}) > 1 and not {name for name, _ in places} <= LEFT]
         self.note("statements of proofs/ that stand twice", len(found) > 1000 and not twice,
                   f"{len(found)} are found, twice: {twice[:4]}")

@@ -54,22 +54,6 @@ def one_line(text):
     return re.sub(r"\s+", " ", text)
 
 
-# Where a record or a struct has its fields: the files, its name and its body, and a field.
-MEMBERS = (("specs/**/*.antt", r"^\s*(?:pub )?record (\w+)\b(.*?)(?=^\s*pub record |^\S|\Z)", r"^\s+pub (\w+)\b"),
-           ("src/**/*.rt", r"^\s*(?:pub )?(?:struct|trait) (\w+)\b(.*?)^\}",
-            r"^\s+(?:pub )?(?:ghost )?(\w+)\s*[:=]"))
-
-
-def members():
-    """The fields of each record of specs/, and the ghost fields and fields of each struct of src/, by its name."""
-    found = {}
-    for files, whole, field in MEMBERS:
-        for path in glob.glob(os.path.join(TOP, "crates", "*", files), recursive=True):
-            for name, body in re.findall(whole, text_in(path), re.M | re.S):
-                found.setdefault(name, set()).update(re.findall(field, body, re.M))
-    return found
-
-
 class Index(Case):
     needs_programs = False
 
@@ -81,28 +65,21 @@ class Index(Case):
         before, _, after = text.partition("## The claim")
         self.assertEqual((before.count("!["), after.count("![")), (1, 0), "one picture, before the claim")
 
-    def test_vendored(self):
-        """OWN_PROGRAM says how many crates `python3 build vendor` copies."""
-        rows = re.findall(r"python3 build vendor \S+ (\w+) .*?: .*?(\d+) crates",
-                          text_in("docs", "work", "OWN_PROGRAM.md"))
-        wrong = [(crate, count) for crate, count in rows if int(count) != len(with_below([crate], listed()))]
-        self.assertEqual((len(rows), wrong), (2, []), "crates of an example of python3 build vendor")
-
-    def test_crates_above(self):
-        """LAYERS says of each crate how many are above it."""
-        below = listed()
-        wanted = {crate: sum(crate in with_below([other], below) for other in below) - 1 for crate in below}
-        found = dict(re.findall(r"^\| `(\w+)` \| (\d+) \| ", text_in("docs", "work", "LAYERS.md"), re.M))
-        self.assertEqual({crate: int(count) for crate, count in found.items()},
-                         {crate: count for crate, count in wanted.items() if crate in found})
-        self.assertEqual(wanted.keys() - found.keys(), {"checks", "worker_checks"})
-
-    def test_first_calls(self):
-        """LOOKUP says which crates a first call of each program leaves unproved: those that aren't below it."""
-        below = listed()
+    def test_crates_below(self):
+        """What pages say of crates.txt: OWN_PROGRAM how many crates `python3 build vendor` copies, LAYERS how many are
+        above each, and LOOKUP which a first call of each program leaves unproved, those that aren't below it."""
+        below = {crate: with_below([crate], listed()) for crate in listed()}
+        page = text_in("docs", "work", "OWN_PROGRAM.md")
+        rows = re.findall(r"python3 build vendor \S+ (\w+) .*?: .*?(\d+) crates", page)
+        self.same("vendored crates", rows, [(crate, str(len(below[crate]))) for crate, _ in rows])
+        self.same("examples of vendored crates", len(rows), 2)
+        found = re.findall(r"^\| `(\w+)` \| (\d+) \| ", text_in("docs", "work", "LAYERS.md"), re.M)
+        above = {crate: str(sum(crate in below[other] for other in below) - 1) for crate in below}
+        self.same("crates above each", dict(found), {
+            crate: count for crate, count in above.items() if crate not in ("checks", "worker_checks")})
         found = re.findall(r"`(\w+)` leaves ((?:`\w+`(?:, | and |))+)", one_line(text_in("docs", "work", "LOOKUP.md")))
         self.same("what first calls leave", {name: sorted(re.findall(r"`(\w+)`", left)) for name, left in found},
-                  {name: sorted(below.keys() - with_below([name], below)) for name in PROGRAMS})
+                  {name: sorted(below.keys() - set(below[name])) for name in PROGRAMS})
 
     def test_readme_has_each_command(self):
         """Each command of forestlab and of the programs is in the table."""
@@ -123,17 +100,6 @@ class Index(Case):
 
     def test_index_of_promises(self):
         self.assertGreater(promises.index().count("\n- "), 40, "functions of the index")
-
-    def test_fields(self):
-        """Each field that a page names, as in "the fields `a` and `b` of `Record`", is a field of it."""
-        known, count = members(), 0
-        for page in PAGES:
-            named = r"\bfields? ((?:`\w+`(?:, | and |, and )?)+) of (?:the type )?`(?:\w+::)?(\w+)`"
-            for names, record in re.findall(named, one_line(text_in(page))):
-                for name in re.findall(r"`(\w+)`", names):
-                    count += 1
-                    self.note(f"{page}: {name} of {record}", name in known.get(record, ()), known.get(record))
-        self.assertGreater(count, 5, "fields that pages name")
 
     def test_names_in_files(self):
         """Each name that a page gives with its file, as in "`crates/pool/src/run.rt`: `start`, `join_all`", in two

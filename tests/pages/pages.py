@@ -15,7 +15,7 @@ import re
 
 from lab.definitions.nodes import NetState, text_of_wire
 from tests import TOP
-from tests.cases import Case, text_in
+from tests.cases import Case, contents, text_in
 from tests.pages.tutorial_facts import channels_of, dropped, example, pulses_of
 
 PAGES = ["README.md"] + sorted(os.path.relpath(path, TOP)
@@ -89,11 +89,16 @@ def tutorial_table(title, rows):
     return None
 
 
-def last_names():
-    """The names of the files of the tree, without their folders, and of the sample of OWN_ALGORITHM."""
-    folders = ("crates", "lab", "build", "tests", "bench", "examples", "docs")
-    return {"flood.py"} | {name for folder in folders for _, _, names in os.walk(os.path.join(TOP, folder))
-                           for name in names}
+def words_of_sources():
+    """The words of all files of the tree but pages, and of their names; and the script and the sample of pages."""
+    found = {"draw.sh", "flood.py"}
+    for folder in ("crates", "lab", "build", "tests", "bench", "examples"):
+        for at, below, names in os.walk(os.path.join(TOP, folder)):
+            below[:] = [name for name in below if name not in ("out", "target", "__pycache__")]
+            for name in names:
+                text = contents(at, name).decode("latin-1")
+                found |= {name, *re.findall(r"\w+", name), *re.findall(r"\w+", text)}
+    return found
 
 
 def heading_anchor(line):
@@ -138,21 +143,25 @@ class Pages(Case):
     needs_programs = False
 
     def test_names(self):
-        """Files named in backquotes: with their folder, in a crate, or without a folder; and where links lead."""
-        there, count = last_names(), 0
+        """Files named in backquotes, with their folder or without; other names with an underscore; where links lead."""
+        there, count = words_of_sources(), 0
         for page in PAGES:
             for number, line in enumerate(lines_of(page), 1):
                 found = [(name, os.path.exists(os.path.join(TOP, folder, name))) for folder, pattern in (
                     ("", r"`((?:crates|docs|tests|lab|build|bin|bench|examples)/[\w./-]+)`"),
                     ("crates", r"`(\w+/(?:src|specs|proofs)(?:/[\w./-]+)?)`")) for name in re.findall(pattern, line)]
                 last = re.findall(r"`(?:[\w/]+/)?(\w*[a-z]\w*\.(?:py|rt|antt|js|sh))`", line)
-                found += [(name, name in there) for name in last]
+                # DECISIONS speaks of what isn't there, too.
+                last += [] if page.endswith("DECISIONS.md") else [
+                    name for words in re.findall(r"`([^/`][^`]*)`", line)
+                    for name in re.findall(r"\b[a-z]\w*_\w+", words)]
+                found += [(name, name in there or f"test_{name}" in there) for name in last]
                 count += len(last)
                 for name, good in found:
-                    self.note(f"{page}:{number} {name}", good or "NAME" in name, "there is no such file")
+                    self.note(f"{page}:{number} {name}", good or "NAME" in name, "there is no such file, or name")
                 for target in re.findall(r"\]\((?!https?:)([^)]*)\)", line):
                     self.note(f"{page}:{number} {target}", self.leads(page, target), "the link leads nowhere")
-        self.note("files that pages name", count > 300, count)
+        self.note("names on pages", count > 1000, count)
 
     def leads(self, page, target):
         path, _, anchor = target.partition("#")

@@ -1,14 +1,11 @@
 """What docs/learn/TUTORIAL.md says of small networks and of rows, worked out from the definitions
 (lab/definitions/colours.py, lab/definitions/nodes.py) or by hand. What it says of nodes that break a rule is in
 tests/programs/schedules.py."""
-import itertools
-
 from lab.definitions.colours import Network, colours, first_colours, merge, network_of, three
 from lab.definitions.nodes import NetState, last_pulse, synchronous_run
 from lab.definitions.recolouring import with_passes
 from lab.definitions.rounds import forest_colours
 from tests.cases import Case, contents
-from tests.programs.plain_networks import all_of
 
 
 def example(name):
@@ -24,11 +21,6 @@ def channels_of(net):
     return max(colours(net).values(), default=-1) + 1
 
 
-def fewest_colours(nodes, edges):
-    return next(k for k in range(nodes + 1) for c in itertools.product(range(k), repeat=nodes)
-                if all(c[v - 1] != c[w - 1] for v, w in edges))
-
-
 def dropped(net, f):
     """(pulse, vertex) of each drop that changes a colour."""
     lists = dict(enumerate(pulses_of(net, f), 2))
@@ -37,16 +29,6 @@ def dropped(net, f):
 
 class TutorialFacts(Case):
     needs_programs = False
-
-    def test_too_many(self):
-        """Of the networks of up to four nodes, these two alone take a channel more than is needed."""
-        found = []
-        for nodes in range(1, 5):
-            for edges in all_of(nodes):
-                net = Network({v: v for v in range(1, nodes + 1)}, set(edges))
-                if channels_of(net) > fewest_colours(nodes, edges):
-                    found.append(edges)
-        self.same("networks with a channel too many", found, [((1, 3), (1, 4), (2, 4)), ((1, 4), (2, 3), (2, 4))])
 
     def test_row_of_six(self):
         """If node 1 makes no pulse and the others do all that they can, they come as far as the tutorial says."""
@@ -60,17 +42,8 @@ class TutorialFacts(Case):
         """The example, by hand from the colours after pulse 6. At pulse 7 node 1 has 5, which node 2 had; before it had
         1, and node 2 now has 4: so at 8 it takes 0. At 9 it has 4, the next colour of node 2; before it had 0, and node
         2 now has 0: so at 10 it takes 1. At 11 node 3 has 3, which node 4 had; before it had 1, and node 4 now has 0:
-        so at 12 it takes 2.
-
-        Smaller networks: a forest is a higher parent, or none, for each node, and it is forest 0 of the network of its
-        edges."""
+        so at 12 it takes 2."""
         self.same("drops of the row of nine", dropped(example("examples/drops.col"), 0), [(8, 1), (10, 1), (12, 3)])
-        count = 0
-        for nodes in range(2, 8):
-            for parents in itertools.product(*([None, *range(v + 1, nodes + 1)] for v in range(1, nodes + 1))):
-                net = Network({v: v for v in range(1, nodes + 1)}, {(v, w) for v, w in enumerate(parents, 1) if w})
-                count += bool(dropped(net, 0))
-        self.same("forests of up to seven nodes in which a drop changes a colour", count, 0)
 
     def test_bars(self):
         """The ring of four with a bar, by hand: after pulse 12 nodes 1 and 3 have 0 in forest 0, and 2 and 4 have 1. So
