@@ -247,23 +247,26 @@ class AlphaNode:
             port.safe, port.early_safe = port.early_safe, False
         self.enter(sent)
 
-    def on_wire(self, at: int, wire: Wire):
-        """It takes a wire by a port. The 36 cells, as one condition for each kind of wire; which
-        refusal it is isn't said."""
-        port, p = self.ports[at], self.pulse_number
-        expected = p + port.safes()
+    def is_due(self, port: Port, kind: str, q: int) -> bool:
+        """Whether a wire of a kind may come by a port that isn't closed: the 36 cells, as one condition for each kind.
+        Which refusal it is isn't said."""
+        p, expected = self.pulse_number, self.pulse_number + port.safes()
         horizon = p + 1 if self.said and p < self.last else p
-        kind, q = wire[0], wire[1] if len(wire) > 1 else self.last
-        is_due = {
-            "Payload": q == expected and q <= horizon and q < self.last and not port.paid(),
-            "Ack": q == p and port.waits,
-            "Safe": q == expected and q <= horizon and q < self.last,
-            "Close": expected == self.last and (p == self.last or p == self.last - 1 and self.said),
-        }[kind]
-        if port.closed or not is_due:
+        if kind == "Payload":
+            return q == expected and q <= horizon and q < self.last and not port.paid()
+        if kind == "Ack":
+            return q == p and port.waits
+        if kind == "Safe":
+            return q == expected and q <= horizon and q < self.last
+        return expected == self.last and (p == self.last or p == self.last - 1 and self.said)
+
+    def on_wire(self, at: int, wire: Wire):
+        """It takes a wire by a port."""
+        port, kind, q = self.ports[at], wire[0], wire[1] if len(wire) > 1 else self.last
+        if port.closed or not self.is_due(port, kind, q):
             raise Refused(f"{wire} at port {at}")
         if kind == "Payload":
-            if q == p:
+            if q == self.pulse_number:
                 port.present = wire[2]
             else:
                 port.early = wire[2]
@@ -272,7 +275,7 @@ class AlphaNode:
             port.waits = False
             self.settle()
         elif kind == "Safe":
-            port.safe, port.early_safe = (True, port.early_safe) if q == p else (port.safe, True)
+            port.safe, port.early_safe = (True, port.early_safe) if q == self.pulse_number else (port.safe, True)
         else:
             port.closed = True
 
@@ -310,9 +313,12 @@ class NetState:
             raise Refused("NothingToPut" if kind == "Put" else "LinkEmpty")
         return wires[0]
 
-    def step(self, kind: str, v: int, port: int | None = None) -> Wire | None:
-        """Makes an event that is possible; returns the wire that was put or taken."""
+    def step(self, kind: str, v: int, port: int | None = None, what: int | Wire | None = None) -> Wire | None:
+        """Makes an event that is possible, and carries this if that is given; returns the wire that was put or
+        taken."""
         wire = self.carried(kind, v, port)
+        if what not in (None, wire):
+            raise Refused("WrongWire")
         if kind == "Pulse":
             return self.nodes[v].pulse()
         if kind == "Put":
@@ -349,10 +355,10 @@ def missing_words(state: NetState, kind: str, v: int, port: int | None = None) -
     return ": " + "; ".join(f"{word} {node.pulse_number} of {in_words(names)}" for word, names in lacks if names)
 
 
-def event_of(state: NetState, entry) -> tuple:
+def event_of(state: NetState, entry) -> Event:
     """The event of an entry of a transcript (an `Entry` of lab/transcripts/reading.py)."""
     if entry.kind == "Pulse":
-        return entry.kind, entry.vertex
+        return entry.kind, entry.vertex, None
     if (entry.vertex, entry.neighbour) not in state.port_to:
         raise Refused("NoSuch")
     return entry.kind, entry.vertex, state.port_to[entry.vertex, entry.neighbour]
@@ -373,10 +379,7 @@ def entry_words(state: NetState, entry, refused: Refused) -> str:
 def make(state: NetState, entry):
     """The event of an entry of a transcript, if it is possible with what the entry says; otherwise nothing is
     changed."""
-    event = event_of(state, entry)
-    if state.carried(*event) != entry.what:
-        raise Refused("WrongWire")
-    state.step(*event)
+    state.step(*event_of(state, entry), entry.what)
 
 
 def wire_words(wire: Wire) -> str:

@@ -6,9 +6,8 @@ from collections import deque
 from lab.definitions.nodes import Colouring
 from lab.pictures.program_rounds import rounds_of
 from lab.schedules.reading import network_of
-from lab.transcripts.check import find_order, first_fault, first_refused, refusal_of
+from lab.transcripts.check import find_order
 from lab.transcripts.reading import Wrong as WrongEntry, read_to_fault
-from lab.transcripts.stamps import Clock
 from lab.wrong import Wrong, wrong_line
 
 # Texts of more lines are read only as far as the pulses that are drawn depend on them: AHEAD pulses further at first,
@@ -120,30 +119,10 @@ def ordered(text, name, network, program, stop=None, is_greeted=True):
     if len(set(identifiers.values())) < network.nodes:
         raise Wrong(f"{name}: two nodes have one identifier")
     net = network_of(network, identifiers)
-    order, is_part = find_order(net, read, program), stop is not None and stop <= program.last_pulse(net)
-    if fault:
-        raise Wrong(f"{name} {first_fault(order, fault)}")
-    if order.left and (not is_part or {order.refusals[v] for v in order.left} != {"LinkEmpty"}):
-        raise Wrong(f"{name} {refusal_of(order, first_refused(order))}")
-    return head, net, order, stamped(name, net, order.made)
-
-
-def stamped(name, net, made):
-    """The entries in the order found with the clock's stamps, which those of the text have to be; and stamps ascend in
-    the text, as vertices do where they are equal."""
-    clock, found, wrong = Clock(net.neighbours), [], []
-    for entry in made:
-        stamp = clock.next(entry.kind, entry.vertex, entry.neighbour)
-        found.append(entry._replace(stamp=stamp))
-        if entry.stamp not in (None, stamp):
-            wrong.append((entry.line, f"stamp {entry.stamp}, but the clock of node {entry.vertex} gives {stamp} there"))
-    if made and made[0].stamp is not None:
-        rows = sorted(found, key=lambda entry: entry.line)
-        wrong += [(entry.line, f"stamp {entry.stamp} of node {entry.vertex} comes after line {before.line}")
-                  for before, entry in zip(rows, rows[1:]) if place_of(before) > place_of(entry)]
-    if wrong:
-        raise wrong_line(name, min(wrong)[0], f"{min(wrong)[1]} (WrongStamp)")
-    return found
+    order = find_order(net, read, program)
+    if wrong := order.wrong(fault, is_part=stop is not None and stop <= program.last_pulse(net)):
+        raise Wrong(f"{name} {wrong}")
+    return head, net, order, order.made
 
 
 def place_of(entry):

@@ -9,7 +9,7 @@ from lab.pictures.palette import WIRES, WRONG
 from lab.pictures.program_rounds import is_own
 from lab.pictures.transcripts import Entry, entry_of
 from lab.transcripts.proved_judge import Verdict, verdict_of
-from lab.transcripts.reading import stamped_entry_of
+from lab.transcripts.reading import entry_of as read_entry
 from lab.wrong import Wrong
 
 # How long the arrow of a wire that nobody took is: a part of the way to the neighbour's row, and steps of time.
@@ -53,7 +53,7 @@ def cut(text: str, name: str, network, program: type, stopped: int | None) -> tu
     if verdict.name in ("X1", "NoSuch"):
         raise Wrong(f"{name} line {line}: `{' '.join(fields)[:60]}` is no entry of a run of {network.name} "
                     f"({verdict.name})")
-    entry = entry_of(stamped_entry_of(line, [field.encode() for field in fields], program.name))
+    entry = entry_of(read_entry(line, [field.encode() for field in fields], program.name, is_stamped=True))
     return "\n".join(lines[:line - 1]) + "\n", WrongEntry(words_on(line, fields, verdict), entry)
 
 

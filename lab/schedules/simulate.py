@@ -130,7 +130,7 @@ class Player:
         self.look_at(v)
         if step.kind == "put":
             self.look_at(w)
-        return Entry(None, v, kind, w or None, what, None, stamp)
+        return Entry(None, v, kind, w or None, what, stamp)
 
     def step_of(self, kind, v, port):
         """The step of an event; raises `Refused` if it isn't possible."""

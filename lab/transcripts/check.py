@@ -2,21 +2,19 @@
 
 A transcript of edition 1 has the entries of each node in that node's own order, and says nothing of the order
 between nodes. This program looks for an order of all entries that is a run, and demands that the run is whole. One
-of edition 2 or 3 has an order and stamps: stamps.py checks it. `--help` says how to call it."""
+of edition 2 or 3 has an order, and stamps. `--help` says how to call it."""
 import gc
 import json
 import sys
-from typing import NamedTuple
+from collections import deque
 
-from lab.definitions.colours import Network, fields_of, network_of
+from lab.definitions.colours import fields_of, network_of
 from lab.definitions.nodes import Colouring, NetState, Refused, make
 from lab.definitions.programs import add_program, check_root, note_ignored_bars, program_at
 from lab.networks.named import network_bytes
 from lab.networks.network_text import read_network
-from lab.transcripts.reading import Entry, Wrong, read_to_fault
-from lab.transcripts.rules import stuck_words
-from lab.transcripts.search import Node, Search
-from lab.transcripts.stamps import all_standing, check_stamped, unfinished, why_refused
+from lab.transcripts.reading import Wrong, read_to_fault
+from lab.transcripts.stamps import Clock, check_whole, refusal, unfinished
 from lab.words import add_output, bytes_at, called, parser_of, write
 from lab.wrong import Wrong as WrongNetwork
 
@@ -62,31 +60,63 @@ Example:
 """
 
 
-class Found(NamedTuple):
-    """What a search finds: the entries made, in this order; the nodes after them; and of each node that isn't through,
-    the entries that are left, the next one last, and the code of that one's refusal."""
-    net: Network
-    program: type
-    made: list[Entry]
-    nodes: dict[int, Node]
-    left: dict[int, list[Entry]]
-    refusals: dict[int, str]
+class Found:
+    """What is found of entries: those `made`, in an order that is a run, each with its stamp, and the `state` after
+    them; and of each node whose entries can't all be made, those that are `left`, and the code of the refusal of the
+    first one."""
 
-    def is_whole(self) -> bool:
-        """Whether all entries are made, and all nodes are through. Each port then has taken the other's closing mark,
-        its last wire, so that no link holds one."""
-        return not self.left and all(node.is_drained() for node in self.nodes.values())
+    def __init__(self, net, entries, program):
+        self.entries, self.is_stamped = entries, bool(entries) and entries[0].stamp is not None
+        self.state, self.clock, self.made = NetState(net, program), Clock(net.neighbours), []
+        self.left, self.refusals = {}, {}
+        for entry in entries:
+            self.left.setdefault(entry.vertex, deque()).append(entry)
 
-    def state(self) -> NetState:
-        """The definitions' nodes and links after the entries made."""
-        state = NetState(self.net, self.program)
-        for entry in self.made:
-            make(state, entry)
-        return state
+    def make_next(self, v):
+        """Makes the next entry of a node of which none was refused, if that is possible with what it says."""
+        entry = self.left[v][0]
+        try:
+            make(self.state, entry)
+        except Refused as refused:
+            self.refusals[v] = str(refused)
+            return
+        stamp, last = self.clock.next(entry.kind, v, entry.neighbour), self.made[-1] if self.made else entry
+        if not self.is_stamped:
+            entry.stamp = stamp
+        elif entry.stamp != stamp or (last.stamp, last.vertex) > (stamp, v):
+            self.refusals[v] = "WrongStamp"
+            return
+        self.left[v].popleft()
+        self.made.append(entry)
+
+    def first_refused(self):
+        """Of the entries that are next and not possible: with stamps the first. Else the first that its own node can't
+        make, whatever the others do; if they all wait for a neighbour, the first that waits for one which is through;
+        else the first."""
+        def rank(entry):
+            waits = self.waits(entry)
+            return waits, waits and bool(self.left.get(entry.neighbour)), entry.line
+        return min((own[0] for own in self.left.values() if own), key=rank, default=None)
+
+    def waits(self, entry):
+        """Whether others could still make it possible."""
+        return self.refusals[entry.vertex] == "LinkEmpty" and not self.is_stamped
+
+    def wrong(self, fault=None, is_part=False):
+        """What is wrong first, if something is: `fault` is that of a line after the entries, which comes before an
+        entry that waits for a neighbour. If the entries are only a part, nodes may wait."""
+        entry = self.first_refused()
+        if entry is None or fault and self.waits(entry) or is_part and set(self.refusals.values()) == {"LinkEmpty"}:
+            return fault
+        return refusal(self.state, entry, self.refusals[entry.vertex], self.entries, self.clock)
+
+    def is_whole(self):
+        return not self.refusals and not any(unfinished(self.state))
 
 
 def find_order(net, entries, program=Colouring):
-    """Makes the next entry of any node as long as one is possible.
+    """Makes the entries in their order, if they have stamps, and else the next one of any node as long as one is
+    possible.
 
     If any order of all entries is a run, this finds one. The entries of a node come in a given order, so what the node
     does and puts follows from how many of them were made. Whether its next entry is possible depends on the node alone,
@@ -97,61 +127,23 @@ def find_order(net, entries, program=Colouring):
     why, are the same in every search.
 
     A node is looked at again only if a neighbour has put the wire that it waits for; so the time is linear."""
-    own, strays = {v: [] for v in net.neighbours}, {}
-    for entry in entries:
-        (own[entry.vertex] if entry.vertex in own else strays.setdefault(entry.vertex, [])).append(entry)
-    search = Search(net, {v: [entry.text for entry in own[v]] for v in own}, program)
-    left = {v: own[v][node.at :][::-1] for v, node in search.nodes.items()} | {
-        v: lost[::-1] for v, lost in strays.items()
-    }
-    refusals = {v: node.refusal for v, node in search.nodes.items()} | dict.fromkeys(strays, "NoSuch")
-    left = {v: lost for v, lost in left.items() if lost}
-    return Found(net, program, search.made(own), search.nodes, left, refusals)
-
-
-def first_refused(found):
-    """Of the entries that are next and not possible: the first that its own node can't make, whatever the others do;
-    if they all wait for a neighbour, the first that waits for one which is through; else the first."""
-    def rank(entry):
-        waits = found.refusals[entry.vertex] == "LinkEmpty"
-        return waits, waits and entry.neighbour in found.left, entry.line
-    return min((left[-1] for left in found.left.values()), key=rank)
-
-
-def refusal_of(found, entry):
-    code = found.refusals[entry.vertex]
-    said = why_refused(found.state(), entry, Refused(code))
-    return Wrong(entry.line, code, said + (f", {why_link_empty(found, entry)}" if code == "LinkEmpty" else ""))
-
-
-def why_link_empty(found, entry):
-    """Of a wire that isn't there: whether the neighbour waits, or never puts it."""
-    if entry.neighbour in found.left:
-        return f"which hasn't put it and waits itself, at line {found.left[entry.neighbour][-1].line}"
-    node = found.nodes[entry.neighbour]
-    if not node.own:
-        return f"which never puts it; {without_entries(found.nodes)} (is the text cut?)"
-    if node.pulse < node.last:
-        ends = f"the entries of node {node.vertex} end at pulse {node.pulse} of {node.last}"
-        return f"which never puts it; {ends} (is the text cut?)"
-    return "which never puts it"
-
-
-def why_not_whole(nodes, node):
-    if not node.own:
-        return f"; {without_entries(nodes)} (is the text cut?)"
-    return " (is the text cut?)" if node.pulse < node.last else ""
-
-
-def without_entries(nodes):
-    """Which nodes have no entry, in words."""
-    found = [v for v, node in nodes.items() if not node.own]
-    if len(found) == 1:
-        return f"node {found[0]} has no entry"
-    if len(found) > 2 and found[-1] - found[0] == len(found) - 1:
-        return f"nodes {found[0]} to {found[-1]} have no entry"
-    more = f"and {len(found) - 6} more" if len(found) > 7 else f"and {found[-1]}"
-    return f"nodes {', '.join(map(str, found[:6] if len(found) > 7 else found[:-1]))} {more} have no entry"
+    found = Found(net, entries, program)
+    if found.is_stamped:
+        for entry in entries:
+            if entry.vertex not in found.refusals:
+                found.make_next(entry.vertex)
+        return found
+    left, refusals, work = found.left, found.refusals, sorted(found.left, reverse=True)
+    while work:
+        v = work.pop()
+        refusals.pop(v, None)
+        while left[v] and v not in refusals:
+            entry = left[v][0]
+            found.make_next(v)
+            w = entry.neighbour
+            if entry.kind == "Put" and refusals.get(w) == "LinkEmpty" and left[w][0].neighbour == v:
+                work.append(w)
+    return found
 
 
 def whole_run(net, text, program=Colouring):
@@ -160,41 +152,11 @@ def whole_run(net, text, program=Colouring):
     head, entries, fault = read_to_fault(text, program.name)
     if head.nodes != len(net.neighbours):
         raise Wrong(head.line, "Nodes", f"the transcript has {head.nodes} nodes, the network {len(net.neighbours)}")
-    if head.is_stamped:
-        check_stamped(net, head, entries, fault, program)
-        made = entries
-    else:
-        made = ordered(net, head, entries, fault, program)
-    return [entry.line for entry in made], verdict(net, entries)
-
-
-def ordered(net, head, entries, fault, program):
-    """The entries of edition 1 in the order found; or the first fault."""
     found = find_order(net, entries, program)
-    if fault:
-        raise first_fault(found, fault)
-    if found.left:
-        raise refusal_of(found, first_refused(found))
-    if not found.is_whole():
-        raise not_whole(head, entries, found)
-    return found.made
-
-
-def first_fault(found, fault):
-    """Of a text with a line that isn't an entry: an entry before it that isn't possible whatever comes later, or
-    that line."""
-    refused = first_refused(found) if found.left else None
-    return fault if refused is None or found.refusals[refused.vertex] == "LinkEmpty" else refusal_of(found, refused)
-
-
-def not_whole(head, entries, found):
-    """What the first node hasn't done; or, if nothing is on its way and each node has entries, who owes what."""
-    nodes, state = found.nodes, found.state()
-    v, what = next(unfinished(state))
-    last_line = max((entry.line for entry in entries if entry.vertex == v), default=head.line)
-    if any(state.link.values()) or not all(node.own for node in nodes.values()):
-        return Wrong(last_line, "NotWhole", f"after its last entry {what}{why_not_whole(nodes, nodes[v])}")
-    return Wrong(last_line, "NotWhole", f"after the last entry {stuck_words(all_standing(state))}")
+    if wrong := found.wrong(fault):
+        raise wrong
+    check_whole(found.state, entries[-1] if entries else head)
+    return [entry.line for entry in found.made], verdict(net, entries)
 
 
 def verdict(net, entries):

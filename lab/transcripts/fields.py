@@ -1,4 +1,4 @@
-"""The fields of an entry of a transcript, and which of them is wrong if a line isn't one."""
+"""The fields of a transcript: the words of payloads, and numbers within their bounds. What is none raises `NoEntry`."""
 import functools
 
 # The words of the payloads of each proved program, and the bound of each one's number; those that go on after the
@@ -7,9 +7,12 @@ OF_COLOURING = {b"hello": 2**128, b"label": 2**16, b"colour": 2**128, b"chosen":
 PAYLOADS = {"colouring": OF_COLOURING, "leader": {b"leader": 2**128}, "layers": {b"hops": 2**32},
             "matching": OF_COLOURING | {b"free": 2**16, b"take": 2**16},
             "independent-set": OF_COLOURING | {b"joined": 2**16}, "recolouring": OF_COLOURING | {b"anew": 2**16}}
-KINDS = (b"pulse", b"put", b"take")
 COLOURING = "colouring"
-WIRES = {b"payload": 4, b"ack": 2, b"safe": 2, b"close": 1}
+WIRES = "`payload P WORD NUMBER`, `ack P`, `safe P` and `close`"
+
+
+class NoEntry(ValueError):
+    """Why a line isn't an entry, in words."""
 
 
 def name_in_texts(program):
@@ -23,79 +26,38 @@ def first_line(nodes, program=COLOURING):
 
 
 def bound_of(program, word):
-    """The bound of a payload's number; `ValueError` if the program has no such payload."""
-    if program not in PAYLOADS and word.isalpha() and word.islower() and word.isascii():
-        return 2**128
-    if word not in PAYLOADS.get(program, ()):
-        raise ValueError
-    return PAYLOADS[program][word]
+    """The bound of a payload's number."""
+    words = PAYLOADS.get(program, {})
+    if word in words or not words and word.isalpha() and word.islower() and word.isascii():
+        return words.get(word, 2**128)
+    others = " or ".join(name for name, has in PAYLOADS.items() if word in has)
+    has = f", which has {b', '.join(words).decode()}" if words else ""
+    asked = f"; is it a run of {others}? See --program" if others else ""
+    raise NoEntry(f"{shown(word)} is no payload of {program}{has}{asked}")
 
 
 @functools.lru_cache(maxsize=2**16)
-def number(field, bound=2**32):
+def number(field, what, bound=2**32):
     digits = field.lstrip(b"0") or field[-1:]
     if not digits.isdigit() or len(digits) > len(str(bound)) or int(digits) >= bound:
-        raise ValueError
+        raise NoEntry(f"{shown(field)} is no number of a {what}, which is below 2^{bound.bit_length() - 1}")
     return int(digits)
+
+
+@functools.lru_cache(maxsize=2**16)
+def wire_of(program, *fields):
+    """A wire as lab/definitions/nodes.py has it, with a payload of the program."""
+    match fields:
+        case [b"payload", pulse, word, of_word]:
+            payload = word.decode("latin-1").title(), number(of_word, word.decode("latin-1"), bound_of(program, word))
+            return "Payload", number(pulse, "pulse"), payload
+        case [b"ack" | b"safe" as kind, pulse]:
+            return kind.decode().title(), number(pulse, "pulse")
+        case [b"close"]:
+            return ("Close",)
+    raise NoEntry(f"{shown(b' '.join(fields))} is no wire, which are {WIRES}")
 
 
 def shown(field):
     text = field[:40].decode("utf-8", "replace")
     return f"`{''.join(letter if letter.isprintable() else '?' for letter in text)}{'..' if len(field) > 40 else ''}`"
-
-
-def no_number(field, what, bound=2**32):
-    """Of a field that is no number, or one that is too great; None if all is well."""
-    try:
-        number(field, bound)
-    except ValueError:
-        return f"{shown(field)} is no number of a {what}, which is below 2^{bound.bit_length() - 1}"
-    return None
-
-
-def why_no_entry(fields, edition, program):
-    """Of the fields of a line that is no entry."""
-    if edition > 1:
-        wrong = no_number(fields[0], "stamp", 2**64)
-        if wrong or len(fields) == 1:
-            return wrong or "there is a stamp alone"
-        fields = fields[1:]
-    wrong = no_number(fields[0], "node")
-    if wrong or len(fields) == 1:
-        return wrong or "a node's number isn't followed by what it did"
-    if fields[1] not in KINDS:
-        return f"{shown(fields[1])} is neither pulse, put nor take"
-    if fields[1] == b"pulse":
-        return no_number(fields[2], "pulse") if len(fields) == 3 else "`pulse` is followed by one number"
-    if len(fields) < 4:
-        return f"{shown(fields[1])} is followed by a neighbour and a wire"
-    return no_number(fields[2], "neighbour") or why_no_wire(fields[3:], program)
-
-
-def why_no_wire(fields, program):
-    """Of the fields of a wire."""
-    if fields[0] not in WIRES:
-        return f"{shown(fields[0])} is no wire, which are {', '.join(wire.decode() for wire in WIRES)}"
-    if len(fields) != WIRES[fields[0]]:
-        return f"{shown(b' '.join(fields))} isn't a wire of {WIRES[fields[0]]} words, as every {fields[0].decode()} is"
-    wrong = no_number(fields[1], "pulse") if len(fields) > 1 else None
-    if wrong or fields[0] != b"payload":
-        return wrong
-    try:
-        bound = bound_of(program, fields[2])
-    except ValueError:
-        return f"{shown(fields[2])} is no payload{', '.join(payloads_words(program))}{forgotten(fields[2], program)}"
-    return no_number(fields[3], fields[2].decode(), bound)
-
-
-def forgotten(word, program):
-    """Whose payload this may be in place of the program's."""
-    *others, last = [name for name, words in PAYLOADS.items() if word in words and name != program] or [None]
-    names = f"{', '.join(others)} or {last}" if others else last
-    return f"; --program {names} has it: is that option forgotten?" if last else ""
-
-
-def payloads_words(program):
-    """What the payloads of a program are."""
-    words = [word.decode() for word in PAYLOADS.get(program, ())]
-    return [f", which are {words[0]}", *words[1:]] if len(words) > 1 else [f", which is {words[0]}"] if words else [""]

@@ -1,16 +1,27 @@
 """The reading of transcripts of all editions. It is written from the pages in docs/ alone."""
-import functools
-from collections import namedtuple
+import contextlib
+from dataclasses import dataclass
 from typing import NamedTuple
 
 from lab import wrong
 from lab.definitions.colours import fields_of
 from lab.definitions.nodes import wire_words
-from lab.transcripts.fields import COLOURING, bound_of, name_in_texts, number, why_no_entry
+from lab.transcripts.fields import COLOURING, NoEntry, name_in_texts, number, shown, wire_of
 
-# `kind` is Pulse, Put or Take; `what` is the number of the pulse, or the wire, as lab/definitions/nodes.py has it. A
-# pulse has no neighbour. `text` is the line as the search takes it, without the stamp; edition 1 has no `stamp`.
-Entry = namedtuple("Entry", "line vertex kind neighbour what text stamp", defaults=[None])
+# What begins the lines of a network.
+NETWORK = (b"p", b"c", b"e", b"i", b"b")
+
+
+@dataclass(slots=True)
+class Entry:
+    """`kind` is Pulse, Put or Take; `what` is the number of the pulse, or the wire, as lab/definitions/nodes.py has it.
+    A pulse has no neighbour. Edition 1 has no `stamp`, until an order is found."""
+    line: int | None
+    vertex: int
+    kind: str
+    neighbour: int | None
+    what: int | tuple
+    stamp: int | None = None
 
 
 class Head(NamedTuple):
@@ -36,38 +47,17 @@ class Wrong(wrong.Wrong):
         return f"line {self.line}: {self.code}: {self.what}"
 
 
-@functools.lru_cache(maxsize=2**16)
-def wire_of(program, *fields):
-    match fields:
-        case [b"payload", pulse, word, of_word]:
-            return "Payload", number(pulse), (word.decode().title(), number(of_word, bound_of(program, word)))
-        case [b"ack", pulse]:
-            return "Ack", number(pulse)
-        case [b"safe", pulse]:
-            return "Safe", number(pulse)
-        case [b"close"]:
-            return ("Close",)
-    raise ValueError
-
-
-@functools.lru_cache(maxsize=2**16)
-def words_of_wire(wire):
-    return wire_words(wire).encode()
-
-
-def entry_of(line, fields, program):
-    match fields:
+def entry_of(line, fields, program, is_stamped=False):
+    """The entry of a line's fields, of which the first is its stamp if the text is stamped."""
+    stamp, own = (number(fields[0], "stamp", 2**64), fields[1:]) if is_stamped else (None, fields)
+    match own:
         case [vertex, b"pulse", pulse]:
-            v, p = number(vertex), number(pulse)
-            return Entry(line, v, "Pulse", None, p, b"%d pulse %d" % (v, p))
-        case [vertex, b"put" | b"take" as kind, neighbour, *of_wire]:
-            v, w, wire = number(vertex), number(neighbour), wire_of(program, *of_wire)
-            return Entry(line, v, kind.decode().title(), w, wire, b"%d %s %d %s" % (v, kind, w, words_of_wire(wire)))
-    raise ValueError
-
-
-def stamped_entry_of(line, fields, program):
-    return entry_of(line, fields[1:], program)._replace(stamp=number(fields[0], 2**64))
+            return Entry(line, number(vertex, "node"), "Pulse", None, number(pulse, "pulse"), stamp)
+        case [vertex, b"put" | b"take" as kind, neighbour, *of_wire] if of_wire:
+            v, w = number(vertex, "node"), number(neighbour, "neighbour")
+            return Entry(line, v, kind.decode().title(), w, wire_of(program, *of_wire), stamp)
+    after = " after its stamp" if is_stamped else ""
+    raise NoEntry(f"{shown(b' '.join(own))}{after} is neither `V pulse P`, `V put W WIRE` nor `V take W WIRE`")
 
 
 def read(text, program=COLOURING):
@@ -85,20 +75,19 @@ def read_to_fault(text, program=COLOURING, stop=None):
     lines, entries, stopped = text.split(b"\n"), [], set()
     head = head_of(lines)
     program = checked_program(head, program)
-    entry_in, vertex = (stamped_entry_of, 1) if head.is_stamped else (entry_of, 0)
     for line, raw in enumerate(lines[head.line:], head.line + 1):
-        if stopped and stopped.issuperset(raw.split(b" ", vertex + 1)[vertex:vertex + 1]):
+        if stopped and stopped.issuperset(raw.split(b" ", head.is_stamped + 1)[head.is_stamped:head.is_stamped + 1]):
             continue
         try:
             if fields := fields_of(raw):
-                entry = entry_in(line, fields, program)
+                entry = entry_of(line, fields, program, head.is_stamped)
                 if stop is not None and (entry.kind, entry.what) == ("Pulse", stop):
                     stopped.add(b"%d" % entry.vertex)
                 else:
                     entries.append(entry)
-        except ValueError:
+        except NoEntry as why:
             cut = ", and no line feed after it (is the text cut?)" if line == len(lines) else ""
-            return head, entries, Wrong(line, "X1", f"not an entry: {why_no_entry(fields, head.edition, program)}{cut}")
+            return head, entries, Wrong(line, "X1", f"not an entry: {why}{cut}")
     return head, entries, None
 
 
@@ -114,30 +103,16 @@ def checked_program(head, program):
 
 def head_of(lines):
     """The first line that has a field."""
-    for line, fields in enumerate(map(fields_of, lines), 1):
-        if fields:
-            try:
-                match fields:
-                    case [b"transcript", b"1" | b"2" as edition, nodes]:
-                        return Head(line, int(edition), number(nodes))
-                    case [b"transcript", b"3", name, nodes] if name_in_texts(name.decode("latin-1")).encode() == name:
-                        return Head(line, 3, number(nodes), name.decode())
-            except ValueError:
-                pass
-            raise Wrong(line, "X1", f"neither `transcript 1 N`, `transcript 2 N` nor `transcript 3 NAME N`"
-                                    f"{what_it_is(fields)}")
-    raise Wrong(1, "X1", "there is no line `transcript 1 N`, `transcript 2 N` or `transcript 3 NAME N`")
-
-
-def what_it_is(fields):
-    """Why the first line that has a field is another one, as far as that is easily seen."""
-    if fields[0].startswith((b"\xff\xfe", b"\xfe\xff")) or b"\0" in fields[0]:
-        return "; this is UTF-16, as PowerShell's > writes it: save it as UTF-8"
-    if fields[0].startswith(b"\xef\xbb\xbf"):
-        return "; it begins with a byte order mark: save it as UTF-8 without one"
-    if fields[0] in (b"p", b"c", b"e", b"i", b"b"):
-        return "; this is a network: it is a file of its own, named before the transcript"
-    return ""
+    line, fields = next(((at, found) for at, found in enumerate(map(fields_of, lines), 1) if found), (1, [b""]))
+    with contextlib.suppress(NoEntry):
+        match fields:
+            case [b"transcript", b"1" | b"2" as edition, nodes]:
+                return Head(line, int(edition), number(nodes, "node"))
+            case [b"transcript", b"3", name, nodes] if name_in_texts(name.decode("latin-1")).encode() == name:
+                return Head(line, 3, number(nodes, "node"), name.decode())
+    what = "; this is a network: it is a file of its own, named before the transcript" if fields[0] in NETWORK else (
+        "; save it as UTF-8 without a byte order mark" if not fields[0].isascii() or b"\0" in fields[0] else "")
+    raise Wrong(line, "X1", f"neither `transcript 1 N`, `transcript 2 N` nor `transcript 3 NAME N`{what}")
 
 
 def words(entry):

@@ -1,8 +1,7 @@
-"""Transcripts of editions 2 and 3: their lines are a run in their order, with the stamps of Lamport's
-clock. It is written from the pages in docs/ alone."""
+"""Lamport's clock; and in words why an entry isn't possible, or a run not whole."""
 from collections import deque
 
-from lab.definitions.nodes import Colouring, NetState, Refused, event_of, make, missing_words, wire_words
+from lab.definitions.nodes import event_of, missing_words, wire_words
 from lab.transcripts.reading import Wrong, words
 from lab.transcripts.rules import Standing, rule_of, stuck_words
 
@@ -25,30 +24,14 @@ class Clock:
         return stamp + 1
 
 
-def check_stamped(net, head, entries, fault=None, program=Colouring):
-    """Makes the entries one by one in their order; raises the first fault. Each entry has to be possible with what it
-    says, its stamp has to be the one that the clock gives, and it has to come after the entry before it by stamp and
-    then by vertex. At the end every node has to be through, and every link empty. With `fault` the entries end there,
-    at a line that isn't an entry."""
-    state, clock, last = NetState(net, program), Clock(net.neighbours), None
-    for entry in entries:
-        try:
-            make(state, entry)
-        except Refused as refused:
-            why = why_link_empty(entry, entries) if str(refused) == "LinkEmpty" else ""
-            raise Wrong(entry.line, str(refused), why_refused(state, entry, refused) + why) from None
-        due = clock.next(entry.kind, entry.vertex, entry.neighbour)
-        if entry.stamp != due:
-            raise Wrong(entry.line, "WrongStamp",
-                        f"{words(entry)} with stamp {entry.stamp}, but the clock there gives {due}")
-        if last and (last.stamp, last.vertex) > (entry.stamp, entry.vertex):
-            before = f"line {last.line}, which has stamp {last.stamp} of node {last.vertex}"
-            raise Wrong(entry.line, "WrongStamp", f"{words(entry)} with stamp {entry.stamp}, but comes after {before}")
-        last = entry
-    if fault:
-        raise fault
-    for _, what in unfinished(state):
-        raise Wrong((last or head).line, "NotWhole", f"after the last entry {what_is_left(state, what)}")
+def check_whole(state, last):
+    """Refuses a run that ends too early: what isn't done yet, or who owes what if nothing is on its way. `last` is its
+    last entry, or the first line."""
+    if undone := next(unfinished(state), None):
+        is_on_its_way = any(state.link.values())
+        what = f"{undone[1]} (is the text cut?)" if is_on_its_way else stuck_words(
+            [(v, standing(state, v)) for v in state.nodes])
+        raise Wrong(last.line, "NotWhole", f"after the last entry {what}")
 
 
 def standing(state, v):
@@ -59,22 +42,24 @@ def standing(state, v):
     return Standing(node.pulse_number, node.last, node.can_pulse(), lacks, puts, "for {}")
 
 
-def all_standing(state):
-    return [(v, standing(state, v)) for v in state.nodes]
+def refusal(state, entry, code, entries, clock):
+    """Of an entry that isn't possible: what it lacks, and the rule that a pulse or a put breaks."""
+    said = words(entry) + lacked(state, entry, code)
+    if code == "LinkEmpty":
+        said += why_link_empty(entry, entries)
+    elif code == "WrongStamp":
+        due = clock.counters[entry.vertex]
+        said += f" with stamp {entry.stamp}, but " + (
+            f"the clock there gives {due}" if entry.stamp != due else "entries ascend by stamp, and then by node")
+    elif code != "NoSuch" and entry.kind != "Take":
+        what = f"pulse {entry.what}" if entry.kind == "Pulse" else f"put {entry.neighbour} {wire_words(entry.what)}"
+        said += f"; {rule_of(standing(state, entry.vertex), what, says_lacks=False)}"
+    return Wrong(entry.line, code, said)
 
 
-def why_refused(state, entry, refused):
-    """An entry that isn't possible, what it lacks, and the rule that a pulse or a put breaks."""
-    said = words(entry) + lacked(state, entry, refused)
-    if str(refused) == "NoSuch" or entry.kind == "Take":
-        return said
-    what = f"pulse {entry.what}" if entry.kind == "Pulse" else f"put {entry.neighbour} {wire_words(entry.what)}"
-    return f"{said}; {rule_of(standing(state, entry.vertex), what, says_lacks=False)}"
-
-
-def lacked(state, entry, refused):
+def lacked(state, entry, code):
     """What an entry lacks, or what is due there, as far as the words of its rule don't say it."""
-    match str(refused):
+    match code:
         case "NoSuch" if entry.vertex in state.nodes:
             return f", which is no neighbour of {entry.vertex}"
         case "NoSuch":
@@ -90,26 +75,13 @@ def lacked(state, entry, refused):
 
 
 def why_link_empty(entry, entries):
-    """Of a wire that isn't there: whether this wire is put later in the text, and what is put on its link before it."""
+    """Of a wire that isn't there: where it is put, or that it never is."""
     link = entry.neighbour, entry.vertex
-    taken = sum(1 for e in entries if e.kind == "Take" and (e.neighbour, e.vertex) == link and e.line < entry.line)
-    puts = [e for e in entries if e.kind == "Put" and (e.vertex, e.neighbour) == link]
-    later = [e for e in puts[taken:] if e.what == entry.what]
-    if not later:
-        again = " again" if any(e.what == entry.what for e in puts[:taken]) else ""
-        return f", and {entry.neighbour} never puts it{again}"
-    put, first = later[0], puts[taken]
-    if put is not first:
-        before = f"{wire_words(first.what)} in line {first.line}"
-        return f"; it is put in line {put.line}, and {before} comes before it on that link"
-    return f"; it is put in line {put.line}, with stamp {put.stamp}: a take has a greater stamp than its put"
-
-
-def what_is_left(state, what):
-    """Of a run that isn't whole: what isn't done yet, or who owes what if nothing is on its way."""
-    if any(state.link.values()):
-        return f"{what} (is the text cut?)"
-    return stuck_words(all_standing(state))
+    taken = sum(e.kind == "Take" and (e.neighbour, e.vertex) == link and e.line < entry.line for e in entries)
+    puts = [e for e in entries if e.kind == "Put" and (e.vertex, e.neighbour) == link][taken:]
+    put = next((e for e in puts if e.what == entry.what), None)
+    return f"; it is put in line {put.line}, which can't have come before" if put else (
+        f", and {entry.neighbour} never puts it (is the text cut?)")
 
 
 def unfinished(state):

@@ -3,7 +3,7 @@ answer before its line `end`."""
 import re
 
 from lab.networks.network_text import Network
-from lab.transcripts.fields import PAYLOADS, why_no_wire
+from lab.transcripts.fields import PAYLOADS, NoEntry, wire_of as read_wire
 from lab.workshop.findings import Fault
 
 EDITION = 1
@@ -89,7 +89,8 @@ def result_of(program: str, fields: list[str]) -> str | None:
 
 def wire_of(line: str, fields: list[str], program: str) -> str:
     """The words of the wire that a line names, without zeros before its numbers; a payload is one of the program."""
-    why = why_no_wire([field.encode() for field in fields], program)
-    if why:
-        raise Fault("garbage", f"{shown(line)}: {why}")
+    try:
+        read_wire(program, *[field.encode() for field in fields])
+    except NoEntry as why:
+        raise Fault("garbage", f"{shown(line)}: {why}") from None
     return " ".join(str(int(field)) if field.isdecimal() else field for field in fields)

@@ -226,7 +226,7 @@ class Refusals(Page):
         at = old.index(b"\n1 pulse 5\n")
         missing = old[:at] + old[at + len(b"\n1 pulse 5"):]
         cases = [
-            ("a wrong stamp", [network, "-"], late, "(WrongStamp)"),
+            ("a wrong stamp", [network, "-"], late, "WrongStamp"),
             ("another network", [two, "-"], good, "line 1: 3 nodes, and two has 2 (Nodes)"),
             ("a line left out", [network, "-"], missing, "NothingToPut: node "),
             ("no transcript", [network, "-"], b"plan\n", "X1"),

@@ -2,17 +2,21 @@
 
 Each run is played again here on lab/definitions/nodes.py, entry by entry, and its order beside what is possible then:
 nothing is compared with what simulate itself wrote before."""
+import importlib
+import os
 import random
 import re
+import sys
 
 from lab.definitions.colours import colours, network_of
-from lab.definitions.nodes import NetState, wire_words
+from lab.definitions.nodes import NetState, last_pulse, wire_words
 from lab.schedules.policies import POLICIES
 from lab.schedules.simulate import HABITS, played
 from lab.schedules.space import Space
 from lab.schedules.stepwise import Stepwise
-from lab.transcripts.reading import read
-from lab.transcripts.stamps import check_stamped
+from lab.transcripts.check import whole_run
+from lab.transcripts.stamps import unfinished
+from tests import TOP
 from tests.cases import Case, called, example, forestlab
 from tests.programs.made_transcripts import entries_of
 from tests.settings import PLAY
@@ -92,6 +96,51 @@ class Waits(Case):
         self.assertEqual([node.pulse_number for node in state.nodes.values()], [0, 0, 0, 0, 1, 2])
 
 
+class Witnesses(Case):
+    """The node under alpha, and the colouring in it, that examples/workshop has, which were written apart from the
+    definitions, beside these."""
+
+    needs_programs = False
+
+    def test_nodes(self):
+        sys.path.insert(0, os.path.join(TOP, "examples", "workshop", "python"))
+        self.addCleanup(sys.path.pop, 0)
+        make = importlib.import_module("alpha_node").AlphaNode
+        for name in NETWORKS:
+            net, source = network_of(example(name)), random.Random(name)
+            state = NetState(net)
+            nodes = {v: make(self.own_data(net, v)) for v in net.neighbours}
+            for v, node in nodes.items():
+                self.same(f"{name}: the start of {v}", node.start(), self.made(state, v))
+            while takes := [(v, port) for kind, v, port in state.possible() if kind == "Take"]:
+                v, port = source.choice(takes)
+                wire = wire_words(state.step("Take", v, port))
+                got = nodes[v].react([f"take {port} {wire}".split()])
+                self.same(f"{name}: node {v} takes {wire} by {port}", got, self.made(state, v))
+            self.note(f"{name}: all are through", not any(unfinished(state)))
+
+    @staticmethod
+    def own_data(net, v):
+        return {"identifier": net.identifiers[v], "degree": len(net.neighbours[v]), "nodes": len(net.neighbours),
+                "delta": net.greatest_degree, "bars": net.greatest_bars, "forests": net.forest_count,
+                "last": last_pulse(net), "barred": {colour + 1 for colour in net.barred[v]}}
+
+    @staticmethod
+    def made(state, v):
+        """What the definitions' node does until it waits, as an answer: its pulses as soon as it can."""
+        node, lines = state.nodes[v], []
+        while True:
+            ports = [port for port, other in enumerate(node.ports) if other.out]
+            lines += [f"put {port} {wire_words(state.step('Put', v, port))}" for port in ports]
+            if node.pulse_number == node.last and not any(port.out for port in node.ports):
+                return lines + [node.program.result()] * any(line.startswith("pulse") for line in lines)
+            if node.can_pulse() and not ports:
+                state.step("Pulse", v)
+                lines.append(f"pulse {node.pulse_number}")
+            elif not ports:
+                return lines
+
+
 class Runs(Case):
     def test_whole_runs(self):
         """Each policy gives a whole run with right stamps, and ends with the plan."""
@@ -101,9 +150,8 @@ class Runs(Case):
                 with self.subTest(name, policy=policy):
                     status, text, fault = simulate(name, "--policy", policy, "--seed", "7")
                     self.assertEqual((status, fault), (0, b""))
-                    head, entries = read(text)
-                    self.assertEqual((head.edition, head.nodes), (2, len(net.neighbours)))
-                    check_stamped(net, head, entries)
+                    self.assertEqual(text.partition(b"\n")[0], b"transcript 2 %d" % len(net.neighbours))
+                    whole_run(net, text)
                     status, state, fault = called(PLAY, "replay", data=example(name) + b"\n" + text)
                     self.assertEqual((status, fault), (0, b""))
                     found = {int(v): int(c) - 1 for v, c in re.findall(rb"^node (\d+) .* channel (\d+)$", state, re.M)}
@@ -155,8 +203,7 @@ class Lists(Case):
                           (fault == b"") == is_over and fault.count(b"\n") <= 1, fault)
                 whole = simulate(name, "--events", "-", "--to-the-end", data="\n".join(lines).encode())
                 self.note(f"{name}, {events} events, to the end", whole[::2] == (0, b""), whole)
-                head, rows = read(whole[1])
-                check_stamped(net, head, rows)
+                whole_run(net, whole[1])
                 self.note(f"{name}: it begins with the list", all(
                     own == entries_of(whole[1])[v][:len(own)] for v, own in entries.items()))
 
@@ -168,8 +215,7 @@ class Lists(Case):
             events = "".join(f"{line}\n" for line in run.lines).encode()
             status, text, fault = simulate(name, "--events", "-", data=events)
             self.note(f"{name}: the list is a run", (status, fault) == (0, b""), fault)
-            head, rows = read(text)
-            check_stamped(net, head, rows)
+            whole_run(net, text)
 
     def test_what_is_passed_over(self):
         """Comments, blank lines, and notes after a colon."""

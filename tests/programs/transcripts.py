@@ -14,7 +14,7 @@ import time
 
 from lab.definitions.colours import network_of
 from lab.definitions.nodes import Colouring, last_pulse
-from lab.transcripts.check import Wrong, find_order, first_refused, in_order, whole_run
+from lab.transcripts.check import Wrong, find_order, in_order, whole_run
 from lab.transcripts.reading import read
 from tests import FORESTLAB
 from tests.cases import Case, called, forestlab, text, text_in
@@ -23,7 +23,6 @@ from tests.programs.made_transcripts import (KINDS, made_transcript, merged_text
 from tests.programs.one_worker import Run
 from tests.programs.plain_networks import (all_small, cycle, path, random_of, shaped, some_bars, star, text_of, tree,
                                            two_sided)
-from tests.programs.slow_reader import answer_to
 from tests.settings import PLAN, PLAY
 from tests.shell import wait_until
 
@@ -119,7 +118,7 @@ WORKED = (
         (EDGE, "transcript 1 2|1 put 2 payload 0 colour 1|", "line 2: WrongWire"),
         (EDGE, f"transcript 1 2|1 put 2 {HELLO_1}|1 put 2 safe 0|", "line 3: NothingToPut"),
         (EDGE, f"transcript 1 2|1 put 2 {HELLO_1}|2 put 1 {HELLO_2}|1 take 2 {HELLO_1}|", "line 4: WrongWire"),
-        (EDGE, f"transcript 1 2|1 take 2 {HELLO_2}|1 put 2 {HELLO_1}|2 put 1 {HELLO_2}|", "line 3: NotWhole"),
+        (EDGE, f"transcript 1 2|1 take 2 {HELLO_2}|1 put 2 {HELLO_1}|2 put 1 {HELLO_2}|", "line 4: NotWhole"),
         # each takes before it puts: the first of two that wait for each other
         (EDGE, f"transcript 1 2|2 take 1 {HELLO_1}|1 take 2 {HELLO_2}|1 put 2 {HELLO_1}|2 put 1 {HELLO_2}|",
          "line 2: LinkEmpty"),
@@ -180,20 +179,15 @@ def mistaken(count):
             yield kind, data, net, spoiled(source, kind, whole)[0]
 
 
-def found_in(net, data):
-    """The code of what is wrong, or None; and the transcript in the order found, the entry that is refused next."""
-    try:
-        _, entries = read(data)
-    except Wrong as wrong:
-        return wrong.code, data
+def ordered(net, data):
+    """The transcript in the order found, and then the entry that is refused first; and what the program has to say: the
+    definition's code at that entry, and nothing of a run that isn't whole."""
+    _, entries = read(data)
     found = find_order(net, entries)
-    if found.left:
-        first = first_refused(found)
-        made = {entry.line for entry in found.made} | {first.line}
-        order = found.made + [first] + [entry for entry in entries if entry.line not in made]
-        return found.refusals[first.vertex], in_order([entry.line for entry in order], data)
-    made = in_order([entry.line for entry in found.made], data)
-    return (None if found.is_whole() else "NotWhole"), made
+    first = found.first_refused()
+    lines = [entry.line for entry in found.made] + ([first.line] if first else [])
+    said = first and f"line {len(lines) + 1}: {found.refusals[first.vertex]}"
+    return in_order([*lines, *sorted({entry.line for entry in entries} - set(lines))], data), said
 
 
 def said_by(network, data, *words, play=PLAY):
@@ -207,12 +201,6 @@ def said_by(network, data, *words, play=PLAY):
         return f"status {status}, {output[:200]!r}, {fault[:200]!r}"
     code, line, before = found[1].decode(), int(found[2]), network.count(b"\n")
     return f"line {line - before if line > before else line}: {code}"
-
-
-ROW = "p edge 4 3|e 1 2|e 2 3|e 3 4|"
-# (the nodes of a row of four whose entries are left, which ones have none)
-LEFT = [((1, 2, 3), "node 4 has no entry"), ((1, 2), "nodes 3 and 4 have no entry"),
-        ((1,), "nodes 2 to 4 have no entry")]
 
 
 def check(*words, data=b""):
@@ -263,16 +251,17 @@ class Transcripts(Case):
         order found."""
         wrong, accepted, codes = [], dict.fromkeys(KINDS[1:], 0), set()
         for mistake, network, net, data in mistaken(60):
-            code, ordered = found_in(net, data)
             said, words = said_of(net, data)
+            code = said.rpartition(": ")[2] if words else None
             accepted[mistake] += code is None
             codes.add(code)
-            done, wanted = called(PLAY, "replay", data=network + ordered), answer_to("replay", network + ordered)
+            if code == "X1":
+                continue
+            text_in_order, wanted = ordered(net, data)
+            got = said_by(network, text_in_order)
             # The program plays what isn't whole, too.
-            refused = b"" if code in (None, "NotWhole") else f"forestplay: {code} line ".encode()
-            good = done == wanted and done[2].startswith(refused) and bool(done[2]) == bool(refused)
-            if not good or (said.rpartition(": ")[2] if words else None) != code:
-                wrong.append((mistake, network, data, code, said, done, wanted))
+            if got != wanted or code not in ((None, "NotWhole") if wanted is None else (wanted.rpartition(": ")[2],)):
+                wrong.append((mistake, network, data, said, wanted, got))
         self.note("420 transcripts with a mistake, beside a replay", not wrong, f"{len(wrong)}: {wrong[:1]}")
         swapped = accepted.pop("two lines swapped")
         self.note("all but swapped entries are refused", not any(accepted.values()), accepted)
@@ -284,7 +273,7 @@ class Transcripts(Case):
         """The checker as a command: from a file, from standard input, in the order found, and refused."""
         whole, wrong = transcript_text(2, EDGE_LINES), b"transcript 1 2\n1 take 2 close\n"
         network, transcript = self.file("edge.col", text(EDGE)), self.file("edge.transcript", whole)
-        why = "node 1 takes close from 2, which never puts it; node 2 has no entry (is the text cut?)"
+        why = "node 1 takes close from 2, and 2 never puts it (is the text cut?)"
         nowhere = f"transcript: {transcript}x: No such file or directory\n".encode()
         for words, data, wanted in (
             ([network, transcript], b"x", (0, EDGE_WHOLE.encode() + b"\n", b"")),
@@ -315,14 +304,9 @@ class Transcripts(Case):
         edge, whole = network_of(text(EDGE)), transcript_text(2, EDGE_LINES)
         lines = whole.split(b"\n")[:-1]
         pulse = lines.index(b"2 pulse %d" % EDGE_LAST)
-        said = [said_of(edge, b"\n".join(lines[:count]) + b"\n") for count in range(1, pulse + 1)]
+        said = [said_of(edge, b"\n".join(lines[:count]) + b"\n") for count in range(2, pulse + 1)]
         unasked = [words for _, words in said if not words.endswith("(is the text cut?)")]
-        self.note("each beginning without the last pulse may be cut", len(said) == pulse and not unasked, unasked[:1])
-        net = network_of(text(ROW))
-        made = made_transcript(random.Random(SEED), net, 4)
-        for left, wanted in LEFT:
-            got = said_of(net, transcript_text(4, {v: made[v] for v in left}))
-            self.note(f"of a run of four the entries of {left}", got[1].endswith(f"; {wanted} (is the text cut?)"), got)
+        self.note("each beginning without the last pulse may be cut", not unasked, unasked[:1])
         got = said_of(edge, b"transcript 1 2\n1 put 2 payl")
         self.note("a text that ends inside a line", got[0] == "line 2: X1" and "cut" in got[1], got)
 

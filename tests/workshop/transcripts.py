@@ -6,6 +6,7 @@ HELLO_1, HELLO_2 = "payload 0 hello 1", "payload 0 hello 2"
 # A pulse's worth of two nodes without the acknowledgements.
 GREETED = f"1 1 put 2 {HELLO_1}|1 2 put 1 {HELLO_2}|2 1 take 2 {HELLO_2}|2 2 take 1 {HELLO_1}|"
 ACKED = GREETED + "3 1 put 2 ack 0|3 2 put 1 ack 0|4 1 take 2 ack 0|4 2 take 1 ack 0|"
+WIRES = "`payload P WORD NUMBER`, `ack P`, `safe P` and `close`"
 SAFE = "safe P is said once in each pulse P but the last, to each neighbour, once each payload that it sent in P is " \
        "acknowledged"
 NO_ACK = "it can't have said safe yet: it lacks the acknowledgement of pulse 0 from 2"
@@ -40,18 +41,18 @@ ROWS = (
     ("1 3 pulse 1|", "line 2: NoSuch: node 3 makes pulse 1, but the nodes are 1 to 2"),
     ("1 1 put 1 safe 0|", "line 2: NoSuch: node 1 puts safe 0 for 1, which is no neighbour of 1"),
     (f"1 1 take 2 {HELLO_2}|1 2 put 1 {HELLO_2}|",
-     "line 2: LinkEmpty: node 1 takes payload 0 hello 2 from 2; it is put in line 3, with stamp 1: a "
-     "take has a greater stamp than its put"),
+     "line 2: LinkEmpty: node 1 takes payload 0 hello 2 from 2; it is put in line 3, which "
+     "can't have come before"),
     (f"1 1 take 2 {HELLO_2}|",
-     "line 2: LinkEmpty: node 1 takes payload 0 hello 2 from 2, and 2 never puts it"),
+     "line 2: LinkEmpty: node 1 takes payload 0 hello 2 from 2, and 2 never puts it (is the text cut?)"),
     # What is put there later is another wire.
     (f"1 1 take 2 {HELLO_2}|2 2 put 1 ack 0|",
-     "line 2: LinkEmpty: node 1 takes payload 0 hello 2 from 2, and 2 never puts it"),
+     "line 2: LinkEmpty: node 1 takes payload 0 hello 2 from 2, and 2 never puts it (is the text cut?)"),
     (f"1 1 take 2 {HELLO_2}|2 2 put 1 ack 0|3 2 put 1 {HELLO_2}|",
-     "line 2: LinkEmpty: node 1 takes payload 0 hello 2 from 2; it is put in line 4, and ack 0 in "
-     "line 3 comes before it on that link"),
+     "line 2: LinkEmpty: node 1 takes payload 0 hello 2 from 2; it is put in line 4, which "
+     "can't have come before"),
     (f"1 1 put 2 {HELLO_1}|1 2 put 1 {HELLO_2}|2 1 take 2 {HELLO_2}|3 1 take 2 {HELLO_2}|",
-     "line 5: LinkEmpty: node 1 takes payload 0 hello 2 from 2, and 2 never puts it again"),
+     "line 5: LinkEmpty: node 1 takes payload 0 hello 2 from 2, and 2 never puts it (is the text cut?)"),
     # Nothing is on its way: it isn't asked whether the text is cut.
     (GREETED, "line 5: NotWhole: after the last entry nothing is on its way, and not all is done: node 1 at pulse 0 "
               "doesn't put 2 ack 0; node 2 at pulse 0 doesn't put 1 ack 0"),
@@ -68,20 +69,16 @@ ROWS = (
     (f"1 1 put 2 {HELLO_1}|1 1 put 2 payload 0 colour -2|", "line 3: X1: not an entry: `-2` is no number of a "
                                                             "colour, which is below 2^128"),
     ("x 1 pulse 1|", "line 2: X1: not an entry: `x` is no number of a stamp, which is below 2^64"),
-    ("1|", "line 2: X1: not an entry: there is a stamp alone"),
-    ("1 1|", "line 2: X1: not an entry: a node's number isn't followed by what it did"),
-    ("1 1 puts 2 close|", "line 2: X1: not an entry: `puts` is neither pulse, put nor take"),
-    ("1 1 put 2|", "line 2: X1: not an entry: `put` is followed by a neighbour and a wire"),
-    ("1 1 pulse|", "line 2: X1: not an entry: `pulse` is followed by one number"),
-    ("1 1 put 2 nack 0|", "line 2: X1: not an entry: `nack` is no wire, which are payload, ack, safe, close"),
-    ("1 1 put 2 ack|", "line 2: X1: not an entry: `ack` isn't a wire of 2 words, as every ack is"),
-    ("1 1 put 2 payload 0 best 1|", "line 2: X1: not an entry: `best` is no payload, which are hello, label, colour, "
-                                    "chosen"),
+    *((f"1 {entry}|", f"line 2: X1: not an entry: `{entry}` after its stamp is neither `V pulse P`, `V put W "
+                     "WIRE` nor `V take W WIRE`")
+      for entry in ("1", "1 puts 2 close", "1 put 2", "1 pulse")),
+    *((f"1 1 put 2 {wire}|", f"line 2: X1: not an entry: `{wire}` is no wire, which are {WIRES}")
+      for wire in ("nack 0", "ack")),
+    ("1 1 put 2 payload 0 best 1|", "line 2: X1: not an entry: `best` is no payload of colouring, which has hello, "
+                                    "label, colour, chosen"),
     # A payload of another program.
-    ("1 1 put 2 payload 0 leader 1|", "line 2: X1: not an entry: `leader` is no payload, which are hello, label, "
-                                      "colour, chosen; --program leader has it: is that option forgotten?"),
-    ("1 1 put 2 payload 0 hops 0|", "line 2: X1: not an entry: `hops` is no payload, which are hello, label, colour, "
-                                    "chosen; --program layers has it: is that option forgotten?"),
+    ("1 1 put 2 payload 0 hops 0|", "line 2: X1: not an entry: `hops` is no payload of colouring, which has hello, "
+                                    "label, colour, chosen; is it a run of layers? See --program"),
     ("1 1 put 2 payload 1 label 65536|", "line 2: X1: not an entry: `65536` is no number of a label, which is below "
                                          "2^16"),
 )
@@ -105,12 +102,12 @@ class Transcripts(Case):
             (f"1 put 2 {HELLO_1}|1 put 2 safe 0|",
              f"line 3: NothingToPut: node 1 puts safe 0 for 2, for which it has nothing; {SAFE}; {NO_ACK}"),
             (f"1 put 2 {HELLO_1}|1 take 2 {HELLO_2}|2 put 1 {HELLO_2}|2 take 1 {HELLO_1}|",
-             "line 3: NotWhole: after the last entry nothing is on its way, and not all is done: node 1 at pulse 0 "
+             "line 5: NotWhole: after the last entry nothing is on its way, and not all is done: node 1 at pulse 0 "
              "doesn't put 2 ack 0; node 2 at pulse 0 doesn't put 1 ack 0"),
             (f"1 put 2 {HELLO_1}|1 pulse 2|1 put 2 odd|",
              f"line 3: NotReady: node 1 makes pulse 2, but it lacks ack 0 of 2; safe 0 of 2; {PULSE}; {NO_ACK}"),
             (f"1 put 2 {HELLO_1}|1 take 2 {HELLO_2}|2 put 1 odd|", "line 4: X1: not an entry: `odd` is no wire, which "
-                                                                   "are payload, ack, safe, close"),
+                                                                   f"are {WIRES}"),
         ):
             self.says("transcript 1 2|" + entries, line)
 
@@ -129,7 +126,7 @@ class Transcripts(Case):
 
     def test_a_text_that_ends_inside_a_line(self):
         self.says("transcript 2 2|1 1 put 2 pay",
-                  "line 2: X1: not an entry: `pay` is no wire, which are payload, ack, safe, close, and no line feed "
+                  f"line 2: X1: not an entry: `pay` is no wire, which are {WIRES}, and no line feed "
                   "after it (is the text cut?)")
 
     def test_bars_that_a_program_ignores(self):
