@@ -9,14 +9,17 @@ import copy
 from lab.definitions.nodes import AlphaNode, Colouring, Refused, ports_of, synchronous_pulses
 from lab.definitions.own_program import OwnNode
 from lab.definitions.sequel import Sequel
+from lab.definitions.values import frozen
 
 
 class RuledNode(AlphaNode):
-    """`wrong` says that it has made a pulse with another inbox than the round's."""
+    """`wrong` says that it has made a pulse with another inbox than the round's. A node of its program that it has come
+    to is never changed: a pulse makes another one."""
 
     def __init__(self, net, v, without, program=Colouring):
         self.without, self.wrong = frozenset(without), False
         super().__init__(net, v, program)
+        self.key_of_program = key_of_program(self.program)
 
     def settle(self):
         if "acks" in self.without:
@@ -29,16 +32,16 @@ class RuledNode(AlphaNode):
             return self.pulse_number != self.last and self.said and self.can_take()
         return super().can_pulse()
 
-    def is_whole(self):
-        return self.drained()
+    def pulse(self):
+        self.program = self.program.copied() if isinstance(self.program, OwnNode) else copy.deepcopy(self.program)
+        super().pulse()
+        self.key_of_program = key_of_program(self.program)
 
     def on_wire(self, at, wire):
         kind, port = wire[0], self.ports[at]
-        if kind == "Ack" and "acks" in self.without:
-            return
         if kind == "Payload" and self.without & {"safes", "early"}:
             self.take_payload(port, wire)
-        elif "safes" in self.without and kind == "Safe":
+        elif {"Ack": "acks", "Safe": "safes"}.get(kind) in self.without:
             return
         elif "safes" in self.without and kind == "Close":
             port.closed = True
@@ -70,7 +73,6 @@ class RuledNode(AlphaNode):
         node.ports = [copy.copy(port) for port in self.ports]
         for port in node.ports:
             port.out = list(port.out)
-        node.program = copied_program(self.program)
         return node
 
     def key(self):
@@ -79,36 +81,15 @@ class RuledNode(AlphaNode):
             self.pulse_number,
             self.said,
             self.wrong,
-            key_of_program(self.program),
+            self.key_of_program,
             tuple((port.waits, port.safe, port.early_safe, port.closed, port.present, port.early, tuple(port.out))
                   for port in self.ports),
         )
 
 
-def copied_program(program):
-    """A copy that changes apart from the node of a program."""
-    if isinstance(program, OwnNode):
-        return program.copied()
-    node = copy.copy(program)
-    for name, value in vars(program).items():
-        if isinstance(value, (list, set, dict)):
-            setattr(node, name, copy.copy(value))
-        elif isinstance(value, (Colouring, Sequel)):
-            setattr(node, name, copied_program(value))
-    return node
-
-
 def key_of_program(program):
-    """Equal for equal nodes of one vertex; by its fields, of which lists, sets and dictionaries hold plain values."""
-    return program.key() if isinstance(program, OwnNode) else tuple(map(key_of_field, vars(program).values()))
-
-
-def key_of_field(value):
-    if isinstance(value, list):
-        return tuple(value)
-    if isinstance(value, (set, dict)):
-        return frozenset(value.items() if isinstance(value, dict) else value)
-    return key_of_program(value) if isinstance(value, (Colouring, Sequel)) else value
+    """Equal for equal nodes of one vertex."""
+    return program.key() if isinstance(program, OwnNode) else frozen(program)
 
 
 class Rounds:

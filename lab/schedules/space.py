@@ -63,8 +63,20 @@ class Event(namedtuple("Event", "kind v port w wire place")):
         return f"pulse {self.v}" if self.kind == "pulse" else f"{self.kind} {self.v} {self.port}"
 
 
-class Alone(list):
-    """The one event that is looked at in a state, though others are possible too."""
+class Numbered(list):
+    """Things, each once: the number of a thing is its place."""
+
+    def __init__(self):
+        super().__init__()
+        self.places = {}
+
+    def number(self, thing, key=None):
+        """The number of a thing, which is new if no equal one, or none of its key, is there."""
+        key = thing if key is None else key
+        if key not in self.places:
+            self.places[key] = len(self)
+            self.append(thing)
+        return self.places[key]
 
 
 class TooMany(Exception):
@@ -81,45 +93,13 @@ class Space:
         self.links = [(v, w) for v in self.vertices for w in self.ports[v]]
         self.slot = {link: k for k, link in enumerate(self.links, len(self.vertices))}
         self.arriving = [[self.slot[w, v] for w in self.ports[v]] for v in self.vertices]
-        self.locals = [[] for _ in self.vertices]
-        self.known = [{} for _ in self.vertices]
-        self.made = {}
-        self.contents, self.content_number, self.popped, self.added = [()], {(): 0}, {}, {}
-        self.events, self.event_number = [], {}
+        # The parts of a state, each kept once and known by its number.
+        self.locals, self.contents, self.events = [Numbered() for _ in self.vertices], Numbered(), Numbered()
+        self.contents.number(())
         self.moves = [{} for _ in self.vertices]
         self.faults, self.ends, self.broken, self.said = {}, [], set(), {}
         self.first, self.event_of, self.target = array("I", [0]), array("I"), array("I")
         self.search(progress)
-
-    # The parts of a state, each kept once and known by its number.
-
-    def local(self, a, node):
-        """The number of a node's value."""
-        key = node.key()
-        if key not in self.known[a]:
-            self.known[a][key] = len(self.locals[a])
-            self.locals[a].append(node)
-        return self.known[a][key]
-
-    def content(self, wires):
-        """The number of what a link holds."""
-        if wires not in self.content_number:
-            self.content_number[wires] = len(self.contents)
-            self.contents.append(wires)
-        return self.content_number[wires]
-
-    def with_wires(self, c, more):
-        key = (c, more)
-        if key not in self.added:
-            self.added[key] = self.content(self.contents[c] + more)
-        return self.added[key]
-
-    def number_of_event(self, *parts):
-        event = Event(*parts)
-        if event not in self.event_number:
-            self.event_number[event] = len(self.events)
-            self.events.append(event)
-        return self.event_number[event]
 
     # What a node can do.
 
@@ -132,7 +112,7 @@ class Space:
                 if port.out:
                     gone.append((self.slot[self.vertices[a], w], tuple(port.out)))
                     port.out = []
-        return self.local(a, node), tuple(gone)
+        return self.locals[a].number(node, node.key()), tuple(gone)
 
     def pulse(self, a, i):
         """(value after or None, wires, fault) of a pulse of the node with this value."""
@@ -157,40 +137,34 @@ class Space:
         v, node, moves = self.vertices[a], self.locals[a][i], []
         if node.can_pulse():
             j, gone, fault = self.pulse(a, i)
-            moves.append(Move(self.number_of_event("pulse", v, None, None, None, 0), j, None, 0, gone, fault))
+            moves.append(Move(self.events.number(Event("pulse", v, None, None, None, 0)), j, None, 0, gone, fault))
         for p, (w, c) in enumerate(zip(self.ports[v], arriving)):
             if node.ports[p].out:
                 moves.append(self.put_move(a, i, p))
             wires = self.contents[c]
             for place in range(len(wires) if "fifo" in self.without else min(1, len(wires))):
-                key = (a, i, p, wires[place])
-                if key not in self.made:
-                    self.made[key] = self.take(a, i, p, wires[place])
-                j, gone, fault = self.made[key]
-                e = self.number_of_event("take", v, p, w, wire_words(wires[place]), place)
-                rest = self.content(wires[:place] + wires[place + 1:])
+                j, gone, fault = self.take(a, i, p, wires[place])
+                e = self.events.number(Event("take", v, p, w, wire_words(wires[place]), place))
+                rest = self.contents.number(wires[:place] + wires[place + 1:])
                 moves.append(Move(e, j, self.slot[w, v], rest, gone, fault))
         return moves
 
     def put_move(self, a, i, p):
         v, node = self.vertices[a], self.locals[a][i].copied()
         w, wire = self.ports[v][p], node.ports[p].out.pop(0)
-        e = self.number_of_event("put", v, p, w, wire_words(wire), 0)
-        return Move(e, self.local(a, node), None, 0, ((self.slot[v, w], (wire,)),), None)
+        e = self.events.number(Event("put", v, p, w, wire_words(wire), 0))
+        return Move(e, self.locals[a].number(node, node.key()), None, 0, ((self.slot[v, w], (wire,)),), None)
 
-    def cut(self, moves):
-        """With `reduce`, the take of a safe or a close that comes next on its link, alone, if the node has one.
+    def alone(self, moves):
+        """With `reduce`, the take of a safe or a close that comes next on its link, if a node has one among its moves.
 
         Such a take sends nothing. It stays possible, with the same effect, whatever else happens first: others only add
         to the end of the link, and at its node a pulse, a put, or a take from another link neither needs what it
         changes to be as it was nor makes it impossible. So each list of events can be changed into one in which it
         comes first, by exchanging neighbours that don't depend on each other, and what each pulse finds and whatever
-        is refused stays as it is. Without `safes` or `fifo` that isn't so. (A take that is refused isn't cut to.)"""
-        for move in moves:
-            event = self.events[move.event]
-            if event.kind == "take" and event.wire.split()[0] in ("safe", "close") and move.value is not None:
-                return Alone([move])
-        return moves
+        is refused stays as it is. Without `safes` or `fifo` that isn't so. (A take that is refused isn't meant.)"""
+        return next((move for move in moves if move.value is not None and move.link is not None
+                     and self.events[move.event].wire.split()[0] in ("safe", "close")), None) if self.reduce else None
 
     # The search.
 
@@ -205,7 +179,7 @@ class Space:
     def with_all(self, state, gone):
         """The state with these wires on its links."""
         for slot, wires in gone:
-            state[slot] = self.with_wires(state[slot], wires)
+            state[slot] = self.contents.number(self.contents[state[slot]] + wires)
         return tuple(state)
 
     def search(self, progress):
@@ -228,7 +202,7 @@ class Space:
         key = (state[a], *[state[k] for k in self.arriving[a]])
         if key not in self.moves[a]:
             moves = self.moves_of(a, key[0], key[1:])
-            self.moves[a][key] = self.cut(moves) if self.reduce else moves
+            self.moves[a][key] = moves, self.alone(moves)
         return self.moves[a][key]
 
     def moved(self, state, a, move):
@@ -241,27 +215,25 @@ class Space:
 
     def expand(self, s):
         """Notes the steps of a state, and the new states that they lead to."""
-        state, some, possible = self.states[s], False, []
+        state, possible = self.states[s], []
         for a in range(len(self.vertices)):
-            moves = self.moves_in(state, a)
-            if isinstance(moves, Alone):
-                possible = [(a, moves)]
+            moves, alone = self.moves_in(state, a)
+            if alone:
+                possible = [(a, alone)]
                 break
-            possible.append((a, moves))
-        for a, moves in possible:
-            for move in moves:
-                some = True
-                if move.fault:
-                    self.faults[s, len(self.target) - self.first[s]] = move.fault
-                self.event_of.append(move.event)
-                is_refused = move.value is None
-                self.target.append(REFUSED if is_refused else self.reached(self.moved(state, a, move), s, move.event))
+            possible += [(a, move) for move in moves]
+        for a, move in possible:
+            if move.fault:
+                self.faults[s, len(self.target) - self.first[s]] = move.fault
+            self.event_of.append(move.event)
+            is_refused = move.value is None
+            self.target.append(REFUSED if is_refused else self.reached(self.moved(state, a, move), s, move.event))
         self.first.append(len(self.target))
-        if not some:
+        if not possible:
             self.ends.append(s)
             if not self.is_whole(state):
                 self.faults[s, None] = self.stuck_words(s)
-        if issubclass(self.program, OwnNode) and (words := self.wrong_words(state, not some)):
+        if issubclass(self.program, OwnNode) and (words := self.wrong_words(state, not possible)):
             self.faults[s, None] = words
             self.broken.add(s)
 
@@ -291,9 +263,6 @@ class Space:
     @property
     def count(self):
         return len(self.states)
-
-    def event(self, e):
-        return self.events[e]
 
     def steps(self, s):
         return [(self.events[self.event_of[k]], None if self.target[k] == REFUSED else self.target[k])
@@ -394,6 +363,6 @@ class Space:
                 put[link] = max(put[link], number + 1)
             listed.append(event)
             a = self.vertices.index(event.v)
-            move = next(move for move in self.moves_in(state, a) if self.events[move.event] == event)
+            move = next(move for move in self.moves_in(state, a)[0] if self.events[move.event] == event)
             state, gone = self.moved(state, a, move), move.gone
         return listed

@@ -1,21 +1,21 @@
 """Tests of `explore`, which plays every schedule of a tiny network.
 
 The numbers of states and steps are compared with a trial's, which was written before it; random walks, state by state
-and step by step, with lab/definitions/nodes.py; lists of events with what `forestplay events` makes of them; and the
-rounds without a rule with nodes that hear and send."""
+and step by step, with lab/definitions/nodes.py; and lists of events with what `forestplay events` makes of them."""
 import gc
 import os
 import random
 from collections import Counter
 
-from lab.definitions.colours import Network, colours, network_of, other_than
-from lab.definitions.nodes import Colouring, NetState, bit_step, last_pulse, synchronous_pulses
+from lab.definitions.colours import colours, network_of
+from lab.definitions.nodes import NetState, last_pulse
+from lab.definitions.values import frozen
 from lab.schedules import ruled_rounds, rules
 from lab.schedules.space import Space, TooMany
 from tests import TOP
 from tests.cases import Case, called, said_by, text_in
 from tests.programs.events import answer_of
-from tests.programs.plain_networks import all_of, pairs_of, payloads_of
+from tests.programs.plain_networks import payloads_of, random_of, text_of as text_of_network
 from tests.settings import PLAN, PLAY
 
 MOST = 200_000  # states; more show that a search goes on and on
@@ -41,21 +41,9 @@ def net_of(name):
     return network_of(text_of(name).encode())
 
 
-# States of the definitions, to be compared.
-
 def node_key(node):
     """Equal for equal nodes of a vertex."""
-    program = node.program
-    return (
-        node.pulse_number,
-        node.said,
-        program.old,
-        program.merged,
-        frozenset(program.chosen),
-        *[tuple(getattr(program, name)) for name in ("roles", "colours", "before")],
-        tuple(tuple(port.out) for port in node.ports),
-        tuple((port.waits, port.safe, port.early_safe, port.closed, port.present, port.early) for port in node.ports),
-    )
+    return frozen((node.pulse_number, node.said, node.program, node.ports))
 
 
 def net_key(state):
@@ -133,71 +121,14 @@ BROKEN = [
 ]
 
 
-# The rounds without a rule, by nodes that hear and send.
-class NodeWithout(Colouring):
-    """A node of the colouring without a rule. It notes that it has heard its own colour from a parent."""
-
-    rule, clash = None, False
-
-    def work(self, pulse, inbox):
-        rule, parents = self.rule, {f: slot[1] for (way, f), slot in zip(self.roles, inbox) if way == "Up"}
-        for f, own in enumerate(self.colours):
-            parent = parents.get(f)
-            self.clash = self.clash or own == parent
-            if self.clash:
-                return [None] * self.degree
-            if pulse <= 6:
-                stepped = bit_step(own, parent)
-                self.colours[f] = 2 * (stepped // 2) if rule == "digit" else stepped
-            elif pulse % 2 == 1:
-                self.before[f] = own
-                if rule != "shift" and not (rule == "root" and parent is None):
-                    self.colours[f] = other_than(own) if parent is None else parent
-            elif own == {8: 5, 10: 4, 12: 3}[pulse]:
-                seen = {"children": [parent], "parent": [self.before[f]]}.get(rule, [self.before[f], parent])
-                self.colours[f] = other_than(*seen)
-        return [None] * self.degree if pulse == 12 else self.colours_sent()
-
-    def merge(self, t, inbox):
-        width = self.span + 1
-        forest, step = divmod(t, 3 * width)
-        if step == 0:
-            self.old, self.chosen = self.merged, set()
-        self.chosen |= {slot[1] for slot in inbox if slot}
-        if (self.colours[forest], 0 if self.rule == "pair" else self.old) != divmod(step, width):
-            return [None] * self.degree
-        self.merged = self.least_free(self.chosen)
-        told = [f == forest if self.rule == "earlier" else f <= forest for _, f in self.roles]
-        return [("Chosen", self.merged) if is_told and step < 3 * width - 1 else None for is_told in told]
-
-
-def goes_wrong(net, rule):
-    """Whether a node hears its own colour from a parent, or has it at the last pulse of the forests, or the plan of
-    some forest and those before it has neighbours of one colour."""
-    for pulse, nodes, _, _ in synchronous_pulses(net, type("NodeWithout", (NodeWithout,), {"rule": rule})):
-        if any(node.clash for node in nodes.values()):
-            return True
-        if pulse == 12 and any(nodes[v].colours[f] == nodes[w].colours[f] for v, ws in net.higher.items()
-                               for f, w in enumerate(ws)):
-            return True
-        forest, step = divmod(pulse - 13, 3 * (net.span + 1))
-        if pulse > 12 and step == 3 * (net.span + 1) - 1:
-            if any(f <= forest and len({nodes[v].merged for v in pair}) == 1 for pair, f in net.number.items()):
-                return True
-    return False
-
-
-def all_networks(nodes):
-    return [Network({v: v for v in range(1, nodes + 1)}, set(edges)) for edges in all_of(nodes)]
-
-
-# The nodes of the smallest network, found by a trial over nodes that hear and send, or worked by hand (digit).
-SMALLEST = {"digit": (2, [(1, 2)]), "shift": (5, [(1, 3), (3, 5)]), "root": (2, [(1, 2)]),
-            "pair": (3, [(1, 2), (1, 3), (2, 3)]), "earlier": (3, [(1, 2), (1, 3), (2, 3)])}
-
-
-def network_at_random(source, nodes):
-    return Network({v: v for v in range(1, nodes + 1)}, {pair for pair in pairs_of(nodes) if source.random() < 0.4})
+# The edges of the smallest network that goes wrong without a rule, as a trial over nodes that hear and send found it;
+# and by hand the first clash: without `digit` both have place 0 after the first bit step; without `root` 1 has colour 1
+# and its root 2 colour 0 after four, and then 1 takes 0; the triangle's colours in forest 1 are 1, 1 and 0, so that 3
+# takes 0, and after it without `earlier` 2 does, too, and without `pair` 1 and 2 both take 1.
+SMALLEST = {"digit": [(1, 2)], "shift": [(1, 3), (3, 5)], "root": [(1, 2)], "children": [(1, 2), (2, 5), (5, 9)],
+            "parent": [(1, 2), (2, 3), (3, 4), (4, 8)], "pair": [(1, 2), (1, 3), (2, 3)],
+            "earlier": [(1, 2), (1, 3), (2, 3)]}
+CLASHES = {"digit": (3, 0, 1, 2, 0), "root": (7, 0, 1, 2, 0), "pair": (None, 1, 1, 2, 1), "earlier": (None, 1, 2, 3, 0)}
 
 
 # (words, status, standard error)
@@ -331,37 +262,21 @@ class Schedules(Case):
         self.note("only a wrong pulse leads to another plan", not right, wrong)
 
     def test_rounds(self):
-        source = random.Random(SEED)
-        tried = [net for nodes in range(1, 5) for net in all_networks(nodes)] + source.sample(all_networks(5), 100)
-        for rule in [*rules.OF_ROUNDS, "none"]:
-            without = () if rule == "none" else (rule,)
-            differ = [net.neighbours for net in tried
-                      if goes_wrong(net, rule) != bool(ruled_rounds.RuledRounds(net, without).clash)]
-            self.note(f"small networks without {rule}", not differ, differ[:1])
         for rule in rules.OF_ROUNDS:
-            rounds, count = ruled_rounds.smallest([rule], 9)
-            edges = sorted(tuple(sorted(pair)) for pair in rounds.net.number)
-            nodes = len(rounds.net.neighbours)
-            if rule in SMALLEST:
-                self.note(f"the smallest network without {rule}", (nodes, edges) == SMALLEST[rule], (nodes, edges))
-            if rule == "root":
-                # By hand: after four bit steps 1 has colour 1 and its root 2 has colour 0; then 1 takes 0.
-                self.note("the first clash without root", rounds.clash == (7, 0, 1, 2, 0), rounds.clash)
-            self.note(f"it goes wrong without {rule}", goes_wrong(rounds.net, rule), edges)
-            smaller = [net for net in tried if len(net.neighbours) < nodes]
-            smaller += [network_at_random(source, source.randrange(2, nodes)) for _ in range(60 if nodes > 2 else 0)]
-            self.note(f"smaller networks go right without {rule}", not any(goes_wrong(net, rule) for net in smaller),
-                      count)
+            rounds, _ = ruled_rounds.smallest([rule], max(SMALLEST[rule])[1])
+            self.same(f"the smallest network without {rule}", sorted(map(tuple, map(sorted, rounds.net.number))),
+                      SMALLEST[rule])
+            self.same(f"the first clash without {rule}", rounds.clash, CLASHES.get(rule, rounds.clash))
         # Neighbours in the forest that was just merged never have one colour, whichever rules of the merging are left
         # out: two are given one.
         rounds = ruled_rounds.RuledRounds(net_of("two"), ())
         rounds.merged.append({1: 0, 2: 0})
-        clashes = [tuple(clash) for clash in rounds.merge_clashes(0)]
-        self.note("neighbours in the forest just merged with one colour", clashes == [(None, 0, 1, 2, 0)], clashes)
-        nets = [network_at_random(source, 9) for _ in range(40)]
-        whole = [ruled_rounds.RuledRounds(net, ()) for net in nets]
-        self.note("with all rules the plan is the plan", all(rounds.clash is None and rounds.plan == colours(net)
-                                                         for net, rounds in zip(nets, whole)))
+        self.same("neighbours in the forest just merged with one colour", list(rounds.merge_clashes(0)),
+                  [(None, 0, 1, 2, 0)])
+        source = random.Random(SEED)
+        for net in (network_of(text_of_network(source, *pair)) for pair in random_of(40, 1, 9)(source)):
+            rounds = ruled_rounds.RuledRounds(net, ())
+            self.same(f"the plan of {net.number} with all rules", (rounds.clash, rounds.plan), (None, colours(net)))
 
     def test_rules(self):
         """Each rule has its part of docs/learn/GALLERY.md, and names a wrong body that is there, in one of the two
