@@ -161,8 +161,8 @@ ALPHA = {
         "the channel isn't said", "            self.answer.append(self.program.result())\n", ""),
 }
 
-# Of the layers: for a node of either kind.
-LAYERS = {
+# Of the other programs: for a node of either kind.
+OTHERS = {
     "layers_again": Mistake(
         "it sends its layer in every pulse, and not once",
         "        if self.layer is not None or not inbox:\n",
@@ -175,10 +175,6 @@ LAYERS = {
         "it forgets by which port the message came",
         "        self.by = min(inbox)\n        self.layer = inbox[self.by][1] + 1",
         "        self.layer = inbox[min(inbox)][1] + 1"),
-}
-
-# Of the programs that go on after the colouring: for a node of either kind.
-MATCHING = {
     "matching_again": Mistake(
         "a node that has a partner takes a child, too",
         "if self.partner is not None or self.colours", "if self.colours"),
@@ -191,8 +187,6 @@ MATCHING = {
         "if self.partner is not None or not inbox:"),
     "matching_untold": Mistake(
         "it doesn't tell the child that it takes it", 'return {self.partner: ("take", forest)}', "return {}"),
-}
-INDEPENDENT_SET = {
     "set_beside": Mistake(
         "a node joins though a neighbour has",
         "if turn != self.merged or self.is_beside:", "if turn != self.merged:"),
@@ -201,8 +195,6 @@ INDEPENDENT_SET = {
     "set_channel": Mistake(
         "it joins in the turn of its channel, and not of its colour",
         "if turn != self.merged or", "if turn != self.merged + 1 or"),
-}
-RECOLOURING = {
     "anew_least": Mistake(
         "the least channel chooses first",
         "if turn != self.width - 1 - self.merged:", "if turn != self.merged:"),
@@ -214,10 +206,9 @@ RECOLOURING = {
     "anew_old": Mistake(
         "it sends its old colour", 'return {port: ("anew", self.anew)', 'return {port: ("anew", self.merged)'),
 }
-SEQUELS = MATCHING | INDEPENDENT_SET | RECOLOURING
 
-FILES = {"colouring.py": COLOURING, "alpha_node.py": ALPHA, "programs.py": LAYERS | SEQUELS}
-MISTAKES = COLOURING | ALPHA | LAYERS | SEQUELS
+FILES = {"colouring.py": COLOURING, "alpha_node.py": ALPHA, "programs.py": OTHERS}
+MISTAKES = COLOURING | ALPHA | OTHERS
 
 
 def write(folder, names=MISTAKES):

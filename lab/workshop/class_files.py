@@ -4,7 +4,7 @@ import os
 import re
 import shutil
 import tempfile
-from typing import Iterator
+from typing import Collection, Iterator
 
 from lab import checksums, version
 from lab.programs import FIRST, SCRIPT, TOP, program_file
@@ -40,14 +40,14 @@ Put the folder's `bin` on the PATH once, by `PATH=$PWD/bin:$PATH`, and then type
 """
 
 
-def class_files(top: str) -> Iterator[str]:
+def class_files() -> Iterator[str]:
     """The paths of all files that are copied; the programs themselves come besides."""
     for path in COPIED:
-        if os.path.isfile(os.path.join(top, path)):
+        if os.path.isfile(os.path.join(TOP, path)):
             yield path
-        for folder, _, names in sorted(os.walk(os.path.join(top, path))):
+        for folder, _, names in sorted(os.walk(os.path.join(TOP, path))):
             for name in sorted(names):
-                found = os.path.relpath(os.path.join(folder, name), top)
+                found = os.path.relpath(os.path.join(folder, name), TOP)
                 if not found.startswith(LEFT_OUT) and not found.endswith(".pyc"):
                     yield found
 
@@ -57,7 +57,7 @@ BESIDE = re.compile(r"; [^();]*\[[^]]+\]\(([^)#\s]+)\)(?=\))")
 LINK = re.compile(r"(?<!!)\[([^]]+)\]\(([^)#\s]+)(?:#[^)\s]*)?\)")
 
 
-def page_for_a_class(text: str, path: str, paths: set[str]) -> str:
+def page_for_a_class(text: str, path: str, paths: Collection[str]) -> str:
     """A page without its links to what isn't copied; their words stay, but for what is in brackets beside others."""
     def is_there(target):
         found = os.path.normpath(os.path.join(os.path.dirname(path), target))
@@ -65,16 +65,6 @@ def page_for_a_class(text: str, path: str, paths: set[str]) -> str:
 
     text = BESIDE.sub(lambda beside: beside[0] if is_there(beside[1]) else "", text)
     return LINK.sub(lambda link: link[0] if is_there(link[2]) else link[1], text)
-
-
-def finish_class(room: str, top: str = TOP) -> None:
-    """Takes the links to pages that a class doesn't get from its pages, and adds a first page."""
-    paths = set(class_files(top))
-    for path in filter(lambda path: path.endswith(".md"), paths):
-        with open(os.path.join(room, path), encoding="utf-8") as file:
-            text = file.read()
-        write(os.path.join(room, path), page_for_a_class(text, path, paths))
-    write(os.path.join(room, "README.md"), README)
 
 
 def write_scripts(room: str) -> None:
@@ -118,16 +108,20 @@ def main(words: list[str]) -> int:
 
 
 def copy_class(room: str) -> None:
-    """Makes the folder from this one; what an installed folder has in share/ is copied."""
+    """Makes the folder from this one; what an installed folder has in share/ is copied. Its pages lose their links to
+    pages that a class doesn't get."""
     found = {os.path.join("lib", name): program_file(name) for name in FIRST}
-    found |= {path: os.path.join(TOP, path) for path in class_files(TOP)}
+    found |= {path: os.path.join(TOP, path) for path in class_files()}
     for at, _, names in os.walk(os.path.join(TOP, "share")):
         found |= {os.path.relpath(os.path.join(at, name), TOP): os.path.join(at, name) for name in names}
     for path, source in found.items():
         os.makedirs(os.path.join(room, os.path.dirname(path)), exist_ok=True)
         shutil.copy(source, os.path.join(room, path))
+        if path.endswith(".md"):
+            with open(source, encoding="utf-8") as file:
+                write(os.path.join(room, path), page_for_a_class(file.read(), path, found))
     write_scripts(room)
-    finish_class(room)
+    write(os.path.join(room, "README.md"), README)
     text = version.text()
     write(os.path.join(room, "VERSION"), text if IS_CLASS in text.splitlines() else f"{text}{IS_CLASS}\n")
     write(os.path.join(room, checksums.NAME), checksums.text_of(room))

@@ -22,7 +22,7 @@ from lab.schedules.policies import POLICIES
 from lab.workshop.findings import NoVerdict
 from lab.workshop.guard import USERS, Guard, end_all, give, kept_in, shut
 from lab.workshop.judge import ask
-from lab.workshop.options import parsed, seconds
+from lab.workshop.options import add_limits, parsed, seconds
 from lab.workshop.playing import Player
 from lab.workshop.protocol import shown
 from lab.workshop.report import aligned, as_json, report
@@ -276,8 +276,8 @@ def play_all(parts: list[Part], given: argparse.Namespace, jobs: int, room: str)
                     del running[pipe]
                     part.found = finished(process, pipe if pipe in ready else None)
                     end_all([other.pid for _, other, _ in running.values()])
-                    print(f"grade: {clean(part.student)} {part.assignment}: {clean(part.words())} {clean(part.said())}",
-                          file=sys.stderr, flush=True)
+                    said = clean(f"{part.words()} {part.said()}".strip())
+                    print(f"grade: {clean(part.student)} {part.assignment}: {said}", file=sys.stderr, flush=True)
     finally:
         with held():
             for _, process, _ in running.values():
@@ -378,10 +378,7 @@ def command_line() -> argparse.ArgumentParser:
                        help="how many are played at a time; default: the number of processors")
     words.add_argument("--seconds", type=seconds, default=SECONDS, metavar="S",
                        help=f"for all runs of an assignment of one submission; default: {SECONDS}")
-    words.add_argument("--timeout", type=seconds, default=10.0, metavar="S",
-                       help="seconds that an answer may take; default: 10")
-    words.add_argument("--memory", type=count, default=2048, metavar="MB",
-                       help="megabytes that a program may use; default: 2048")
+    add_limits(words)
     words.add_argument("--reports", metavar="DIR", help="write what each student gets to read, DIR/STUDENT.txt")
     words.add_argument("--json", action="store_true", help="print the result for a program")
     return words

@@ -82,19 +82,13 @@ def limit(limits: Limits, tasks: int) -> None:
         resource.setrlimit(what, (most, most))
 
 
-def files_for(programs: int) -> None:
-    """Lets the workshop itself open three files for each program, if the system allows it."""
-    soft, hard = resource.getrlimit(resource.RLIMIT_NOFILE)
-    wanted = 3 * programs + 64
-    if soft < wanted:
-        most = wanted if hard == resource.RLIM_INFINITY else min(hard, wanted)
-        resource.setrlimit(resource.RLIMIT_NOFILE, (max(soft, most), hard))
-
-
 def shut() -> None:
-    """Nobody reads this process, and it gets what its programs leave behind."""
+    """Nobody reads this process, it gets what its programs leave behind, and it may open as many files as the system
+    allows: three for each program."""
     control(DUMPABLE, 0)
     control(SUBREAPER, 1)
+    most = resource.getrlimit(resource.RLIMIT_NOFILE)[1]
+    resource.setrlimit(resource.RLIMIT_NOFILE, (most, most))
 
 
 class Guard:

@@ -56,10 +56,7 @@ def command_line() -> argparse.ArgumentParser:
                        help=f"of alpha, with commas: {', '.join(POLICIES)}; default: all, in turn")
     words.add_argument("--case", type=int, metavar="K", help="run number K of these alone")
     words.add_argument("--first", action="store_true", help="end with the first run that isn't right")
-    words.add_argument("--timeout", type=seconds, default=10.0, metavar="S",
-                       help="seconds that an answer may take; default: 10")
-    words.add_argument("--memory", type=count, default=2048, metavar="MB",
-                       help="megabytes that a program may use; default: 2048")
+    add_limits(words)
     words.add_argument("--most-pulses", type=count, metavar="N",
                        help="of open: no run may take more; default: 20 for each node and each pulse of the lessons")
     words.add_argument("--no-guard", action="store_true",
@@ -70,6 +67,13 @@ def command_line() -> argparse.ArgumentParser:
     words.add_argument("--keep", metavar="DIR", help="write network, run and verdict of the case that is shown")
     words.add_argument("--picture", metavar="FILE", help="of alpha: draw the run that is shown, up to what is wrong")
     return words
+
+
+def add_limits(words: argparse.ArgumentParser) -> None:
+    words.add_argument("--timeout", type=seconds, default=10.0, metavar="S",
+                       help="seconds that an answer may take; default: 10")
+    words.add_argument("--memory", type=count, default=2048, metavar="MB",
+                       help="megabytes that a program may use; default: 2048")
 
 
 def seconds(text: str) -> float:

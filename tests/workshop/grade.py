@@ -16,7 +16,6 @@ from lab.workshop import grade
 from lab.workshop.cases import NETWORKS
 from lab.workshop.guard import Guard
 from lab.workshop.workshop import main
-from lab.wrong import Wrong
 from tests.cases import Case, text_in
 from tests.workshop.base import EXAMPLES, call
 from tests.workshop.forgers import BEGIN, OUTSIDE, got, program
@@ -49,21 +48,35 @@ class Grades(Case):
         self.assertIn(done.returncode, (0, 1), done)
         return {one["student"]: one for one in json.loads(done.stdout)["submissions"]}
 
-    def test_right_and_wrong(self):
+    def test_a_class(self):
+        """Right and wrong submissions, and strange ones: what is no file is no program, and a name that is no text, or
+        is too long for a report, is its student's alone. No letter is printed that a terminal obeys."""
         shutil.copytree(RIGHT, os.path.join(self.subs, "anna"))
         self.submit("anna", commands="rounds: python3 rounds_node.py\nopen : python3 'greedy_node.py'\n"
                                      "alpha: python3 alpha_node.py\n")
         self.submit("ben", open_node_py=ZERO, rounds_node_c="int main;")
         self.submit("cleo", rounds_node_py=MUTE, rounds_node_js="x")
-        found = self.graded()
-        table = {student: [*(one[part]["points"] for part in grade.RUNS), one["in_all"]]
-                 for student, one in found.items()}
-        self.assertEqual(table, {"anna": [40, 40, 10, "90"], "ben": [None, None, 0, "0"],
-                                 "cleo": [None, None, None, "0"]})
-        self.assertEqual([case["verdict"] for case in found["ben"]["open"]["cases"]], ["garbage"] * 2)
-        self.assertEqual(found["ben"]["rounds"]["why"],
-                         "rounds_node.c can't be run: it has to be compiled, or `chmod +x rounds_node.c`")
-        self.assertEqual(found["cleo"]["rounds"]["why"], "rounds_node.js and rounds_node.py: which one?")
+        os.symlink("ben", os.path.join(self.subs, "dora"))
+        os.mkfifo(os.path.join(self.submit("eve", open_node_py=ZERO), "pipe"))
+        os.makedirs(os.path.join(self.submit("fay", commands="rounds: true -- true"), "open_node.py"))
+        for name in ("g" * 253, "em\udcffil", "\x1b[2Jhal\u202e"):
+            self.submit(name, open_node_py=ZERO)
+        done = call("grade", self.subs, "--runs", "2", "--reports", os.path.join(self.folder, "reports"))
+        garbage = r" - +0 +- +0 +0/2 +0 +0  rounds: no program; alpha: no program; open: garbage"
+        for name, row in (
+            ("anna", " 2/2 +40 +2/2 +40 +2/2 +10 +90"),
+            ("ben", r" - +0 +- +0 +0/2 +0 +0  rounds: rounds_node.c can't be run: it has to be compiled, or "
+                    r"`chmod \+x rounds_node.c`; alpha: no program; open: garbage"),
+            ("cleo", ".* rounds: rounds_node.js and rounds_node.py: which one.*"),
+            ("dora", ".* open: its folder is a link"),
+            ("eve", ".* open: its folder has a named pipe or a device in it: pipe"),
+            ("fay", ".* rounds: `commands`: `--` stands between commands.*"),
+            (r"g{200} \.\.", garbage), (r"em\?il", garbage), (r"\?\[2Jhal\?", garbage),
+        ):
+            self.note(name, re.search(rf"(?m)^{name} +{row}$", done.stdout), done)
+        self.assertNotRegex(done.stdout + done.stderr, "[\x00-\x09\x0b-\x1f\x7f\u202e]")
+        self.assertIn("can't be written: File name too long", done.stderr)
+        self.assertEqual(done.returncode, 0, done)
 
     def test_a_mute_program(self):
         self.submit("cleo", open_node_py=MUTE)
@@ -156,22 +169,6 @@ class Grades(Case):
         self.assertLess(max(seen[:1]), 201)
         self.assertEqual([part.result["right"] for part in parts], [5, 9] + [5] * 7)
 
-    def test_strange_folders(self):
-        """What is no file is no program, and a name that is no text, or is too long for a report, is its student's
-        alone."""
-        os.mkfifo(os.path.join(self.submit("anna", open_node_py=ZERO), "pipe"))
-        os.makedirs(os.path.join(self.submit("ben"), "open_node.py"))
-        self.submit("c" * 253, open_node_py=ZERO)
-        self.submit("em\udcffil", open_node_py=ZERO)
-        os.symlink("ben", os.path.join(self.subs, "dora"))
-        done = call("grade", self.subs, "--runs", "1", "--reports", os.path.join(self.folder, "reports"))
-        self.assertIn("open: its folder has a named pipe or a device in it: pipe", done.stdout)
-        self.assertRegex(done.stdout, "ben .* open: no program")
-        self.assertEqual(done.stdout.count("open: garbage"), 2, done)
-        self.assertIn("open: its folder is a link", done.stdout)
-        self.assertIn("can't be written: File name too long", done.stderr)
-        self.assertEqual(done.returncode, 0, done)
-
     def test_java(self):
         """A class is run, and not its source, which each start would compile."""
         folder = self.submit("anna")
@@ -179,13 +176,6 @@ class Grades(Case):
                               ("RoundsNode.class", ["java", "-Xmx64m", "-XX:+UseSerialGC", "-cp", ".", "RoundsNode"])):
             open(os.path.join(folder, name), "w", encoding="ascii").close()
             self.assertEqual(grade.command_of(folder, "rounds"), command)
-
-    def test_commands(self):
-        """Words that would be two commands are none."""
-        for words in ("rounds: --", "rounds: true -- true"):
-            folder = self.submit("anna", commands=f"{words}\n")
-            with self.subTest(words), self.assertRaisesRegex(Wrong, "`--` stands between commands"):
-                grade.command_of(folder, "rounds")
 
     def test_a_result_is_only_what_the_workshop_says_itself(self):
         """A process that plays a part is ended, ends otherwise, or says what it shouldn't: that is no result."""
@@ -220,12 +210,6 @@ class Grades(Case):
         self.assertEqual(errors.getvalue(), "workshop: forestplan plain ends with status 1: it isn't there\n")
         shutil.rmtree(os.path.join(self.subs, "anna"))
         self.assertIn("has no folder of a submission in it", call("grade", self.subs).stderr)
-
-    def test_names_are_printed_harmlessly(self):
-        self.submit("\x1b[2Janna\u202e", rounds_node_py=MUTE)
-        done = call("grade", self.subs, "--runs", "1", "--timeout", "0.2")
-        self.assertNotRegex(done.stdout + done.stderr, "[\x00-\x09\x0b-\x1f\x7f\u202e]")
-        self.assertIn("?[2Janna?", done.stdout)
 
     def test_what_the_path_opens(self):
         """By hand: what lies beside a folder of programs, but never this program's folder, which pages put on the PATH,

@@ -39,15 +39,31 @@ COLOURING = {
     # Nobody ever chooses in the last pulse of a merge, and nothing is sent in it.
     "merge_last": (None, None), "merge_first_heard": (None, None),
 }
-# By mistake, what is found on alone4.
+# By mistake, what is found on alone4; what else the node could do there, and why it can't do that.
+PULSE = "a node makes its next pulse once it has said safe and has the safes of all its neighbours"
+SAFE = "once each payload that it sent in P is acknowledged; it "
+NO_ACK = "it can't have said safe yet: it lacks the acknowledgement of pulse 1 by port 0"
 SYNCHRONISER = {
-    "acks_unwaited": ("NothingToPut", 1, 0), "acks_own_pulse": ("WrongWire", 2, 2),
-    "acks_first": ("NothingToPut", 2, 0), "early_present": ("WrongWire", 2, 23), "early_lost": ("WrongWire", 2, 23),
-    "early_safe_lost": ("stuck", 2, 1), "early_safe_now": ("stuck", 2, 29), "safes_any": ("NotReady", 2, 0),
-    "safes_none": ("NotReady", 3, 0), "safes_counted": ("NotReady", 2, 0), "safe_unsaid": ("NotReady", 2, 1),
-    "safe_twice": ("NothingToPut", 3, 0), "safe_with_ack": ("WrongWire", 1, 1), "said_kept": ("NotReady", 2, 1),
-    "close_early": ("NothingToPut", 1, 29), "close_safe": ("WrongWire", 1, 30), "close_never": ("stuck", 1, 30),
-    "one_pulse": ("stuck", 4, 1), "leaves": ("ended", 2, 29), "no_channel": ("result", 1, 30),
+    "acks_unwaited": ("NothingToPut", 1, 0, "waits for ack 0 by port 0; safe 0 by port 0", f"{SAFE}can't have said"),
+    "acks_own_pulse": ("WrongWire", 2, 2, "put 1 ack 3", "a payload is acknowledged with its own pulse as soon"),
+    "acks_first": ("NothingToPut", 2, 0, "waits for ack 0 by port 0; safe 0 by ports 0 and 1", f"{SAFE}can't have"),
+    "early_present": ("WrongWire", 2, 23, "one of: put 0 safe 23; put 1 safe 23", "pulse 23 is the turn of the nodes"),
+    "early_lost": ("WrongWire", 2, 23, "one of: put 0 safe 23; put 1 safe 23", "`chosen 0` came by port 0 in pulse 23"),
+    "early_safe_lost": ("stuck", 2, 1, "", f"{PULSE}, and this node has"),
+    "early_safe_now": ("stuck", 2, 29, "", f"{PULSE}, and this node has"),
+    "safes_any": ("NotReady", 2, 0, "waits for safe 0 by port 0", f"{PULSE}; it lacks safe 0 by port 0"),
+    "safes_none": ("NotReady", 3, 0, "waits for safe 0 by port 0", f"{PULSE}; it lacks safe 0 by port 0"),
+    "safes_counted": ("NotReady", 2, 0, "waits for safe 0 by port 0", f"{PULSE}; it lacks safe 0 by port 0"),
+    "safe_unsaid": ("NotReady", 2, 1, "waits for ack 1 by port 0", f"{PULSE}; {NO_ACK}"),
+    "safe_twice": ("NothingToPut", 3, 0, "waits for safe 0 by port 0", f"{SAFE}has put safe 0 by port 0 already"),
+    "safe_with_ack": ("WrongWire", 1, 1, "put 0 safe 1", "this link has to get safe 1 before: safe P is said as"),
+    "said_kept": ("NotReady", 2, 1, "waits for ack 1 by port 0", f"{PULSE}; {NO_ACK}"),
+    "close_early": ("NothingToPut", 1, 29, "waits for safe 29 by port 0", "its last pulse, 30; it is at pulse 29"),
+    "close_safe": ("WrongWire", 1, 30, "put 0 close", "its pulse, 30, is the last"),
+    "close_never": ("stuck", 1, 30, "", "close is put on each link as the node makes its last pulse"),
+    "one_pulse": ("stuck", 4, 1, "", f"{PULSE}, and this node has"),
+    "leaves": ("ended", 2, 29, "waits for safe 29 by port 0", ""),
+    "no_channel": ("result", 1, 30, "channel 1", "the channel is the merged colour and one"),
     # A payload completes nothing, so nothing else is in the answer to it.
     "acks_after": None,
 }
@@ -171,9 +187,12 @@ class Mistakes(Played):
                            one_process=True)
 
     def test_of_the_synchroniser(self):
-        for name, right in SYNCHRONISER.items():
-            self.found(right, "alpha", "alone4", self.wrong_node(name, "alpha_node.py"), policy="newest",
-                       one_process=name != "leaves")
+        for name, row in SYNCHRONISER.items():
+            found = self.found(row and row[:3], "alpha", "alone4", self.wrong_node(name, "alpha_node.py"),
+                               policy="newest", one_process=name != "leaves")
+            if row:
+                said = dict(found.lines)
+                self.note(name, row[3] in said.get("right", "") and row[4] in said.get("why", ""), said)
 
     def test_of_other_programs(self):
         for program, names in OTHERS.items():

@@ -94,6 +94,9 @@ class Transcripts(Case):
     def test_of_edition_2(self):
         for entries, line in ROWS:
             self.says("transcript 2 2|" + entries, line)
+        middle = "transcript 2 3|1 2 put 1 payload 0 hello 2|2 2 put 3 payload 0 hello 2|3 2 put 1 safe 0|"
+        self.says(middle, f"line 4: NothingToPut: node 2 puts safe 0 for 1, for which it has nothing; {SAFE}; it can't "
+                          "have said safe yet: it lacks the acknowledgements of pulse 0 from 1 and 3", network="path3")
         alone = "transcript 2 1|" + "".join(f"{p} 1 pulse {p}|" for p in range(1, 14))
         self.says(alone, "line 14: NotReady: node 1 makes pulse 13; pulse 12 is the last", network="path1")
 

@@ -4,7 +4,7 @@ import io
 from unittest import mock
 
 from lab.networks.network_text import Network
-from lab.transcripts.rules import rule_of, rules_of_dues
+from lab.transcripts.rules import rules_of_dues
 from lab.workshop.alpha_verdict import At
 from lab.workshop.judge import Entry
 from lab.workshop.processes import last_errors
@@ -75,10 +75,10 @@ class AlphaWords(Case):
     def setUpClass(cls):
         cls.rounds = RightRounds(ROW)
 
-    def at(self, *words, lacks=""):
+    def at(self, *words):
         entries = [Entry(k, 1, entry) for k, entry in enumerate(words)]
         pulse = sum(entry.startswith("pulse") for entry in words)
-        return At(pulse, self.rounds.last, False, lacks, {}, "by port {}", self.rounds, entries, 1)
+        return At(pulse, self.rounds.last, False, "", {}, "by port {}", self.rounds, entries, 1)
 
     def test_what_came_early(self):
         """A payload is shown however long ago it came, if what is wrong may come from it; a safe until its pulse is
@@ -103,22 +103,6 @@ class AlphaWords(Case):
                             (2, 2, "in pulse 1 node 2's neighbours sent it nothing: the inbox of its pulse 2")):
             self.same(f"node {v} in pulse {p}", self.rounds.heard_words(v, p), words)
 
-    def test_a_node_that_can_t_have_said_safe(self):
-        pulse = "a node makes its next pulse once it has said safe and has the safes of all its neighbours"
-        safe = "safe P is said once in each pulse P but the last, to each neighbour, once each payload that it sent " \
-               "in P is acknowledged"
-        one = "it can't have said safe yet: it lacks the acknowledgement of pulse 0 by port 1"
-        both = "it can't have said safe yet: it lacks the acknowledgements of pulse 0 by ports 0 and 1"
-        said = f"{safe}; it has put safe 0 by port 0 already"
-        for lacks, words, right in (
-            ("ack 0 by ports 0 and 1; safe 0 by port 1", "pulse 1", f"{pulse}; {both}; it lacks safe 0 by port 1"),
-            ("ack 0 by port 1; safe 0 by port 1", "put 0 safe 0", f"{safe}; {one}"),
-            ("safe 0 by port 1", "put 0 safe 0", said),
-        ):
-            self.same(f"{words} without {lacks}", rule_of(self.at(lacks=lacks), words), right)
-        last = self.at(*pulses(1, self.rounds.last))
-        self.assertEqual(rule_of(last, f"put 0 safe {last.last}"), f"{safe}; its pulse, {last.last}, is the last")
-
     def test_why_a_node_has_to_do_what_it_doesn_t(self):
         """By hand: in pulse 1 node 1 labels its parent, node 3; in pulse 0 it greets both neighbours."""
         ack = "a payload is acknowledged with its own pulse as soon as it is taken"
@@ -127,9 +111,8 @@ class AlphaWords(Case):
                 "forest 0; each gets the label of its forest"
         pulse = "a node makes its next pulse once it has said safe and has the safes of all its neighbours"
         for puts, can_pulse, right in (
-            ({0: "ack 0", 1: "ack 0"}, False, ack), ({0: "safe 1", 1: "ack 0"}, False, f"{safe}; {ack}"),
-            ({1: "payload 1 label 0"}, False, label), ({}, True, f"{pulse}, and this node has"),
-            ({0: "close"}, False, "close is put on each link as the node makes its last pulse"),
+            ({0: "safe 1", 1: "ack 0"}, False, f"{safe}; {ack}"), ({1: "payload 1 label 0"}, False, label),
+            ({0: "ack 1", 1: "ack 0"}, True, f"{ack}; {pulse}, and this node has"),
         ):
             at = self.at("pulse 1")
             at.puts, at.can_pulse = puts, can_pulse
