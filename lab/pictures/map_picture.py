@@ -1,44 +1,60 @@
 """The network alone: numbers in circles, joined where they interfere. What a question sheet shows; and the map of other
 pictures that have words beside the circles."""
-from lab.pictures.marks import LARGE, SMALL, Map, bar_row, bars_width, short_name, width_of_map
+from lab.pictures.marks import LARGE, SMALL, Map, bar_row, bars_width, channel_circle, short_name, width_of_map
 from lab.pictures.palette import INK, PAPER, SOFT
 from lab.pictures.places import box_height, places_of
 from lab.pictures.svg import Svg, text_width
 from lab.words import counted
 
 MARGIN, TOP = 48, 58
-BAR, SIZE = 9, 11.5
+BAR, GAP = 9, 3
 # The colour and the width of an edge.
 EDGE = SOFT, 1.4
 
 
 class Vertex:
-    """What is drawn of a vertex: its number in a circle, `words` and its barred channels beside it, and its title."""
+    """What is drawn of a vertex: its number in a circle, `words` and its barred channels beside it, and its title;
+    `mark` is the class of its words."""
 
     mark = None
 
     def __init__(self, network, v):
         number = str(network.identifiers[v]) if network.identifiers[v] != v else ""
         self.v, self.bars, self.title = v, network.barred(v), f"node {v}" + (f", identifier {number}" if number else "")
+        self.size = 8.5 if network.nodes > LARGE else 12
         number = number if len(number) <= 12 else number[:5] + "…" + number[-5:]
         self.words = " ".join(filter(None, [number, short_name(network, v)]))
 
     def room(self):
         """How wide its words and bars are."""
-        return text_width(self.words, SIZE) + (2 + bars_width(self.bars, BAR) if self.bars else 0)
+        return text_width(self.words, self.size) + (GAP + bars_width(self.bars, BAR) if self.bars else 0)
+
+    def box(self):
+        """Half the width and half the height of its words and bars."""
+        return self.room() / 2, BAR if self.bars else 0.45 * self.size
 
     def draw(self, svg, x, y, radius, spot):
         with svg.group("vertex", self.title):
-            svg.circle(x, y, radius, PAPER, INK, 1.6)
-            svg.text(x, y + 0.36 * radius, self.v, round(0.95 * radius, 1), INK, "middle", bold=True)
+            self.draw_node(svg, x, y, radius)
         self.draw_beside(svg, *spot)
 
+    def draw_node(self, svg, x, y, radius):
+        svg.circle(x, y, radius, PAPER, INK, 1.6)
+        svg.text(x, y + 0.36 * radius, self.v, round(0.95 * radius, 1), INK, "middle", bold=True)
+
     def draw_beside(self, svg, x, y):
-        left = x - self.room() / 2
-        if self.words or self.mark:
-            svg.text(left, y + 0.36 * SIZE, self.words, SIZE, SOFT, halo=3, mark=self.mark)
+        left, width = x - self.room() / 2, text_width(self.words, self.size)
+        if self.words:
+            svg.text(left + width / 2, y + 0.37 * self.size, self.words, self.size, INK, "middle", halo=3,
+                     mark=self.mark)
         if self.bars:
-            bar_row(svg, left + text_width(self.words, SIZE) + 2, y, self.bars, BAR)
+            bar_row(svg, left + width + GAP, y, self.bars, BAR)
+
+
+def draw_channel(svg, x, y, radius, channel):
+    """The node of a vertex that has a channel, apart from edges that end at it."""
+    svg.circle(x, y, radius + 1.6, PAPER)
+    channel_circle(svg, x, y, radius, channel)
 
 
 def draw(network):
@@ -75,6 +91,6 @@ def draw_map(svg, network, vertices, box, edge, draw_more=None, left=0):
         drawn.edge(svg, v, w, *edge)
     if draw_more:
         draw_more(drawn)
-    drawn.label(drawn.radius + 10, {v: (one.room() / 2, 0.45 * SIZE) for v, one in vertices.items()})
+    drawn.label(drawn.radius + (7 if network.nodes > LARGE else 11), {v: one.box() for v, one in vertices.items()})
     for v, (x, y) in sorted(drawn.places.items()):
         vertices[v].draw(svg, x, y, drawn.radius, drawn.labels[v])

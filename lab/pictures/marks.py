@@ -148,12 +148,6 @@ def label_of(network, v):
     return f"{v} {short_name(network, v)}".rstrip()
 
 
-def label_margin(network, size):
-    """How much more room than numbers the widest label needs beside a vertex at the edge."""
-    widest = max((text_width(label_of(network, v), size) for v in network.vertices if v in network.names), default=0)
-    return max(0, widest - 16)
-
-
 def dash_of(kind):
     return "4 2.5" if kind == "ack" else None
 

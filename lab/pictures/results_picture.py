@@ -4,8 +4,8 @@ from lab.definitions.independent_set import IndependentSet
 from lab.definitions.matching import Matching
 from lab.definitions.nodes import Colouring
 from lab.definitions.recolouring import Recolouring
-from lab.pictures.map_picture import Vertex, begun, draw_map
-from lab.pictures.marks import channel_circle, short_name
+from lab.pictures.map_picture import Vertex, begun, draw_channel, draw_map
+from lab.pictures.marks import short_name
 from lab.pictures.palette import INK, PAPER, channel_hue, text_on
 from lab.pictures.svg import text_width
 from lab.words import counted
@@ -35,15 +35,9 @@ class Found(Vertex):
             self.colour, self.other) != (None, None) else self.result
         self.words = " ".join(filter(None, [str(v) * self.has_channel, short_name(rounds.network, v), said]))
 
-    def draw(self, svg, x, y, radius, spot):
-        with svg.group("vertex", self.title):
-            self.draw_node(svg, x, y, radius)
-            self.draw_beside(svg, *spot)
-
     def draw_node(self, svg, x, y, radius):
         if self.has_channel:
-            svg.circle(x, y, radius + 1.6, PAPER)
-            channel_circle(svg, x, y, radius, self.colour + 1)
+            draw_channel(svg, x, y, radius, self.colour + 1)
             return
         fill = PAPER if self.colour is None else channel_hue(self.colour + 1)
         svg.circle(x, y, radius, fill, INK, 1.6, mark="blank" if self.colour is None else "filled")
