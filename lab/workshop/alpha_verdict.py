@@ -6,13 +6,11 @@ from dataclasses import dataclass
 
 from lab.transcripts.rules import Standing, rule_of, rules_of_dues
 from lab.workshop.alpha_run import OWN_DATA, AlphaRun
-from lab.workshop.findings import Finding, listed
+from lab.workshop.findings import Finding, first_of, last_of, listed
 from lab.workshop.judge import Entry, Verdict, due_at, verdict_on
 from lab.workshop.protocol import FORMS
 from lab.workshop.right_rounds import RightRounds
 from lab.workshop.why import Why
-
-MOST_STUCK, MOST_WAITING, SO_FAR, MOST_EARLY = 4, 6, 8, 3
 
 
 @dataclass
@@ -46,10 +44,9 @@ class At(Standing):
 
     def hints(self, about_payload: bool) -> list[tuple[str, str]]:
         """What the node had got: the inbox of its pulse, what came early, and what it did last."""
-        own = self.own()
         inbox = [("inbox", self.rounds.heard_words(self.v, self.pulse))] if self.pulse and about_payload else []
-        so_far = (".. " if len(own) > SO_FAR else "") + "; ".join(own[-SO_FAR:]) if own else "nothing"
-        return [*inbox, *(("early", words) for words in self.early(about_payload)), ("so far", so_far)]
+        return [*inbox, *(("early", words) for words in self.early(about_payload)),
+                ("so far", "; ".join(last_of(self.own())) or "nothing")]
 
     def early(self, about_payload: bool) -> list[str]:
         """What came a pulse early and matters now: the safes that aren't used up yet, and the payloads. If what is
@@ -62,19 +59,19 @@ class At(Standing):
                 case ["take", _, "safe" | "payload" as wire, of, *_] if int(of) == pulse + 1 and (
                         pulse + 1 >= self.pulse or about_payload and wire == "payload"):
                     found.append(f"`{words}` came at pulse {pulse}, and is to be kept until pulse {of} is made")
-        return [f"{len(found) - MOST_EARLY} more before these"] * (len(found) > MOST_EARLY) + found[-MOST_EARLY:]
+        return last_of(found)
 
 
 def at_node(rounds: RightRounds, before: list[Entry], v: int) -> At:
     """Asks the machine what v can do after these entries, all of which are right."""
-    due = due_at(rounds.network, before, v, rounds.program)
+    can_pulse, lacks, puts = due_at(rounds.network, before, v, rounds.program)
     pulse = sum(1 for _, u, words in before if u == v and words.startswith("pulse"))
-    puts = {rounds.ports[v][w]: wire for w, wire in due.puts.items() if wire}
 
     def by_ports(found):
         return " by " + listed("port", [rounds.ports[v][int(w)] for w in re.findall("[0-9]+", found[1])])
-    lacks = re.sub(r" of ([0-9]+(?:(?:, | and )[0-9]+)*)", by_ports, due.lacks)
-    return At(pulse, rounds.last, due.pulse is not None, lacks, puts, "by port {}", rounds, before, v)
+    lacks = re.sub(r" of ([0-9]+(?:(?:, | and )[0-9]+)*)", by_ports, lacks)
+    by_port = {rounds.ports[v][w]: wire for w, wire in puts.items()}
+    return At(pulse, rounds.last, can_pulse, lacks, by_port, "by port {}", rounds, before, v)
 
 
 def with_port(rounds: RightRounds, v: int, words: str) -> str:
@@ -121,10 +118,10 @@ def stuck(run: AlphaRun, entries: list[Entry], verdict: Verdict) -> Finding:
     owing = [at for at in all_at if at.dues()]
     waiting = [f"node {at.v} for {at.lacks}" for at in all_at if not at.dues() and at.pulse < at.last]
     first, *others = [("wrong", f"node {at.v} at pulse {at.pulse} doesn't {at.undone()}") for at in owing]
-    waits = " | ".join(waiting[:MOST_WAITING]) + " | .." * (len(waiting) > MOST_WAITING)
+    waits = " | ".join(first_of(waiting))
     where = f"nothing is on its way after {len(entries)} of {run.rounds.events} entries, and not all is done"
     lines = [("where", where), first, ("why", rules_of_dues(owing[0])), *owing[0].hints(owing[0].has_payload_due()),
-             *others[:MOST_STUCK - 1], *[("waits", waits)] * bool(waits), ("judge", verdict.line)]
+             *others[:3], *[("waits", waits)] * bool(waits), ("judge", verdict.line)]
     return Finding("stuck", owing[0].v, owing[0].pulse, lines, way=kind_of(owing[0].dues()[0]))
 
 

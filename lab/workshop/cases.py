@@ -1,9 +1,10 @@
 """The runs of an assignment: which network, identifiers, bars and policy each has, by seed."""
 import random
 import re
+from argparse import Namespace
 from dataclasses import dataclass, field
 from functools import lru_cache
-from typing import Any, Iterator, Sequence
+from typing import Any, Iterable, Iterator, Sequence
 
 from lab.networks.named import network_at, path_of
 from lab.networks.network_text import Network
@@ -94,41 +95,42 @@ def varied(network: Network, chance: Chance, program: str) -> Network:
     if program in WITH_BARS and network.degree and chance.happens(0.4):
         channels = range(1, network.degree + 2)
         bars = {v: chance.some_of(channels, 1 + chance.below(2)) for v in vertices if chance.happens(0.3)}
-    return Network(network.name, network.nodes, network.edges, {}, {}, dict(zip(vertices, names)), bars)
+    return remade(network, network.edges, dict(zip(vertices, names)), bars)
 
 
-def cases_of(networks: list[str], policies: list[str], runs: int, seed: str, only: int | None = None,
-             program: str = COLOURING) -> list[Case]:
-    """All runs, or number `only` of them. Each network has its own identifiers in the first run, and varied ones
-    later. The policies change from network to network, and for each network from run to run: so a hundred runs play
-    all ten, and ten for each network play each on it once. Smaller networks come first."""
-    cases = []
-    for number in range(runs) if only is None else [only]:
-        own_seed = f"{seed} {number}"
-        chance, at = Chance(own_seed), number % len(networks)
-        network = network_of(networks[at], chance)
-        if number >= len(networks):
-            network = varied(network, chance, program)
-        cases.append(Case(number, network, policies[(number // len(networks) + at) % len(policies)], own_seed))
+def cases_of(options: Namespace) -> list[Case]:
+    """All runs, or that of --case. Each network has its own identifiers in the first run, and varied ones later. The
+    policies change from network to network, and for each network from run to run: so a hundred runs play all ten, and
+    ten for each network play each on it once. Smaller networks come first."""
+    cases, names, policies = [], options.networks, options.policies
+    for number in range(options.runs) if options.case is None else [options.case]:
+        own_seed = f"{options.seed} {number}"
+        chance, at = Chance(own_seed), number % len(names)
+        network = network_of(names[at], chance)
+        if number >= len(names):
+            network = varied(network, chance, options.program)
+        cases.append(Case(number, network, policies[(number // len(names) + at) % len(policies)], own_seed))
     return sorted(cases, key=lambda case: (case.network.nodes, len(case.network.edges), case.number))
+
+
+def remade(network: Network, edges: Iterable, identifiers: dict[int, int], bars: dict[int, list[int]]) -> Network:
+    """A network of this name with other edges, identifiers and bars."""
+    return Network(network.name, len(identifiers), edges, {}, {}, identifiers, bars)
 
 
 def smaller(network: Network) -> Iterator[tuple[Network, list[int]]]:
     """The networks without one of the nodes, without one of the edges, or without the bars of one node; and that with
     small identifiers in the same order. With each the vertices that its own were."""
-    same = list(network.vertices)
-    for gone in network.vertices:
-        left = [v for v in network.vertices if v != gone]
+    same, names = list(network.vertices), network.identifiers
+    for gone in same:
+        left = [v for v in same if v != gone]
         new = {v: k for k, v in enumerate(left, 1)}
-        edges = [(new[v], new[w]) for v, w in network.edges if gone not in (v, w)]
-        yield Network(network.name, len(left), edges, {}, {}, {new[v]: network.identifiers[v] for v in left},
-                      {new[v]: network.barred(v) for v in left}), left
+        yield remade(network, [(new[v], new[w]) for v, w in network.edges if gone not in (v, w)],
+                     {new[v]: names[v] for v in left}, {new[v]: network.barred(v) for v in left}), left
     for edge in network.edges:
-        edges = [other for other in network.edges if other != edge]
-        yield Network(network.name, network.nodes, edges, {}, {}, network.identifiers, network.bars), same
+        yield remade(network, [other for other in network.edges if other != edge], names, network.bars), same
     for gone in network.bars:
-        bars = {v: channels for v, channels in network.bars.items() if v != gone}
-        yield Network(network.name, network.nodes, network.edges, {}, {}, network.identifiers, bars), same
-    small = {v: k for k, v in enumerate(sorted(network.vertices, key=network.identifiers.get), 1)}
-    if small != network.identifiers:
-        yield Network(network.name, network.nodes, network.edges, {}, {}, small, network.bars), same
+        yield remade(network, network.edges, names, {v: bars for v, bars in network.bars.items() if v != gone}), same
+    small = {v: k for k, v in enumerate(sorted(same, key=names.get), 1)}
+    if small != names:
+        yield remade(network, network.edges, small, network.bars), same

@@ -1,11 +1,9 @@
 """A run with a clock: in each pulse all nodes are asked, and each gets what came from its neighbours in the pulse
 before."""
-from lab.workshop.findings import Fault, Finding, listed
+from lab.workshop.findings import Fault, Finding, first_of, listed
 from lab.workshop.nodes import PATIENCE, Answer, Nodes
 from lab.workshop.protocol import is_number, no_such_line, port_of, shown
 from lab.workshop.right_rounds import Rounds
-
-MOST_NAMED = 8
 
 
 class ClockRun(Rounds):
@@ -27,9 +25,8 @@ class ClockRun(Rounds):
             answers = nodes.ask_all(questions)
             found = [finding for v in self.network.vertices if (finding := self.answered(p, v, answers[v]))]
             if len(found) > 1:
-                others = [f"{finding.node}" for finding in found[1:]]
-                words = listed("node", [*others[:MOST_NAMED], *[".."] * (len(others) > MOST_NAMED)])
-                found[0].lines.append(("also", f"in the same pulse {words}"))
+                others = listed("node", first_of([finding.node for finding in found[1:]]))
+                found[0].lines.append(("also", f"in the same pulse {others}"))
             if found:
                 return found[0]
             if self.is_over(p):

@@ -1,7 +1,9 @@
-"""What the workshop finds: a run that isn't right, a program that doesn't answer, or that nobody can say."""
+"""What the workshop finds: a run that isn't right, or a program that doesn't answer."""
 from dataclasses import dataclass, field
 
 from lab.words import in_words
+
+MOST = 8                    # of a list of words
 
 
 class Fault(Exception):
@@ -10,10 +12,6 @@ class Fault(Exception):
     def __init__(self, kind: str, words: str):
         super().__init__(words)
         self.kind, self.words = kind, words
-
-
-class NoVerdict(Exception):
-    """The judge, or a command, can't be run: nothing is said of any node."""
 
 
 @dataclass
@@ -39,6 +37,15 @@ class Finding:
 
     def text(self) -> list[str]:
         return [f"{label:6} {words}" for label, words in self.lines]
+
+
+def first_of(words) -> list[str]:
+    """The first of a list, and a mark if there are more."""
+    return [*map(str, words[:MOST]), *[".."] * (len(words) > MOST)]
+
+
+def last_of(words) -> list[str]:
+    return [*[".."] * (len(words) > MOST), *words[-MOST:]]
 
 
 def listed(what: str, numbers) -> str:

@@ -19,7 +19,7 @@ from multiprocessing.connection import Connection, wait
 from lab.door import held
 from lab.programs import TOP
 from lab.schedules.policies import POLICIES
-from lab.workshop.findings import NoVerdict
+from lab.workshop.cases import cases_of
 from lab.workshop.guard import USERS, Guard, end_all, give, kept_in, shut
 from lab.workshop.judge import ask
 from lab.workshop.options import add_limits, parsed, seconds
@@ -129,9 +129,9 @@ def parts_of(folder: str) -> list[Part]:
     try:
         students = sorted(entry.name for entry in os.scandir(folder) if entry.is_dir())
     except OSError as why:
-        raise NoVerdict(f"{folder}: {why.strerror}") from None
+        raise Wrong(f"{folder}: {why.strerror}") from None
     if not students:
-        raise NoVerdict(f"{folder} has no folder of a submission in it")
+        raise Wrong(f"{folder} has no folder of a submission in it")
     return [part_of(student, os.path.join(folder, student), assignment) for student in students for assignment in RUNS]
 
 
@@ -207,8 +207,8 @@ def play(part: Part, given: argparse.Namespace, room: str) -> dict:
     options = parsed([part.assignment, "--runs", str(given.runs or RUNS[part.assignment]), "--seed", given.seed,
                       "--timeout", str(given.timeout), "--memory", str(given.memory), "--", *before, *command])
     try:
-        found = Player(options, guard, time.monotonic() + given.seconds).played()
-    except NoVerdict as why:
+        found = Player(options, guard, time.monotonic() + given.seconds).played(cases_of(options))
+    except Wrong as why:
         return {"why": str(why)}
     return {"result": as_json(options, *found), "report": report(*found)}
 
@@ -392,7 +392,7 @@ def main(words: list[str]) -> int:
     parts = parts_of(given.folder)
     status, _, why = ask("forestplan", "plain", "p edge 0 0\n")
     if status:
-        raise NoVerdict(f"forestplan plain ends with status {status}: {why}")
+        raise Wrong(f"forestplan plain ends with status {status}: {why}")
     shut()
     if not given.before and not Guard().edition:
         print("grade: this system has no Landlock, so programs can read what you can read, and end this one; use a "

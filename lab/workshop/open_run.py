@@ -5,10 +5,11 @@ from typing import NamedTuple
 
 from lab.networks.network_text import Network
 from lab.networks.texts import plain_text
-from lab.workshop.clock_run import MOST_NAMED, ClockRun
-from lab.workshop.findings import Fault, NoVerdict, listed
+from lab.workshop.clock_run import ClockRun
+from lab.workshop.findings import Fault, first_of, listed
 from lab.workshop.judge import ask
 from lab.workshop.protocol import MOST_LETTERS, is_number, own_data, shown
+from lab.wrong import Wrong
 
 
 class League(NamedTuple):
@@ -62,7 +63,7 @@ class OpenRun(ClockRun):
         """The verdict of the proved check. A channel that is too great for it to be read has C6."""
         if not self.is_done():
             silent = [v for v in self.network.vertices if v not in self.channels]
-            words = f"after {p} pulses " + (f"{listed('node', silent[:MOST_NAMED])} said no channel" if silent else
+            words = f"after {p} pulses " + (f"{listed('node', first_of(silent))} said no channel" if silent else
                                             "all nodes have their channels, and payloads are still sent")
             return self.finding("endless", p, (silent or [1])[0], [("wrong", words)])
         status, _, line = ask("forestplan", "check", plain_text(self.network) + self.text())
@@ -71,7 +72,7 @@ class OpenRun(ClockRun):
             return None
         found = re.fullmatch(r"forestplan: (C[4568]) (?:vertex|vertices|line) (\d+)(?: (\d+))?", line)
         if status != 1 or not found:
-            raise NoVerdict(f"forestplan check ends with status {status}: {line}")
+            raise Wrong(f"forestplan check ends with status {status}: {line}")
         code, v, w = found[1], int(found[2]), found[3]
         if code == "C6":                # its lines are `plan`, and then one for each node in turn
             code, v = "C5", v - 1

@@ -7,14 +7,15 @@ from typing import Callable
 from lab.schedules.policies import policy_of
 from lab.workshop.alpha_run import AlphaRun
 from lab.workshop.alpha_verdict import finding_of
-from lab.workshop.cases import Case, cases_of, smaller
-from lab.workshop.findings import Fault, Finding, NoVerdict, listed
+from lab.workshop.cases import Case, smaller
+from lab.workshop.findings import Fault, Finding, listed
 from lab.workshop.guard import Guard, limits_of
 from lab.workshop.nodes import Nodes
 from lab.workshop.open_run import OpenRun
 from lab.workshop.protocol import shown
 from lab.workshop.right_rounds import RightRounds
 from lab.workshop.rounds_run import RoundsRun
+from lab.wrong import Wrong
 
 MOST_SHRINKS = 60
 APART = "with --one-process each message begins with a line `to K`; does the program keep its nodes apart by it?"
@@ -42,7 +43,7 @@ class Player:
             with self.nodes(case) as nodes:
                 found = case.finding = case.run.play(nodes)
         except Fault as fault:              # a command can't be started
-            raise NoVerdict(fault.words) from None
+            raise Wrong(fault.words) from None
         if self.options.assignment == "alpha":
             found = case.finding = finding_of(case.run)
         elif self.options.assignment == "open":
@@ -73,11 +74,10 @@ class Player:
         whose = f"node {found.node}: {shown(shlex.join(self.commands[found.owner]))}"
         found.lines[1:1] = [("whose", whose), *[("others", "; ".join(words))] * bool(words)]
 
-    def played(self) -> tuple[list[Case], Case | None, float]:
-        """All cases, the smallest that is wrong, and the seconds it took."""
-        start, options = time.monotonic(), self.options
-        cases = self.play_all(cases_of(options.networks, options.policies, options.runs, options.seed, options.case,
-                                       options.program))
+    def played(self, cases: list[Case]) -> tuple[list[Case], Case | None, float]:
+        """The cases that were played, the smallest that is wrong, and the seconds it took."""
+        start = time.monotonic()
+        cases = self.play_all(cases)
         shown = min((case for case in cases if case.finding), key=Case.size, default=None)
         if shown and len(cases) > 1:
             shown = self.shrunk(shown)

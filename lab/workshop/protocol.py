@@ -3,7 +3,7 @@ answer before its line `end`."""
 import re
 
 from lab.networks.network_text import Network
-from lab.transcripts.fields import PAYLOADS, NoEntry, wire_of as read_wire
+from lab.transcripts.fields import NoEntry, wire_of as read_wire
 from lab.workshop.findings import Fault
 
 EDITION = 1

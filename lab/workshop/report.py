@@ -2,9 +2,9 @@
 from argparse import Namespace
 
 from lab.workshop.cases import Case
+from lab.workshop.findings import first_of
 
 EDITION = 1
-MOST_NAMES, MOST_EDGES = 6, 80
 
 
 def table(cases: list[Case]) -> list[str]:
@@ -40,16 +40,16 @@ def aligned(rows: list[list[str]]) -> list[str]:
 def described(case: Case) -> list[str]:
     """A case that isn't right: its network, and what was found."""
     network = case.network
-    edges = ", ".join(f"{v}-{w}" for v, w in network.edges)
-    edges = f"{len(network.edges)} edges" if len(edges) > MOST_EDGES else f"edges {edges}" if edges else "no edges"
+    edges = ", ".join(first_of([f"{v}-{w}" for v, w in network.edges]))
+    edges = f"edges {edges}" if edges else "no edges"
     policy = f", {case.policy}" if case.policy else ""
     lines = [f"case   {case.number}: {network.name}{policy}; {network.nodes} node{'s' * (network.nodes != 1)}, {edges}"]
     names = [f"node {v} is {network.identifiers[v]}" for v in network.vertices if network.identifiers[v] != v]
     if names:
-        lines.append(f"names  {', '.join(names[:MOST_NAMES])}{' ..' if len(names) > MOST_NAMES else ''}")
+        lines.append(f"names  {', '.join(first_of(names))}")
     if network.bars:
         bars = [f"{' and '.join(map(str, channels))} at node {v}" for v, channels in network.bars.items()]
-        lines.append(f"bars   {', '.join(bars[:MOST_NAMES])}{' ..' if len(bars) > MOST_NAMES else ''}")
+        lines.append(f"bars   {', '.join(first_of(bars))}")
     return lines + case.finding.text()
 
 

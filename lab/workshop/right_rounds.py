@@ -2,9 +2,9 @@
 The right ones are those of `forestplay rounds`, and of the colouring also the plan of `forestplan plain`."""
 from lab.networks.network_text import Network
 from lab.networks.texts import plain_text
-from lab.workshop.findings import NoVerdict
 from lab.workshop.judge import ask
 from lab.workshop.protocol import COLOURING, SEQUELS
+from lab.wrong import Wrong
 
 
 class Rounds:
@@ -48,7 +48,7 @@ class RightRounds(Rounds):
     def asked(self, name: str, command: str, program: str = COLOURING) -> str:
         status, text, why = ask(name, command, plain_text(self.network), program)
         if status:
-            raise NoVerdict(f"{name} {command} refuses {self.network.name}: {why}")
+            raise Wrong(f"{name} {command} refuses {self.network.name}: {why}")
         return text
 
     def read(self, fields: list[str]) -> None:

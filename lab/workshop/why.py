@@ -1,5 +1,5 @@
 """Why a node has to do something in a pulse: the rule of the pulse, and this node's numbers, all of which it knows."""
-from lab.workshop.findings import listed
+from lab.workshop.findings import last_of, listed
 from lab.workshop.protocol import SEQUELS
 from lab.workshop.right_rounds import RightRounds
 from lab.words import in_words
@@ -7,7 +7,6 @@ from lab.words import in_words
 NOT_COLOURED = ("leader", "layers")
 DROPPED = {8: 5, 10: 4, 12: 3}
 SHORT = 1 << 16             # numbers below it are shown in binary digits too
-MOST = 8
 # Of each phase of the colouring, and of the pulses of the other programs.
 RULES = {
     "greet": "in pulse 0 a node sends `hello` and its identifier, {name}, by each port",
@@ -136,7 +135,7 @@ class Why:
                      for port, words in self.rounds.inbox(p, self.v).items()]
             puts = self.rounds.puts[p].get(self.v, {}) if p < last else {}
             said += [f"it sent `{words}` by port {port} in pulse {p}" for port, words in sorted(puts.items())]
-        return ".. " * (len(said) > MOST) + ", ".join(said[-MOST:]) if said else "nothing has come"
+        return ", ".join(last_of(said)) or "nothing has come"
 
 
 def in_digits(number: int) -> str:

@@ -7,16 +7,14 @@ passed, M failed'.
 import functools
 import sys
 
-from lab.schedules.policies import POLICIES
-from lab.workshop.cases import NETWORKS, cases_of
+from lab.workshop.cases import cases_of
 from tests.by_hand.numbered_runs import all_runs, last_line, options
-from tests.workshop.base import ALPHA, ROUNDS, in_c, played
+from tests.workshop.base import ALPHA, ROUNDS, in_c, options_of, played
 
 
 def one_run(ways, seed, number):
     kind, commands, is_shared = ways[number % len(ways)]
-    policies = list(POLICIES) if kind == "alpha" else [""]
-    case, = cases_of(NETWORKS.split(","), policies, number, seed, number - 1)
+    case, = cases_of(options_of(kind, "--seed", seed, "--case", str(number - 1)))
     case = played(kind, case.network, *commands, policy=case.policy, seed=case.seed, timeout=60.0,
                   one_process=is_shared)
     if case.finding is None:
@@ -25,11 +23,11 @@ def one_run(ways, seed, number):
 
 
 def main() -> int:
-    given = options(__doc__, 4, runs=10_000, seed="1").parse_args()
+    words = options(__doc__, 4, runs=10_000, seed="1").parse_args()
     # In turn: rounds in Python, alpha in Python, rounds with nodes in C and Python together, and alpha again.
     ways = (("rounds", [ROUNDS], True), ("alpha", [ALPHA], True), ("rounds", [in_c(), ROUNDS], False),
             ("alpha", [ALPHA], True))
-    return 0 if last_line(all_runs(given, functools.partial(one_run, ways, given.seed))) else 1
+    return 0 if last_line(all_runs(words, functools.partial(one_run, ways, words.seed))) else 1
 
 
 if __name__ == "__main__":

@@ -6,6 +6,7 @@ import shutil
 import subprocess
 import sys
 import tempfile
+from argparse import Namespace
 from types import SimpleNamespace
 
 from lab.networks.network_text import Network
@@ -34,13 +35,19 @@ def network(name: str) -> Network:
     return network_of(name, Chance("1"))
 
 
+def options_of(assignment: str, *words: str, **options) -> Namespace:
+    """Options of the command line, and others in their place."""
+    found = parsed([assignment, *words, *([] if "--" in words else ["--", "x"])])
+    vars(found).update({"timeout": 20.0} | options)
+    return found
+
+
 def played(assignment: str, name: str | Network, *commands: list[str], policy: str = "random", seed: str = "1",
            guard: Guard | None = None, **options) -> Case:
     """One run, in this process, with these options of the command line."""
-    given = parsed([assignment, *(word for command in commands for word in ("--", *command))])
-    vars(given).update({"timeout": 20.0} | options)
     case = Case(0, network(name) if isinstance(name, str) else name, policy, seed)
-    Player(given, guard).play(case)
+    words = [word for command in commands for word in ("--", *command)]
+    Player(options_of(assignment, *words, **options), guard).play(case)
     return case
 
 

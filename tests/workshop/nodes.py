@@ -15,7 +15,7 @@ from lab.workshop.cases import NETWORKS, cases_of
 from lab.workshop.protocol import SEQUELS
 from lab.workshop.right_rounds import RightRounds
 from tests.workshop.base import (ALPHA, EXAMPLES, GREEDY, MISTAKES, ROUNDS, Played, answering, in_c, in_java, network,
-                                 played)
+                                 options_of, played)
 
 NODES = {"rounds": ROUNDS, "alpha": ALPHA}
 # A ring of four whose root is node 3: node 1 is two edges away on both sides, and its port 0 leads to node 2. Node 5
@@ -256,7 +256,7 @@ class Lines(Played):
 class Cases(Played):
     def test_most_networks_have_a_root(self):
         """And those of the colouring are as they always were; bars come by chance where they count."""
-        made = cases_of(NETWORKS.split(","), [""], 100, "1", program="layers")
+        made = cases_of(options_of("rounds", "--program", "layers"))
         self.assertIn(sum(1 in case.network.identifiers.values() for case in made), range(80, 100))
         for case in made:
             with self.subTest(case=case.number):
@@ -264,5 +264,5 @@ class Cases(Played):
                 self.assertEqual(bool(case.network.bars), case.network.name in ("most4", "rest3"))
         for program, has_bars in (("colouring", True), ("matching", False), ("independent-set", True),
                                   ("recolouring", True)):
-            made = cases_of(["ring5"], [""], 20, "1", program=program)
+            made = cases_of(options_of("rounds", "ring5", "--runs", "20", "--program", program))
             self.same(f"bars of {program}", any(case.network.bars for case in made), has_bars)

@@ -2,6 +2,7 @@
 from lab.schedules.policies import POLICIES, Step, policy_of
 from lab.workshop.cases import NETWORKS, cases_of
 from tests.cases import Case
+from tests.workshop.base import options_of
 
 VERTICES, EDGES = [1, 2, 3], [(1, 2), (2, 3)]
 # Links 2-1, 1-2 and 2-3 hold wires, and node 3 can make a pulse: put first is the safe, last the second wire of 2-1.
@@ -46,11 +47,10 @@ class Policies(Case):
 
     def test_the_runs_play_all_of_them(self):
         """A hundred runs of the twelve networks have all ten policies; ten for each network have each on it once."""
-        names, policies = NETWORKS.split(","), list(POLICIES)
-        self.assertEqual({case.policy for case in cases_of(names, policies, 100, "1")}, set(policies))
-        for networks in (names, names[1:2]):
-            pairs = [(case.network.name, case.policy) for case in cases_of(networks, policies, 10 * len(networks), "1")]
-            self.assertEqual(sorted(pairs), sorted((name, policy) for name in networks for policy in policies))
+        self.assertEqual({case.policy for case in cases_of(options_of("alpha"))}, set(POLICIES))
+        for names, runs in ((NETWORKS.split(","), "120"), (["two"], "10")):
+            pairs = [(case.network.name, case.policy) for case in cases_of(options_of("alpha", *names, "--runs", runs))]
+            self.assertEqual(sorted(pairs), sorted((name, policy) for name in names for policy in POLICIES))
 
     def test_the_same_seed_chooses_the_same(self):
         for name in POLICIES:

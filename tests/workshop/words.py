@@ -82,18 +82,18 @@ class AlphaWords(Case):
 
     def test_what_came_early(self):
         """A payload is shown however long ago it came, if what is wrong may come from it; a safe until its pulse is
-        over; of many the last three."""
+        over; of many the last eight."""
         label, long_ago = "take 2 payload 1 label 0", pulses(1, 20)
         words = "`take 0 payload 1 label 0` came at pulse 0, and is to be kept until pulse 1 is made"
         safe = "`take 1 safe 1` came at pulse 0, and is to be kept until pulse 1 is made"
-        many = [word for p in range(1, 5) for word in (f"take 3 payload {p} colour 0", f"pulse {p}")]
+        many = [word for p in range(1, 10) for word in (f"take 3 payload {p} colour 0", f"pulse {p}")]
         for came, about_payload, right in (
             ([label, *long_ago], True, [words]), ([label, *long_ago], False, []), ([label], False, [words]),
             (["pulse 1", label], True, []), (["take 3 safe 0", "take 3 safe 1", "pulse 1"], False, [safe]),
             (["take 3 safe 0", "take 3 safe 1", "pulse 1", "pulse 2"], False, []),
-            (many, True, ["1 more before these", *(
+            (many, True, ["..", *(
                 f"`take 1 payload {p} colour 0` came at pulse {p - 1}, and is to be kept until pulse {p} is made"
-                for p in (2, 3, 4))]),
+                for p in range(2, 10))]),
         ):
             self.same(f"{came[:3]} {about_payload}", self.at(*came).early(about_payload), right)
 
