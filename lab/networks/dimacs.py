@@ -5,8 +5,8 @@ import re
 from lab.networks.edge_list import Listed, clean
 from lab.networks.fields import Unread, is_number, value_of
 from lab.networks.network_text import (
-    IDENTIFIERS, MAX_BARS, MAX_CHANNEL, SKIPPED, fields_of, read_comment, shown, whole)
-from lab.wrong import wrong_line
+    IDENTIFIERS, MAX_BARS, MAX_CHANNEL, MAX_NODES, SKIPPED, Reading, fields_of, read_comment, shown, whole)
+from lab.wrong import Wrong, wrong_line
 
 BEGINS = re.compile(r"^[ \t]*(p[ \t]+[a-z]+[ \t]+[0-9]+|p[ \t]+[0-9]+[ \t]+[0-9]+|e[ \t]+[0-9]+[ \t]+[0-9]+)\b", re.M)
 
@@ -22,65 +22,85 @@ def begins(text: str) -> bool:
 def read(text: str, name: str) -> Listed:
     """Edges are lines `e V W` or `a V W WEIGHT`, or `V W` after `p tw`. Without a `p` line the greatest number counts.
     A line `i V NUMBER` gives V an identifier, and `b V CHANNEL` bars a channel at V."""
-    found = Listed("DIMACS")
-    # The word after `p` and the number of edges, if there is a `p` line.
-    head, passed, weights = (None, None), 0, 0
+    found, comments = Listed("DIMACS"), Reading()
+    # The word after `p` and the numbers of nodes and of edges, if there is a `p` line.
+    head, passed, weights = (None, None, None), 0, 0
     for line, raw in enumerate(text.split("\n"), 1):
         fields = [field for field in fields_of(raw) if field]
         if not fields or fields[0] in SKIPPED:
             passed += bool(fields)
-            continue
-        if fields[0] == "p":
+        elif fields[0] == "p":
+            if head[1] is not None:
+                raise wrong_line(name, line, "a second `p` line")
             head = read_head(found, name, line, fields)
         elif fields[0].startswith("c"):
-            read_comment(found, raw, fields)
+            read_comment(comments, raw, fields)
         elif fields[0] == "i":
             read_identifier(found, name, line, fields)
         elif fields[0] == "b":
             read_bar(found, name, line, fields)
         else:
-            ends = fields[1:3] if fields[0] in ("e", "a") else fields[:2]
-            is_bare = ends == fields[:2]
+            is_bare = fields[0] not in ("e", "a")
+            ends, more = fields[not is_bare:][:2], fields[not is_bare:][2:]
             if len(ends) < 2 or None in map(whole, ends) or is_bare and head[0] in (None, *WORDS):
                 raise wrong_line(name, line, f"no edge: `{shown(raw.strip())}`")
-            if len(fields) > 4 - 2 * is_bare or not all(map(is_number, fields[3 - is_bare:])):
-                raise wrong_line(name, line, f"more than an edge and a weight: `{shown(raw.strip())}`")
-            if fields[0] == "e" and whole((fields + [""] * 4)[3]) is not None:
-                raise wrong_line(name, line, f"a third number after `e`: is it a weight or a node? "
-                                             f"`{shown(raw.strip())}`; `a V W WEIGHT` has a weight")
-            if fields[0] == "a":
-                if len(fields) > 3 and value_of(fields[3]) == 0:
+            is_weight = len(more) == 1 and is_number(more[0]) and (fields[0] == "a" or whole(more[0]) is None)
+            if more and (is_bare or not is_weight):
+                raise wrong_line(name, line, f"more than an edge: is it a weight or a node? `{shown(raw.strip())}`; "
+                                             "`a V W WEIGHT` has a weight")
+            if fields[0] == "a" and more:
+                weights += 1
+                if value_of(more[0]) == 0:
                     raise wrong_line(name, line, "an edge of weight 0: is it one? Leave out those that are none")
-                weights += len(fields) > 3
-            found.edges.append((line, str(whole(ends[0])), str(whole(ends[1]))))
-    found.names = {v: clean(own) for v, own in found.names.items()}
-    if found.nodes is None:
-        found.left_out.append("there is no `p` line, so nodes without an edge aren't known")
+            found.edges.append((line, *(str(whole(end)) for end in ends)))
+    see_nodes(found, name, head[1], comments)
     if passed:
         found.left_out.append(f"lines `n`, `d`, `v` and `x` not read: {passed}")
     if weights:
         found.left_out.append(Unread(["weights"], f"{{names}} of lines `a` not read: {weights}"))
     there = len({frozenset(ends) for _, *ends in found.edges})
-    if head[1] not in (None, there, 2 * there, len(found.edges)):
-        found.left_out.append(f"the `p` line says {head[1]:,} edges, and the text has {there:,}: is it cut?")
+    if head[2] not in (None, there, 2 * there, len(found.edges)):
+        found.left_out.append(f"the `p` line says {head[2]:,} edges, and the text has {there:,}: is it cut?")
     return found
 
 
 def read_head(found, name, line, fields):
-    """Its word, if there is one, and its number of edges."""
-    numbers = fields[1:]
-    word = numbers.pop(0) if numbers and whole(numbers[0]) is None else None
-    if found.nodes is not None:
-        raise wrong_line(name, line, "a second `p` line")
-    if len(numbers) != 2 or None in map(whole, numbers):
+    """Its word, if there is one, and its numbers of nodes and of edges."""
+    word = fields[1] if len(fields) > 1 and whole(fields[1]) is None else None
+    numbers = list(map(whole, fields[1 + (word is not None):]))
+    if len(numbers) != 2 or None in numbers:
         raise wrong_line(name, line, f"no number of nodes and of edges: `{shown(' '.join(fields))}`")
-    found.nodes = whole(numbers[0])
     if (word or "").lower() in OTHERS:
         raise wrong_line(name, line, f"`p {word}` begins a text of another kind than a network")
     if word not in WORDS:
         said = found.notes if word in ALIKE else found.left_out
         said.append(f"`{shown(' '.join(fields[:2]))}` is read like `p edge`")
-    return word, whole(numbers[1])
+    return word, *numbers
+
+
+def see_nodes(found, name, nodes, comments):
+    """All nodes from 1 on, or from 0 if an edge has it and none has the greatest number; and what comments say of
+    them."""
+    used = {int(end): line for line, *ends in reversed(found.edges) for end in ends}
+    least = 0 if 0 in used and nodes not in used else 1
+    if nodes is None and not used:
+        raise Wrong(f"{name}: no `p` line and no edge")
+    if nodes is None:
+        found.left_out.append("there is no `p` line, so nodes without an edge aren't known")
+        known = set(used)
+    else:
+        strange = next((number for number in sorted(used) if not least <= number < least + nodes), None)
+        if strange is not None:
+            raise wrong_line(name, used[strange], f"vertex {shown(str(strange))}, and the `p` line has {nodes} nodes")
+        if nodes > MAX_NODES:
+            raise Wrong(f"{name}: {nodes} nodes, and a network has at most {MAX_NODES}")
+        known = range(least, least + nodes)
+        found.alone = [(1, str(v)) for v in known]
+    for said, kept in ((comments.names, found.names), (comments.places, found.places)):
+        # Comments may count from 1 where edges count from 0.
+        less = 1 if least == 0 and 0 not in said else 0
+        kept |= {str(v - less): what for v, what in said.items() if v - less in known}
+    found.names = {node: clean(own) for node, own in found.names.items()}
 
 
 def read_identifier(found, name, line, fields):

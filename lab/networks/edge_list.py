@@ -41,20 +41,19 @@ FLAGS = NOT | {"yes", "y", "ja", "j", "true", "t", "wahr", "w", "on", "x", "1", 
 
 @dataclass
 class Listed:
-    """`edges` has (line, name, name), and `alone` (line, name) of nodes that are named without a neighbour. If the text
-    says how many nodes there are, that is `nodes`, and the names are numbers. `names` and `places` are by numbers then,
-    and else `places`, `identifiers` and `bars` are by those names. `notes` says what was guessed or mended, `left_out`
-    what of the text isn't in the network, and `order` all nodes in the order of a table of sites, if there is one. If
-    the form says exactly which names are one node's, it `is_exact`."""
+    """`edges` has (line, name, name), and `alone` (line, name) of nodes that are named without a neighbour. `places`,
+    `identifiers` and `bars` are by those names, and so are other `names`, which nodes may have beside their numbers.
+    `notes` says what was guessed or mended, `left_out` what of the text isn't in the network, and `order` all nodes in
+    the order of a table of sites, if there is one. If the form says exactly which names are one node's, it
+    `is_exact`."""
 
     form: str
     edges: list[tuple[int, str, str]] = field(default_factory=list)
     alone: list[tuple[int, str]] = field(default_factory=list)
     notes: list[str] = field(default_factory=list)
     left_out: list[str] = field(default_factory=list)
-    nodes: int | None = None
-    names: dict[int, str] = field(default_factory=dict)
-    places: dict = field(default_factory=dict)
+    names: dict[str, str] = field(default_factory=dict)
+    places: dict[str, tuple[float, float]] = field(default_factory=dict)
     identifiers: dict[str, int] = field(default_factory=dict)
     bars: dict[str, set[int]] = field(default_factory=dict)
     order: list[str] | None = None
@@ -64,8 +63,7 @@ class Listed:
         """Gives each node another name."""
         self.edges = [(line, new(one), new(other)) for line, one, other in self.edges]
         self.alone = [(line, new(node)) for line, node in self.alone]
-        if self.nodes is None:
-            self.places = {new(node): place for node, place in self.places.items()}
+        self.places = {new(node): place for node, place in self.places.items()}
         self.identifiers = {new(node): number for node, number in self.identifiers.items()}
         self.bars = {new(node): channels for node, channels in self.bars.items()}
 

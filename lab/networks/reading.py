@@ -22,19 +22,17 @@ def read(data, name, form=None, heading=None):
 
 def read_any(data, name, heading=None):
     """The network of a text in any form, and the lines that say how it was read; none if it is in the form of the
-    programs. Of a text in no form the fault is that of the form in which it begins."""
+    programs. Of a text that begins like one of theirs the fault is theirs, if it can't be mended."""
     try:
         return read_network(data.decode(), name), []
     except UnicodeDecodeError:
         fault = None
     except Wrong as why:
-        fault = why
+        fault = why if begins_as_ours(data) else None
     try:
-        made, said = read(data, name, None, heading)
+        made, said = read(data, name, "dimacs" if fault else None, heading)
     except Wrong as why:
-        raise (fault if fault and begins_as_ours(data) else why) from None
-    if fault and is_ours(data, said):
-        raise fault
+        raise fault or why from None
     network = read_network(text_of(made), name)
     network.name = stem(name)
     return network, said
@@ -44,20 +42,13 @@ def other_form(data, path):
     """Of a text that the programs refuse: what `read` makes of it, or None. One that begins like a network isn't taken
     for pairs."""
     try:
-        _, said = read(data, path)
+        return read(data, path, "dimacs" if begins_as_ours(data) else None)[1][0]
     except Wrong:
         return None
-    return None if is_ours(data, said) else said[0]
-
-
-def is_ours(data, said):
-    """Whether a text is meant for the programs, though they refuse it: it was read as rows, and begins like a
-    network."""
-    return begins_as_ours(data) and not said[0].startswith(("DOT", "DIMACS"))
 
 
 def begins_as_ours(data):
-    return data.split()[:1] in ([b"c"], [b"p"])
+    return data.split(None, 1)[:1] in ([b"c"], [b"p"])
 
 
 def listed_of(data, name, form=None, heading=None):
@@ -73,13 +64,12 @@ def listed_of(data, name, form=None, heading=None):
 def made_of(found, name):
     """The network of what a text lists, the lines that say what was read and guessed, and the lines that say
     what was left out."""
-    by_text = found.nodes is not None and found.order is None
-    order, by = numbered_by_text(found, name) if by_text else numbered(found)
+    order, by = numbered(found)
     number = {node: v for v, node in order.items()}
     edges, left_out = kept(found, number)
-    by_number = by_text or found.form == "DIMACS"
-    places = found.places if by_number else given(found.places, number, name, "a place")
-    names = {v: node for v, node in order.items() if node != str(v)} | found.names
+    places = given(found.places, number, name, "a place")
+    names = {v: found.names.get(node, node) for v, node in order.items()}
+    names = {v: one for v, one in names.items() if one != str(v)}
     if len(set(names.values())) < len(names):
         found.notes.append(f"two nodes are named {shown(twin_of(names))}")
     if len(order) > MAX_NODES:
@@ -107,24 +97,6 @@ def numbered(found):
             return dict(enumerate(ordered, 1)), "it counts from 0, so each number is one more"
         return dict(enumerate(ordered, 1)), "some numbers are missing, so the nodes are numbered anew, in their order"
     return dict(enumerate(names, 1)), f"numbers by {'the order of the sites' if found.order else 'first appearance'}"
-
-
-def numbered_by_text(found, name):
-    """{vertex: name} if the text says how many nodes it has; shifted if it counts from 0."""
-    used = {whole(end): line for line, *ends in reversed(found.edges) for end in ends}
-    shift = 1 if 0 in used and found.nodes not in used else 0
-    for number in sorted(used):
-        if not 1 <= number + shift <= found.nodes:
-            raise Wrong(
-                f"{name} line {used[number]}: vertex {shown(str(number))}, and the `p` line has {found.nodes} nodes"
-            )
-    if found.nodes > MAX_NODES:
-        raise Wrong(f"{name}: {found.nodes} nodes, and a network has at most {MAX_NODES}")
-    if shift:
-        found.names = {v + 1: text for v, text in found.names.items()} if 0 in found.names else found.names
-        found.places = {v + 1: place for v, place in found.places.items()} if 0 in found.places else found.places
-    return ({v: str(v - shift) for v in range(1, found.nodes + 1)},
-            "it counts from 0, so each number is one more" if shift else "numbers as in the text")
 
 
 def given(found, number, name, what):

@@ -7,7 +7,6 @@ from lab.networks.edge_list import Listed, clean, note_alike
 from lab.networks.fields import shown, whole
 from lab.networks.network_text import IDENTIFIERS, MAX_BARS, MAX_CHANNEL, MAX_EDGES, MAX_NODES
 from lab.networks.places import Point, across_of, near, on_ground, on_map
-from lab.networks.reading import numbered_by_text
 from lab.networks.site_doubts import check_marks, refuse_far, refuse_maps, refuse_names, refuse_no_place, refuse_units
 from lab.networks.site_tables import BARE, CHANNELS, GLOBES, IDENTIFIER, NAMES, PLANES, Table, named, table
 from lab.words import counted
@@ -101,19 +100,13 @@ def names_for(found: Table, columns: list[int], wanted: set[str]) -> list[str]:
 
 
 def by_names(found: Listed, name: str) -> None:
-    """Has a text that numbers its vertices name them, those without an edge too, where it has names of them."""
-    if found.nodes is not None:
-        order, _ = numbered_by_text(found, name)
-        there = {end for _, *ends in found.edges for end in ends}
-        found.alone += [(1, vertex) for vertex in order.values() if vertex not in there]
-        names = {vertex: clean(found.names.get(v, vertex)) for v, vertex in order.items()}
-    else:
-        names = {str(v): clean(own) for v, own in found.names.items()}
+    """Has the nodes of a text that numbers them named as it says, those without an edge too."""
     ends = dict.fromkeys(end for _, *ends in found.alone + found.edges for end in ends)
-    if names and len({names.get(end, end) for end in ends}) < len(ends):
+    if len({found.names.get(end, end) for end in ends}) < len(ends):
         raise Wrong(f"{name}: two vertices have one name, so a table of sites can't tell them apart")
+    names = found.names
     found.rename(lambda vertex: names.get(vertex, vertex))
-    found.nodes, found.names, found.places = None, {}, {}
+    found.names, found.places = {}, {}
 
 
 def with_sites(found: Listed, data: bytes, name: str, reach: float | None) -> None:
@@ -200,8 +193,6 @@ def with_bars(found: Listed, data: bytes, name: str, licence: list[int] | None) 
     site, channel = names[0], barred[0]
     bars.leave((site, channel))
     known = {end for _, *ends in found.edges + found.alone for end in ends} | set(found.order or ())
-    if found.nodes is not None:
-        known |= set(numbered_by_text(found, name)[0].values())
     strange, outside, empty = [], [], []
     for line, fields in bars.rows:
         one, channels = clean(fields[site]), channels_in(bars, line, fields[channel])
