@@ -47,8 +47,8 @@ FORK = multiprocessing.get_context("fork")
 HELP = f"""\
 Grades all submissions of a folder: each folder in it is a student's. The program of an
 assignment is the file rounds_node, alpha_node or open_node in it: python3 runs one that
-ends in .py, node .js, java .java (once it is compiled) or .class, and what may be
-executed is run as it is. Or a file `commands` says how, in lines as `alpha: ./mine --fast`.
+ends in .py, node .js, java .java (once it is compiled), and what may be executed is
+run as it is. Or a file `commands` says how, in lines as `alpha: ./mine --fast`.
 
 rounds has {POINTS['rounds']} points times the share of its {RUNS['rounds']} runs that are right,
 rounded down; alpha {EACH} for each of the {len(POLICIES)} policies of which all {RUNS_EACH} runs
@@ -124,15 +124,15 @@ def points(result: dict) -> int:
 
 # What is submitted.
 
-def parts_of(folder: str) -> list[Part]:
-    """All assignments of all students."""
+def submissions_of(folder: str) -> dict[str, list[Part]]:
+    """The assignments of each student."""
     try:
         students = sorted(entry.name for entry in os.scandir(folder) if entry.is_dir())
     except OSError as why:
         raise Wrong(f"{folder}: {why.strerror}") from None
     if not students:
         raise Wrong(f"{folder} has no folder of a submission in it")
-    return [part_of(student, os.path.join(folder, student), assignment) for student in students for assignment in RUNS]
+    return {name: [part_of(name, os.path.join(folder, name), assignment) for assignment in RUNS] for name in students}
 
 
 def part_of(student: str, folder: str, assignment: str) -> Part:
@@ -173,8 +173,6 @@ def command_of(folder: str, assignment: str) -> list[str]:
         return found
     names = [name for name in sorted(os.listdir(folder)) if os.path.splitext(name)[0] in STEMS[assignment]
              and os.path.isfile(os.path.join(folder, name))]
-    # Of a class in Java the source isn't compiled again at each start.
-    names = [name for name in names if not (name.endswith(".java") and name[:-5] + ".class" in names)]
     ways = [way for name in names if (way := way_to_run(folder, name))]
     if len(ways) > 1:
         raise Wrong(f"{' and '.join(way[-1] for way in ways)}: which one?")
@@ -184,12 +182,8 @@ def command_of(folder: str, assignment: str) -> list[str]:
 
 
 def way_to_run(folder: str, name: str) -> list[str]:
-    stem, ending = os.path.splitext(name)
-    if ending in RUNNERS:
-        return [RUNNERS[ending], name]
-    if ending == ".class":
-        return class_of(stem)
-    return [os.path.join(".", name)] if os.access(os.path.join(folder, name), os.X_OK) else []
+    runner = RUNNERS.get(os.path.splitext(name)[1])
+    return [runner, name] if runner else ["./" + name] * os.access(os.path.join(folder, name), os.X_OK)
 
 
 # One part, in a process of its own.
@@ -215,19 +209,16 @@ def play(part: Part, given: argparse.Namespace, room: str) -> dict:
 
 def compiled(command: list[str], copy: str, guard: Guard) -> list[str]:
     """What runs the class of a source in Java, which each start would compile; or the command as it is."""
-    source = command[-1]
-    if command[:1] != ["java"] or not source.endswith(".java") or not shutil.which("javac"):
+    name, ending = os.path.splitext(command[-1])
+    if command[:1] != ["java"] or ending != ".java" or not shutil.which("javac"):
         return command
     user = {} if guard.user is None else {"user": guard.user, "group": guard.user, "extra_groups": []}
     with contextlib.suppress(subprocess.TimeoutExpired):
-        subprocess.run(["javac", "-proc:none", "-d", ".", source], cwd=copy, env=guard.environment(), timeout=GRACE,
-                       stdin=subprocess.DEVNULL, stdout=subprocess.DEVNULL, stderr=subprocess.DEVNULL, **user)
-    name = source.removesuffix(".java")
-    return class_of(name) if os.path.isfile(os.path.join(copy, f"{name}.class")) else command
-
-
-def class_of(name: str) -> list[str]:
-    return ["java", "-Xmx64m", "-XX:+UseSerialGC", "-cp", ".", name]
+        subprocess.run(["javac", "-proc:none", "-d", ".", command[-1]], cwd=copy, env=guard.environment(),
+                       timeout=GRACE, stdin=subprocess.DEVNULL, stdout=subprocess.DEVNULL, stderr=subprocess.DEVNULL,
+                       **user)
+    is_made = os.path.isfile(os.path.join(copy, f"{name}.class"))
+    return ["java", "-Xmx64m", "-XX:+UseSerialGC", "-cp", ".", name] if is_made else command
 
 
 def programs_at_home(closed: list[str]) -> list[str]:
@@ -320,10 +311,9 @@ def clean(words: str) -> str:
 
 # What is printed.
 
-def table(parts: list[Part]) -> list[str]:
+def table(submissions: dict[str, list[Part]]) -> list[str]:
     rows, remarks = [["", *(name for a in RUNS for name in (a, "points")), "in all"]], [""]
-    for student in dict.fromkeys(part.student for part in parts):
-        own = [part for part in parts if part.student == student]
+    for student, own in submissions.items():
         rows.append([clean(student), *(word for part in own for word in (part.words(), str(part.points))), in_all(own)])
         said = [f"{part.assignment}: {part.said()}" for part in own if part.points < POINTS[part.assignment]]
         remarks.append(clean("; ".join(said)))
@@ -335,27 +325,24 @@ def in_all(own: list[Part]) -> str:
     return f"{sum(part.points for part in own)}{'?' * any(part.command and not part.result for part in own)}"
 
 
-def as_one(parts: list[Part], seed: str) -> dict:
+def as_one(submissions: dict[str, list[Part]], seed: str) -> dict:
     """For a program. `grade` is the edition of this form."""
     def one(part):
-        found = {"points": part.points if part.result else None, "command": part.command}
-        if part.result:
-            return found | {name: part.result[name] for name in ("runs", "right", "seconds", "cases")}
-        return found | part.found
+        result = part.result or {"points": None} | part.found
+        names = ("runs", "right", "seconds", "cases") if part.result else result
+        return {"points": part.points, "command": part.command} | {name: result[name] for name in names}
     return {"grade": EDITION, "seed": seed, "submissions": [
-        {"student": student, "in_all": in_all([part for part in parts if part.student == student]),
-         **{part.assignment: one(part) for part in parts if part.student == student}}
-        for student in dict.fromkeys(part.student for part in parts)]}
+        {"student": student, "in_all": in_all(own), **{part.assignment: one(part) for part in own}}
+        for student, own in submissions.items()]}
 
 
-def write_reports(parts: list[Part], folder: str) -> None:
+def write_reports(submissions: dict[str, list[Part]], folder: str) -> None:
     """A text for each student."""
     os.makedirs(folder, exist_ok=True)
-    for student in dict.fromkeys(part.student for part in parts):
-        lines = []
-        for part in (part for part in parts if part.student == student):
-            lines += [f"{part.assignment}: {part.points} of {POINTS[part.assignment]} points",
-                      *(part.found.get("report") or [part.said()]), ""]
+    for student, own in submissions.items():
+        lines = [line for part in own for line in (
+            f"{part.assignment}: {part.points} of {POINTS[part.assignment]} points",
+            *part.found.get("report", [part.said()]), "")]
         try:
             with open(os.path.join(folder, f"{student}.txt"), "w", encoding="utf-8", errors="replace") as file:
                 file.write("".join(line + "\n" for line in lines))
@@ -389,7 +376,8 @@ def main(words: list[str]) -> int:
     given = command_line().parse_args(words[:at])
     given.before = words[at + 1:]
     given.folder, given.seed = os.path.realpath(given.folder), given.seed or secrets.token_hex(4)
-    parts = parts_of(given.folder)
+    submissions = submissions_of(given.folder)
+    parts = [part for own in submissions.values() for part in own]
     status, _, why = ask("forestplan", "plain", "p edge 0 0\n")
     if status:
         raise Wrong(f"forestplan plain ends with status {status}: {why}")
@@ -397,8 +385,7 @@ def main(words: list[str]) -> int:
     if not given.before and not Guard().edition:
         print("grade: this system has no Landlock, so programs can read what you can read, and end this one; use a "
               "container", file=sys.stderr)
-    students = dict.fromkeys(part.student for part in parts)
-    given.users = {student: USERS[at % len(USERS)] for at, student in enumerate(students)}
+    given.users = {student: USERS[at % len(USERS)] for at, student in enumerate(submissions)}
     room = tempfile.mkdtemp(prefix="grade-")
     try:
         os.chmod(room, 0o711)
@@ -409,10 +396,10 @@ def main(words: list[str]) -> int:
             print(f"grade: {len(again)} of {len(parts)} are played once more, alone: {most} minutes at most",
                   file=sys.stderr, flush=True)
         play_again(again, given, room)
-        print(json.dumps(as_one(parts, given.seed)) if given.json else
-              "\n".join([*table(parts), "", f"seed {given.seed}"]), flush=True)
+        print(json.dumps(as_one(submissions, given.seed)) if given.json else
+              "\n".join([*table(submissions), "", f"seed {given.seed}"]), flush=True)
         if given.reports:
-            write_reports(parts, given.reports)
+            write_reports(submissions, given.reports)
     finally:
         remove(room)
     return 1 if any(part.command and not part.result for part in parts) else 0

@@ -40,7 +40,7 @@ from tests.programs.merged import networks_of_runs
 from tests.programs.plain_networks import some_bars, text_of
 from tests.programs.transcripts import is_counted, said_by
 from tests.settings import PLAN
-from tests.workshop.base import ALPHA, ROUNDS, in_c, options_of, played
+from tests.workshop.base import ALPHA, C, ROUNDS, compiled, options_of, played
 
 BATCH, LIMIT = 100, 300
 KIB, MIB = 2**10, 2**20
@@ -140,7 +140,7 @@ def memory(folder, source):
 FRONTS = ("refuse_thread", "limit_under_way")
 # In turn: rounds in Python, alpha in Python, rounds with nodes in C and Python together, and alpha again.
 WAYS = (("rounds", True, lambda: [ROUNDS]), ("alpha", True, lambda: [ALPHA]),
-        ("rounds", False, lambda: [in_c(), ROUNDS]), ("alpha", True, lambda: [ALPHA]))
+        ("rounds", False, lambda: [compiled(C), ROUNDS]), ("alpha", True, lambda: [ALPHA]))
 
 
 def nodes(_, source):

@@ -87,38 +87,19 @@ def call(*words: str, **more) -> subprocess.CompletedProcess:
 
 
 @functools.cache
-def folder() -> str:
-    """A folder for what is made, until the tests end."""
-    kept.append(tempfile.TemporaryDirectory())
-    return kept[-1].name
-
-
-kept: list[tempfile.TemporaryDirectory] = []
-
-
-def of_c(source: str, to: str) -> list[str]:
-    """The command of a program in C."""
-    made = os.path.join(to, os.path.basename(source).removesuffix(".c"))
-    subprocess.run(["cc", "-O2", "-Wall", "-Werror", "-o", made, source], check=True)
-    return [made]
-
-
-def of_java(sources: list[str], to: str) -> list[list[str]]:
-    """The commands of programs in Java; none on a machine without Java."""
+def compiled(source: str) -> list[str] | None:
+    """The command of a program in C or Java; None on a machine without Java."""
+    to = tempfile.TemporaryDirectory()
+    made.append(to)                     # until the tests end
+    name, ending = os.path.splitext(os.path.basename(source))
+    if ending == ".c":
+        subprocess.run(["cc", "-O2", "-Wall", "-Werror", "-o", os.path.join(to.name, name), source], check=True)
+        return [os.path.join(to.name, name)]
     if not shutil.which("javac"):
-        return []
-    subprocess.run(["javac", "-J-XX:+UseSerialGC", "-d", to, *sources], check=True)
-    java = ["java", "-Xmx64m", "-XX:+UseSerialGC", "-XX:TieredStopAtLevel=1", "-cp", to]
-    return [[*java, os.path.basename(source).removesuffix(".java")] for source in sources]
+        return None
+    subprocess.run(["javac", "-J-XX:+UseSerialGC", "-d", to.name, source], check=True)
+    return ["java", "-Xmx64m", "-XX:+UseSerialGC", "-XX:TieredStopAtLevel=1", "-cp", to.name, name]
 
 
-@functools.cache
-def in_c() -> list[str]:
-    """The command of the node in C."""
-    return of_c(os.path.join(EXAMPLES, "c", "rounds_node.c"), folder())
-
-
-@functools.cache
-def in_java() -> list[str] | None:
-    """The command of the node in Java, if there is one."""
-    return next(iter(of_java([os.path.join(EXAMPLES, "java", "AlphaNode.java")], folder())), None)
+made: list[tempfile.TemporaryDirectory] = []
+C, JAVA = os.path.join(EXAMPLES, "c", "rounds_node.c"), os.path.join(EXAMPLES, "java", "AlphaNode.java")

@@ -1,5 +1,6 @@
 """Programs that attack the workshop: whatever they do, its verdict is its own, and nothing of them is left. Each tries
 things, and says on standard error what it got; the verdict shows that."""
+import contextlib
 import json
 import os
 import re
@@ -9,8 +10,7 @@ import sys
 import tempfile
 import unittest
 
-from lab.workshop.findings import Fault
-from lab.workshop.guard import USERS, Guard, beside, give, kept_in
+from lab.workshop.guard import USERS, Guard, give, kept_in
 from tests.shell import wait_until
 from tests.workshop.base import LIMIT, call, command_line, played
 from tests.workshop.misbehaving import MARK, left, left_at_last
@@ -46,6 +46,7 @@ REACHING = {"writes": f"open(f'/proc/{{WORKSHOP}}/fd/1', 'w').write({FORGED!r})"
             "stops": "os.kill(WORKSHOP, signal.SIGSTOP)", "all": "os.killpg(os.getpgid(WORKSHOP), signal.SIGKILL)"}
 # What a program has no business with as it is graded.
 OUTSIDE = {"others": "os.listdir({subs!r})", "another": "open({other!r}).read()", "right": "open({right!r}).read()",
+           "home": "open({home!r}).read()",
            "words": "open(f'/proc/{{WORKSHOP}}/cmdline').read()", "processes": "os.listdir('/proc')",
            "writes": "open({loot!r}, 'w')", "moves": "os.rename('rounds_node.py', {loot!r})",
            "links": "os.link('rounds_node.py', {loot!r})",
@@ -154,22 +155,6 @@ class Forgers(unittest.TestCase):
 
 
 class Guards(unittest.TestCase):
-    def test_what_lies_beside(self):
-        """By hand: a hidden path, one below another hidden one, and one that isn't there."""
-        with tempfile.TemporaryDirectory() as top:
-            top = os.path.realpath(top)
-            for path in ("a/b/c", "a/d", "e"):
-                os.makedirs(os.path.join(top, path))
-            for name in ("f", "a/g"):
-                open(os.path.join(top, name), "w", encoding="ascii").close()
-            os.symlink("a", os.path.join(top, "h"))
-            for hidden, seen in ((["a/b"], ["a/d", "a/g", "e", "f"]), (["a", "a/b/c"], ["e", "f"]),
-                                 (["e", "a/b/c"], ["a/d", "a/g", "f"]), (["x/y"], ["a", "e", "f"])):
-                with self.subTest(hidden):
-                    found = beside([os.path.join(top, path) for path in hidden])
-                    below = sorted(os.path.relpath(path, top) for path in found if path.startswith(top + "/"))
-                    self.assertEqual(below, seen)
-
     def test_nodes_dont_meet(self):
         """Each of two nodes that write one file reads what it has written itself, and what was there before."""
         code = program({"kept": "open('kept').read()"}, "open('common', 'a').write('x')\ntime.sleep(1)\n"
@@ -202,27 +187,15 @@ class Guards(unittest.TestCase):
             self.assertIn("it wrote more than 256 megabytes", said, (opened, said))
 
     def test_a_full_folder(self):
-        with tempfile.TemporaryDirectory() as folder:
-            guard = Guard(folder)
-            guard.look(0, 1 << 40)
-            with open(os.path.join(folder, "big"), "wb") as file:
-                file.truncate(1 << 40)
-            guard.looked = 0
-            guard.look(0, 1 << 40)                # a file of holes takes no room
-            self.assertLess(kept_in(folder), 1 << 20)
-            with tempfile.TemporaryDirectory() as deep:
-                place = os.getcwd()
-                try:
-                    os.chdir(deep)
-                    for _ in range(20):             # a path that is too long to be looked at
-                        os.mkdir("d" * 250)
-                        os.chdir("d" * 250)
-                finally:
-                    os.chdir(place)
-                self.assertGreater(kept_in(deep), 1 << 28)
-            for number in range(10_001):
-                open(os.path.join(folder, str(number)), "wb").close()
-            guard.looked = 0
-            self.assertGreater(kept_in(folder), 1 << 28)
-            with self.assertRaisesRegex(Fault, "it wrote more than 256 megabytes or 10000 files"):
-                guard.look(0, 1 << 40)
+        """A file of holes takes no room; a path that is too long to be looked at, and many files, take too much."""
+        holes, deep, many = (self.enterContext(tempfile.TemporaryDirectory()) for _ in range(3))
+        with open(os.path.join(holes, "big"), "wb") as file:
+            file.truncate(1 << 40)
+        with contextlib.chdir(deep):
+            for _ in range(20):
+                os.mkdir("d" * 250)
+                os.chdir("d" * 250)
+        for number in range(10_001):
+            open(os.path.join(many, str(number)), "wb").close()
+        self.assertLess(kept_in(holes), 1 << 20)
+        self.assertGreater(min(kept_in(deep), kept_in(many)), 1 << 28)

@@ -90,16 +90,18 @@ class Grades(Case):
         self.addCleanup(server.close)
         names = {"subs": self.subs, "other": os.path.join(self.subs, "ben", "rounds_node.py"),
                  "right": os.path.join(RIGHT, "rounds_node.py"), "loot": os.path.join(self.folder, "loot"),
-                 "port": server.getsockname()[1]}
+                 "port": server.getsockname()[1], "home": self.file("secret", "x")}
+        os.symlink(self.subs, os.path.join(self.folder, "beside"))      # what leads there isn't open, either
         attacks = {name: attack.format(**names) for name, attack in OUTSIDE.items()}
         own = {"own": "open('kept', 'w').write('x')",
-               "home": "os.environ['HOME'] == os.getcwd() == os.environ['TMPDIR']"}
+               "names": "os.environ['HOME'] == os.getcwd() == os.environ['TMPDIR']"}
         self.submit("anna", rounds_node_py=program(attacks | own, f"away({MARK})\n"))
         self.submit("ben", rounds_node_py=program({}))
-        done = call("grade", self.subs, "--runs", "1", "--timeout", "30", "--reports", os.path.join(self.folder, "to"))
+        done = call("grade", self.subs, "--runs", "1", "--timeout", "30", "--reports", os.path.join(self.folder, "to"),
+                    env={**os.environ, "HOME": self.folder})
         self.assertEqual(done.returncode, 0, done)
         found = got(text_in(self.folder, "to", "anna.txt"))
-        self.assertEqual({name: found.pop(name) for name in own}, {"own": "1", "home": "True"}, found)
+        self.assertEqual({name: found.pop(name) for name in own}, {"own": "1", "names": "True"}, found)
         self.assertEqual(found.keys(), attacks.keys())
         self.assertEqual(set(found.values()), {"PermissionError"}, found)
         self.assertFalse(os.path.exists(names["loot"]))
@@ -171,11 +173,14 @@ class Grades(Case):
 
     def test_java(self):
         """A class is run, and not its source, which each start would compile."""
+        if not shutil.which("javac"):
+            self.skipTest("there is no javac")
         folder = self.submit("anna")
-        for name, command in (("RoundsNode.java", ["java", "RoundsNode.java"]),
-                              ("RoundsNode.class", ["java", "-Xmx64m", "-XX:+UseSerialGC", "-cp", ".", "RoundsNode"])):
-            open(os.path.join(folder, name), "w", encoding="ascii").close()
-            self.assertEqual(grade.command_of(folder, "rounds"), command)
+        shutil.copy(os.path.join(EXAMPLES, "java", "AlphaNode.java"), folder)
+        command = grade.command_of(folder, "alpha")
+        self.assertEqual(command, ["java", "AlphaNode.java"])
+        self.assertEqual(grade.compiled(command, folder, Guard())[-2:], [".", "AlphaNode"])
+        self.assertEqual(grade.compiled(["java", "None.java"], folder, Guard()), ["java", "None.java"])
 
     def test_a_result_is_only_what_the_workshop_says_itself(self):
         """A process that plays a part is ended, ends otherwise, or says what it shouldn't: that is no result."""

@@ -14,8 +14,8 @@ from lab.schedules.policies import POLICIES
 from lab.workshop.cases import NETWORKS, cases_of
 from lab.workshop.protocol import SEQUELS
 from lab.workshop.right_rounds import RightRounds
-from tests.workshop.base import (ALPHA, EXAMPLES, GREEDY, MISTAKES, ROUNDS, Played, answering, in_c, in_java, network,
-                                 options_of, played)
+from tests.workshop.base import (ALPHA, C, EXAMPLES, GREEDY, JAVA, MISTAKES, ROUNDS, Played, answering, compiled,
+                                 network, options_of, played)
 
 NODES = {"rounds": ROUNDS, "alpha": ALPHA}
 # A ring of four whose root is node 3: node 1 is two edges away on both sides, and its port 0 leads to node 2. Node 5
@@ -109,7 +109,7 @@ OTHERS = {
 class RightNodes(Played):
     def test_with_a_clock(self):
         for name in ("path1", "two", "most4", "rest3", "alone4", "random6", "drops", "barred"):
-            for command in (ROUNDS, in_c()):
+            for command in (ROUNDS, compiled(C)):
                 self.right("rounds", name, command)
 
     def test_without_a_clock(self):
@@ -133,16 +133,16 @@ class RightNodes(Played):
         self.right("rounds", "alone4", answering("layer none"), program="layers")
 
     def test_nodes_of_several_programs(self):
-        self.right("rounds", "star4", ROUNDS, in_c())
+        self.right("rounds", "star4", ROUNDS, compiled(C))
         self.right("rounds", "ring5", ROUNDS, ROUNDS, one_process=True)
-        if in_java():
-            self.right("alpha", "path3", ALPHA, in_java())
+        if compiled(JAVA):
+            self.right("alpha", "path3", ALPHA, compiled(JAVA))
 
     def test_the_same_seed_gives_the_same_run(self):
         """Whatever the language, and in one process or several."""
         first, *others = (
             played("alpha", "path3", command, policy="bursts", seed="5", one_process=is_shared).run.in_order()
-            for command, is_shared in ((ALPHA, False), (ALPHA, True), (in_java(), False)) if command)
+            for command, is_shared in ((ALPHA, False), (ALPHA, True), (compiled(JAVA), False)) if command)
         self.same("the same run", others, [first] * len(others))
         other = played("alpha", "path3", ALPHA, policy="bursts", seed="6", one_process=True)
         self.assertNotEqual(other.run.in_order(), first)
