@@ -6,7 +6,7 @@ import gc
 import re
 import sys
 from collections.abc import Callable
-from dataclasses import dataclass, fields
+from types import SimpleNamespace
 from typing import NamedTuple
 
 from lab import programs
@@ -22,7 +22,7 @@ from lab.pictures import (adversary_page, automaton_picture, bits_picture, broke
                           timing_picture, watch_page, why_picture, wrong_run)
 from lab.pictures.places import unused_places
 from lab.pictures.program_rounds import ProgramRounds, is_own, read_rounds, rounds_of
-from lab.pictures.sizes import MANY_WIRES, check_run, check_size, last_pulse, least_wires
+from lab.pictures.sizes import MANY_WIRES, check_run, last_pulse, least_wires
 from lab.pictures.transcripts import read_transcript
 from lab.pictures.watch_page import steps_of_text
 from lab.schedules.reading import network_of
@@ -30,30 +30,260 @@ from lab.schedules.rules import (OF_ANY_ROUNDS, OF_PROGRAMS as RULES_OF_PROGRAMS
                                  unknown_to)
 from lab.schedules.simulate import played, text_of_rows
 from lab.words import add_command, add_options, add_output, called, parser_of, text_at, write
-from lab.wrong import Wrong
+from lab.wrong import Wrong, at_most
 
-HELP = """\
-Draws plans, rounds and runs, as SVG on standard output; the last three kinds draw
-what `forestlab explore` searches.
 
-  map        the network alone, without a plan: for a question sheet
-  plan       the plan on the map: who has which channel
-  results    what the nodes of any program have found at the end, on the map
-  matrix     the plan as a matrix: proper if the diagonal blocks are blank
-  forests    the forests with their colours, and the plan after each merge
-  rounds     the colours and choices of each node, pulse by pulse
-  bits       one node above its parent, digit by digit
-  why        the messages that gave one node its channel, on the rounds or in words
-  run        space and time of a run without a clock, above its rounds
-  overview   the pulses of such a run from beginning to end
-  node       the synchroniser as an automaton; with --vertex its timing
-  tally      the wires of a run by pulse
-  player     a page that plays the pulses (HTML)
-  watch      a page that plays a run, or two side by side: messages move (HTML)
-  schedules  every order of events of a tiny network, as a lattice
-  adversary  a page on which you choose what happens next (HTML)
-  broken     what the rounds do without a rule, beside what they do with all
-"""
+class Text(NamedTuple):
+    """A text that is drawn: its form (plan, rounds, transcript or events), what its faults call it, and how the picture
+    names a run, if not as the network."""
+    form: str
+    name: str
+    text: str
+    title: str | None = None
+
+
+class Asked(SimpleNamespace):
+    """What a picture is drawn of: a network, texts, and the options that the help of each kind names. `progress` is
+    told now and then how many states and events a search has found."""
+
+    network = forests = forest = pulses = vertex = only = stopped = columns = progress = None
+    program, texts, without, wrong, in_words, as_table = Colouring, (), (), False, False, False
+
+    def text(self, form, is_needed=False):
+        """The text of a form; None if there is none."""
+        found = next((text for text in self.texts if text.form == form), None)
+        if is_needed and not found:
+            raise Wrong(f"there is no {form} to draw")
+        return found
+
+    def plan(self):
+        text = self.text("plan", True)
+        return read_plan(text.text, text.name, self.network)
+
+    def rounds(self):
+        """The rounds of a text, or of the definitions."""
+        text = self.text("rounds")
+        if text is None:
+            return rounds_of(self.network, self.network.identifiers, self.program)
+        return read_rounds(text.text, text.name, self.network, self.program)
+
+    def run(self, usual=None, cut=None):
+        """The run of a transcript, or of what is left of it; of `usual` pulses if no others are asked for."""
+        given, until = self.text("transcript", True), None
+        if usual:
+            until = (self.pulses or usual(self.network, last_pulse(self.network, self.program)))[1]
+        run = read_transcript(cut or given.text, given.name, self.network, until, self.program)
+        run.name = given.title or self.network.name
+        return run
+
+
+# How each kind is drawn that isn't one call.
+
+def draw_rounds(asked):
+    rounds = asked.rounds()
+    if asked.program is Colouring:
+        return rounds_picture.draw(rounds, asked.forests)
+    if asked.forests:
+        raise Wrong(f"{asked.program.name} has no forests")
+    return program_picture.draw(rounds, asked.pulses)
+
+
+def draw_why(asked):
+    cone = why_picture.Cone(asked.rounds(), asked.vertex)
+    return why_picture.text(cone) if asked.in_words else why_picture.draw(cone)
+
+
+def draw_run(asked):
+    cut, wrong = None, None
+    if asked.wrong:
+        given = asked.text("transcript", True)
+        cut, wrong = wrong_run.cut(given.text, given.name, asked.network, asked.program, asked.stopped)
+    run = asked.run(None if wrong else run_picture.usual, cut)
+    return run_picture.draw(run, asked.pulses, asked.only, wrong)
+
+
+def draw_node(asked):
+    if asked.vertex is None:
+        return automaton_picture.draw(asked.run(automaton_picture.usual), asked.pulses)
+    return timing_picture.draw(asked.run(timing_picture.usual), asked.vertex, asked.pulses)
+
+
+def draw_tally(asked):
+    if by_rounds := not asked.text("transcript"):
+        name, counts = asked.network.name, tally_picture.counts_by(asked.rounds())
+    else:
+        run = asked.run()
+        name, counts = run.name, tally_picture.counts_of(run)
+    return tally_picture.draw(asked.network, name, counts, asked.pulses, by_rounds)
+
+
+def draw_watch(asked):
+    asked.text("transcript", True)
+    return watch_page.draw([watch_page.Run(text.name, asked.network, steps_of_text(
+        text.name, asked.network, text.text, asked.pulses, asked.program), asked.pulses) for text in asked.texts])
+
+
+def space_in(kind, asked, beyond):
+    return schedules_space.space_of(asked.network, kind, asked.without, beyond, asked.program, asked.progress)
+
+
+def draw_schedules(asked):
+    space, events = space_in("schedules", asked, asked.columns is not None), asked.text("events")
+    return schedules_picture.draw(asked.network, space, asked.columns, events and events.text)
+
+
+def draw_adversary(asked):
+    space = space_in("adversary", asked, True)
+    return adversary_page.draw_table(space) if asked.as_table else adversary_page.draw(asked.network, space)
+
+
+class Kind(NamedTuple):
+    """A kind of picture: a line of help, more of it, and examples; how it is drawn; the form of the text that it draws;
+    its most nodes and the kind to use above; whether nodes are where the network places them, and whether it draws any
+    program."""
+    does: str
+    more: str
+    example: str
+    draw: Callable[[Asked], str]
+    form: str | None = None
+    most: tuple[int, str] | None = None
+    is_placed: bool = False
+    of_programs: bool = False
+
+
+KINDS = {
+    "map": Kind(
+        "The network alone, without a plan: for a question sheet.",
+        "Identifiers that differ from the numbers are written beside them.",
+        "forestlab picture map examples/petersen.col > petersen-map.svg",
+        lambda asked: map_picture.draw(asked.network), most=(400, "matrix"), is_placed=True),
+    "plan": Kind(
+        "The plan on the map: who has which channel.",
+        "A plan that is not proper is refused; matrix draws it.",
+        "forestlab picture plan examples/petersen.col > petersen-plan.svg",
+        lambda asked: plan_picture.draw(asked.network, asked.plan()), "plan", (400, "matrix"), is_placed=True),
+    "results": Kind(
+        "What the nodes of any program have found at their last pulse, on the map.",
+        "A thick line is an edge that a node has chosen, with an arrow if the other end hasn't;\n"
+        "a filled circle is a node with a colour; of channels the number is in the circle, and beside it what it\n"
+        "was before. All other results are written beside the nodes.",
+        "forestlab picture results examples/petersen.col --program matching > petersen-pairs.svg",
+        lambda asked: results_picture.draw(ProgramRounds(asked.network, asked.network.identifiers, asked.program)),
+        most=(400, "simulate, whose transcript ends in the same"), is_placed=True, of_programs=True),
+    "matrix": Kind(
+        "The plan as a matrix, sorted by channel: proper if the diagonal blocks are blank.",
+        "Pairs on one channel are red.",
+        "forestlab picture matrix examples/queen5_5.col > queen5_5-matrix.svg",
+        lambda asked: matrix_picture.draw(asked.network, asked.plan()), "plan",
+        (2000, "`forestplan check`, which says whether the plan is proper")),
+    "forests": Kind(
+        "Each forest with its three colours, and the plan after each merge.",
+        "Of more than six forests the first four and the last, or up to six others with --forest.",
+        "forestlab picture forests examples/four_cycle.col > four_cycle-forests.svg",
+        lambda asked: forests_picture.draw(asked.rounds(), asked.forests), "rounds", (400, "matrix"),
+        is_placed=True),
+    "rounds": Kind(
+        "The colours of each node in each forest, and when it chooses which channel.",
+        "A row for each node of each forest: without --forest the first forests, as many as have 40 rows\n"
+        "together, and with it at most 400 rows.",
+        "forestlab picture rounds examples/triangle.col > triangle-rounds.svg",
+        draw_rounds, "rounds", (100, "forests"), of_programs=True),
+    "bits": Kind(
+        "One node above its parent, digit by digit, over the four bit steps.",
+        "Without --vertex, the least one that has a parent. A vertex without a line `i V NUMBER` has its own\n"
+        "number as its name, of few digits.",
+        "forestlab picture bits examples/petersen.col --vertex 6 > petersen-bits.svg",
+        lambda asked: bits_picture.draw(asked.rounds(), asked.forest or 0, asked.vertex), "rounds"),
+    "why": Kind(
+        "Which messages decided the channel of --vertex, on the rounds or in words.",
+        "At most 400 rows, a row for each node of each forest that mattered; what didn't decide it is\n"
+        "faded. With --text the same in words, of any network: each choice, who had taken the lower\n"
+        "channels, the colours that gave the turns, and each message. What wasn't heard is left out: that\n"
+        "a channel is free, and, of the greetings, who is whose parent.",
+        "forestlab picture why examples/triangle.col --vertex 2 > triangle-why.svg\n"
+        "  forestlab picture why examples/petersen.col --vertex 6 --text",
+        draw_why, "rounds"),
+    "run": Kind(
+        "Space and time of a run without a clock: what each node put, took and did, above its rounds.",
+        "Above 6 nodes, payloads alone unless --only says more. Without a stored text two calls differ, as the\n"
+        "runs do, but for --workers 1. With --wrong, a text that is refused, up to what is wrong.",
+        "forestlab picture run examples/chain6.col --pulses 3..5 --transcript \\\n"
+        "    examples/chain6_slow.transcript > chain6_slow-spacetime.svg",
+        draw_run, "transcript", (12, "overview"), of_programs=True),
+    "overview": Kind(
+        "The pulses of a run without a clock, from beginning to end.",
+        "Of a run of more than 100 pulses the first 40, or others with --pulses; of a long text only what they\n"
+        "depend on is read, and checked.",
+        "forestlab picture overview examples/petersen.col > petersen-overview.svg\n"
+        "  forestlab picture overview examples/queen5_5.col --pulses 100..139 > queen5_5-overview.svg",
+        lambda asked: overview_picture.draw(asked.run(overview_picture.usual), asked.pulses), "transcript",
+        (100, "tally"), of_programs=True),
+    "node": Kind(
+        "The synchroniser as an automaton: how often each step is made; with --vertex its timing.",
+        "With --vertex V: what node V knew, entry by entry (at most 14 ports). Of a long run the steps of the\n"
+        "first 40 pulses, or of others with --pulses.",
+        "forestlab picture node examples/petersen.col > petersen-automaton.svg\n"
+        "  forestlab picture node examples/petersen.col --vertex 1 > petersen-timing.svg",
+        draw_node, "transcript", of_programs=True),
+    "tally": Kind(
+        "The wires of a run by pulse, under the identity that counts them.",
+        "Any network; the run has to be whole. Of more than 100 pulses the bars of the first 40, or of others\n"
+        "with --pulses; the identity is the whole run's. If a run would be long, its wires are counted by the\n"
+        "rounds: each whole run has the same.",
+        "forestlab picture tally examples/petersen.col > petersen-tally.svg",
+        draw_tally, "transcript", of_programs=True),
+    "player": Kind(
+        "A page with a slider and a play button: the network at each pulse (HTML).",
+        "Add #pulse-P to the page's address for a link to pulse P, and #pulse-P-forest-F for one of its forests.",
+        "forestlab picture player examples/petersen.col > petersen.html",
+        lambda asked: player_page.draw(asked.rounds()), "rounds", (40, "rounds"), is_placed=True, of_programs=True),
+    "watch": Kind(
+        "A page that plays a run without a clock, or two side by side: messages move (HTML).",
+        "At most 20,000 entries: of a longer run the first pulses, or others with --pulses. TRANSCRIPT is a\n"
+        "stored text, or - for standard input; without it the program writes one. With a second one both are\n"
+        "beside each other, pulse by pulse. Add #pulse-P to the page's address for a link to pulse P.",
+        "forestlab simulate examples/chain6.col --slow 2-3 > slow.transcript\n"
+        "  forestlab picture watch examples/chain6.col slow.transcript > slow.html\n"
+        "  forestlab picture watch examples/chain6.col slow.transcript examples/chain6_slow.transcript > two.html",
+        draw_watch, "transcript", (40, "overview"), is_placed=True, of_programs=True),
+    "schedules": Kind(
+        "Every order of events of a tiny network: its states as a lattice, one column an event.",
+        "At most 200,000 states. Of long ones the first columns, or others with --columns.\n"
+        "With a rule left out, up to the first event that goes wrong, which is red; with --columns what\n"
+        "comes after it, too.",
+        "forestlab picture schedules examples/triangle.col --columns 0..24 > triangle-schedules.svg\n"
+        "  forestlab picture schedules examples/path.col --without safes > path-without-safes.svg",
+        draw_schedules, "events", (4, "run, which draws one schedule"), of_programs=True),
+    "adversary": Kind(
+        "A page on which you are the network: you choose which message comes next (HTML).",
+        "At most 200,000 states. With a rule left out, what goes wrong is there too, in a table that may end\n"
+        "early, which the page says.",
+        "forestlab picture adversary examples/triangle.col > triangle.html\n"
+        "  forestlab picture adversary examples/path.col --without safes > path-without-safes.html",
+        draw_adversary, most=(4, "player"), of_programs=True),
+    "broken": Kind(
+        "What goes wrong without a rule of the rounds, and the same rounds with all rules.",
+        "At most 40 nodes if they go wrong in a merge or at the end of another program. Without NETWORK, a\n"
+        "smallest network that goes wrong, which is looked for. Rounds that go right are refused.",
+        "forestlab picture broken --without shift > without-shift.svg\n"
+        "  forestlab picture broken examples/petersen.col --without pair > petersen-without-pair.svg\n"
+        "  forestlab picture broken --program independent-set --without class > set-without-class.svg",
+        lambda asked: broken_picture.draw(asked.network, asked.without, asked.program),
+        most=(2000, "`forestlab explore NETWORK --without RULES`, which says it in words"), is_placed=True,
+        of_programs=True),
+}
+
+
+def of_form(form):
+    """The kinds that draw a text of a form and can be given it by an option."""
+    return tuple(name for name, kind in KINDS.items() if kind.form == form and name != "watch")
+
+
+OF_PLAN, OF_ROUNDS, OF_RUN = map(of_form, ("plan", "rounds", "transcript"))
+
+HELP = ("Draws plans, rounds and runs, as SVG on standard output; the last three kinds draw\n"
+        "what `forestlab explore` searches.\n\n"
+        + "".join(f"  {name:10} {kind.does[0].lower()}{kind.does[1:-1]}\n" for name, kind in KINDS.items()))
 
 MORE_HELP = """\
 NETWORK is a file in the DIMACS format, - for standard input, as in
@@ -72,112 +302,6 @@ line is refused; if a program refuses, its own line and status.
 
 `forestlab picture KIND --help` has the options and an example.
 """
-
-# What each kind draws: a line of help, more of it, and its example.
-KINDS = {
-    "map": ("The network alone, without a plan.",
-            "At most 400 nodes. Identifiers that differ from the numbers are written beside them.",
-            "forestlab picture map examples/petersen.col > petersen-map.svg"),
-    "plan": ("Who has which channel.", "At most 400 nodes. A plan that is not proper is refused; matrix draws it.",
-             "forestlab picture plan examples/petersen.col > petersen-plan.svg"),
-    "results": (
-        "What the nodes of a program have found at their last pulse, on the map.",
-        "At most 400 nodes. A thick line is an edge that a node has chosen, with an arrow if the other end hasn't;\n"
-        "a filled circle is a node with a colour; of channels the number is in the circle, and beside it what it\n"
-        "was before. All other results are written beside the nodes.",
-        "forestlab picture results examples/petersen.col --program matching > petersen-pairs.svg",
-    ),
-    "matrix": ("Who interferes with whom, sorted by channel.", "Pairs on one channel are red. At most 2,000 nodes.",
-               "forestlab picture matrix examples/queen5_5.col > queen5_5-matrix.svg"),
-    "forests": ("Each forest with its three colours, and the plan after each merge.",
-                "At most 400 nodes; of more than six forests the first four and the last, or up to\n"
-                "six others with --forest.",
-                "forestlab picture forests examples/four_cycle.col > four_cycle-forests.svg"),
-    "rounds": ("The colours of each node in each forest, and when it chooses which channel.",
-               "At most 100 nodes. A row for each node of each forest: without --forest the first\n"
-               "forests, as many as have 40 rows together, and with it at most 400 rows.",
-               "forestlab picture rounds examples/triangle.col > triangle-rounds.svg"),
-    "bits": ("One node above its parent, digit by digit, over the four bit steps.",
-             "Without --vertex, the least one that has a parent. A vertex without a line `i V NUMBER`\n"
-             "has its own number as its name, of few digits.",
-             "forestlab picture bits examples/petersen.col --vertex 6 > petersen-bits.svg"),
-    "why": ("Which messages decided the channel of --vertex, back to identifiers; all others are faded.",
-            "At most 400 rows, a row for each node of each forest that mattered. With --text the same in\n"
-            "words, of any network: each choice, who had taken the lower channels, the colours that gave the\n"
-            "turns, and each message. What wasn't heard is left out: that a channel is free, and, of the\n"
-            "greetings, who is whose parent.",
-            "forestlab picture why examples/triangle.col --vertex 2 > triangle-why.svg\n"
-            "  forestlab picture why examples/petersen.col --vertex 6 --text"),
-    "run": ("Above, what each node put, took and did; below, the same payloads as rounds.",
-            "At most 12 nodes; above 6, payloads alone unless --only says more. Without a\n"
-            "stored text two calls differ, as the runs do, but for --workers 1. With --wrong, a text\n"
-            "that is refused, up to what is wrong.",
-            "forestlab picture run examples/chain6.col --pulses 3..5 --transcript \\\n"
-            "    examples/chain6_slow.transcript > chain6_slow-spacetime.svg"),
-    "overview": ("The pulses of a run without a clock, from beginning to end.",
-                 "At most 100 nodes. Of a run of more than 100 pulses the first 40, or others with\n"
-                 "--pulses; of a long text only what they depend on is read, and checked.",
-                 "forestlab picture overview examples/petersen.col > petersen-overview.svg\n"
-                 "  forestlab picture overview examples/queen5_5.col --pulses 100..139 > queen5_5-overview.svg"),
-    "node": ("How a node knows that a round is over: how often each step is made.",
-             "With --vertex V: what node V knew, entry by entry (at most 14 ports). Of a long run\n"
-             "the steps of the first 40 pulses, or of others with --pulses.",
-             "forestlab picture node examples/petersen.col > petersen-automaton.svg\n"
-             "  forestlab picture node examples/petersen.col --vertex 1 > petersen-timing.svg"),
-    "tally": ("The wires of a run by pulse, under the identity that counts them.",
-              "Any network; the run has to be whole. Of more than 100 pulses the bars of the first 40,\n"
-              "or of others with --pulses; the identity is the whole run's. If a run would be long,\n"
-              "its wires are counted by the rounds: each whole run has the same.",
-              "forestlab picture tally examples/petersen.col > petersen-tally.svg"),
-    "player": ("A page with a slider and a play button: the network at each pulse.",
-               "At most 40 nodes. Add #pulse-P to the page's address for a link to pulse P, and\n"
-               "#pulse-P-forest-F for one of its forests.",
-               "forestlab picture player examples/petersen.col > petersen.html"),
-    "watch": (
-        "A page that plays a run without a clock: messages move, and each node shows what it waits for.",
-        "At most 40 nodes, and 20,000 entries: of a longer run the first pulses, or others with\n"
-        "--pulses. TRANSCRIPT is a stored text, or - for standard input; without it the program\n"
-        "writes one. With a second one both are beside each other, pulse by pulse. Add\n"
-        "#pulse-P to the page's address for a link to pulse P.",
-        "forestlab simulate examples/chain6.col --slow 2-3 > slow.transcript\n"
-        "  forestlab picture watch examples/chain6.col slow.transcript > slow.html\n"
-        "  forestlab picture watch examples/chain6.col slow.transcript examples/chain6_slow.transcript > two.html",
-    ),
-    "schedules": ("Every order of events of a tiny network: its states as a lattice, one column an event.",
-                  "At most four nodes and 200,000 states. Of long ones the first columns, or others with --columns.\n"
-                  "With a rule left out, up to the first event that goes wrong, which is red; with --columns what\n"
-                  "comes after it, too.",
-                  "forestlab picture schedules examples/triangle.col --columns 0..24 > triangle-schedules.svg\n"
-                  "  forestlab picture schedules examples/path.col --without safes > path-without-safes.svg"),
-    "adversary": (
-        "A page on which you are the network: you choose which message comes next.",
-        "At most four nodes and 200,000 states. With a rule left out, what goes wrong is there too, in a table that\n"
-        "may end early, which the page says.",
-        "forestlab picture adversary examples/triangle.col > triangle.html\n"
-        "  forestlab picture adversary examples/path.col --without safes > path-without-safes.html",
-    ),
-    "broken": (
-        "What goes wrong without a rule of the rounds, and the same rounds with all rules.",
-        "At most 2,000 nodes, and 40 if they go wrong in a merge or at the end of another program. Without NETWORK, a\n"
-        "smallest network that goes wrong, which is looked for. Rounds that go right are refused.",
-        "forestlab picture broken --without shift > without-shift.svg\n"
-        "  forestlab picture broken examples/petersen.col --without pair > petersen-without-pair.svg\n"
-        "  forestlab picture broken --program independent-set --without class > set-without-class.svg",
-    ),
-}
-# Those that draw the nodes where the network places them.
-PLACED = ("map", "plan", "results", "forests", "player", "watch", "broken")
-# Those that draw any program.
-OF_PROGRAMS = ("results", "rounds", "player", "watch", "run", "overview", "node", "tally", "schedules", "adversary",
-               "broken")
-OF_PLAN, OF_ROUNDS, OF_RUN = (
-    ("plan", "matrix"),
-    ("forests", "rounds", "bits", "why", "player"),
-    ("run", "overview", "node", "tally"),
-)
-# The form of the text that a kind draws.
-FORMS = {"schedules": "events", "watch": "transcript"} | dict.fromkeys(OF_PLAN, "plan") | dict.fromkeys(
-    OF_ROUNDS, "rounds") | dict.fromkeys(OF_RUN, "transcript")
 
 
 def pulses(text):
@@ -213,22 +337,26 @@ def rules_of_rounds(text):
     return found
 
 
+def stored(form, said):
+    """An option that names a text of a form."""
+    return {"dest": "stored", "action": "append", "type": lambda path: (form, path), "metavar": "FILE", "help": said}
+
+
 PULSES = {"type": pulses, "metavar": "A..B", "help": "these pulses alone"}
 VERTEX = {"type": int, "metavar": "V", "help": "a vertex, counted from 1"}
 # The options of the kinds, besides those of programs, in the order of the help.
 OPTIONS = (
-    (("watch",), "transcripts", {"metavar": "TRANSCRIPT", "nargs": "*", "help": "a stored run, or two of them"}),
+    (("watch",), "stored", {"metavar": "TRANSCRIPT", "nargs": "*", "type": lambda path: ("transcript", path),
+                            "help": "a stored run, or two of them"}),
     (("schedules", "adversary"), "--without", {
         "type": rules, "default": (), "metavar": "RULES", "help": f"some of {','.join(OF_SCHEDULES)}"}),
     (("broken",), "--without", {"type": rules_of_rounds, "required": True, "metavar": "RULES", "help": "some of "
                                 + "; or ".join(f"{','.join(of)} of {name}" for name, of in RULES_OF_PROGRAMS.items())}),
     (("schedules",), "--columns", {
         "type": pulses, "metavar": "A..B", "help": "the states after A to B events alone"}),
-    (("schedules",), "--events", {"dest": "text", "metavar": "LIST",
-                                  "help": "the run drawn bold, a list of events; else the one in step"}),
+    (("schedules",), "--events", stored("events", "the run drawn bold, a list of events; else the one in step")),
     (("adversary",), "--json", {"action": "store_true", "dest": "as_table", "help": "the page's table alone"}),
-    *((kinds, f"--{form}", {
-        "dest": "text", "metavar": "FILE", "help": f"a stored {form} text, or - for standard input"})
+    *((kinds, f"--{form}", stored(form, f"a stored {form} text, or - for standard input"))
       for kinds, form in ((OF_PLAN, "plan"), (OF_ROUNDS, "rounds"), (OF_RUN, "transcript"))),
     (OF_RUN, "--workers", {"metavar": "N", "help": "the run's worker threads"}),
     (OF_RUN, "--capacity", {"metavar": "N", "help": "how many wires its links hold"}),
@@ -240,7 +368,7 @@ OPTIONS = (
     (("bits", "node"), "--vertex", VERTEX),
     (("why",), "--vertex", VERTEX | {"required": True}),
     (("why",), "--text", {"action": "store_true", "dest": "in_words", "help": "in words, not as a picture"}),
-    (("tally",), "--rounds", {"metavar": "FILE", "help": "a stored rounds text to count by, in place of a run"}),
+    (("tally",), "--rounds", stored("rounds", "a stored rounds text to count by, in place of a run")),
     (("run",), "--only", {"type": wires, "metavar": "KINDS", "help": "some of payload,ack,safe,close"}),
     (("run",), "--wrong", {"action": "store_true", "help": "draw a text of edition 2 up to its first entry that isn't "
                            "possible, and that one in red"}),
@@ -255,146 +383,34 @@ def command_line():
     kinds = words.add_subparsers(dest="kind", metavar="KIND", required=True, help="one of those above")
     for name, does in KINDS.items():
         usage = "[NETWORK] --without RULES" if name == "broken" else "NETWORK [options]"
-        kind = add_command(kinds, f"picture {name}", usage, *does)
+        most = f"At most {does.most[0]:,} nodes. " if does.most else ""
+        kind = add_command(kinds, f"picture {name}", usage, does.does, most + does.more, does.example)
         kind.add_argument("network", metavar="NETWORK", nargs="?" if name == "broken" else None,
                           help="a file, - for standard input, or a name, as petersen or path5")
         kind.add_argument("--title", metavar="NAME", help="what the picture calls the network, in place of its file")
-        if name in OF_PROGRAMS:
+        if does.of_programs:
             add_program(kind)
         add_options(kind, name, OPTIONS)
         add_output(kind)
     return words, kinds.choices
 
 
-@dataclass
-class Options:
-    """What pictures can be asked for besides the network; the help of each kind names those that it takes."""
-    program: type = Colouring
-    forests: tuple[int, int] | None = None
-    forest: int | None = None
-    pulses: tuple[int, int] | None = None
-    vertex: int | None = None
-    only: list[str] | None = None
-    wrong: bool = False
-    stopped: int | None = None
-    in_words: bool = False
-    without: tuple[str, ...] = ()
-    columns: tuple[int, int] | None = None
-    as_table: bool = False
-    # Told now and then how many states and events a search has found.
-    progress: Callable[[int, int], None] | None = None
+def check_size(kind, network):
+    """Refuses a network without a node, or one too large for a kind, before any text of it is asked for."""
+    if network.nodes == 0:
+        raise Wrong(f"{network.name}: no node, so nothing to draw")
+    if KINDS[kind].most:
+        limit, instead = KINDS[kind].most
+        at_most(kind, network.nodes, "nodes", limit, instead)
 
 
-class Text(NamedTuple):
-    """A text that is drawn: its form (plan, rounds, transcript or events), what its faults call it, and how the picture
-    names a run, if not as the network."""
-    form: str
-    name: str
-    text: str
-    title: str | None = None
-
-
-def drawing(kind, network, options=Options(), texts=()):
+def drawing(kind, asked):
     """The picture of a kind: SVG, a page or words. A plan and a run have to be among the texts; rounds of which there
     is no text are worked out by the definitions. No program is called, no file read, and nothing said: a fault raises
     `Wrong`."""
-    if network is not None:
-        check_size(kind, network)
-    given = {text.form: text for text in texts}
-    match kind:
-        case "map":
-            return map_picture.draw(network)
-        case "results":
-            return results_picture.draw(ProgramRounds(network, network.identifiers, options.program))
-        case "plan" | "matrix":
-            plan = wanted(given, "plan")
-            draw = plan_picture.draw if kind == "plan" else matrix_picture.draw
-            return draw(network, read_plan(plan.text, plan.name, network))
-        case "watch":
-            wanted(given, "transcript")
-            return watch_page.draw([watch_page.Run(text.name, network, steps_of_text(
-                text.name, network, text.text, options.pulses, options.program), options.pulses) for text in texts])
-        case "broken":
-            return broken_picture.draw(network, options.without, options.program)
-        case "schedules" | "adversary":
-            return draw_space(kind, network, options, given.get("events"))
-    return (draw_run if kind in OF_RUN else draw_rounds)(kind, network, options, given)
-
-
-def wanted(texts, form):
-    if form not in texts:
-        raise Wrong(f"there is no {form} to draw")
-    return texts[form]
-
-
-def draw_rounds(kind, network, options, texts):
-    rounds = rounds_in(network, options, texts)
-    if options.program is not Colouring:
-        if kind != "rounds":
-            return player_page.draw(rounds)
-        if options.forests:
-            raise Wrong(f"{options.program.name} has no forests")
-        return program_picture.draw(rounds, options.pulses)
-    match kind:
-        case "forests":
-            return forests_picture.draw(rounds, options.forests)
-        case "rounds":
-            return rounds_picture.draw(rounds, options.forests)
-        case "why":
-            cone = why_picture.Cone(rounds, options.vertex)
-            return why_picture.text(cone) if options.in_words else why_picture.draw(cone)
-        case "bits":
-            return bits_picture.draw(rounds, options.forest or 0, options.vertex)
-    return player_page.draw(rounds)
-
-
-def rounds_in(network, options, texts):
-    """The rounds of a text, or of the definitions."""
-    given, program = texts.get("rounds"), options.program
-    if given is None:
-        return rounds_of(network, network.identifiers, program)
-    return read_rounds(given.text, given.name, network, program)
-
-
-def draw_run(kind, network, options, texts):
-    if kind == "tally" and "transcript" not in texts:
-        counts = tally_picture.counts_by(rounds_in(network, options, texts))
-        return tally_picture.draw(network, network.name, counts, options.pulses, by_rounds=True)
-    given, wrong = wanted(texts, "transcript"), None
-    text = given.text
-    if kind == "run" and options.wrong:
-        text, wrong = wrong_run.cut(text, given.name, network, options.program, options.stopped)
-    until = None if wrong else until_of(kind, network, options)
-    run = read_transcript(text, given.name, network, until, options.program)
-    run.name = given.title or network.name
-    if kind == "run":
-        return run_picture.draw(run, options.pulses, options.only, wrong)
-    if kind == "overview":
-        return overview_picture.draw(run, options.pulses)
-    if kind == "tally":
-        return tally_picture.draw(run.network, run.name, tally_picture.counts_of(run), options.pulses)
-    if options.vertex is None:
-        return automaton_picture.draw(run, options.pulses)
-    return timing_picture.draw(run, options.vertex, options.pulses)
-
-
-def until_of(kind, network, options):
-    """The last pulse that is drawn; None if all are."""
-    if kind == "tally":
-        return None
-    if options.pulses:
-        return options.pulses[1]
-    of_node = automaton_picture if options.vertex is None else timing_picture
-    usual = {"run": run_picture, "overview": overview_picture}.get(kind, of_node).usual
-    return usual(network, last_pulse(network, options.program))[1]
-
-
-def draw_space(kind, network, options, bold):
-    beyond = kind == "adversary" or options.columns is not None
-    space = schedules_space.space_of(network, kind, options.without, beyond, options.program, options.progress)
-    if kind == "schedules":
-        return schedules_picture.draw(network, space, options.columns, bold and bold.text)
-    return adversary_page.draw_table(space) if options.as_table else adversary_page.draw(network, space)
+    if asked.network is not None:
+        check_size(kind, asked.network)
+    return KINDS[kind].draw(asked)
 
 
 # From the command line.
@@ -403,30 +419,20 @@ def note(what):
     print(f"picture: {what}", file=sys.stderr)
 
 
-def stored(given):
-    """(form, path) of each text that the command line names."""
-    if given.kind == "watch":
-        return [("transcript", path) for path in given.transcripts]
-    path = getattr(given, "text", None)
-    if given.kind == "tally" and given.rounds and not path:
-        return [("rounds", given.rounds)]
-    return [(FORMS[given.kind], path)] if path else []
-
-
-def texts_of(given, network, network_text, options):
+def texts_of(given, network, network_text, program):
     """The texts that are drawn: those of files, or what a program writes."""
     found = [Text(form, called(path), text_at(path),
                   None if path == "-" or given.title or given.kind == "watch" else stem(path))
-             for form, path in stored(given)]
+             for form, path in getattr(given, "stored", None) or []]
     if found:
         return found
     if given.kind in OF_PLAN:
         return [Text("plan", "the plan", plan_text(network_text))]
     # A long run has as many wires as each other, so they are counted by the rounds.
-    by_rounds = given.kind == "tally" and least_wires(network, options.program) > MANY_WIRES
+    by_rounds = given.kind == "tally" and least_wires(network, program) > MANY_WIRES
     if given.kind == "watch" or given.kind in OF_RUN and not by_rounds:
         return [Text("transcript", network.name if given.kind == "watch" else f"the text of {network.name}",
-                     run_text(given, network, network_text, options.program))]
+                     run_text(given, network, network_text, program))]
     return []
 
 
@@ -452,13 +458,12 @@ def run_text(given, network, network_text, program):
                             network_text)
 
 
-def options_of(given):
-    """The options of a kind as the command line has them."""
-    found = {field.name: getattr(given, field.name) for field in fields(Options) if hasattr(given, field.name)}
+def asked_by(given):
+    """What the command line asks for, but for its network and texts."""
     named = (getattr(given, option, default) for option, default in (
         ("program", Colouring.name), ("lots", "1"), ("root", None), ("passes", None)))
-    return Options(**found | {"program": program_at(*named),
-                              "progress": progress if sys.stderr.isatty() else None})
+    return Asked(**vars(given) | {"program": program_at(*named), "network": None,
+                                  "progress": progress if sys.stderr.isatty() else None})
 
 
 def progress(states, events):
@@ -468,22 +473,23 @@ def progress(states, events):
 def drawn(given):
     """The picture that the command line asks for."""
     if given.kind == "broken" and given.network is None:
-        return drawing("broken", None, options_of(given))
-    if len(stored(given)) > 2:
+        return drawing("broken", asked_by(given))
+    paths = [path for _, path in getattr(given, "stored", None) or []]
+    if given.kind == "watch" and len(paths) > 2:
         raise Wrong("a page has room for two runs")
-    if [given.network, *(path for _, path in stored(given))].count("-") > 1:
+    if [given.network, *paths].count("-") > 1:
         raise Wrong("standard input has one text: name a file for each other one")
     data = network_text(given.network)
     network = read_network(data, called(given.network))
     network.name = given.title or ("this network" if given.network == "-" else network.name)
     check_size(given.kind, network)
-    options = options_of(given)
-    check_root(options.program, network.nodes)
-    texts = texts_of(given, network, data.encode(), options)
-    if given.kind in PLACED and (said := unused_places(network)):
+    asked = asked_by(given)
+    check_root(asked.program, network.nodes)
+    asked.network, asked.texts = network, texts_of(given, network, data.encode(), asked.program)
+    if KINDS[given.kind].is_placed and (said := unused_places(network)):
         note(said)
-    note_ignored_bars("picture", network.bars, options.program)
-    return drawing(given.kind, network, options, texts)
+    note_ignored_bars("picture", network.bars, asked.program)
+    return drawing(given.kind, asked)
 
 
 def main(words):

@@ -8,7 +8,7 @@ from lab.networks.plan_text import read_plan
 from lab.pictures import broken_picture, why_picture
 from lab.definitions.pulses import Rounds
 from lab.pictures.pages import net_of
-from lab.pictures.picture import OF_PLAN, OF_RUN, Options, Text, drawing
+from lab.pictures.picture import OF_PLAN, OF_RUN, Asked, Text, drawing
 from lab.pictures.player_page import film_of
 from lab.pictures.program_rounds import ProgramRounds
 from lab.pictures.sizes import last_pulse
@@ -98,5 +98,5 @@ def picture(asked, _tell):
     if kind in OF_RUN:
         texts = [Text("transcript", "the run", str(asked["transcript"]))]
     pulses = tuple(int(pulse) for pulse in asked.get("pulses") or ()) or None
-    options = Options(program_asked(asked), forest=asked.get("forest"), vertex=asked.get("vertex"), pulses=pulses)
-    return drawing(kind, network, options, texts)
+    return drawing(kind, Asked(network=network, texts=texts, program=program_asked(asked), forest=asked.get("forest"),
+                               vertex=asked.get("vertex"), pulses=pulses))
