@@ -18,28 +18,30 @@ import signal
 import subprocess
 import sys
 import tempfile
+import textwrap
 from concurrent.futures import ThreadPoolExecutor
 
 from build import program
 from tests import TOP
+from tests.settings import PATHS, SETTINGS, built, variable
 
 # The modules that take longest, which begin first.
 LONGEST = ("programs.hostile", "programs.transcripts", "programs.merged", "programs.schedules", "programs.plans",
            "programs.plain_networks")
 
 
-def options(settings):
+def options():
+    more = "Status: 0 all passed, 1 a row failed, 2 the command line is refused.\n\nSettings are variables:\n"
+    for name, (default, what) in SETTINGS.items():
+        shown = os.path.relpath(default, TOP) if default.startswith(TOP) else default
+        more += textwrap.fill(f"{what} (default: {shown or 'none'})", 100, initial_indent=f"  {variable(name):18} ",
+                              subsequent_indent=" " * 21) + "\n"
     words = argparse.ArgumentParser(prog="tests", usage="python3 -m tests [NAME ..] [options]", description=__doc__,
-                                    epilog="Status: 0 all passed, 1 a row failed, 2 the command line is refused.",
-                                    formatter_class=argparse.RawDescriptionHelpFormatter)
+                                    epilog=more, formatter_class=argparse.RawDescriptionHelpFormatter)
     words.add_argument("names", metavar="NAME", nargs="*")
     words.add_argument("--list", action="store_true", help="print the names of the tests, and run none")
     words.add_argument("-j", "--jobs", metavar="N", type=int, default=len(os.sched_getaffinity(0)),
                        help="how many modules run at a time; as many as there are processors by default")
-    more = words.add_argument_group("settings, each also by an environment variable, as TESTS_PLAN")
-    for name, (default, what) in settings.items():
-        shown = os.path.relpath(default, TOP) if default.startswith(TOP) else default
-        more.add_argument(f"--{name}", metavar="X", help=what + (f" (default: {shown})" if shown else ""))
     return words
 
 
@@ -68,18 +70,15 @@ def chosen_tests(names, words):
     return found
 
 
-def what_is_missing(chosen, settings, setting):
+def what_is_missing(chosen):
     """What the chosen tests need and isn't there, in words."""
     tests = [test for tests in chosen.values() for test in tests.values() if test is not None]
     if not any(getattr(test, "needs_programs", True) for test in tests):
         return ""
-    for name, option in (("forestplan", "plan"), ("forestplay", "play")):
-        path = setting(option)
-        if not os.access(path, os.X_OK):
-            return f"{os.path.relpath(path)} isn't built: ./test builds it, and so does bin/{name}"
-        if path == settings[option][0] and not program.is_built(name):
-            return (f"{os.path.relpath(path)} wasn't built from the sources as they are, and no test proves anything: "
-                    f"./test builds it, and so does bin/{name}; --{option} FILE names another")
+    for name, path in PATHS.items():
+        if not os.access(path, os.X_OK) or path == built(name) and not program.is_built(name):
+            return (f"{os.path.relpath(path)} isn't built from the sources as they are, and no test proves anything: "
+                    f"./test builds it, and so does bin/{name}")
     return "" if shutil.which("cc") else "there is no C compiler cc"
 
 
@@ -140,18 +139,13 @@ def main():
         os.environ.pop("PYTHONDONTWRITEBYTECODE", None)
         sys.dont_write_bytecode = False
         sys.pycache_prefix = os.environ.setdefault("PYTHONPYCACHEPREFIX", os.path.join(folder, "compiled"))
-        from tests.settings import SETTINGS, setting, variable
-        words = options(SETTINGS)
+        words = options()
         given = words.parse_args()
-        for name in SETTINGS:
-            value = getattr(given, name.replace("-", "_"))
-            if value is not None:
-                os.environ[variable(name)] = value
         chosen = chosen_tests(given.names, words)
         if given.list:
             print("\n".join(test for tests in chosen.values() for test in tests))
             return 0
-        missing = what_is_missing(chosen, SETTINGS, setting)
+        missing = what_is_missing(chosen)
         if missing:
             print(f"tests: {missing}", file=sys.stderr)
             return 2

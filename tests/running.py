@@ -3,7 +3,9 @@
   python3 -m tests.running MODULE [TEST ..]
 
 A test is a method of a `unittest.TestCase`; a module without one is a helper that others import. It prints each row
-that failed or was skipped, and last 'N passed, M failed'."""
+that failed or was skipped, and last 'N passed, M failed'. A test that takes longer than the limit ends it, with the
+place where it waits."""
+import faulthandler
 import glob
 import importlib
 import os
@@ -12,7 +14,9 @@ import unittest
 
 from tests import TOP
 from tests.cases import Wrong
+from tests.settings import setting
 from tests.shell import without_rt
+
 
 def modules():
     """The names of all modules of tests/, without the package's and what is called by hand."""
@@ -36,6 +40,8 @@ class Counting(unittest.TestResult):
     def startTest(self, test):
         super().startTest(test)
         self.rows = 0
+        # Whatever a test waits for, it has an end.
+        faulthandler.dump_traceback_later(float(setting("limit")), exit=True)
 
     def addSubTest(self, test, subtest, err):
         self.rows += 1
@@ -46,8 +52,7 @@ class Counting(unittest.TestResult):
             self.note_failure(test, f"{row}: ", err)
 
     def addSuccess(self, test):
-        if self.rows == 0:
-            self.passed += 1
+        self.passed += self.rows == 0
 
     def addError(self, test, err):
         self.note_failure(test, "", err)
@@ -74,6 +79,7 @@ def main():
     counted, (module, *chosen) = Counting(), sys.argv[1:]
     # No test proves anything.
     os.environ["PATH"] = without_rt(os.environ["PATH"])
+    faulthandler.dump_traceback_later(float(setting("limit")), exit=True)
     tests = tests_of(module)
     unittest.TestSuite(tests[name] for name in chosen or tests if name in tests).run(counted)
     if counted.passed + counted.failed == 0:

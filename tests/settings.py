@@ -1,5 +1,4 @@
-"""What the tests run with. Each setting has a name and a default; an environment variable `TESTS_NAME` or an option
-`--name` of the runner changes it."""
+"""What the tests run with: settings with a name and a default, which an environment variable `TESTS_NAME` changes."""
 import os
 
 from tests import TOP
@@ -16,6 +15,7 @@ SETTINGS = {
     "second-plan": (built("forestplan") + ".by-rattle", "forestplan as the second compiler builds it"),
     "second-play": (built("forestplay") + ".by-rattle", "forestplay as the second compiler builds it"),
     "crate-tests": (os.path.join(TOP, "crates", "checks", "out", "checks_tests"), "the tests of crates/checks"),
+    "limit": ("1200", "how many seconds a test may take; one that takes longer is ended, and has failed"),
     "texts": ("60000", "how many random texts programs.hostile makes, over all commands"),
     "seed": ("2026", "the seed of these random texts"),
     "runs": ("90", "how many whole runs of threads programs.merged checks; 1000 take some minutes"),

@@ -4,7 +4,7 @@ programs that go on after the colouring a checker that has nothing but the edges
 say.
 
   ./test programs.sequel_runs                              a few networks
-  python3 -m tests --sequels 1000 programs.sequel_runs     many of them"""
+  TESTS_SEQUELS=1000 python3 -m tests programs.sequel_runs     many of them"""
 import itertools
 import re
 
