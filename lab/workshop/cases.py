@@ -1,10 +1,10 @@
 """The runs of an assignment: which network, identifiers, bars and policy each has, by seed."""
-import random
 import re
 from argparse import Namespace
 from dataclasses import dataclass, field
 from functools import lru_cache
-from typing import Any, Iterable, Iterator, Sequence
+from random import Random
+from typing import Any, Iterable, Iterator
 
 from lab.networks.named import network_at, path_of
 from lab.networks.network_text import Network
@@ -16,32 +16,6 @@ from lab.workshop.protocol import COLOURING
 NETWORKS = "path1,two,path3,triangle,rest3,alone4,most4,star4,ring5,complete4,random6,drops"
 # The programs whose nodes heed bars.
 WITH_BARS = (COLOURING, "independent-set", "recolouring")
-
-
-class Chance:
-    """Chance by a seed. Of a generator of Python only random() gives the same numbers in all versions, so all comes
-    from it."""
-
-    def __init__(self, seed: str):
-        self.source = random.Random(seed)
-
-    def happens(self, part: float) -> bool:
-        return self.source.random() < part
-
-    def below(self, bound: int) -> int:
-        return int(self.source.random() * bound)
-
-    def one_of(self, things: Sequence):
-        return things[self.below(len(things))]
-
-    def some_of(self, things: Sequence, count: int) -> list:
-        """So many different ones, in any order."""
-        left = list(things)
-        return [left.pop(self.below(len(left))) for _ in range(count)]
-
-    def long_number(self) -> int:
-        """Up to 128 binary digits."""
-        return sum(self.below(1 << 32) << 32 * k for k in range(4))
 
 
 @dataclass
@@ -69,32 +43,32 @@ class Case:
 known = lru_cache(network_at)
 
 
-def network_of(name: str, chance: Chance) -> Network:
+def network_of(name: str, chance: Random) -> Network:
     """The network of a name: one by chance, or what all commands mean by it."""
     found = re.fullmatch(r"random([1-9][0-9]{0,2})", name)
     return random_network(name, int(found[1]), chance) if found and path_of(name) is None else known(name)
 
 
-def random_network(name: str, nodes: int, chance: Chance) -> Network:
+def random_network(name: str, nodes: int, chance: Random) -> Network:
     """About one or two edges a node."""
     pairs = [(v, w) for v in range(1, nodes + 1) for w in range(v + 1, nodes + 1)]
-    return Network(name, nodes, chance.some_of(pairs, min(len(pairs), nodes - 1 + chance.below(nodes + 2))), {})
+    return Network(name, nodes, chance.sample(pairs, min(len(pairs), nodes - 1 + chance.randrange(nodes + 2))))
 
 
-def varied(network: Network, chance: Chance, program: str) -> Network:
+def varied(network: Network, chance: Random, program: str) -> Network:
     """The same edges with other identifiers; for programs that heed bars also sometimes with other bars, and for the
     layers with identifier 1, their root, at one node in most networks."""
-    vertices, how = list(network.vertices), chance.one_of(["own", "mixed", "sparse", "long"])
+    vertices, how = list(network.vertices), chance.choice(["own", "mixed", "sparse", "long"])
     names = {"own": lambda: [network.identifiers[v] for v in vertices],
-             "mixed": lambda: chance.some_of(vertices, len(vertices)),
-             "sparse": lambda: chance.some_of(range(max(100, 4 * len(vertices))), len(vertices)),
-             "long": lambda: [chance.long_number() for _ in vertices]}[how]()
-    if program == "layers" and 1 not in names and chance.happens(0.8):
-        names[chance.below(len(names))] = 1
+             "mixed": lambda: chance.sample(vertices, len(vertices)),
+             "sparse": lambda: chance.sample(range(max(100, 4 * len(vertices))), len(vertices)),
+             "long": lambda: [chance.getrandbits(128) for _ in vertices]}[how]()
+    if program == "layers" and 1 not in names and chance.random() < 0.8:
+        names[chance.randrange(len(names))] = 1
     bars = network.bars
-    if program in WITH_BARS and network.degree and chance.happens(0.4):
+    if program in WITH_BARS and network.degree and chance.random() < 0.4:
         channels = range(1, network.degree + 2)
-        bars = {v: chance.some_of(channels, 1 + chance.below(2)) for v in vertices if chance.happens(0.3)}
+        bars = {v: chance.sample(channels, 1 + chance.randrange(2)) for v in vertices if chance.random() < 0.3}
     return remade(network, network.edges, dict(zip(vertices, names)), bars)
 
 
@@ -105,7 +79,7 @@ def cases_of(options: Namespace) -> list[Case]:
     cases, names, policies = [], options.networks, options.policies
     for number in range(options.runs) if options.case is None else [options.case]:
         own_seed = f"{options.seed} {number}"
-        chance, at = Chance(own_seed), number % len(names)
+        chance, at = Random(own_seed), number % len(names)
         network = network_of(names[at], chance)
         if number >= len(names):
             network = varied(network, chance, options.program)

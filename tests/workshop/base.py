@@ -7,10 +7,11 @@ import subprocess
 import sys
 import tempfile
 from argparse import Namespace
+from random import Random
 from types import SimpleNamespace
 
 from lab.networks.network_text import Network
-from lab.workshop.cases import Case, Chance, network_of
+from lab.workshop.cases import Case, network_of
 from lab.workshop.guard import Guard
 from lab.workshop.options import parsed
 from lab.workshop.playing import Player
@@ -32,7 +33,7 @@ ROUNDS, ALPHA, GREEDY = (python("python", f"{name}_node.py") for name in ("round
 
 
 def network(name: str) -> Network:
-    return network_of(name, Chance("1"))
+    return network_of(name, Random("1"))
 
 
 def options_of(assignment: str, *words: str, **options) -> Namespace:

@@ -27,9 +27,6 @@ ROWS = (
     ("1 1 put 2 payload 1 label 0|",
      "line 2: WrongWire: node 1 puts payload 1 label 0 for 2, but the next one there is payload 0 hello 1; the node is "
      "at pulse 0, and a payload of pulse P is put after pulse P is made"),
-    (f"1 1 put 2 {HELLO_1}|2 1 put 2 close|",
-     "line 3: NothingToPut: node 1 puts close for 2, for which it has nothing; close is the last wire of a link, put "
-     "as the node makes its last pulse, 18; it is at pulse 0"),
     (f"1 1 put 2 {HELLO_1}|2 1 put 2 ack 0|",
      "line 3: NothingToPut: node 1 puts ack 0 for 2, for which it has nothing; each payload is acknowledged once, with "
      "the payload's own pulse"),
@@ -61,11 +58,6 @@ ROWS = (
     # An entry before a line that is none comes first.
     ("1 1 pulse 1|1 1 put 2 payload 0 colour -2|",
      f"line 2: NotReady: node 1 makes pulse 1, but it lacks ack 0 of 2; safe 0 of 2; {PULSE}; {NO_ACK}"),
-    (ACKED + "5 1 put 2 safe 0|6 1 put 2 safe 0|",
-     f"line 11: NothingToPut: node 1 puts safe 0 for 2, for which it has nothing; {SAFE}; it has put safe 0 for 2 "
-     "already"),
-    # All is acknowledged, so nothing is said of acknowledgements.
-    (ACKED + "5 1 pulse 1|", f"line 10: NotReady: node 1 makes pulse 1, but it lacks safe 0 of 2; {PULSE}"),
     (f"1 1 put 2 {HELLO_1}|1 1 put 2 payload 0 colour -2|", "line 3: X1: not an entry: `-2` is no number of a "
                                                             "colour, which is below 2^128"),
     ("x 1 pulse 1|", "line 2: X1: not an entry: `x` is no number of a stamp, which is below 2^64"),

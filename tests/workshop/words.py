@@ -121,9 +121,6 @@ class AlphaWords(Case):
 
 PYTHON = """\
 Traceback (most recent call last):
-  File "my_node.py", line 50, in main
-    answer = node.pulse(0, {})
-             ^^^^^^^^^^^^^^^^^
   File "my_node.py", line 19, in pulse
     return self.to(self.ports[0]) + self.to(port)
            ~~~~~~~^^^^^^^^^^^^^^^
@@ -138,13 +135,12 @@ Exception in thread "main" java.lang.NullPointerException: Cannot read "String.l
 \tat AlphaNode.take(AlphaNode.java:28)
 \tat AlphaNode.read(AlphaNode.java:35)
 \tat java.base/java.util.List.forEach(List.java:15)
-\tat java.base/java.util.List.all(List.java:16)
 \tat AlphaNode.main(AlphaNode.java:52)
 """
 
 
-class LastErrors(Case):
-    def test_the_place_of_the_mistake_is_among_them(self):
+class StandardError(Case):
+    def test_the_place_of_a_mistake_is_among_the_last_lines(self):
         for text, words in (
             (PYTHON, '`File "my_node.py", line 19, in pulse | return self.to(self.ports[0]) + self.to(port) | File '
                      '"my_node.py", line 31, in to | return "put " + port | TypeError: can only concatenate str (not '
