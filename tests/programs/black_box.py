@@ -9,42 +9,67 @@ import os
 from lab.definitions.colours import forests_text, plan_text
 from tests import TOP
 from tests.cases import Case, called, contents, example, examples, text
-from tests.commands import COMMANDS, HELPS, PROGRAMS, TRIANGLE, commands_of
+from tests.commands import COMMANDS, EDGE, HELPS, PROGRAMS, TRIANGLE, commands_of
 from tests.settings import PATHS, PLAN, SECOND_PLAN
 from tests.shell import run_line
 
 LIMIT = 300
 
-TRIANGLE_FORESTS = "forests 3 2|0 1 2|0 2 3|1 1 3|"
 # The last line of a refusal of a word that isn't known.
 READS = {name: f"{name} reads the network from standard input: {name} {command} < FILE|"
          for name, command in (("forestplan", "plan"), ("forestplay", "rounds"))}
-# Networks on which `plan` takes seconds: it is run of another star with as great a span, and of that with as great a
-# degree.
-LONG = ("the greatest star", "the greatest span")
 STAR = "p edge 1024 1023|" + "".join(f"e {v} 1024|" for v in range(1, 1024))
 ODD_PATH = "c path\r|p edges 3 99 extra\r|\r|n 1 2\r|e 1 2 7\r|e 2 1\r|e 3 2\r|e 2 3\r|"
 RING, FOUR = "p edge 4 4|e 1 2|e 2 3|e 3 4|e 1 4|", "p edge 4 6|e 1 2|e 1 3|e 1 4|e 2 3|e 2 4|e 3 4|"
-# Networks and their channels, worked by hand.
-PLANS = [
-    ("one edge", "p edge 2 1|e 1 2|", [1, 2]),
-    ("one edge and an identifier", "p edge 2 1|i 2 5|e 1 2|", [2, 1]),
-    ("one edge and the greatest identifier", f"p edge 2 1|i 2 {2**128 - 1}|e 1 2|", [2, 1]),
-    ("triangle", TRIANGLE, [2, 3, 1]),
-    ("path in an odd layout", ODD_PATH, [1, 2, 1]),
-    ("two nodes alone", "p col 2 0|", [1, 1]),
-    ("no node", "p edge 0 0|", []),
-    ("four-cycle", RING, [1, 2, 1, 2]),
-    ("complete graph on four", FOUR, [2, 3, 1, 4]),
-    ("the greatest star", STAR, [1] * 1023 + [2]),
+GREATEST = 2**128 - 1
+
+
+def bars_of(v, first, last):
+    """Lines that bar the channels from the first to the last one."""
+    return "".join(f"b {v} {channel}|" for channel in range(first, last + 1))
+
+
+# Networks, their channels and some forests, worked by hand. With bars: on one edge the three-colours are 0 and 1, so
+# vertex 1 chooses first; in the greatest star the centre chooses last.
+NETWORKS = [
+    ("one edge and an identifier", "p edge 2 1|i 2 5|e 1 2|", [2, 1], "forests 2 1|0 1 2|"),
+    ("one edge and the greatest identifier", f"p edge 2 1|i 2 {GREATEST}|e 1 2|", [2, 1], None),
+    ("triangle", TRIANGLE, [2, 3, 1], "forests 3 2|0 1 2|0 2 3|1 1 3|"),
+    ("path in an odd layout", ODD_PATH, [1, 2, 1], "forests 3 1|0 1 2|0 2 3|"),
+    ("identifiers changed about, after the edges", "p edge 3 2|e 1 2|e 2 3|i 3 0 x|i 1 2|i 2 1|", None,
+     "forests 3 1|0 2 1|0 3 2|"),
+    ("the greatest identifier, and one with zeros before it",
+     f"p edge 3 2|e 1 2|e 1 3|i 3 {GREATEST} x\r|\ti 01  0007|", None, "forests 3 1|0 1 3|0 2 1|"),
+    ("two nodes alone", "p col 2 0|", [1, 1], "forests 2 0|"),
+    ("no node", "p edge 0 0|", [], "forests 0 0|"),
+    ("four-cycle", RING, [1, 2, 1, 2], "forests 4 2|0 1 2|0 2 3|0 3 4|1 1 4|"),
+    ("complete graph on four", FOUR, [2, 3, 1, 4], "forests 4 3|0 1 2|0 2 3|0 3 4|1 1 3|1 2 4|2 1 4|"),
+    ("the greatest star", STAR, [1] * 1023 + [2], "forests 1024 1|" + "".join(f"0 {v} 1024|" for v in range(1, 1024))),
     ("a path of seven, one node alone", "p edge 8 6|e 1 2|e 2 4|e 4 5|e 5 6|e 6 7|e 7 8|",
-     [2, 1, 1, 2, 1, 2, 1, 2]),
+     [2, 1, 1, 2, 1, 2, 1, 2], None),
     ("a path of six, three nodes alone", "p edge 9 5|e 3 4|e 4 5|e 5 6|e 6 7|e 7 9|",
-     [1, 1, 1, 3, 2, 1, 2, 1, 1]),
+     [1, 1, 1, 3, 2, 1, 2, 1, 1], None),
     ("a path of seven, three nodes alone", "p edge 10 6|e 2 3|e 3 5|e 5 6|e 6 7|e 7 8|e 8 10|",
-     [1, 2, 1, 1, 2, 1, 2, 1, 1, 2]),
+     [1, 2, 1, 1, 2, 1, 2, 1, 1, 2], None),
+    ("the triangle, with 1 barred at vertex 3", TRIANGLE + "b 3 1|", [1, 3, 2], None),
+    ("bars that come again", "p edge 2 0|b 1 1|b 1 2|b 2 2|b 1 1|b 2 2 x|", [3, 1], None),
+    ("an edge, with 1 barred at vertex 1", EDGE + "b 1 1|", [2, 1], None),
+    ("an edge, with 2 barred at vertex 2", EDGE + "b 2 2|", [1, 3], None),
+    ("an edge, with the next channel barred at each end", EDGE + "b 1 1|b 2 2|", [2, 1], None),
+    ("an edge, with 1 and 3 barred at both ends", EDGE + "b 1 1|b 2 1|b 1 3|b 2 3|", [2, 4], None),
+    ("a bar of the greatest channel, before the edges", "p edge 2 1|\tb 02 02048 further|e 1 2|", [1, 2], None),
+    ("as many bars of a vertex as the limit, each twice", "p edge 1 0|" + 2 * bars_of(1, 1, 1024), [1025], None),
+    ("all channels barred, at one of two vertices each",
+     "p edge 2 0|" + bars_of(1, 1, 1024) + bars_of(2, 1025, 2048), [1025, 1], None),
+    ("all channels barred, each at a vertex of its own",
+     "p edge 2048 0|" + "".join(f"b {v} {v}|" for v in range(1, 2049)), [2] + [1] * 2047, None),
+    ("the greatest span", STAR + bars_of(1024, 1, 1024), [1] * 1023 + [1025], None),
+    ("the greatest span, with 1 free", STAR + bars_of(1024, 2, 1025), [1] * 1023 + [1026], None),
 ]
 GOOD, BARRED_THREE = TRIANGLE + "plan|1 2|2 3|3 1|", TRIANGLE + "b 3 1|"
+# Of each option the name, the least and the greatest of its value.
+OPTIONS = {"workers": ("N", 1, 64), "capacity": ("N", 1, 64), "turns": ("N", 0, 10**12), "edition": ("N", 1, 2),
+           "root": ("V", 1, 20_000), "passes": ("N", 1, 3)}
 # A text, and what `check` says of it; codes.py has one of each fault, hostile.py plans by chance.
 WORKED_VERDICTS = [
     (GOOD, "proper 3"), (TRIANGLE, "C6 line 1"), ("p edge 0 0|plan|", "proper 0"), ("plan|1 2|", "F1"),
@@ -63,41 +88,6 @@ WORKED_VERDICTS = [
 ]
 
 
-def bars_of(v, first, last):
-    """Lines that bar the channels from the first to the last one."""
-    return "".join(f"b {v} {channel}|" for channel in range(first, last + 1))
-
-
-def barred_plans():
-    """Rows of networks with barred channels, worked by hand. On one edge the three-colours are 0 and 1, so vertex 1
-    chooses first; in the greatest star the centre chooses last."""
-    edge = "p edge 2 1|e 1 2|"
-    return [
-        ("the triangle, with 1 barred at vertex 3", TRIANGLE + "b 3 1|", [1, 3, 2]),
-        ("two nodes alone, with bars", "p edge 2 0|b 1 1|b 1 2|b 2 2|", [3, 1]),
-        ("a bar that comes again", "p edge 2 0|b 1 1|b 1 2|b 2 2|b 1 1|b 2 2 x|", [3, 1]),
-        ("an edge, with 1 barred at vertex 1", edge + "b 1 1|", [2, 1]),
-        ("an edge, with 1 barred at vertex 2", edge + "b 2 1|", [1, 2]),
-        ("an edge, with 2 barred at vertex 2", edge + "b 2 2|", [1, 3]),
-        ("an edge, with the next channel barred at each end", edge + "b 1 1|b 2 2|", [2, 1]),
-        ("an edge, with 1 and 3 barred at both ends", edge + "b 1 1|b 2 1|b 1 3|b 2 3|", [2, 4]),
-        ("a bar of the greatest channel, before the edges", "p edge 2 1|\tb 02 02048 further|e 1 2|", [1, 2]),
-        ("as many bars of a vertex as the limit", "p edge 1 0|" + bars_of(1, 1, 1024), [1025]),
-        ("as many bars of a vertex as the limit, each twice", "p edge 1 0|" + 2 * bars_of(1, 1, 1024), [1025]),
-        ("all channels barred, at one of two vertices each",
-         "p edge 2 0|" + bars_of(1, 1, 1024) + bars_of(2, 1025, 2048), [1025, 1]),
-        ("all channels barred, each at a vertex of its own",
-         "p edge 2048 0|" + "".join(f"b {v} {v}|" for v in range(1, 2049)), [2] + [1] * 2047),
-        ("the greatest span", STAR + bars_of(1024, 1, 1024), [1] * 1023 + [1025]),
-        ("the greatest span, with 1 free", STAR + bars_of(1024, 2, 1025), [1] * 1023 + [1026]),
-    ]
-
-
-def with_plan(nodes, edges, plan):
-    return (b"p edge %d %d\n" % (nodes, len(edges)) + b"".join(b"e %d %d\n" % edge for edge in edges) + b"plan\n"
-            + b"".join(b"%d %d\n" % row for row in plan))
-
-
 def closed_pipe():
     """The writing end of a pipe that nobody reads."""
     reading, writing = os.pipe()
@@ -106,40 +96,25 @@ def closed_pipe():
 
 
 class BlackBox(Case):
-    def test_forests(self):
-        """Rows by hand; what a text may be besides is for hostile.py, each fault for codes.py and own_networks.py."""
-        rows = [
-            ("triangle", TRIANGLE, TRIANGLE_FORESTS),
-            ("no node", "p edge 0 0|", "forests 0 0|"),
-            ("path in an odd layout", ODD_PATH, "forests 3 1|0 1 2|0 2 3|"),
-            ("complete graph on four", FOUR, "forests 4 3|0 1 2|0 2 3|0 3 4|1 1 3|1 2 4|2 1 4|"),
-            ("identifiers changed about, after the edges", "p edge 3 2|e 1 2|e 2 3|i 3 0 x|i 1 2|i 2 1|",
-             "forests 3 1|0 2 1|0 3 2|"),
-            ("the greatest identifier, and one with zeros before it",
-             f"p edge 3 2|e 1 2|e 1 3|i 3 {2**128 - 1} x\r|\ti 01  0007|", "forests 3 1|0 1 3|0 2 1|"),
-            ("the greatest star", STAR, "forests 1024 1|" + "".join(f"0 {v} 1024|" for v in range(1, 1024))),
-        ]
-        for name, network, wanted in rows:
-            self.same(name, called(PLAN, "forests", data=text(network)), (0, text(wanted), b""))
-
-    def test_plans(self):
-        for name, network, channels in PLANS + barred_plans():
-            wanted = "plan|" + "".join(f"{v} {channel}|" for v, channel in enumerate(channels, 1))
-            for command in ("plain", "plan") if name not in LONG else ("plain",):
-                self.same(f"{command} of {name}", called(PLAN, command, data=text(network)), (0, text(wanted), b""))
-
-    def test_examples(self):
-        answers = {"triangle": TRIANGLE_FORESTS, "path": "forests 3 1|0 1 2|0 2 3|",
-                   "four_cycle": "forests 4 2|0 1 2|0 2 3|0 3 4|1 1 4|",
-                   "star": "forests 9 1|" + "".join(f"0 {v} 9|" for v in range(1, 9))}
-        for name, network in examples().items():
-            wanted = text(answers[name]) if name in answers else forests_text(network)
-            for command, answer in (("forests", wanted), ("plain", plan_text(network)), ("plan", plan_text(network))):
-                self.same(f"{command} of example {name}", called(PLAN, command, data=network), (0, answer, b""))
-            checked = called(PLAN, "check", data=network + plan_text(network))
-            good = checked[::2] == (0, b"") and checked[1].startswith(b"proper ")
-            self.note(f"check of example {name}", good, checked)
-            self.note(f"comment of {name}", network.startswith(b"c "), "an example begins with a comment line")
+    def test_networks(self):
+        """Of each network by hand, and of each example, all by the definitions, and these by hand. What a text may be
+        besides is for hostile.py, each fault for codes.py."""
+        rows = [(name, text(network), *wanted) for name, network, *wanted in NETWORKS]
+        rows += [(f"example {name}", network, None, None) for name, network in examples().items()]
+        for name, network, channels, forests in rows:
+            plan = plan_text(network)
+            if channels is not None:
+                wanted = "plan|" + "".join(f"{v} {channel}|" for v, channel in enumerate(channels, 1))
+                self.same(f"the definition on {name}", plan, text(wanted))
+            if forests is not None:
+                self.same(f"the forests of {name} by the definition", forests_text(network), text(forests))
+            # `plan` takes seconds on these: it is run of another star with as great a span, and with as great a degree.
+            is_long = name in ("the greatest star", "the greatest span")
+            for command, answer in (("forests", forests_text(network)), ("plain", plan), ("plan", plan))[:3 - is_long]:
+                self.same(f"{command} of {name}", called(PLAN, command, data=network), (0, answer, b""))
+            self.says(f"check of {name}", network.rstrip() + b"\n" + plan,
+                      f"proper {max(map(int, plan.split()[2::2]), default=0)}")
+            self.note(f"comment of {name}", network.startswith(b"c ") or not name.startswith("example"))
 
     def says(self, name, data, said):
         wanted = (0, f"{said}\n".encode(), b"") if said.startswith("proper") else (
@@ -150,28 +125,19 @@ class BlackBox(Case):
         for data, said in WORKED_VERDICTS:
             self.says(f"verdict {said} of {data[-40:]!r}", text(data), said)
 
-    def test_largest(self):
-        """20,000 vertices in blocks of 40 that are joined to the next one's, 400,000 edges; then one clash at the
-        end."""
-        edges = [(v, v + d) for d in range(1, 21) for v in range(1, 20_001 - d)]
-        plan = [(v, 1 + v % 21) for v in range(1, 20_001)]
-        self.says("20,000 rows and 399,790 edges", with_plan(20_000, edges, plan), "proper 21")
-        plan[-1] = (20_000, plan[-2][1])
-        self.says("a clash at the end", with_plan(20_000, edges, plan), "C4 vertices 19999 20000")
-
-    def test_edge_limit(self):
-        """400,000 different edges are read; the one after is refused at its line, also after repeats."""
-        pairs = [(v, v + d) for d in range(1, 21) for v in range(1, 20001 - d)][:400_001]
-        pairs += [(v, v + 21) for v in range(1, 400_002 - len(pairs))]
-        head = b"p edge 20000 400000\n"
-        body = b"".join(b"e %d %d\n" % pair for pair in pairs[:400_000])
-        over = b"e %d %d\n" % pairs[400_000]
-        again = b"".join(b"e %d %d\n" % (w, v) for v, w in pairs[:1000])
-        status, forests, fault = called(PLAN, "forests", data=head + body)
-        self.note("400,000 edges", status == 0 and forests == forests_text(head + body), fault)
-        for name, data, line in (("400,001 edges", head + body + over, 400002),
-                                 ("400,001 edges after repeats", head + again + body + over + b"e 0 0\n", 401002)):
+    def test_limits(self):
+        """20,000 vertices in blocks of 22, each joined to the next ones, and 400,000 different edges are read and
+        planned; the edge after them is refused at its line, also after repeats."""
+        pairs = [(v, v + d) for d in range(1, 22) for v in range(1, 20_001 - d)][:400_001]
+        head, lines = b"p edge 20000 400000\n", [b"e %d %d\n" % pair for pair in pairs]
+        body, again = b"".join(lines[:-1]), b"".join(b"e %d %d\n" % (w, v) for v, w in pairs[:1000])
+        self.same("400,000 edges", called(PLAN, "forests", data=head + body), (0, forests_text(head + body), b""))
+        for name, data, line in (("400,001 edges", head + body + lines[-1], 400002),
+                                 ("400,001 edges after repeats", head + again + body + lines[-1] + b"e 0 0\n", 401002)):
             self.same(name, called(PLAN, "forests", data=data), (1, b"", b"forestplan: F7 line %d\n" % line))
+        for last, said in ((20_000 % 22, "proper 22"), (19_999 % 22, "C4 vertices 19999 20000")):
+            plan = b"".join(b"%d %d\n" % (v, 1 + v % 22) for v in range(1, 20_000)) + b"20000 %d\n" % (1 + last)
+            self.says(f"the last of 20,000 rows has {last}", head + body + b"plan\n" + plan, said)
 
     def test_help(self):
         """Each help text whole, of both programs, as lab/help/ has it, but for the words on `-h`: at both options the
@@ -220,21 +186,20 @@ class BlackBox(Case):
 
     def test_refused_values(self):
         """Values of options that are refused. Each text whole; it has no usage."""
-        no_digit = "invalid digit found in string"
-        for option, bounds, more in (("workers", "1..=64", [2**32 + 1, 2**64 - 1]), ("edition", "1..=2", []),
-                                     ("capacity", "1..=64", [2**32 + 1, 2**64 - 1]),
-                                     ("turns", "0..=1000000000000", [2**64 - 1])):
-            command, (least, most) = "transcript" if option == "edition" else "plan", map(int, bounds.split("..="))
-            rows = [(value, f"{value} is not in {bounds}") for value in [least - 1, most + 1, *more] if value >= 0]
-            rows += [("18446744073709551616", "number too large to fit in target type")] if more else []
-            rows += [("", "cannot parse integer from empty string"),
-                     *((value, no_digit) for value in ("four", "4.0", "4 ", "0x4", "+"))]
-            for value, why in rows:
-                for words in ([f"--{option}", str(value)], [f"--{option}={value}"]):
-                    self.expect_refused([command, *words], f"invalid value '{value}' for '--{option} <N>': {why}")
-            self.expect_refused([command, f"--{option}=-1"], f"invalid value '-1' for '--{option} <N>': {no_digit}")
-            self.expect_refused([command, f"--{option}"],
-                                f"a value is required for '--{option} <N>' but none was supplied")
+        too_large, no_digit = "number too large to fit in target type", "invalid digit found in string"
+        for it, option in ((it, option) for it in COMMANDS for option in it.options):
+            value, least, most = OPTIONS[option]
+            rows = [(number, f"{number} is not in {least}..={most}")
+                    for number in (least - 1, most + 1, 2**32 + 1, 2**64 - 1) if not least <= number <= most]
+            rows += [(2**64, too_large), (10**30, too_large), ("", "cannot parse integer from empty string"),
+                     *((number, no_digit) for number in ("four", "4.0", "4 ", " 4", "0x4", "+", "1x"))]
+            rows = [(number, no_digit if number == -1 else why) for number, why in rows]
+            for number, why in rows:
+                fault = f"invalid value '{number}' for '--{option} <{value}>': {why}"
+                for words in ([f"--{option}={number}"], [f"--{option}", str(number)])[:2 - (number == -1)]:
+                    self.expect_refused([it.name, *words], fault, program=it.program)
+            fault = f"a value is required for '--{option} <{value}>' but none was supplied"
+            self.expect_refused([it.name, f"--{option}"], fault, program=it.program)
         self.expect_refused(["plan", "--workers", "65", "--turns", "x"],
                             "invalid value '65' for '--workers <N>': 65 is not in 1..=64")
 

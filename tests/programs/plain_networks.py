@@ -1,4 +1,5 @@
-"""`plain` on 800 networks, beside the definition of the colours; and that definition on plans worked by hand.
+"""`plain` on 800 networks, beside the definition of the colours; and that definition step by step, by hand
+(black_box.py has whole plans).
 
 The networks are the same in every run. A difference is printed with the network's number in its family and its text. In
 300 of them lines give identifiers of up to 128 binary digits; in the others vertex V has the identifier V. In 200 lines
@@ -9,8 +10,7 @@ import re
 
 from lab.definitions.colours import Network, bit, colours, first_colours, merge, plan_text, three
 from lab.definitions.rounds import rounds_text
-from tests.cases import Case, called, text
-from tests.programs.black_box import PLANS, barred_plans
+from tests.cases import Case, called
 from tests.settings import PLAN
 
 SEED = 2026
@@ -156,9 +156,6 @@ NAMED_AND_BARRED = [("names and bars on up to 12 nodes", random_of(80, 1, 12)),
 
 class PlainNetworks(Case):
     def test_definition(self):
-        for name, network, channels in PLANS + barred_plans():
-            wanted = "plan\n" + "".join(f"{v} {channel}\n" for v, channel in enumerate(channels, 1))
-            self.same(f"the definition on {name}", plan_text(text(network)), wanted.encode())
         triangle = Network({1: 1, 2: 2, 3: 3}, {(1, 2), (1, 3), (2, 3)})
         barred = Network({1: 1, 2: 2, 3: 3}, {(1, 2), (1, 3), (2, 3)}, {3: {0}})
         after = {1: 0, 2: 2, 3: 1}

@@ -39,21 +39,16 @@ FIRST_LOOKS = [
      {(1, 1): ["payload 0 hello 1"], (2, 0): ["payload 0 hello 2"], (2, 1): ["payload 0 hello 2"]}),
 ]
 
-# (words after `plan`, input, status, standard output, standard error)
+# (words after `plan`, input, status, standard output, standard error); codes.py has a run that stops at once.
 WORKED_RUNS = [
-    ([], b"p edge 0 0\n", 0, b"plan\n", b""),
     (["--turns", "0"], b"p edge 0 0\n", 0, b"plan\n", b""),
     (["--turns=0", "--workers=64", "--capacity=64"], b"p edge 0 0\n", 0, b"plan\n", b""),
-    ([], b"p col 2 0\n", 0, b"plan\n1 1\n2 1\n", b""),
-    ([], b"p edge 2 1\ne 1 2\n", 0, b"plan\n1 1\n2 2\n", b""),
-    (["--turns", "0"], TRIANGLE, 3, b"", STOPPED),
     (["--turns", "1", "--workers", "64"], TRIANGLE, 3, b"", STOPPED),
     # a look makes at most one pulse, and each of the three nodes makes 30
     (["--turns", "89", "--workers", "1"], TRIANGLE, 3, b"", STOPPED),
     (["--turns", "1000000000000"], TRIANGLE, 0, TRIANGLE_PLAN, b""),
     (["--turns", "0"], b"p edge 2 1\ne 1 1\n", 1, b"", b"forestplan: F6 line 2\n"),
-] + [([f"--workers={workers}", "--capacity", str(capacity)], TRIANGLE, 0, TRIANGLE_PLAN, b"")
-     for workers in (1, 2, 8, 64) for capacity in (1, 4)]
+]
 
 
 def answer_of(*words, data):
