@@ -41,25 +41,19 @@ def queens(rows, columns):
 # (words, nodes, edges, least and greatest number of neighbours)
 KINDS = [
     ("path 1", 1, 0, 0, 0),
-    ("path 1000", 1000, 999, 1, 2),
     ("ring 3", 3, 3, 2, 2),
     ("ring 500", 500, 500, 2, 2),
     ("star 1", 1, 0, 0, 0),
     ("star 1024", 1024, 1023, 1, 1023),
-    ("complete 1", 1, 0, 0, 0),
     ("complete 100", 100, 4950, 99, 99),
     ("grid 1 7", 7, 6, 1, 2),
-    ("grid 7 1", 7, 6, 1, 2),
     ("grid 30 20", 600, 2 * 600 - 30 - 20, 2, 4),
-    ("queen 1 1", 1, 0, 0, 0),
     ("queen 3 7", 21, queens(3, 7), None, None),
     ("queen 8 8", 64, queens(8, 8), 21, 27),
     ("random 10 45", 10, 45, 9, 9),
-    ("random 10 0", 10, 0, 0, 0),
     ("random 40 700", 40, 700, None, None),
     ("random 20000 60000", 20000, 60000, None, None),
     ("tree 200", 200, 199, 1, None),
-    ("tree 1", 1, 0, 0, 0),
 ]
 
 
@@ -102,27 +96,22 @@ BARRED = b"c name 4 Last\np edge 4 4\ne 1 2\ne 2 3\nb 4 2\ne 1 4\nb 4 2048\ne 1 
 # (text, its fault, a part of what is said of it, whether `read` can read it)
 FAULTS = [
     ("", "F1", "there is no line", False),
-    ("c x\n", "F1", "there is no line", False),
     ("p edge 1 0\np edge 1 0\n", "F2 line 2", "second", False),
     ("e 1 2\np edge 2 1\n", "F3 line 1", "before", True),
     ("p edge 2\n", "F4 line 1", "EDGES is missing", False),
     ("p edge\n", "F4 line 1", "NODES is missing", False),
     ("p sp 2 1\na 1 2 3\n", "F4 line 1", "`p sp` is another format", True),
-    ("p tw 2 1\n1 2\n", "F4 line 1", "`p tw` is another format", True),
     ("p 2 1\ne 1 2\n", "F4 line 1", "the word `edge` is missing", True),
-    ("p edge 2 x\n", "F4 line 1", "`x` is no number", False),
     ("p edge 2 1\ne 1\n", "F4 line 2", "W is missing", False),
     ("p edge 2 1\ne 1 b\n", "F4 line 2", "`b` is no number", False),
     ("p edge 2 1\re 1 2\r", "F4 line 1", "carriage return", True),
     ("p edge 2 1\ne 1 2\r\r\n", "F4 line 2", "carriage return", True),
     ("p edge 2 1\ne 1 3\n", "F5 line 2", "there is no vertex 3, since the `p` line has 2", False),
     ("p edge 2 1\ne 0 1\n", "F5 line 2", "count from 1", True),
-    ("p edge 2 1\ne 0 x\n", "F4 line 2", "no number", False),
     ("p edge 2 1\ne 0 9\n", "F5 line 2", "count from 1", False),
     ("p edge 2 1\ne 2 2\n", "F6 line 2", "from vertex 2 to itself", True),
     ("p edge 20001 0\n", "F7 line 1", "more than 20000 nodes", False),
     ("p edge %s 0\n" % ("9" * 5000), "F7 line 1", "more than 20000 nodes", False),
-    ("p edge 2 1\ne 1 %s\n" % ("9" * 5000), "F5 line 2", "there is no vertex", False),
     ("p edge 2 1\ne 1 000002\n q\n", "F8 line 3", "`q` begins no line", False),
     ("source,target\nA,B\n", "F8 line 1", "`source,target` begins no line", True),
     ("graph { a -- b }\n", "F8 line 1", "`graph`", True),
@@ -130,28 +119,19 @@ FAULTS = [
     ("\ufeffp edge 2 1\ne 1 2\n", "F8 line 1", "byte order mark", True),
     ("p edge 1025 1024\n" + "".join(f"e 1 {v}\n" for v in range(2, 1026)), "N1 vertex 1",
      "vertex 1 has 1024 neighbours", False),
-    ("node 1\n", "F8 line 1", "`node`", False),
     ("p edge 2 1\n\x0b\n", "F8 line 2", "`\\x0b`", False),
-    ("p\x0bedge 2 1\n", "F8 line 1", "`p\\x0bedge`", False),
     ("i 1 5\np edge 2 1\n", "F10 line 1", "an identifier before", True),
     ("p edge 2 1\ni 1\n", "F4 line 2", "NUMBER is missing", False),
-    ("p edge 2 1\ni x 1\n", "F4 line 2", "`x` is no number", False),
     ("p edge 2 1\ni 3 5\n", "F5 line 2", "there is no vertex 3", False),
-    ("p edge 2 1\ni 0 %d\n" % 2**128, "F5 line 2", "count from 1", False),
     ("p edge 2 1\ni 1 %d\n" % 2**128, "F11 line 2", "2^128", False),
     ("p edge 2 1\ni 1 5\ni 1 5\n", "F12 line 3", "second identifier of vertex 1", False),
     ("b 1 5\np edge 2 1\n", "F10 line 1", "a barred channel before", True),
     ("p edge 2 1\nb 1\n", "F4 line 2", "CHANNEL is missing", False),
     ("p edge 2 1\nb x 1\n", "F4 line 2", "no `b V CHANNEL`: `x` is no number", False),
-    ("p edge 2 1\nb 3 0\n", "F5 line 2", "there is no vertex 3", False),
-    ("p edge 2 1\nb 0 1\n", "F5 line 2", "count from 1", False),
-    ("p edge 2 1\nb 1 0\n", "F13 line 2", "channel 0 can't be barred", False),
     ("p edge 2 1\nb 1 2049\n", "F13 line 2", "channel 2049 can't be barred, only 1 to 2048 can", False),
     ("p edge 2 1\n" + "".join(f"b 2 {channel}\n" for channel in range(1, 1026)), "F14 line 1026",
      "more than 1024 channels are barred at vertex 2", False),
     ("p edge 2 1\ni 1 2\n", "N2 vertices 1 2", "vertices 1 and 2 have one identifier", False),
-    ("p edge 99999999999999999999999999 x\n", "F4 line 1", "no number", False),
-    ("p edge 2 1\ne 1 2 \t\r\ne 1 -2\n", "F4 line 3", "`-2`", False),
 ]
 
 
@@ -244,36 +224,26 @@ class OwnNetworks(Case):
             self.same(f"{command[0]} of no file", call(*command, "/nowhere.col"),
                       (1, b"", b"network: /nowhere.col: No such file or directory\n"))
 
-    def test_encodings_and_words(self):
-        data = "1 2\n2 3\n".encode("utf-16")
-        self.same("read: UTF-16", edges_of(self.written("read", "-", data=data)), {(1, 2), (2, 3)})
-        data = "Köln Aue\n".encode("latin-1")
-        self.same("read: Latin-1", comments(self.written("read", "-", data=data), "name"), {1: "Köln", 2: "Aue"})
-        for data, form, edges in ((b"1 2 5\n2 3 9\n", "adjacency", 4), (b"1 2\n2\n3\n3 0\n", "multiline", 2),
-                                  (b"a,b\n", "pairs", 1)):
-            text = self.written("read", "-", "--as", form, data=data)
-            self.note(f"read as {form}", len(edges_of(text)) == edges, text)
-        for choice, edges in (("yes", 1), ("no", 2)):
-            text = self.written("read", "-", "--heading", choice, data=b"north,south\na,b\n")
-            self.note(f"read with a heading: {choice}", len(edges_of(text)) == edges, text)
+    def test_encodings(self):
+        for data, names in (("Köln Aue\n".encode("utf-16"), {1: "Köln", 2: "Aue"}),
+                            ("Köln Aue\n".encode("latin-1"), {1: "Köln", 2: "Aue"})):
+            self.same(f"read {data}", comments(self.written("read", "-", data=data), "name"), names)
 
     def test_any_form(self):
         """One function for a text of which nobody knows the form: a network of the programs is read without a word, and
         the fault of one is its own."""
-        for name, data, wanted in (
-            ("ours", b"c name 1 A\np edge 3 1\ne 2 1\n", (3, [(1, 2)], {1: "A"}, 0)),
-            ("pairs", b"a,b\nb,c\n", (3, [(1, 2), (2, 3)], {1: "a", 2: "b", 3: "c"}, 1)),
-            ("DOT", b"graph { x -- y }", (2, [(1, 2)], {1: "x", 2: "y"}, 1)),
-            ("ours with a byte order mark", b"\xef\xbb\xbfp edge 2 1\ne 1 2\n", (2, [(1, 2)], {}, 1)),
+        for data, wanted in (
+            (b"c name 1 A\np edge 3 1\ne 2 1\n", (3, [(1, 2)], {1: "A"}, False)),
+            (b"a,b\nb,c\n", (3, [(1, 2), (2, 3)], {1: "a", 2: "b", 3: "c"}, True)),
+            (b"\xef\xbb\xbfp edge 2 1\ne 1 2\n", (2, [(1, 2)], {}, True)),
         ):
-            found, said = read_any(data, f"{name}.txt")
-            got = found.nodes, found.edges, found.names, min(len(said), 1)
-            self.note(f"any form: {name}", got == wanted and found.name == name, (got, said))
-        for name, data, wanted in (("ours", b"p edge 2 1\ne 1 5\n", "(F5)"), ("nothing", b"", "no line with a node"),
-                                   ("Pajek", b"*Vertices 2\n*Edges\n1 2\n", "Pajek")):
-            with self.assertRaises(Wrong) as caught:
-                read_any(data, name)
-            self.note(f"no form: {name}", wanted in str(caught.exception), caught.exception)
+            found, said = read_any(data, "any.txt")
+            self.same(f"any form: {data}", (found.nodes, found.edges, found.names, bool(said), found.name),
+                      (*wanted, "any"))
+        for data, wanted in ((b"p edge 2 1\ne 1 5\n", r"\(F5\)"), (b"", "no line with a node"),
+                             (b"p edge 2 1\nx,y\n", r"\(F8\)")):
+            with self.subTest(data), self.assertRaisesRegex(Wrong, wanted):
+                read_any(data, "any")
 
     def test_numbers(self):
         """The same network by names, and the numbers in the order that was asked for."""

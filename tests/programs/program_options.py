@@ -169,7 +169,7 @@ class ByDefinition(Case):
             (["picture", "rounds", "path3", *rooted(3)], b"", 0, b"layer 2 by 0"),
             (["explore", "path3", *rooted(4)], b"", 1,
              b"explore: there is no node 4 that could be the root: the network has 3\n"),
-            (["simulate", "path3", "--program", "layers", "--root", "0"], b"", 1, b"there is no node 0 that could be the root"),
+            (["simulate", "path3", "--program", "layers", "--root", "0"], b"", 1, b"there is no node 0"),
             (["picture", "player", "path3", *rooted(9)], b"", 1, b"there is no node 9"),
             (["explore", "path3", "--root", "1"], b"", 1,
              b"explore: --root is for --program layers, not for colouring\n"),
