@@ -7,7 +7,7 @@ import sys
 import time
 from itertools import chain, count
 
-from lab.networks.costs import Run, processor_seconds_for
+from lab.networks.costs import Run, processor_seconds
 from lab.networks.network_text import read_network
 from lab.wrong import Wrong
 
@@ -37,7 +37,7 @@ def about(process: int, command: str) -> str:
             if not stat.S_ISREG(os.fstat(file.fileno()).st_mode):
                 return ""
             run = Run(read_network(file.read().decode("utf-8", "replace"), "the network"))
-        return f", of about {exactly(processor_seconds_for(run, command))} for {run.wires:,} wires"
+        return f", of about {exactly(processor_seconds(run, command))} for {run.wires:,} wires"
     except (OSError, Wrong, MemoryError):
         return ""
 

@@ -1,10 +1,8 @@
-"""What a run on a network comes to: its payloads and wires, and how long the commands take here."""
+"""What a run on a network comes to: its payloads and wires, and about how long the commands take."""
 import contextlib
-import resource
 import subprocess
 import time
 
-from lab.networks import kinds
 from lab.networks.texts import plain_text
 from lab.programs import built, called, environment, program_file
 from lab.words import counted
@@ -14,8 +12,9 @@ from lab.wrong import Wrong
 MOST_AT_ONCE = 300_000
 # The last pulse before the merges.
 LAST_COLOUR = 12
-# The most wires of a run for which nobody waits.
+# The most wires of a run for which nobody waits, and for how many a processor takes a second (docs/MEASUREMENTS.md).
 AN_INSTANT = 100_000
+WIRES_A_SECOND = {"plan": 1_500_000, "transcript": 1_000_000}
 
 
 class Run:
@@ -65,40 +64,26 @@ def see_ended(process, name):
 
 def most_payloads(network):
     """A greeting both ways, a label and ten colours of each edge; and in each merge both ends of each edge choose."""
-    merged = sum(network.forests - f for v in network.vertices for f in range(len(network.higher(v))))
+    forests = network.forests
+    merged = sum(forests - f for v in network.vertices for f in range(len(network.higher(v))))
     return 13 * len(network.edges) + 2 * merged
 
 
+def processor_seconds(run, command):
+    """About how much processor time `plan` or `transcript` takes, by its wires alone."""
+    return run.wires / WIRES_A_SECOND[command]
+
+
 def times(run):
-    """How long `plain` takes, which is run, and about how long `plan` and `transcript`, by their wires, as measured on
-    a smaller run, of tenths of a second."""
+    """How long `plain` takes, which is run, and about how much processor time `plan` and `transcript`."""
     if run.wires <= AN_INSTANT:
         return "less than a second"
-    if not built("forestplan"):
-        return "unknown, since forestplan isn't built, by which it is measured"
-    known = small_run()
-    seconds = {command: run.wires / known.wires * seconds_of(command, known)[0] for command in ("plan", "transcript")}
-    longer = ", ".join(f"{command} {in_words(took)}" for command, took in seconds.items())
-    return (f"plain {in_words(seconds_of('plain', run)[0])}, the same plan; {longer}; by a run of {known.wires:,} "
-            "wires, made just now")
-
-
-def processor_seconds_for(run, command):
-    """About how many seconds of processor time a run takes, by its wires and by a smaller run that is made now."""
-    known = small_run()
-    return run.wires / known.wires * seconds_of(command, known)[1]
-
-
-def small_run():
-    return Run(kinds.grid(40, 40))
-
-
-def seconds_of(command, run):
-    """How long a command of forestplan takes, and how much processor time."""
-    before, start = resource.getrusage(resource.RUSAGE_CHILDREN), time.monotonic()
-    see_ended(called("forestplan", [command], plain_text(run.network).encode()), f"forestplan {command}")
-    took, after = time.monotonic() - start, resource.getrusage(resource.RUSAGE_CHILDREN)
-    return took, after.ru_utime + after.ru_stime - before.ru_utime - before.ru_stime
+    longer = ", ".join(f"{command} {in_words(processor_seconds(run, command))}" for command in WIRES_A_SECOND)
+    if built("forestplan"):
+        start = time.monotonic()
+        see_ended(called("forestplan", ["plain"], plain_text(run.network).encode()), "forestplan plain")
+        longer = f"plain {in_words(time.monotonic() - start)}, the same plan; {longer}"
+    return f"{longer}, of all processors together"
 
 
 def in_words(seconds):

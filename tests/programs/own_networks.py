@@ -389,9 +389,8 @@ class OwnNetworks(Case):
         bound, _ = self.told_of(data)
         told, _ = self.told_of(data, "--payloads")
         payloads = len(re.findall(rb"^\d+ put ", called(PLAY, "rounds", data=data)[1], re.M))
-        plain = r"plain (less than a second|about \d+ seconds?), the same plan"
-        long = r"(plan|transcript) (less than a second|about \d+ (second|minute|hour)s?)"
-        shape = rf"{plain}; {long}, {long}; by a run of [\d,]+ wires, made just now"
+        took = r"(less than a second|about \d+ (second|minute|hour)s?)"
+        shape = rf"plain {took}, the same plan; plan {took}, transcript {took}, of all processors together"
         self.note("the time of a large network", re.fullmatch(shape, told["time"]), told)
         most = bound["payloads"].removeprefix("at most ").partition(";")
         good = bound["payloads"].startswith("at most ") and most[2] == " --payloads counts them"
