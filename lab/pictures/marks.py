@@ -125,12 +125,9 @@ class Map:
 
 def wire_arrow(svg, x1, y1, x2, y2, kind):
     """A wire from where it was put to where it was taken."""
-    dx, dy = x2 - x1, y2 - y1
-    length = sqrt(dx * dx + dy * dy) or 1
-    size, width = (9, 2.1) if kind == "payload" else (6, 1.1)
-    svg.line(x1, y1, x2 - dx / length * size * 0.8, y2 - dy / length * size * 0.8, WIRES[kind], width, dash_of(kind))
-    svg.head(x2, y2, dx, dy, size, WIRES[kind], hollow=kind == "ack")
-    svg.circle(x1, y1, 2.2 if kind == "payload" else 1.6, WIRES[kind])
+    size, width, dot = (9, 2.1, 2.2) if kind == "payload" else (6, 1.1, 1.6)
+    svg.arrow(x1, y1, x2, y2, WIRES[kind], width, size, dash_of(kind), hollow=kind == "ack")
+    svg.circle(x1, y1, dot, WIRES[kind])
 
 
 # The most letters of a vertex's name that are written beside its number, the last one an ellipsis if there are more.

@@ -69,6 +69,5 @@ def left_out(rounds, shown, is_part):
 
 def arrow(svg, x1, y1, x2, y2, title):
     with svg.group("message", title):
-        svg.line(x1, y1, x2, y2, WIRES["payload"], 1.4)
-        svg.head(x2, y2, x2 - x1, y2 - y1, 7, WIRES["payload"])
+        svg.arrow(x1, y1, x2, y2, WIRES["payload"], 1.4, 7)
         svg.circle(x1, y1, 2, SOFT)

@@ -3,14 +3,12 @@
 What is drawn is what is true. No cut through all ticks of one pulse is consistent in general, so none is shaded as one:
 a band goes from tick p to tick p + 1 of each node, and wires may cross its border backwards; they are counted in words.
 A pale bar goes from where a payload is taken to the tick at which it is read, and that tick is p + 1's."""
-from math import sqrt
-
 from lab.pictures.marks import dash_of, short_name, wire_arrow
 from lab.pictures.palette import BAND, BORDER, INK, PAPER, PULSE, SOFT, WIRES, WRONG
 from lab.pictures.svg import Svg, text_width
 from lab.pictures.wrong_run import draw_stop, draw_untaken, draw_wrong, pulses_around, set_in_time
 from lab.words import counted
-from lab.wrong import at_most
+from lab.wrong import Wrong, at_most
 
 LEFT, TOP, WIDTH = 64, 136, 1214
 KINDS = ("payload", "ack", "safe", "close")
@@ -22,29 +20,51 @@ MOST_NODES_OF_ALL_KINDS = 6
 
 
 class Window:
-    """Pulses `first` to `last` of a run: the ticks of each node, and where a place in time is drawn."""
+    """Pulses `first` to `last` of a run: the ticks of each node, and where a place in time and a node are drawn. A step
+    of time is at least `least` wide, and a band reaches `over` above the first row and below the last."""
 
-    def __init__(self, run, first, last):
-        nodes = run.network.vertices
-        self.run, self.first, self.last = run, first, last
-        self.ticks = {v: run.ticks(v) for v in nodes}
-        self.ends = {v: self.ticks[v].get(last + 1, listed[-1].stamp + 1 if listed else 1)
+    def __init__(self, run, pulses, top, row, least):
+        self.run, self.network, self.nodes, (self.first, self.last) = run, run.network, run.network.vertices, pulses
+        self.top, self.row, self.size, self.over = top, row, min(15, row), min(30, 0.4 * row)
+        self.left = left_of(run.network, self.size)
+        self.ticks = {v: run.ticks(v) for v in self.nodes}
+        if not any(self.first in ticks for ticks in self.ticks.values()):
+            raise Wrong(f"{run.name}: no node begins pulse {self.first}")
+        self.ends = {v: self.ticks[v].get(self.last + 1, listed[-1].stamp + 1 if listed else 1)
                      for v, listed in run.entries.items()}
-        self.start = min(self.ticks[v].get(first, self.ends[v]) for v in nodes) - 1
+        self.start = min(self.time(v, self.first) for v in self.nodes) - 1
         self.stop = max(self.ends.values()) + 1
-        self.scale = max(9.0, min(19.0, 1180 / (self.stop - self.start)))
-        self.row_height = 88 if len(nodes) <= 3 else 74 if len(nodes) <= 5 else 50
+        self.scale = max(least, min(19.0, 1130 / (self.stop - self.start)))
+        # How wide a pulse is, on average.
+        self.column = (self.stop - self.start) * self.scale / (self.last - self.first + 1)
+        self.bottom = self.y(len(self.nodes))
+        self.width = max(self.x(self.stop) + 28, WIDTH)
+
+    def time(self, v, pulse):
+        """When a node begins a pulse; its end, if it doesn't."""
+        return self.ticks[v].get(pulse, self.ends[v])
 
     def x(self, time):
-        return LEFT + (time - self.start) * self.scale
+        return self.left + (time - self.start) * self.scale
 
     def y(self, v):
-        return TOP + (v - 1) * self.row_height
+        return self.top + (v - 1) * self.row
+
+    def border(self, pulse):
+        """Where each node begins a pulse, from top to bottom."""
+        points = [(self.x(self.time(v, pulse)), self.y(v)) for v in self.nodes]
+        return [(points[0][0], self.top - self.over), *points, (points[-1][0], self.bottom + self.over)]
 
     def arrows(self, kinds):
         """The puts whose arrows are seen, payloads last, on top."""
         return (put for kind in ("ack", "safe", "close", "payload") if kind in kinds for put in self.run.puts(kind)
                 if put.mate and put.mate.stamp >= self.start and put.stamp <= self.stop)
+
+
+def left_of(network, size):
+    """Where the lines of nodes begin: to the left are their numbers and names."""
+    names = [text_width(short_name(network, v), min(10, size)) for v in network.vertices if v in network.names]
+    return LEFT + max(names, default=-6) + 6
 
 
 def usual(network, last):
@@ -58,27 +78,21 @@ def draw(run, pulses=None, kinds=None, wrong=None):
         set_in_time(run, wrong)
         pulses = pulses or pulses_around(wrong, run.last)
     kinds = kinds or (KINDS if run.network.nodes <= MOST_NODES_OF_ALL_KINDS else ("payload",))
-    first, last = run.window(pulses, usual)
-    window = Window(run, first, last)
+    nodes = run.network.nodes
+    row, lower_row = 88 if nodes <= 3 else 74 if nodes <= 5 else 50, 46 if nodes <= 5 else 30
+    window = Window(run, run.window(pulses, usual), TOP, row, 9.0)
     at_most("run", window.stop - window.start, "steps of time side by side", MOST_STEPS,
             "fewer pulses (--pulses A..B), or overview")
-    nodes = run.network.nodes
-    upper = (nodes - 1) * window.row_height
-    lower_row = 46 if nodes <= 5 else 30
-    width = max(window.x(window.stop) + 28, WIDTH)
-    lower_top = TOP + upper + 136
-    svg = Svg(width, lower_top + (nodes - 1) * lower_row + 66, f"Space and time of {run.name}")
+    first, last, lower_top = window.first, window.last, window.bottom + 136
+    svg = Svg(window.width, lower_top + (nodes - 1) * lower_row + 66, f"Space and time of {run.name}")
     shown = ("what each node put, took and did" if set(kinds) == set(KINDS)
              else " and ".join(f"{NAMES[kind]}s" for kind in kinds))
     svg.heading(f"{run.name}: {shown}, pulses {first} to {last} of {run.last}",
                 time_words(run, ", so every arrow points right"))
     legend(svg, kinds)
-    svg.clip("window", LEFT - 8, 0, width - LEFT - 8, lower_top - 74)
+    svg.clip("window", window.left - 8, 0, window.width - window.left - 8, lower_top - 74)
     draw_bands(svg, window)
-    for v in run.network.vertices:
-        svg.line(LEFT - 6, window.y(v), width - 16, window.y(v), "#8A8A8A", 1)
-        svg.text(LEFT - 18, window.y(v) + 5, v, 15, INK, "end", bold=True)
-        name_below(svg, run.network, v, window.y(v))
+    draw_lines(svg, window)
     with svg.group("upper", clip_path="url(#window)"):
         draw_wires(svg, window, kinds)
         draw_ticks(svg, window)
@@ -88,11 +102,11 @@ def draw(run, pulses=None, kinds=None, wrong=None):
             draw_wrong(svg, window, wrong.entry)
         if wrong and wrong.stopped:
             draw_stop(svg, window, wrong.stopped)
-    words_y = TOP + upper + extra(window, nodes) + 20
+    words_y = window.bottom + window.over + 20
     svg.text(20, words_y, early_words(window, kinds), 11.5, SOFT)
     if wrong:
         svg.text(20, words_y + 18, wrong.words, 12.5, WRONG, bold=True)
-    draw_rounds(svg, run, first, last, lower_top, lower_row)
+    draw_rounds(svg, window, lower_top, lower_row)
     return svg.document()
 
 
@@ -107,16 +121,18 @@ def time_words(run, behind=""):
             f"replaying){behind}.")
 
 
-def name_below(svg, network, v, y):
-    """A vertex's name below its number, if it has one, left of its line."""
-    name = short_name(network, v, 8)
-    if name:
-        svg.text(LEFT - 10, y + 16, name, 9, SOFT, "end", mark="vertex-name")
+def draw_lines(svg, window):
+    for v in window.nodes:
+        draw_line(svg, window, v, window.y(v), window.width - 16, window.size)
 
 
-def extra(window, nodes):
-    """How far a band reaches above the first row and below the last."""
-    return window.row_height * 0.36 if nodes > 3 else 30
+def draw_line(svg, window, v, y, right, size):
+    """A node's line, and to the left its number and its name."""
+    svg.line(window.left - 6, y, right, y, "#8A8A8A", 1 if size > 13 else 0.6)
+    svg.text(window.left - 14, y + 0.36 * size, v, size, INK, "end", bold=True)
+    if name := short_name(window.network, v):
+        x = window.left - 18 - text_width(window.network.nodes, size) * BOLD
+        svg.text(x, y + 3.6, name, min(10, window.size), SOFT, "end", mark="vertex-name")
 
 
 def legend(svg, kinds):
@@ -134,22 +150,15 @@ def legend(svg, kinds):
 
 def draw_bands(svg, window):
     """A band for each pulse, from tick p of every node to its tick p + 1."""
-    nodes = window.run.network.vertices
-    over = extra(window, len(nodes))
-
-    def border(pulse):
-        points = [(window.x(window.ticks[v].get(pulse, window.ends[v])), window.y(v)) for v in nodes]
-        return [(points[0][0], points[0][1] - over)] + points + [(points[-1][0], points[-1][1] + over)]
-
-    pulses = range(window.first, window.last + 1)
+    pulses, thin = range(window.first, window.last + 1), min(1.2, 0.2 * window.column)
     for pulse in pulses:
-        left, right = border(pulse), border(pulse + 1)
+        left, right = window.border(pulse), window.border(pulse + 1)
         svg.path(polygon(left + right[::-1]) + ["Z"], None, None, BAND if (pulse - window.first) % 2 == 0 else PAPER,
                  mark="band")
-        svg.path(polygon(left), BORDER, 1.2)
-        if pulse == window.last:
-            svg.path(polygon(right), BORDER, 1.2)
-    name_pulses(svg, {pulse: max(border(pulse)[0][0] + 5, LEFT) for pulse in pulses}, TOP - over - 6)
+        svg.path(polygon(left), BORDER, thin)
+    svg.path(polygon(right), BORDER, thin)
+    name_pulses(svg, {pulse: max(window.border(pulse)[0][0] + 5, window.left) for pulse in pulses},
+                window.top - window.over - 6)
 
 
 def name_pulses(svg, places, y):
@@ -182,9 +191,9 @@ def draw_wires(svg, window, kinds):
         x1, y1, x2, y2 = window.x(put.stamp), window.y(put.vertex), window.x(take.stamp), window.y(take.vertex)
         if kind == "payload":
             # It is read at its taker's tick p + 1.
-            read_at = window.ticks[put.neighbour].get(put.wire[1] + 1, window.ends[put.neighbour])
+            read_at = window.time(put.neighbour, put.wire[1] + 1)
             svg.line(x2, y2, window.x(read_at), y2, WIRES[kind], 5, opacity="0.35", mark="bar")
-            if window.run.network.nodes <= 3 and x1 > LEFT:
+            if len(window.nodes) <= 3 and x1 > window.left:
                 words.append((x1, y1, x2 - x1, y2 - y1, f"{put.wire[2][0]} {put.wire[2][1]}"))
         with svg.group(kind, put.title()):
             wire_arrow(svg, x1, y1, x2, y2, kind)
@@ -198,10 +207,10 @@ def write_words(svg, window, words):
         half = text_width(text, 9.5) * BOLD / 2 + 2
         for part in (0.5, 0.32, 0.68, 0.2, 0.8):
             x, y = x1 + dx * part, y1 + dy * part + 3
-            off = (y - 3 - TOP) % window.row_height
-            is_inside = LEFT + half < x < window.x(window.stop) - half
+            off = (y - 3 - TOP) % window.row
+            is_inside = window.left + half < x < window.x(window.stop) - half
             is_free = all(abs(x - a) > half + b or abs(y - c) > 13 for a, c, b in used)
-            if is_inside and is_free and min(off, window.row_height - off) > 11:
+            if is_inside and is_free and min(off, window.row - off) > 11:
                 used.append((x, y, half))
                 svg.text(x, y, text, 9.5, WIRES["payload"], "middle", bold=True, halo=3, mark="words")
                 break
@@ -209,13 +218,14 @@ def write_words(svg, window, words):
 
 def draw_ticks(svg, window):
     """Each node's pulses; those outside the window are grey."""
+    half, width = min(10, 0.2 * window.row), min(3.4, 0.07 * window.row, 0.3 * window.column)
     for v, ticks in window.ticks.items():
         for pulse, time in sorted(ticks.items()):
             x, y = window.x(time), window.y(v)
             if window.first <= pulse <= window.last + 1:
-                svg.line(x, y - 10, x, y + 10, INK, 3.4, mark="tick")
+                svg.line(x, y - half, x, y + half, INK, width, mark="tick")
             elif pulse and window.start < time < window.stop:
-                svg.line(x, y - 8, x, y + 8, "#9A9A9A", 2.4, mark="outside")
+                svg.line(x, y - 0.8 * half, x, y + 0.8 * half, "#9A9A9A", 0.7 * width, mark="outside")
 
 
 def early_words(window, kinds):
@@ -237,41 +247,32 @@ def early_words(window, kinds):
     )
 
 
-def draw_rounds(svg, run, first, last, top, row_height):
+def draw_rounds(svg, window, top, row):
     """The lower half: each payload from its pulse p to pulse p + 1, the same for every run of the network."""
-    nodes, column = run.network.vertices, 1120 / (last - first + 1)
-    height = (len(nodes) - 1) * row_height
-
-    def x_of(pulse):
-        return LEFT + (pulse - first) * column
-
-    def y_of(v):
-        return 14 + (v - 1) * row_height
-
+    run, first, last, left = window.run, window.first, window.last, window.left
+    column, height = 1120 / (last - first + 1), (len(window.nodes) - 1) * row
+    x_of = {pulse: left + (pulse - first) * column for pulse in range(first, last + 2)}
+    y_of = {v: 14 + (v - 1) * row for v in window.nodes}
     puts = sorted((put for put in run.puts("payload") if first <= put.wire[1] <= last),
                   key=lambda put: (put.wire[1], put.vertex, put.neighbour))
     with svg.group("lower", transform=f"translate(0 {top:.0f})"):
         svg.text(20, -40,
                  "The same payloads, each from its own pulse to the one in which it is read: the synchronous rounds",
                  13.5, INK, bold=True)
-        for pulse in range(first, last + 2):
+        for pulse, x in x_of.items():
             if pulse <= last:
-                svg.rect(x_of(pulse), -8, column, height + 44, BAND if (pulse - first) % 2 == 0 else PAPER)
-                svg.text(x_of(pulse) + 5, -13, f"pulse {pulse}", 11.5, PULSE, bold=True)
-            svg.line(x_of(pulse), -8, x_of(pulse), height + 36, BORDER, 1.2)
-        for v in nodes:
-            svg.line(LEFT - 6, y_of(v), LEFT + 1132, y_of(v), "#8A8A8A", 1)
-            svg.text(LEFT - 18, y_of(v) + 5, v, 14, INK, "end", bold=True)
-            name_below(svg, run.network, v, y_of(v))
+                svg.rect(x, -8, column, height + 44, BAND if (pulse - first) % 2 == 0 else PAPER)
+                svg.text(x + 5, -13, f"pulse {pulse}", 11.5, PULSE, bold=True)
+            svg.line(x, -8, x, height + 36, BORDER, 1.2)
+        for v, y in y_of.items():
+            draw_line(svg, window, v, y, left + 1132, 14)
         for put in puts:
             with svg.group("round", put.title()):
-                x1, y1, x2, y2 = x_of(put.wire[1]), y_of(put.vertex), x_of(put.wire[1] + 1), y_of(put.neighbour)
-                length = sqrt((x2 - x1) * (x2 - x1) + (y2 - y1) * (y2 - y1))
-                svg.line(x1, y1, x2 - (x2 - x1) / length * 7, y2 - (y2 - y1) / length * 7, WIRES["payload"], 1.7)
-                svg.head(x2, y2, x2 - x1, y2 - y1, 8, WIRES["payload"])
-        for v in nodes:
-            for pulse in range(first, last + 2):
-                svg.line(x_of(pulse), y_of(v) - 8, x_of(pulse), y_of(v) + 8, INK, 3, mark="slot")
+                svg.arrow(x_of[put.wire[1]], y_of[put.vertex], x_of[put.wire[1] + 1], y_of[put.neighbour],
+                          WIRES["payload"], 1.7, 8)
+        for y in y_of.values():
+            for x in x_of.values():
+                svg.line(x, y - 8, x, y + 8, INK, 3, mark="slot")
         svg.text(20, height + 56, rounds_words(run, last, len(puts)), 11.5, SOFT)
 
 

@@ -105,6 +105,13 @@ class Svg:
             PAPER if hollow else colour,
         )
 
+    def arrow(self, x1, y1, x2, y2, colour, width, size, dash=None, hollow=False):
+        """A straight arrow whose tip is at x2, y2."""
+        dx, dy = x2 - x1, y2 - y1
+        part = 0.8 * size / (sqrt(dx * dx + dy * dy) or 1)
+        self.line(x1, y1, x2 - dx * part, y2 - dy * part, colour, width, dash)
+        self.head(x2, y2, dx, dy, size, colour, hollow)
+
     def heading(self, title, *lines):
         """The fact that the picture shows, and what helps to read it, from the upper left corner."""
         self.text(20, 28, title, 17, INK, bold=True)

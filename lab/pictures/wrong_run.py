@@ -111,6 +111,6 @@ def draw_stop(svg, window, v: int) -> None:
 def draw_stub(svg, window, put: Entry, colour: str, dash: str | None, width: float = 1.4) -> None:
     x, y = window.x(put.stamp), window.y(put.vertex)
     way = 1 if put.neighbour > put.vertex else -1
-    dx, dy = STEPS * window.scale, way * window.row_height * PART_OF_ROW
+    dx, dy = STEPS * window.scale, way * window.row * PART_OF_ROW
     svg.line(x, y, x + dx, y + dy, colour, width, dash)
     svg.head(x + dx, y + dy, dx, dy, 7, colour, hollow=True)

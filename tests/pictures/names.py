@@ -73,8 +73,8 @@ class Names(PictureCase):
         page = self.draw("player", NAMED, rounds)
         self.note("names in a player are escaped",
                   "Köln & \\u003cBon" in page and "<Bon" not in page and "\x1b" not in page, page[-900:])
-        for kind, names, times in (("run", ["Ulm", "Frankfu…", "Köln &…", "a\ufffdb"], 2),
-                                   ("overview", ["Ulm", "Frankfurt a…", "Köln & <Bon…", "a\ufffdb"], 1)):
+        names = ["Ulm", "Frankfurt a…", "Köln & <Bon…", "a\ufffdb"]
+        for kind, times in (("run", 2), ("overview", 1)):
             root = parsed(self.draw(kind, NAMED, run))
             shown = [mark.text for mark in marks(root, "vertex-name")]
             self.note(f"names in {kind}", shown == names * times, shown)
