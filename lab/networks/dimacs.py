@@ -5,7 +5,7 @@ import re
 from lab.networks.edge_list import Listed, clean
 from lab.networks.fields import Unread, is_number, value_of
 from lab.networks.network_text import (
-    IDENTIFIERS, MAX_BARS, MAX_CHANNEL, MAX_NODES, SKIPPED, Reading, fields_of, read_comment, shown, whole)
+    IDENTIFIERS, MAX_BARS, MAX_CHANNEL, MAX_NODES, SKIPPED, Reading, fields_of, shown, whole)
 from lab.wrong import Wrong, wrong_line
 
 BEGINS = re.compile(r"^[ \t]*(p[ \t]+[a-z]+[ \t]+[0-9]+|p[ \t]+[0-9]+[ \t]+[0-9]+|e[ \t]+[0-9]+[ \t]+[0-9]+)\b", re.M)
@@ -34,7 +34,7 @@ def read(text: str, name: str) -> Listed:
                 raise wrong_line(name, line, "a second `p` line")
             head = read_head(found, name, line, fields)
         elif fields[0].startswith("c"):
-            read_comment(comments, raw, fields)
+            comments.comment(raw, fields)
         elif fields[0] == "i":
             read_identifier(found, name, line, fields)
         elif fields[0] == "b":

@@ -50,7 +50,8 @@ def doubts_of_rows(body: Rows, table: Table, is_unknown: bool) -> Doubts:
         return
     if any(len(row) > 3 or len(row) == 3 and row[2] and not is_number(row[2]) for row in fields):
         yield None, "lines of more than a pair and a weight, without a heading that names the ends"
-    if not (table.is_even if table.separator else all(len(row) == 3 for row in fields)):
+    widths = {len(row) for _, row in (table.rows if table.separator else body)}
+    if len(widths) > 1 or not table.separator and widths != {3}:
         yield None, "not each line is a pair and a weight, and not each neighbour has a line"
     firsts, seconds, thirds = ({row[at] for row in fields if len(row) > at} for at in range(3))
     is_apart = firsts.isdisjoint(others) and len(fields) > 2

@@ -5,6 +5,7 @@ from dataclasses import dataclass, field
 
 from lab.networks.fields import Unread, shown
 from lab.networks.headings import ends_named
+from lab.words import counted
 from lab.wrong import wrong_line
 
 Rows = list[tuple[int, list[str]]]
@@ -40,28 +41,32 @@ class Line:
 
     @property
     def is_marked(self) -> bool:
-        return self.text.startswith(MARKS) or self.text[:1].isspace() and self.text.lstrip().startswith(MARKS)
+        return self.text.lstrip()[:1] in MARKS
 
     @property
     def is_apart(self) -> bool:
         """Whether its mark stands by itself, so that no name begins with it."""
         return re.match(r"\s*[#%]+(\s|$)", self.text) is not None
 
+    def parts(self, separator: str | None) -> list[str]:
+        """Its fields, whatever quotes are in them."""
+        return [part.strip() for part in self.text.split(separator)]
+
     def end(self, separator: str | None) -> None:
         """Takes what separates the data off the text; or the data are part of it, if nothing does."""
-        if self.data:
-            text = self.text.rstrip(" \t" if separator is None else " ")
-            is_apart = text != self.text if separator is None else text.endswith(separator)
-            self.text = text.removesuffix(separator or "\t") if is_apart else self.text + self.data
-            self.data = self.data if is_apart else ""
+        text = self.text.rstrip(" \t" if separator is None else " ")
+        if self.data and (text != self.text if separator is None else text.endswith(separator)):
+            self.text = text.removesuffix(separator or "\t")
+        elif self.data:
+            self.text, self.data = self.text + self.data, ""
 
 
 @dataclass
 class Table:
     """`rows` has (line, fields) of each line that is no comment and not empty. `separator` is None for blanks. If a
     line has one field before its data of networkx, as only adjacency in several lines has, it `has_groups`; it
-    `has_data` if any line has, and `is_even` if all lines have equally many fields. `marked` has the lines of rows that
-    begin with the mark of a comment, and `comments` those that are comments."""
+    `has_data` if any line has. `marked` has the lines of rows that begin with the mark of a comment, and `comments`
+    those that are comments."""
 
     rows: Rows = field(default_factory=list)
     separator: str | None = None
@@ -70,66 +75,71 @@ class Table:
     has_groups: bool = False
     has_data: bool = False
     by_networkx: bool = False
-    is_even: bool = True
     marked: list[int] = field(default_factory=list)
     comments: list[tuple[int, str]] = field(default_factory=list)
 
 
 def table_of(text: str, name: str, is_headed: bool = False) -> Table:
     """The rows of a text. If it `is_headed`, as a table of sites is, each line from its heading on is a row."""
-    lines = lines_of(text, name)
+    lines = [line_of(line) for line in lines_of(text, name)]
     # networkx' adjacency lists have a head: the command, the time and the graph's name.
-    heads = [line for _, line in lines[:3]]
-    found = Table(by_networkx=len(heads) == 3 and all(head.startswith("#") for head in heads)
-                  and heads[1].startswith("# GMT"))
-    comments = 3 if found.by_networkx else 0
-    lines = [line_of(line) for line in lines[comments:]]
+    heads = [line.text for line in lines[:3] if line.text.startswith("#")]
+    found = Table(by_networkx=len(heads) == 3 and heads[1].startswith("# GMT"))
+    lines = lines[3 * found.by_networkx:]
     bare = [line for line in lines if not line.is_marked]
-    found.separator = separator_of(bare if len(bare) == len(lines) else [line for line in lines if not line.is_apart])
-    found.separator = found.separator or separator_of(bare)
+    found.separator = separator_of([line for line in lines if not line.is_apart]) or separator_of(bare)
     for line in lines:
         line.end(found.separator)
-    kept, doubtful, more = rows_among(lines, found.separator, is_headed, len(bare) < len(lines), name)
-    comments += more
+    kept, doubtful, comments = rows_among(lines, found.separator, is_headed, name)
+    comments += 3 * found.by_networkx
     if doubtful:
         marks = "a line that begins" if len(doubtful) == 1 else f"{len(doubtful):,} lines that begin"
         found.left_out.append(f"{marks} with # or % left out, first at line {doubtful[0].number}: "
                               f"{shown(doubtful[0].text.strip())} (names that begin so need quotes: \"#1\")")
     if comments:
-        found.notes.append("1 line is a comment" if comments == 1 else f"{comments:,} lines are comments")
+        found.notes.append(counted(comments, "line is a comment", "lines are comments"))
     if any(line.data.strip("{ }") for line in kept):
         found.left_out.append(Unread(["data"], "{names} in braces not read, as weights are"))
-    found.has_data = any(line.data for line in kept)
     if OPENED.search(text):
         found.notes.append("quotes around whole fields, as \u00ab \u00bb, aren't part of them")
-    rows = [(line.number, fields_of(line, found.separator, name)) for line in kept]
     there = {line.number for line in kept}
+    found.has_data = any(line.data for line in kept)
     found.comments = [(line.number, line.text) for line in lines if line.is_marked and line.number not in there]
     found.marked = [line.number for line in kept if line.is_marked]
-    found.is_even = len({len(row) for _, row in rows}) < 2
-    found.has_groups = any(line.data and len(parts_of(line, found.separator)) == 1 + line.is_apart for line in lines)
+    found.has_groups = any(line.data and len(line.parts(found.separator)) == 1 + line.is_apart for line in lines)
     # Spreadsheets write empty rows, too.
-    found.rows = [(number, row) for number, row in rows if any(row)]
+    found.rows = [(line.number, row) for line in kept if any(row := fields_of(line, found.separator, name))]
     return found
 
 
-def rows_among(lines: list[Line], separator: str | None, is_headed: bool, are_marked: bool,
-               name: str) -> tuple[list, list, int]:
-    """The rows, the lines that may be rows or comments, and how many are comments; only if some begin with a mark they
-    `are_marked`."""
+def rows_among(lines: list[Line], separator: str | None, is_headed: bool, name: str) -> tuple[list, list, int]:
+    """The rows, the lines that may be rows or comments, and how many are comments for sure. A line that begins with a
+    mark is a row for sure if other names begin so, or the table has no comments."""
     kept, doubtful, comments = [], [], 0
     # Whether a field after the first is a name that begins with the mark of a comment.
-    have_marks = are_marked and any(re.match(r"\"?[#%][^\s#%\"]", part) for line in lines
-                                    for part in parts_of(line, separator)[1:])
+    have_marks = any(line.is_marked for line in lines) and any(
+        re.match(r"\"?[#%][^\s#%\"]", part) for line in lines for part in line.parts(separator)[1:])
     for line in lines:
-        is_first = not kept
-        if not line.is_marked or is_row(line, separator, is_first, is_headed, have_marks):
+        has_more = line.is_marked and len(line.parts(separator)) > 1
+        is_row = has_more and separator or kept if is_headed else have_marks and has_more and not line.is_apart
+        if not line.is_marked or is_row:
             kept.append(line)
-        elif is_comment(line, separator, is_first, name) and not (have_marks and separator is None):
+        elif "matrixmarket" in line.text.lower():
+            raise wrong_line(name, line.number, "Matrix Market begins with this line, as `%%MatrixMarket matrix "
+                                                "coordinate pattern general`: is the text damaged?")
+        elif (line.is_apart and not have_marks if separator is None else
+              separator not in line.text and (not kept or line.is_apart)):
             comments += 1
         else:
             doubtful.append(line)
-    return kept, heading_taken(kept, doubtful, separator), comments
+    # The last doubtful line before the first row is its heading, if it names the ends of an edge.
+    before = [line for line in doubtful if kept and line.number < kept[0].number][-1:]
+    for line in before:
+        heading = Line(line.number, line.text.lstrip(" #%"))
+        if ends_named(heading.parts(separator)):
+            kept.insert(0, heading)
+            doubtful.remove(line)
+    return kept, doubtful, comments
 
 
 def lines_of(text: str, name: str) -> list[tuple[int, str]]:
@@ -163,44 +173,10 @@ def separator_of(lines: list[Line]) -> str | None:
     return None
 
 
-def parts_of(line: Line, separator: str | None) -> list[str]:
-    """The fields of a line, whatever quotes are in it."""
-    return [part.strip() for part in line.text.split(separator)]
-
-
-def is_row(line: Line, separator: str | None, is_first: bool, is_headed: bool, have_marks: bool) -> bool:
-    """Whether a line that begins with a mark is a row for sure: other names begin so, or the table has no comments."""
-    has_more = len(parts_of(line, separator)) > 1
-    if is_headed:
-        return has_more and separator is not None or not is_first
-    return have_marks and has_more and not line.is_apart
-
-
-def is_comment(line: Line, separator: str | None, is_first: bool, name: str) -> bool:
-    """Whether a line that begins with a mark is a comment for sure."""
-    if "matrixmarket" in line.text.lower():
-        raise wrong_line(name, line.number, "Matrix Market begins with this line, as `%%MatrixMarket matrix coordinate "
-                                            "pattern general`: is the text damaged?")
-    return line.is_apart if separator is None else separator not in line.text and (is_first or line.is_apart)
-
-
-def heading_taken(kept: list[Line], doubtful: list[Line], separator: str | None) -> list[Line]:
-    """Takes the last doubtful line before the first row for its heading, if it names the ends of an edge; returns the
-    others."""
-    before = [line for line in doubtful if kept and line.number < kept[0].number]
-    if not before:
-        return doubtful
-    heading = Line(before[-1].number, before[-1].text.lstrip(" #%"))
-    if ends_named(parts_of(heading, separator)) is None:
-        return doubtful
-    kept.insert(0, heading)
-    return [line for line in doubtful if line is not before[-1]]
-
-
 def fields_of(line: Line, separator: str | None, name: str) -> list[str]:
     """The fields of a line, without their quotes."""
     if '"' not in line.text:
-        parts = parts_of(line, separator) if separator else [part for part in re.split("[ \t]+", line.text) if part]
+        parts = line.parts(separator) if separator else [part for part in re.split("[ \t]+", line.text) if part]
         return [unquoted(part, line, name) for part in parts] if OPENED.search(line.text) else parts
     text = line.text if separator else re.sub("[ \t]+", " ", line.text.strip())
     fields, at, mark = [], 0, None

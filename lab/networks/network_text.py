@@ -58,15 +58,6 @@ class Network:
         return self.bars.get(v, [])
 
 
-class Reading:
-    """What the lines so far say: `nodes` is None before the `p` line, `promised` its number of edges, and `edge_lines`
-    counts the lines that name one, again and again too."""
-
-    def __init__(self):
-        self.nodes, self.promised, self.edge_lines = None, None, 0
-        self.edges, self.places, self.names, self.identifiers, self.bars = set(), {}, {}, {}, {}
-
-
 def stem(path):
     """A file's name without its folder and its ending, with a mark in place of what is no UTF-8."""
     return re.sub(r"\.\w+$", "", path.split("/")[-1]).encode("utf-8", "replace").decode()
@@ -86,126 +77,117 @@ def name_of(line):
     return (whole(found.group(1)), found.group(2)) if found and found.group(2) else None
 
 
-def problem_of(path, line, fields):
-    """NODES and EDGES of a `p` line."""
-    form = "`p edge NODES EDGES`"
-    if len(fields) > 1 and fields[1] not in FORMATS:
-        is_missing = whole(fields[1]) is not None
-        what = "the word `edge` is missing" if is_missing else f"`p {shown(fields[1])}` is another format"
-        raise wrong_line(path, line, f"{what}: the line has to be {form} (F4)")
-    why = why_no_number(fields[2:], ["NODES", "EDGES"])
-    if len(fields) < 2 or why:
-        raise wrong_line(path, line, f"no {form}: {why} (F4)")
-    if whole(fields[2]) > MAX_NODES:
-        raise wrong_line(path, line, f"more than {MAX_NODES} nodes (F7)")
-    return whole(fields[2]), whole(fields[3])
+# The words of a line after its first field, how many of them are vertices, what it says, and the fault of one that
+# comes before the `p` line.
+LINES = {"e": ("V W", 2, "an edge", "F3"), "i": ("V NUMBER", 1, "an identifier", "F10"),
+         "b": ("V CHANNEL", 1, "a barred channel", "F10")}
 
 
-def check_vertices(path, line, fields, nodes):
-    """Refuses what is no vertex, with the digits that the text has; of two, 0 first and then the greater one."""
-    least, most = min(fields, key=whole), max(fields, key=whole)
-    if whole(least) == 0:
-        raise wrong_line(path, line, "there is no vertex 0, since vertices count from 1 (F5)")
-    if whole(most) > nodes:
-        raise wrong_line(path, line, f"there is no vertex {shown(most)}, since the `p` line has {nodes} (F5)")
+class Reading:
+    """What the lines so far say: `nodes` is None before the `p` line, `promised` its number of edges, and `edge_lines`
+    counts the lines that name one, again and again too."""
+
+    def __init__(self, path=""):
+        self.path, self.line, self.nodes, self.promised, self.edge_lines = path, 0, None, None, 0
+        self.edges, self.places, self.names, self.identifiers, self.bars = set(), {}, {}, {}, {}
+
+    def wrong(self, what, code):
+        return wrong_line(self.path, self.line, f"{what} ({code})")
+
+    def read(self, raw):
+        """The next line, or its fault."""
+        self.line += 1
+        fields = [field for field in fields_of(raw) if field]
+        word = fields[0] if fields else "c"
+        if word.startswith("c"):
+            self.comment(raw, fields)
+        elif word == "p":
+            self.problem(fields)
+        elif word in LINES:
+            one, other = self.numbers(fields)
+            {"e": self.edge, "i": self.identifier, "b": self.bar}[word](one, other)
+        elif word not in SKIPPED:
+            raise self.wrong(why_unknown(word), "F8")
+
+    def comment(self, raw, fields):
+        """Keeps a place or a name of a vertex."""
+        place, name = place_of(fields), name_of(raw)
+        if place:
+            self.places[place[0]] = place[1]
+        if name:
+            self.names[name[0]] = name[1]
+
+    def problem(self, fields):
+        """NODES and EDGES of the `p` line."""
+        form = "`p edge NODES EDGES`"
+        if self.nodes is not None:
+            raise self.wrong("a second `p` line", "F2")
+        if len(fields) > 1 and fields[1] not in FORMATS:
+            is_missing = whole(fields[1]) is not None
+            what = "the word `edge` is missing" if is_missing else f"`p {shown(fields[1])}` is another format"
+            raise self.wrong(f"{what}: the line has to be {form}", "F4")
+        why = why_no_number(fields[2:], ["NODES", "EDGES"])
+        if len(fields) < 2 or why:
+            raise self.wrong(f"no {form}: {why}", "F4")
+        if whole(fields[2]) > MAX_NODES:
+            raise self.wrong(f"more than {MAX_NODES} nodes", "F7")
+        self.nodes, self.promised = map(whole, fields[2:4])
+
+    def numbers(self, fields):
+        """The two numbers of a line, of which a vertex is named with the digits that the text has; of two wrong ones 0
+        first, and then the greater one."""
+        words, count, what, code = LINES[fields[0]]
+        if self.nodes is None:
+            raise self.wrong(f"{what} before the line `p edge NODES EDGES`", code)
+        why = why_no_number(fields[1:], words.split())
+        if why:
+            raise self.wrong(f"no `{fields[0]} {words}`: {why}", "F4")
+        vertices = fields[1:1 + count]
+        if whole(min(vertices, key=whole)) == 0:
+            raise self.wrong("there is no vertex 0, since vertices count from 1", "F5")
+        most = max(vertices, key=whole)
+        if whole(most) > self.nodes:
+            raise self.wrong(f"there is no vertex {shown(most)}, since the `p` line has {self.nodes}", "F5")
+        if fields[0] == "b" and not 1 <= whole(fields[2]) <= MAX_CHANNEL:
+            raise self.wrong(f"channel {shown(fields[2])} can't be barred, only 1 to {MAX_CHANNEL} can", "F13")
+        return map(whole, fields[1:3])
+
+    def edge(self, v, w):
+        if v == w:
+            raise self.wrong(f"an edge from vertex {v} to itself", "F6")
+        self.edges.add((min(v, w), max(v, w)))
+        self.edge_lines += 1
+        if len(self.edges) > MAX_EDGES:
+            raise self.wrong(f"more than {MAX_EDGES} different edges", "F7")
+
+    def identifier(self, v, number):
+        if number >= IDENTIFIERS:
+            raise self.wrong("the identifier is 2^128 or more", "F11")
+        if v in self.identifiers:
+            raise self.wrong(f"a second identifier of vertex {v}", "F12")
+        self.identifiers[v] = number
+
+    def bar(self, v, channel):
+        barred = self.bars.setdefault(v, set())
+        barred.add(channel)
+        if len(barred) > MAX_BARS:
+            raise self.wrong(f"more than {MAX_BARS} channels are barred at vertex {v}", "F14")
 
 
-def edge_of(path, line, fields, nodes):
-    """The edge of an `e` line, the lower vertex first."""
-    if nodes is None:
-        raise wrong_line(path, line, "an edge before the line `p edge NODES EDGES` (F3)")
-    why = why_no_number(fields[1:], ["V", "W"])
-    if why:
-        raise wrong_line(path, line, f"no `e V W`: {why} (F4)")
-    v, w = sorted(map(whole, fields[1:3]))
-    check_vertices(path, line, fields[1:3], nodes)
-    if v == w:
-        raise wrong_line(path, line, f"an edge from vertex {v} to itself (F6)")
-    return v, w
-
-
-def said_of_vertex(path, line, fields, read, what, form):
-    """Vertex and number of an `i` or a `b` line."""
-    if read.nodes is None:
-        raise wrong_line(path, line, f"{what} before the line `p edge NODES EDGES` (F10)")
-    why = why_no_number(fields[1:], form.split()[1:])
-    if why:
-        raise wrong_line(path, line, f"no `{form}`: {why} (F4)")
-    check_vertices(path, line, fields[1:2], read.nodes)
-    return whole(fields[1]), whole(fields[2])
-
-
-def identifier_of(path, line, fields, read):
-    """Vertex and identifier of an `i` line."""
-    v, number = said_of_vertex(path, line, fields, read, "an identifier", "i V NUMBER")
-    if number >= IDENTIFIERS:
-        raise wrong_line(path, line, "the identifier is 2^128 or more (F11)")
-    if v in read.identifiers:
-        raise wrong_line(path, line, f"a second identifier of vertex {v} (F12)")
-    return v, number
-
-
-def bar_of(path, line, fields, read):
-    """Vertex and channel of a `b` line."""
-    v, channel = said_of_vertex(path, line, fields, read, "a barred channel", "b V CHANNEL")
-    if not 1 <= channel <= MAX_CHANNEL:
-        what = f"channel {shown(fields[2])} can't be barred, only 1 to {MAX_CHANNEL} can (F13)"
-        raise wrong_line(path, line, what)
-    barred = read.bars.get(v, ())
-    if channel not in barred and len(barred) == MAX_BARS:
-        raise wrong_line(path, line, f"more than {MAX_BARS} channels are barred at vertex {v} (F14)")
-    return v, channel
-
-
-def unknown_line(path, line, field):
+def why_unknown(field):
     """Of a line that begins like no line of a network."""
     if field.startswith("\ufeff"):
-        return wrong_line(path, line, "a byte order mark is before the first word (F8)")
+        return "a byte order mark is before the first word"
     if "\0" in field or field.startswith("\ufffd"):
-        return wrong_line(path, line, f"`{shown(field)}` is no text in ASCII; it may be UTF-16, or no text at all (F8)")
-    return wrong_line(path, line, f"`{shown(field)}` begins no line of a network (F8)")
-
-
-def read_comment(read, raw, fields):
-    """Keeps a place or a name of a vertex."""
-    place, name = place_of(fields), name_of(raw)
-    if place:
-        read.places[place[0]] = place[1]
-    if name:
-        read.names[name[0]] = name[1]
-
-
-def read_line(read, path, line, raw):
-    """One line, or its fault."""
-    fields = [field for field in fields_of(raw) if field]
-    if not fields or fields[0] in SKIPPED:
-        return
-    if fields[0].startswith("c"):
-        read_comment(read, raw, fields)
-    elif fields[0] == "p":
-        if read.nodes is not None:
-            raise wrong_line(path, line, "a second `p` line (F2)")
-        read.nodes, read.promised = problem_of(path, line, fields)
-    elif fields[0] == "e":
-        read.edges.add(edge_of(path, line, fields, read.nodes))
-        read.edge_lines += 1
-        if len(read.edges) > MAX_EDGES:
-            raise wrong_line(path, line, f"more than {MAX_EDGES} different edges (F7)")
-    elif fields[0] == "i":
-        v, number = identifier_of(path, line, fields, read)
-        read.identifiers[v] = number
-    elif fields[0] == "b":
-        v, channel = bar_of(path, line, fields, read)
-        read.bars.setdefault(v, set()).add(channel)
-    else:
-        raise unknown_line(path, line, fields[0])
+        return f"`{shown(field)}` is no text in ASCII; it may be UTF-16, or no text at all"
+    return f"`{shown(field)}` begins no line of a network"
 
 
 def reading_of(text, path):
     """What all lines of a text say, or its first fault."""
-    read = Reading()
-    for line, raw in enumerate(text.split("\n"), 1):
-        read_line(read, path, line, raw)
+    read = Reading(path)
+    for raw in text.split("\n"):
+        read.read(raw)
     if read.nodes is None:
         raise Wrong(f"{path}: there is no line `p edge NODES EDGES` (F1)")
     return read
