@@ -3,37 +3,27 @@ traceback is in door.py."""
 import importlib
 import os
 import sys
-from typing import NamedTuple
 
-
-class Command(NamedTuple):
-    """`main` of `module` takes the words after the command and returns the status; `does` is its line of help."""
-
-    module: str
-    does: str
-
-
-# By what a reader wants, in the order of the help text.
+# The module of each command, whose `main` takes the words after the command and returns the status, and its line of
+# help; by what a reader wants, in the order of the help text.
 READERS = {
     "To see": {
-        "studio": Command("lab.studio.studio", "opens a page in the browser: draw a network, and everything moves"),
-        "picture": Command("lab.pictures.picture", "draws plans, rounds and runs, and makes pages that play them"),
-        "network": Command("lab.networks.network", "makes networks, reads other forms, says what one is"),
-        "channels": Command("lab.networks.channels", "puts real channel numbers in place of a plan's"),
+        "studio": ("lab.studio.studio", "opens a page in the browser: draw a network, and everything moves"),
+        "picture": ("lab.pictures.picture", "draws plans, rounds and runs, and makes pages that play them"),
+        "network": ("lab.networks.network", "makes networks, reads other forms, says what one is"),
+        "channels": ("lab.networks.channels", "puts real channel numbers in place of a plan's"),
     },
     "To run": {
-        "simulate": Command("lab.schedules.simulate", "makes a run without a clock, by a seed or a list of events"),
-        "explore": Command("lab.schedules.explore", "plays every order of events of up to four nodes"),
+        "simulate": ("lab.schedules.simulate", "makes a run without a clock, by a seed or a list of events"),
+        "explore": ("lab.schedules.explore", "plays every order of events of up to four nodes"),
     },
-    "To judge": {"transcript": Command("lab.transcripts.transcript", "checks, replays and converts transcripts")},
+    "To judge": {"transcript": ("lab.transcripts.transcript", "checks, replays and converts transcripts")},
     "To teach": {
-        "workshop": Command("lab.workshop.workshop", "runs students' nodes, and has the proved programs judge them"),
-        "sheet": Command("lab.pictures.sheet", "prints question sheets, and their answers"),
+        "workshop": ("lab.workshop.workshop", "runs students' nodes, and has the proved programs judge them"),
+        "sheet": ("lab.pictures.sheet", "prints question sheets, and their answers"),
     },
 }
-COMMANDS = {name: command for commands in READERS.values() for name, command in commands.items()}
-# What scripts ask for besides.
-INNER = {"progress": "lab.progress"}
+COMMANDS = {name: module for commands in READERS.values() for name, (module, _) in commands.items()}
 HELP = """\
 Draws, runs, judges and teaches what forestplan computes.
 
@@ -57,18 +47,18 @@ def main():
     # Run as a folder, its own place comes first where modules are looked for; the package's is one above.
     sys.path[0] = os.path.dirname(os.path.dirname(os.path.realpath(__file__)))
     name, words = sys.argv[1] if len(sys.argv) > 1 else "", sys.argv[2:]
-    # `version NAME` is what the script of another name says.
-    called = words[0] if name == "version" and words else name if name in COMMANDS else "forestlab"
-    return importlib.import_module("lab.door").run(called, lambda: command_of(name, words))
+    return importlib.import_module("lab.door").run(name if name in COMMANDS else "forestlab",
+                                                   lambda: command_of(name, words))
 
 
 def command_of(name, words):
     """The command of this name with its words: a function that returns the status."""
-    if name in ("version", "--version") or name in COMMANDS and words == ["--version"]:
+    if name == "--version" or name in COMMANDS and words == ["--version"]:
         return importlib.import_module("lab.version").main
     if name in ("-h", "--help"):
         return help_text
-    module = COMMANDS[name].module if name in COMMANDS else INNER.get(name)
+    # The script `forestplan` asks for `progress`.
+    module = (COMMANDS | {"progress": "lab.progress"}).get(name)
     if module is None:
         return lambda: refused(f"{f'there is no command {name}' if name else 'a command is missing'}; try --help")
     if not is_there(module):
@@ -86,7 +76,7 @@ def is_there(module):
 def help_text():
     lines = []
     for reader, commands in READERS.items():
-        found = [f"  {name:<12}{command.does}" for name, command in commands.items() if is_there(command.module)]
+        found = [f"  {name:<12}{does}" for name, (module, does) in commands.items() if is_there(module)]
         lines += [reader, *found] if found else []
     sys.stdout.write(HELP.format(commands="".join(line + "\n" for line in lines)))
     return 0

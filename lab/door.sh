@@ -14,7 +14,7 @@ begin() {
 
 # Prints what needs no program, the version or a text of lab/help/, and ends this shell: say_known NAME [arguments].
 say_known() {
-  [ "${*:2}" != --version ] || begin lab version "$1"
+  [ "${*:2}" != --version ] || begin lab --version
   [[ $# -le 3 && ${!#} =~ ^(-h|--help)$ && -r $lab/help/$1${3:+-$2}.txt ]] || return 0
   cat "$lab/help/$1${3:+-$2}.txt" || exit 4
   exit 0

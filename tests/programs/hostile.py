@@ -3,7 +3,7 @@ written from docs/claim/FORMATS.md (slow_reader.py).
 
 Besides the random texts: each byte at each place of a small text, byte order marks and other bytes before each place,
 numbers around powers of two, lines of a megabyte, about as many bars of a vertex as the limit. It needs a C compiler,
-`cc`. The settings --texts and --seed of the runner are for long runs by hand."""
+`cc`. TESTS_TEXTS and TESTS_SEED are for long runs by hand."""
 import tempfile
 from itertools import chain, islice, product
 
