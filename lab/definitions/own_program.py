@@ -90,12 +90,6 @@ class Me(SimpleNamespace):
         return self.random
 
 
-def takes_four(function) -> bool:
-    """Whether a function of a file can be called with four values."""
-    code = getattr(function, "__code__", None)
-    return code is not None and code.co_argcount == 4
-
-
 class OwnNode:
     """A node of such a program."""
 
@@ -118,7 +112,8 @@ class OwnNode:
             return len(net.neighbours)
         function = cls.of_file["last_pulse"]
         sizes = (len(net.neighbours), net.greatest_degree, net.forest_count, net.greatest_bars)
-        last = called(cls.file, function, *sizes[:4 if takes_four(function) else 2])
+        takes_four = getattr(getattr(function, "__code__", None), "co_argcount", 2) == 4
+        last = called(cls.file, function, *sizes[:4 if takes_four else 2])
         if not isinstance(last, int) or isinstance(last, bool) or not 0 <= last < 2 ** 32:
             raise Wrong(f"{cls.file}: `last_pulse` returns {last!r}, which is no pulse")
         return last
@@ -178,23 +173,9 @@ class OwnNode:
         """What copies or compares a value that the file keeps in `me`, if it can be copied and compared."""
         try:
             return function(value, memo)
-        except RecursionError:
-            raise Wrong(f"{self.file}: `me.{name}` is too deep to be compared") from None
-        except Exception:
-            raise Wrong(f"{self.file}: `me.{name}` has a {culprit(value)} in it, which can't be copied and compared, "
-                        "as each order of events needs it: keep plain values there") from None
-
-
-def culprit(value) -> str:
-    """The type of what can't be copied in a value, as far as that is easily found."""
-    inside = value.values() if isinstance(value, dict) else value if isinstance(value, (list, tuple, set)) else (
-        vars(value).values() if hasattr(value, "__dict__") else ())
-    for one in inside:
-        try:
-            frozen(copy.deepcopy(one), {})
-        except Exception:
-            return culprit(one)
-    return type(value).__name__
+        except Exception as why:
+            raise Wrong(f"{self.file}: `me.{name}` can't be copied and compared, as each order of events needs it "
+                        f"({why}): keep plain values there") from None
 
 
 def no_payload(slot) -> str:

@@ -1,20 +1,19 @@
 """Tests of programs of one's own, from a Python file, and of the two definitions beside the colouring: in `explore`,
 `simulate`, `transcript` and `picture`.
 
-What nodes find is worked out here from the network (independent sets, trees, greatest identifiers, distances), not by
-the definitions of the programs."""
+What nodes of the samples find is worked out here from the network (independent sets, trees)."""
 import os
 import random
 import textwrap
 
 from lab.definitions.colours import Network, network_of
 from lab.definitions.nodes import synchronous_run
-from lab.definitions.programs import PROGRAMS, program_at
+from lab.definitions.programs import program_at
 from lab.schedules.reading import network_at
 from tests import TOP
 from tests.cases import Case, examples, forestlab, said_by, text_in
 from tests.pictures.marks import data_of
-from tests.programs.plain_networks import random_of, reached, tree
+from tests.programs.plain_networks import random_of, tree
 
 SEED = 2026
 MOST_NODES = 30
@@ -94,24 +93,6 @@ def some_networks():
 
 
 class OwnAlgorithms(Case):
-    def test_leaders(self):
-        for name, net in some_networks():
-            for v, node in synchronous_run(net, PROGRAMS["leader"]).items():
-                wanted = f"leader {max(net.identifiers[w] for w in reached(net, v))}"
-                self.note(f"the leader of {v} in {name}", node.result() == wanted, node.result())
-
-    def test_layers(self):
-        """Distances from the node of identifier 1, each with the first port that leads one closer."""
-        for name, net in some_networks():
-            root = [v for v, number in net.identifiers.items() if number == 1]
-            away = reached(net, *root) if root else {}
-            for v, node in synchronous_run(net, PROGRAMS["layers"]).items():
-                wanted = "layer none" if v not in away else f"layer {away[v]}"
-                if away.get(v):
-                    ports = [port for port, w in enumerate(sorted(net.neighbours[v])) if away[w] == away[v] - 1]
-                    wanted += f" by {ports[0]}"
-                self.note(f"the layer of {v} in {name}", node.result() == wanted, node.result())
-
     def test_samples(self):
         """The set is independent and can't grow; a tree is counted, and nothing is where a ring is in the way."""
         for name, net in some_networks():
@@ -169,8 +150,8 @@ class OwnAlgorithms(Case):
         for what, named in (("(n for n in [1])", "generator"), ("open(__file__)", "TextIOWrapper"),
                             ("{1: [lambda: 0, (n for n in [1])]}", "generator")):
             got = self.told(FLOOD.replace("me.best = ", f"me.kept = {what}\n    me.best = "))
-            said = f"`me.kept` has a {named} in it, which can't be copied and compared"
-            self.note(f"refused: {what}", got[0] == 1 and said in got[2] and got[2].count("\n") == 1, got)
+            self.note(f"refused: {what}", got[0] == 1 and "`me.kept` can't be copied and compared" in got[2]
+                      and named in got[2] and got[2].count("\n") == 1, got)
 
     def test_chance(self):
         """Chance by the seed is the same in the rounds and in each order; other chance and shared variables are
