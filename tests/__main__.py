@@ -26,7 +26,7 @@ from tests import TOP
 from tests.settings import PATHS, SETTINGS, built, variable
 
 # The modules that take longest, which begin first.
-LONGEST = ("programs.hostile", "programs.transcripts", "programs.merged", "programs.schedules", "programs.plans",
+LONGEST = ("programs.hostile", "programs.transcripts", "programs.schedules", "programs.plans",
            "programs.plain_networks")
 
 

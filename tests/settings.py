@@ -18,9 +18,9 @@ SETTINGS = {
     "limit": ("1200", "how many seconds a test may take; one that takes longer is ended, and has failed"),
     "texts": ("60000", "how many random texts programs.hostile makes, over all commands"),
     "seed": ("2026", "the seed of these random texts"),
-    "runs": ("90", "how many whole runs of threads programs.merged checks; 1000 take some minutes"),
+    "runs": ("90", "how many whole runs of threads programs.transcripts checks; 1000 take some minutes"),
     "sequels": ("12", "how many networks by chance programs.sequel_runs plays; 1000 take some minutes"),
-    "spoiled": ("2000", "how many spoiled transcripts programs.merged makes"),
+    "spoiled": ("2000", "how many spoiled transcripts programs.transcripts makes"),
 }
 
 

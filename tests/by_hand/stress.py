@@ -36,9 +36,8 @@ from tests.cases import called
 from tests.faults.falling_limits import CIRCLE, TRIANGLE
 from tests.faults.refused_memory import build_front
 from tests.faults.refused_threads import MEMORY, is_right, numbers_in
-from tests.programs.merged import networks_of_runs
 from tests.programs.plain_networks import some_bars, text_of
-from tests.programs.transcripts import is_counted, said_by
+from tests.programs.transcripts import is_counted, networks_of_runs, said_by
 from tests.settings import PLAN
 from tests.workshop.base import ALPHA, C, ROUNDS, compiled, options_of, played
 

@@ -10,7 +10,7 @@ from tests.commands import PROGRAM_OF
 from tests.commands import TRIANGLE as THREE
 from tests.faults.refused_memory import build_front
 from tests.faults.refused_threads import is_right
-from tests.programs.one_worker import Run
+from tests.programs.made_transcripts import Run
 from tests.programs.slow_reader import answer_to
 from tests.settings import PATHS
 

@@ -5,7 +5,7 @@ import subprocess
 from lab.definitions.colours import network_of, plan_text
 from tests.cases import Case, called, text, text_in
 from tests.commands import COMMANDS, EDGE, TRIANGLE
-from tests.programs.one_worker import Run
+from tests.programs.made_transcripts import Run
 from tests.settings import CRATE_TESTS, PATHS, PLAN, PLAY
 
 HERE = os.path.dirname(os.path.abspath(__file__))

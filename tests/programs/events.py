@@ -59,7 +59,7 @@ REPLAYED = [
      "node 1 pulse 0|link 1 2 taken 0 payload 0 hello 1|node 2 pulse 0|link 2 1 taken 0|"),
 ]
 
-# (input, fault) of `replay`, in the same order. transcripts.py and merged.py have the lines that are no entries, and
+# (input, fault) of `replay`, in the same order. transcripts.py has the lines that are no entries, and
 # stamps.
 GREETING = "1 put 2 payload 0 hello 1|"
 NOT_REPLAYED = [

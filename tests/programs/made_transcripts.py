@@ -3,6 +3,7 @@ thing spoiled.
 
 A transcript is held as its entries' lines without line feeds, each node's in its own order."""
 import re
+from collections import deque
 
 from lab.definitions.nodes import NetState, wire_words
 from lab.transcripts.stamps import Clock
@@ -175,3 +176,25 @@ def spoiled(source, kind, data):
     else:
         rows[at:at + 1] = SPOILS[kind](source, rows[at])
     return "".join(row + "\n" for row in [first, *rows]).encode(), min(at, len(rows) - 1) + 2
+
+
+class Run:
+    """The run of one worker thread, by the definition of looks and turns: it is the same each time, and the number of
+    looks that it needs shows whether capacity and turns reached the run. It has made a number of looks, or as many as
+    it takes."""
+
+    def __init__(self, net, capacity, looks=None):
+        self.state, self.lines, self.looks = NetState(net), {v: [] for v in net.neighbours}, 0
+        pool = deque(sorted(net.neighbours))
+        while pool and self.looks != looks:
+            self.looks, v = self.looks + 1, pool.popleft()
+            for event in turn(None, self.state, v, capacity):
+                self.lines[v].append(line_of(self.state, event))
+            if not self.state.nodes[v].drained():
+                pool.append(v)
+
+    def text(self):
+        return transcript_text(len(self.lines), self.lines)
+
+    def merged(self):
+        return merged_text(len(self.lines), self.lines)

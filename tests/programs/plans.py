@@ -10,7 +10,7 @@ from lab.definitions.colours import network_of, plan_text
 from lab.definitions.nodes import wire_words
 from tests.cases import Case, called, text
 from tests.commands import TRIANGLE as THREE
-from tests.programs.one_worker import Run
+from tests.programs.made_transcripts import Run
 from tests.programs.plain_networks import BARRED, FAMILIES, SEED, some_bars, text_of
 from tests.settings import PLAN
 
