@@ -5,13 +5,13 @@ from functools import partial
 
 from lab.definitions.nodes import Colouring
 from lab.networks.network_text import Network
+from lab.pictures.forests_picture import PANEL, Panel
 from lab.pictures.map_picture import box_of, draw_map
-from lab.pictures.marks import SMALL, Map, channel_circle, colour_square, number_square
-from lab.pictures.palette import FOREST_COLOURS, INK, PAPER, SOFT, WRONG
-from lab.pictures.places import OF_SQUARES, box_height, places_of
+from lab.pictures.marks import colour_square
+from lab.pictures.palette import INK, PAPER, SOFT, WRONG
 from lab.pictures.program_rounds import ProgramRounds
 from lab.pictures.results_picture import draw_chosen, found_in, legend
-from lab.pictures.rounds_picture import GROUPS
+from lab.pictures.rounds_picture import draw_heads
 from lab.pictures.schedules_picture import wrapped
 from lab.pictures.schedules_space import broken_rounds, left_out_words
 from lab.pictures.svg import Svg, text_width
@@ -22,8 +22,7 @@ from lab.words import counted, in_words
 from lab.wrong import at_most
 
 LEFT, ROW, COLUMN, HALF, HEAD, GAP, RIGHT = 100, 38, 34, 12, 62, 40, 24
-PANEL, LARGE_PANEL, MARGIN, OVER, MOST_MERGED = 200, 300, 34, 48, 40
-OTHER, BEFORE = "#E6E6E6", "#9A9A9A"
+OVER, MOST_MERGED = 48, 40
 LEAST_WIDTH, START = 620, 2
 
 
@@ -125,7 +124,8 @@ class OfForest:
         for number, (words, rounds) in enumerate(self.blocks):
             x = left + number * (self.block() + GAP)
             with svg.group("without" if number == 0 else "with", words):
-                self.head(svg, x, top, words, WRONG if number == 0 else INK)
+                svg.text(x + 2, top + 18, words, 12.5, WRONG if number == 0 else INK, bold=True)
+                draw_heads(svg, x, top + HEAD - 26, COLUMN, self.last)
                 for at, v in enumerate(self.row):
                     self.colours(svg, x, self.y(top, at), v, rounds)
                 if number == 0:
@@ -154,26 +154,10 @@ class OfForest:
             svg.text(x, top + HEAD - 8, "node", 9, SOFT, "middle")
             svg.text(x - HALF - 6, self.y(top, 0) + 3.5, "root", 10, SOFT, "end")
 
-    def head(self, svg, left, top, words, hue):
-        svg.text(left + 2, top + 18, words, 12.5, hue, bold=True)
-        for first, last, group in GROUPS:
-            last = min(last, self.last)
-            if first <= last:
-                x1, x2 = self.x(left, first) - COLUMN / 2 + 2, self.x(left, last) + COLUMN / 2 - 2
-                svg.text((x1 + x2) / 2, top + HEAD - 24, group if last > first
-                         else group.removesuffix(" steps") + " step" * (first == 3), 10 if last > first else 8.5, INK,
-                         "middle", mark="group")
-                svg.line(x1, top + HEAD - 19, x2, top + HEAD - 19, "#9A9A9A", 1)
-        for pulse in range(START, self.last + 1):
-            svg.text(self.x(left, pulse), top + HEAD - 8, pulse, 9, SOFT, "middle")
-
     def colours(self, svg, left, y, v, rounds):
         for pulse in range(START, self.last + 1):
-            colour, x = rounds.colours[self.clash.forest][pulse - START][v], self.x(left, pulse)
-            if pulse == START or colour >= len(FOREST_COLOURS):
-                number_square(svg, x, y, HALF, colour)
-            else:
-                colour_square(svg, x, y, HALF, colour)
+            colour_square(svg, self.x(left, pulse), y, HALF, rounds.colours[self.clash.forest][pulse - START][v],
+                          is_name=pulse == START)
 
     def wrong(self, svg, left, top):
         """A red frame around the two squares with one colour."""
@@ -196,82 +180,43 @@ class OfMerge:
             (f"without {left_out(without)}", rounds, set(without)),
             ("with all rules", RuledRounds(rounds.net, ()), set()),
         ]
-        places, sizes = places_of(network), (13, 9) if network.nodes <= SMALL else (9, 6)
-        self.panel = PANEL if network.nodes <= SMALL else LARGE_PANEL
-        self.box = box_height(places, self.panel, MARGIN, 120)
-        self.map = Map(network, places, self.panel, self.box, MARGIN, *sizes, OF_SQUARES)
-        self.map.label(self.map.radius * 1.25 + 11)
+        self.panel = Panel(network)
+        self.forest_of = {e: rounds.net.number[frozenset(e)] for e in network.edges}
 
     def width(self):
         words = max(text_width(line, 11) for block in self.blocks for line in self.chooses(block)) * 0.95 + 10
-        return 40 + 3 * self.panel + words
+        return 40 + 3 * PANEL + words
 
     def height(self):
-        return 2 * (self.box + OVER)
+        return 2 * (self.panel.height + OVER)
 
     def draw(self, svg, top):
         for number, block in enumerate(self.blocks):
-            y = top + number * (self.box + OVER)
+            y = top + number * (self.panel.height + OVER)
             with svg.group("without" if number == 0 else "with", block[0]):
                 svg.text(20, y + 16, block[0], 12.5, WRONG if number == 0 else INK, bold=True)
-                self.draw_block(svg, y + OVER, block, number == 0)
+                self.draw_block(svg, y + OVER, block)
 
     def legend(self):
         return (
-            "Circle: the channel so far; square: the colour in this forest, with arrows to the parents. Nodes "
+            "Circle: the channel so far; square: the colour in this forest, with arrows to the parents, and pale at a "
+            "node without an edge in it. Nodes "
             "choose in the order of their "
             "turns: the colour in this forest, and with all rules the colour so far, too, which is the channel less 1."
         )
 
-    def draw_block(self, svg, top, block, is_wrong):
+    def draw_block(self, svg, top, block):
         f, (_, rounds, _) = self.clash.forest, block
-        self.channels(svg, 20, top, "channels before this merge", rounds.merged[f], f - 1, False)
-        self.colours(svg, 20 + self.panel, top, rounds)
-        self.channels(svg, 20 + 2 * self.panel, top, "channels after this merge", rounds.merged[f + 1], f, is_wrong)
+        parents = {v: rounds.net.parent(f, v) for v in self.network.vertices if rounds.net.parent(f, v)}
+        titles = "channels before this merge", f"colours in forest {f}", "channels after this merge"
+        for at, words in enumerate(titles):
+            svg.text(20 + (at + 0.5) * PANEL, top - 8, words, 11, INK, "middle", mark="group")
+        self.panel.channels(svg, 20, top, self.forest_of, f - 1, f, rounds.merged[f])
+        self.panel.colours(svg, 20 + PANEL, top, parents, rounds.colours[f][-1])
+        self.panel.channels(svg, 20 + 2 * PANEL, top, self.forest_of, f, f, rounds.merged[f + 1])
         for at, line in enumerate(self.chooses(block)):
-            svg.text(20 + 3 * self.panel, top + self.box / 2 - 20 + 17 * at, line, 11, INK if at % 2 == 0 else SOFT,
+            svg.text(20 + 3 * PANEL, top + self.panel.height / 2 - 20 + 17 * at, line, 11, INK if at % 2 == 0 else SOFT,
                      mark="chooses")
-
-    def forest_of(self, v, w, rounds):
-        return rounds.net.number[frozenset((v, w))]
-
-    def panel_at(self, svg, left, top, words):
-        """The map of a panel, with the panel's title above it."""
-        svg.text(left + self.panel / 2, top - 8, words, 11, INK, "middle", mark="group")
-        return self.map.at(left, top)
-
-    def channels(self, svg, left, top, words, merged, upto, is_wrong):
-        """The channels after the forests up to a number, whose edges are grey; the edges of the last in ink."""
-        drawn, rounds = self.panel_at(svg, left, top, words), self.blocks[0][1]
-        for v, w in self.network.edges:
-            f = self.forest_of(v, w, rounds)
-            hue = OTHER if f > upto else INK if f == self.clash.forest else BEFORE
-            if is_wrong and f <= upto and merged[v] == merged[w]:
-                hue = WRONG
-            drawn.edge(svg, v, w, hue, 3.4 if hue == WRONG else 1.8 if hue == INK else 1.3,
-                       mark="wrong" if hue == WRONG else "edge")
-        drawn.numbers(svg, 10, 3.5)
-        for v, (x, y) in sorted(drawn.places.items()):
-            is_red = is_wrong and any(merged[v] == merged[w] and self.forest_of(v, w, rounds) <= upto
-                                      for w in self.network.neighbours[v])
-            svg.circle(x, y, drawn.radius + (3.6 if is_red else 1.4), PAPER, WRONG if is_red else None, 2.2 if is_red
-                       else None)
-            channel_circle(svg, x, y, drawn.radius, merged[v] + 1)
-
-    def colours(self, svg, left, top, rounds):
-        """The colours in the forest that is merged."""
-        f = self.clash.forest
-        drawn = self.panel_at(svg, left, top, f"colours in forest {f}")
-        for v, w in self.network.edges:
-            if self.forest_of(v, w, rounds) != f:
-                drawn.edge(svg, v, w, OTHER, 1.3)
-        for v in self.network.vertices:
-            parent = rounds.net.parent(f, v)
-            if parent is not None:
-                drawn.edge(svg, v, parent, INK, 1.8, 8, drawn.radius + 3, mark="arrow")
-        drawn.numbers(svg, 10, 3.5)
-        for v, (x, y) in sorted(drawn.places.items()):
-            colour_square(svg, x, y, drawn.radius, rounds.colours[f][-1][v])
 
     def chooses(self, block):
         """How the two nodes that go wrong choose: in words, two lines for each."""
@@ -281,12 +226,9 @@ class OfMerge:
         turn = {v: (three[v],) if "pair" in without else (three[v], old[v]) for v in three}
         lines = []
         for v in sorted((self.clash.v, self.clash.w), key=lambda v: (turn[v], v)):
-            said = [
-                f"{new[w] + 1} of {w}"
-                for w in self.network.neighbours[v]
-                if turn[w] < turn[v]
-                and (self.forest_of(v, w, rounds) == f if "earlier" in without else self.forest_of(v, w, rounds) <= f)
-            ]
+            forests = {w: self.forest_of[min(v, w), max(v, w)] for w in self.network.neighbours[v]}
+            said = [f"{new[w] + 1} of {w}" for w, of in forests.items()
+                    if turn[w] < turn[v] and (of == f if "earlier" in without else of <= f)]
             lines.append(f"node {v}, turn {', '.join(map(str, turn[v]))}: takes channel {new[v] + 1}")
             lines.append(f"(it has heard {in_words(said) or 'nothing'})")
         return lines

@@ -15,7 +15,7 @@ def width_of_map(network):
     return 900 if network.nodes > LARGE else 560 if network.nodes > SMALL else 420
 
 
-def channel_circle(svg, x, y, radius, channel, number=True, mark="channel"):
+def channel_circle(svg, x, y, radius, channel, mark="channel"):
     """A channel: its hue, full or as a ring on white, and its number."""
     hue = channel_hue(channel)
     if is_ring(channel):
@@ -23,10 +23,9 @@ def channel_circle(svg, x, y, radius, channel, number=True, mark="channel"):
         svg.circle(x, y, radius - width / 2, PAPER, hue, round(width, 1), mark=mark)
     else:
         svg.circle(x, y, radius, hue, PAPER, 1, mark=mark)
-    if number:
-        fill = INK if is_ring(channel) else text_on(hue)
-        size = radius * (1.12 if channel < 10 else 0.92) * (0.85 if is_ring(channel) else 1)
-        svg.text(x, y + size * 0.36, channel, round(size, 1), fill, "middle", bold=True)
+    fill = INK if is_ring(channel) else text_on(hue)
+    size = radius * (1.12 if channel < 10 else 0.92) * (0.85 if is_ring(channel) else 1)
+    svg.text(x, y + size * 0.36, channel, round(size, 1), fill, "middle", bold=True)
 
 
 # The most barred channels of a vertex that are drawn; after them comes how many more there are.
@@ -59,28 +58,22 @@ def bar_row(svg, x, y, channels, radius):
                  mark="more")
 
 
-def colour_square(svg, x, y, half, colour, mark="colour"):
-    """A colour of 0 to 5 in one forest."""
-    fill = FOREST_COLOURS[colour]
+def colour_square(svg, x, y, half, colour, mark="colour", is_name=False):
+    """A colour of 0 to 5 in one forest; or a name, or another number that is no such colour yet: grey, darker the
+    longer it is."""
+    is_grey, text = is_name or colour >= len(FOREST_COLOURS), short(colour)
+    fill, ink = grey(colour) if is_grey else (FOREST_COLOURS[colour], text_on(FOREST_COLOURS[colour]))
     svg.rect(x - half, y - half, 2 * half, 2 * half, fill, PAPER, 1, half * 0.25, mark=mark)
-    svg.text(x, y + half * 0.38, colour, round(half * 1.12, 1), text_on(fill), "middle", bold=True)
+    svg.text(x, y + half * 0.37, text, round(half * (1.1 if len(text) < 3 else 0.8), 1), ink, "middle", bold=True)
 
 
-def number_square(svg, x, y, half, number):
-    """A number that is no colour of 0 to 5 yet: grey, darker the longer it is."""
-    fill, ink = grey(number)
-    text = short(number)
-    svg.rect(x - half, y - half, 2 * half, 2 * half, fill, PAPER, 1, half * 0.25, mark="colour")
-    svg.text(x, y + half * 0.33, text, round(half * (1.0 if len(text) < 3 else 0.8), 1), ink, "middle", bold=True)
-
-
-def alone_chip(svg, x, y, half, colour=None):
+def alone_chip(svg, x, y, half, colour):
     """A vertex at which no edge of the forest ends, with its colour in the forest if that is one of 0 to 5."""
-    if colour is None or colour >= len(FOREST_COLOURS):
+    if colour >= len(FOREST_COLOURS):
         svg.rect(x - half, y - half, 2 * half, 2 * half, ALONE, PAPER, 1, 2, mark="alone")
         return
-    fill = FOREST_COLOURS[colour]
-    svg.rect(x - half, y - half, 2 * half, 2 * half, fill, PAPER, 1, 2, mark="alone", fill_opacity="0.3")
+    svg.rect(x - half, y - half, 2 * half, 2 * half, FOREST_COLOURS[colour], PAPER, 1, 2, mark="alone",
+             fill_opacity="0.3")
     svg.text(x, y + half * 0.45, colour, round(half * 1.3, 1), INK, "middle", bold=True, mark="alone-colour")
 
 

@@ -1,7 +1,7 @@
 """The rounds strip: a block for each forest, a row for each node, a column for each pulse; squares while it is
 coloured, circles where channels are chosen."""
 from lab.definitions.pulses import LAST_COLOUR
-from lab.pictures.marks import alone_chip, bar_mark, bar_row, bars_width, channel_circle, colour_square, number_square
+from lab.pictures.marks import alone_chip, bar_mark, bar_row, bars_width, channel_circle, colour_square
 from lab.pictures.palette import FOREST_COLOURS, INK, PAPER, SOFT, channel_hue, short
 from lab.pictures.svg import Svg, text_width
 from lab.wrong import at_most
@@ -86,6 +86,19 @@ def legend(svg, y, has_bars):
              SOFT)
 
 
+def draw_heads(svg, left, y, column, last):
+    """What is done in the pulses 2 to `last`, each over its column, and their numbers."""
+    for first, end, words in GROUPS:
+        end = min(end, last)
+        if first <= end:
+            x1, x2 = left + (first - 2) * column + 2, left + (end - 1) * column - 2
+            words, size = (words, 10) if end > first else (words.removesuffix("s"), 7.5)
+            svg.text((x1 + x2) / 2, y, words, size, INK, "middle", mark="group")
+            svg.line(x1, y + 5, x2, y + 5, "#9A9A9A", 1)
+    for pulse in range(2, last + 1):
+        svg.text(left + (pulse - 1.5) * column, y + 18, pulse, 9, SOFT, "middle")
+
+
 class Strip:
     """The block of one forest, with its upper edge at `top`; what isn't in the `cone` is faded, if there is one."""
 
@@ -102,13 +115,8 @@ class Strip:
         """Left: the colour of each node after each of the pulses 2 to 12."""
         svg = self.svg
         svg.text(20, self.top + 20, f"forest {self.forest}", 13.5, INK, bold=True)
-        for first, last, words in GROUPS:
-            x1, x2 = LEFT + (first - 2) * COLUMN + 2, LEFT + (last - 1) * COLUMN - 2
-            svg.text((x1 + x2) / 2, self.top + 45, words, 10 if last > first else 7.5, INK, "middle", mark="group")
-            svg.line(x1, self.top + 50, x2, self.top + 50, "#9A9A9A", 1)
+        draw_heads(svg, LEFT, self.top + 45, COLUMN, LAST_COLOUR)
         svg.text(LEFT - 4, self.top + 63, "pulse", 9, SOFT, "end")
-        for pulse in range(2, LAST_COLOUR + 1):
-            svg.text(LEFT + (pulse - 1.5) * COLUMN, self.top + 63, pulse, 9, SOFT, "middle")
         for v in self.rounds.network.vertices:
             y, parent = self.row(v), self.rounds.parents.get((v, self.forest))
             if v % 2 == 1:
@@ -126,10 +134,8 @@ class Strip:
             x, y = LEFT + (number - 1.5) * COLUMN, self.row(v)
             if number > 2 and is_alone:
                 alone_chip(self.svg, x, y, COLUMN / 2 - 6, colour)
-            elif number > 2 and colour < len(FOREST_COLOURS):
-                colour_square(self.svg, x, y, COLUMN / 2 - 2.5, colour)
             else:
-                number_square(self.svg, x, y, COLUMN / 2 - 2.5, colour)
+                colour_square(self.svg, x, y, COLUMN / 2 - 2.5, colour, is_name=number == 2)
             if self.cone and not self.cone.has_colour(v, self.forest, number):
                 self.fade(x, y, COLUMN, short(colour))
 

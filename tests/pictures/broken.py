@@ -86,7 +86,7 @@ class Broken(PictureCase):
             shown = [int(said) for _, _, said in numbered(group, "channel")]
             wanted = [c[v] + 1 for c in (before, after) for v in vertices]
             self.note(f"{name}: the channels {kind}", shown == wanted, (shown, wanted))
-            squares = [int(said) for _, _, said in numbered(group, "colour")]
+            squares = [int(said) for _, _, said in numbered(group, "colour", "alone")]
             self.note(f"{name}: the colours {kind}", squares == [colours[v] for v in vertices], squares)
             places = dict(zip(vertices, [centre(mark) for mark in marks(group, "channel")][len(vertices):]))
             red = sorted(tuple(sorted(nearest(places, end) for end in ends(mark))) for mark in marks(group, "wrong"))

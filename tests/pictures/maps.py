@@ -275,13 +275,9 @@ class Maps(PictureCase):
         squares = [mark for mark in above.iter() if mark.get("class") in ("colour", "alone")]
         places = dict(zip(sorted(net.neighbours), map(centre, squares)))
         coloured = three(net, f)
-        is_small = len(places) <= 40
-        wanted = [("colour", COLOURS[coloured[v]]) if v in ended else
-                  ("alone", COLOURS[coloured[v]] if is_small else ALONE) for v in sorted(net.neighbours)]
-        self.note(f"{name}: squares", [row[:2] for row in numbered(above, "colour", "alone")] == wanted, wanted)
-        if is_small:
-            numbers = [row[2] for row in numbered(above, "colour", "alone")]
-            self.note(f"{name}: their numbers", numbers == [str(coloured[v]) for v in sorted(net.neighbours)], numbers)
+        wanted = [("colour" if v in ended else "alone", COLOURS[coloured[v]], str(coloured[v]))
+                  for v in sorted(net.neighbours)]
+        self.note(f"{name}: squares", numbered(above, "colour", "alone") == wanted, wanted)
         arrows = {}
         for mark in marks(above, "arrow"):
             start, end = ends(mark)
@@ -290,11 +286,8 @@ class Maps(PictureCase):
         if len(places) <= 40:
             self.note(f"{name}: an arrow from each child to its parent", arrows == parents, (arrows, parents))
         self.same(f"{name}: as many arrows as edges", len(marks(above, "arrow")), len(parents))
-        hues = [row[1] for row in numbered(below, "channel")]
-        self.note(f"{name}: channels after its merge", hues == [CHANNELS[merged[v] % 8] for v in sorted(merged)], hues)
-        if len(places) <= 40:
-            numbers = [row[2] for row in numbered(below, "channel")]
-            self.same(f"{name}: their numbers after its merge", numbers, [str(merged[v] + 1) for v in sorted(merged)])
+        wanted = [("channel", CHANNELS[merged[v] % 8], str(merged[v] + 1)) for v in sorted(merged)]
+        self.note(f"{name}: channels after its merge", numbered(below, "channel") == wanted, wanted)
         ink = sum(mark.get("stroke") == INK for mark in marks(below, "edge"))
         self.note(f"{name}: its edges below", (ink, len(marks(below, "edge"))) == (len(parents), len(net.number)), ink)
 
