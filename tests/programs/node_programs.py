@@ -1,138 +1,178 @@
-"""Black-box tests of `forestplay --program`, and of `forestplay run`: each answer is worked by hand, and each text of
-one program is refused by the others."""
+"""Black-box tests of `forestplay --program`, with `--root` and `--passes`, and of `forestplay run`: each answer is
+worked by hand, beside the definitions; each text of one program is refused by the others. sequel_runs.py has networks
+by chance."""
+import re
+from itertools import product
+
 from lab.definitions.colours import network_of
 from lab.definitions.layers import Layers
 from lab.definitions.leader import Leader
-from tests.cases import Case, called, text
+from lab.definitions.nodes import synchronous_run
+from lab.definitions.programs import program_at
+from tests.cases import Case, called, forestlab, text
 from tests.commands import EDGE
-from tests.settings import PLAY
+from tests.settings import PLAN, PLAY
 
-ROW = "p edge 3 2|e 1 2|e 2 3|"
-# Node 1 has the identifier 9 and no neighbour, and nobody the identifier 1.
-APART = "p edge 3 1|i 1 9|e 2 3|"
-
-
-def network(numbers, edges):
-    """A network whose vertices have these identifiers."""
-    lines = [f"p edge {len(numbers)} {len(edges)}", *(f"i {v} {number}" for v, number in enumerate(numbers, 1))]
-    return "".join(f"{line}|" for line in [*lines, *(f"e {v} {w}" for v, w in edges)])
-
-
-PATH, TAIL, PAIRS = [(1, 2), (2, 3), (3, 4), (4, 5)], [(1, 2), (1, 3), (2, 3), (3, 4)], [(1, 2), (3, 4)]
-# A path with the root at vertex 2, and vertex 6 alone; a square whose root is vertex 4.
-LONG, SQUARE = network([9, 1, 20, 5, 8, 6], PATH), network([8, 6, 3, 1], [(1, 2), (1, 3), (2, 4), (3, 4)])
-# What the nodes end with: by program and network, the last pulse, the result of each node, and what `run` adds to it:
-# that a leader is elected, and the neighbour to which a port leads. sequel_runs.py has networks by chance.
+ROW, ALONE, NONE = "p edge 3 2|e 1 2|e 2 3|", "p edge 1 0|", "p edge 0 0|"
+# Node 1 has the identifier 9 and no neighbour, and nobody the identifier 1; a path of five with the identifier 1 at
+# vertex 2, and vertex 6 alone; a triangle with a tail, which has the identifier 1; a square whose root is vertex 4.
+APART, BARRED = "p edge 3 1|i 1 9|e 2 3|", EDGE + "b 1 1|"
+LONG = "p edge 6 4|i 1 9|i 2 1|i 3 20|i 4 5|i 5 8|e 1 2|e 2 3|e 3 4|e 4 5|"
+TAIL = "p edge 4 4|i 1 3|i 2 6|i 3 8|i 4 1|e 1 2|e 1 3|e 2 3|e 3 4|"
+SQUARE = "p edge 4 4|i 1 8|i 2 6|i 4 1|e 1 2|e 1 3|e 2 4|e 3 4|"
+# The port is a number of the network, and not of an order of identifiers: vertex 3 is between 5 and 1.
+BETWEEN = "p edge 5 2|i 1 4|i 2 3|i 3 2|i 4 9|i 5 1|e 3 5|e 1 3|"
+# What the nodes end with: by program and network, the last pulse, and the result of each node as `run` prints it.
 ENDS = [
-    ("colouring", EDGE, 18, ["channel 1", "channel 2"], {}),
-    ("leader", ROW, 3, ["leader 3"] * 3, {3: "elected"}),
-    ("leader", APART, 3, ["leader 9", "leader 3", "leader 3"], {1: "elected", 3: "elected"}),
-    ("layers", ROW, 2, ["layer 0", "layer 1 by 0", "layer 2 by 0"], {2: "to 1", 3: "to 2"}),
-    ("layers", APART, 2, ["layer none"] * 3, {}),
-    # Of an edge node 2 is the parent, in whose turn it takes node 1. 19 is 13 + 6 U, and 20 is R + D + B + 1.
-    ("matching", EDGE, 19, ["partner 0", "partner 0"], {1: "to 2", 2: "to 1"}),
-    ("independent-set", EDGE, 20, ["in", "out"], {}),
-    ("recolouring", EDGE, 20, ["channel 2", "channel 1"], {}),
-    # Node 1 of a row is left over, and its neighbour isn't.
-    ("matching", ROW, 19, ["partner none", "partner 1", "partner 0"], {2: "to 3", 3: "to 2"}),
-    ("independent-set", ROW, 24, ["in", "out", "in"], {}),
-    ("recolouring", ROW, 24, ["channel 2", "channel 1", "channel 2"], {}),
-    # Channel 1 is barred at node 1 of an edge: the plan is 2 1, and nobody can lower its channel.
-    ("recolouring", EDGE + "b 1 1|", 24, ["channel 2", "channel 1"], {}),
-    ("matching", "p edge 0 0|", 13, [], {}),
-    ("leader", "p edge 0 0|", 0, [], {}),
-    ("layers", "p edge 0 0|", 0, [], {}),
+    ("colouring", EDGE, 18, "channel 1|channel 2"),
+    ("leader", ROW, 3, "leader 3|leader 3|leader 3 elected"),
+    ("leader", APART, 3, "leader 9 elected|leader 3|leader 3 elected"),
+    ("leader", NONE, 0, ""),
+    ("layers", ROW, 2, "layer 0|layer 1 by 0 to 1|layer 2 by 0 to 2"),
+    ("layers", APART, 2, "layer none|layer none|layer none"),
+    ("layers", NONE, 0, ""),
     # A node alone has no pulse to make before it knows its layer.
-    ("layers", "p edge 1 0|", 0, ["layer 0"], {}),
+    ("layers", ALONE, 0, "layer 0"),
     # Two ways lead from vertex 1 to the root, and the one by the lesser port is taken.
-    ("layers", SQUARE, 3,
-     ["layer 2 by 0", "layer 1 by 1", "layer 1 by 1", "layer 0"], {1: "to 2", 2: "to 4", 3: "to 4"}),
+    ("layers", SQUARE, 3, "layer 2 by 0 to 2|layer 1 by 1 to 4|layer 1 by 1 to 4|layer 0"),
+    ("layers --root 1", SQUARE, 3, "layer 0|layer 1 by 0 to 1|layer 1 by 0 to 1|layer 2 by 0 to 2"),
+    ("layers --root 3", ROW, 2, "layer 2 by 0 to 2|layer 1 by 1 to 3|layer 0"),
+    # The vertex has the identifier already.
+    ("layers --root 1", ROW, 2, "layer 0|layer 1 by 0 to 1|layer 2 by 0 to 2"),
+    ("layers --root 3", APART, 2, "layer none|layer 1 by 0 to 3|layer 0"),
+    ("layers --root 4", LONG, 5,
+     "layer 3 by 0 to 2|layer 2 by 1 to 3|layer 1 by 1 to 4|layer 0|layer 1 by 0 to 4|layer none"),
+    ("layers --root 2", TAIL, 3, "layer 1 by 0 to 2|layer 0|layer 1 by 1 to 2|layer 2 by 0 to 3"),
+    ("layers --root 5", BETWEEN, 4, "layer 2 by 0 to 3|layer none|layer 1 by 1 to 5|layer none|layer 0"),
+    # Of an edge node 2 is the parent, in whose turn it takes node 1. 19 is 13 + 6 U, and 20 is R + D + B + 1.
+    ("matching", EDGE, 19, "partner 0 to 2|partner 0 to 1"),
+    ("independent-set", EDGE, 20, "in|out"),
+    # The plan is 1 2. Node 2 has the greater channel, chooses first and takes 1; in the second pass node 1 is first.
+    ("recolouring", EDGE, 20, "channel 2|channel 1"),
+    ("recolouring --passes 2", EDGE, 22, "channel 1|channel 2"),
+    ("recolouring --passes 3", EDGE, 24, "channel 2|channel 1"),
+    # Node 1 of a row is left over, and its neighbour isn't.
+    ("matching", ROW, 19, "partner none|partner 1 to 3|partner 0 to 2"),
+    ("independent-set", ROW, 24, "in|out|in"),
+    ("recolouring --passes 2", ROW, 27, "channel 1|channel 2|channel 1"),
+    # The plan is 2 1, since channel 1 is barred at node 1: it can't take another one, and node 2 has the least.
+    ("recolouring --passes 1", BARRED, 24, "channel 2|channel 1"),
+    ("recolouring --passes 3", BARRED, 30, "channel 2|channel 1"),
+    ("recolouring --passes 2", ALONE, 14, "channel 1"),
+    ("recolouring --passes 3", NONE, 15, ""),
+    ("matching", NONE, 13, ""),
 ]
-# By program and network. Of an edge, node 2 has the greater identifier, and node 1 is the root. No node sends at the
-# last pulse.
+# The rounds of programs. Of an edge, node 2 has the greater identifier, and node 1 is the root. No node sends at the
+# last pulse. A node alone hears and sends nothing: 13 is 13 + 6 U of the matching, and R + D + B + 1 of the others.
 ROUNDS = [
     ("leader", EDGE, "rounds 3 leader 2 1 2|pulse 0|1 put 2 payload 0 leader 1|2 put 1 payload 0 leader 2|pulse 1|"
                      "1 put 2 payload 1 leader 2|pulse 2|1 leader 2|2 leader 2|"),
     ("layers", EDGE, "rounds 3 layers 2 1 1|pulse 0|1 put 2 payload 0 hops 0|pulse 1|1 layer 0|2 layer 1 by 0|"),
-    ("layers", network([1, 5, 4, 3], [(1, 2), (2, 3)]),
+    ("layers --root 2", EDGE,
+     "rounds 3 layers 2 1 1|pulse 0|2 put 1 payload 0 hops 0|pulse 1|1 layer 1 by 0|2 layer 0|"),
+    ("layers", "p edge 4 2|i 2 5|i 3 4|i 4 3|e 1 2|e 2 3|",
      "rounds 3 layers 4 2 3|pulse 0|1 put 2 payload 0 hops 0|pulse 1|2 put 1 payload 1 hops 1|"
      "2 put 3 payload 1 hops 1|pulse 2|3 put 2 payload 2 hops 2|pulse 3|"
      "1 layer 0|2 layer 1 by 0|3 layer 2 by 0|4 layer none|"),
+    *((program, ALONE, f"rounds 3 {program} 1 0 13|" + "".join(f"pulse {p}|" for p in range(14)) + f"1 {result}|")
+      for program, result in (("matching", "partner none"), ("independent-set", "in"), ("recolouring", "channel 1"))),
 ]
-# A node alone hears and sends nothing: 13 is 13 + 6 U of the matching, and R + D + B + 1 of the others.
-ROUNDS += [(program, "p edge 1 0|",
-            f"rounds 3 {program} 1 0 13|" + "".join(f"pulse {p}|" for p in range(14)) + f"1 {result}|")
-           for program, result in (("matching", "partner none"), ("independent-set", "in"),
-                                   ("recolouring", "channel 1"))]
-FIRST, FIRST_STAMPED = "transcript 1 2|1 put 2 payload 0 ", "transcript 2 2|"
+# Node 2 sends nothing in pulse 0, so it said safe 0 before node 1's payload came: that is put first. From node 2 it is
+# the other way round.
+EVENTS = [
+    ("layers", "put 1 0|take 2 0|put 2 0|", "node 1 pulse 0|link 1 2 taken 1|node 2 pulse 0|link 2 1 taken 0 safe 0|"),
+    ("layers --root 2", "put 2 0|take 1 0|put 1 0|",
+     "node 1 pulse 0|link 1 2 taken 0 safe 0|node 2 pulse 0|link 2 1 taken 1|"),
+]
+# First lines that no transcript has, after the word `transcript`.
+NO_HEADS = ("3 leader x", "3 leader", "3 2", "3 leader 2 2", "2 leader 2", "4 leader 2", "3 -set 2", "3 set- 2",
+            "3 - 2", "3 independent_set 2", "3 Leader 2", "3 lead\x1ber 2")
+# Payloads that no node of a program sends: words of another one, and numbers out of range. Those of a sequel are its
+# own and the colouring's, each within its bound.
+NO_PAYLOADS = {
+    "colouring": ("leader 1", "hops 0", "anew 0"), "leader": (f"leader {2**128}", "leader", "hello 1"),
+    "layers": ("hello 1", "leader 1", f"hops {2**32}", "hop 0"), "matching": ("joined 0", f"take {2**16}"),
+    "independent-set": ("take 0", f"joined {2**16}"), "recolouring": ("free 0", f"anew {2**16}"),
+}
+# What node 1 of an edge doesn't send first, and what it sends.
+NOT_DUE = [("leader", "leader 2", "leader 1"), ("layers", "hops 1", "hops 0"), ("matching", "free 0", "hello 1"),
+           ("independent-set", "joined 0", "hello 1"), ("recolouring", "anew 0", "hello 1")]
 NAMED = "transcript 3 leader 2||1 1 put 2 payload 0 "
-# Entries of a transcript of an edge, and what is said of them: words of another program, and numbers out of range.
+# A command, its program, its input and the fault. The text comes first, then the root, then what is wrong in later
+# lines, and the network last.
 REFUSED = [
-    ("colouring", FIRST + "leader 1|", "X1 line 4"), ("colouring", FIRST + "hops 0|", "X1 line 4"),
-    ("layers", FIRST + "hello 1|", "X1 line 4"), ("layers", FIRST + "leader 1|", "X1 line 4"),
-    ("leader", FIRST + f"leader {2**128}|", "X1 line 4"), ("layers", FIRST + f"hops {2**32}|", "X1 line 4"),
-    ("layers", FIRST + "hop 0|", "X1 line 4"), ("leader", FIRST + "leader|", "X1 line 4"),
-    ("leader", FIRST + "hello 1|", "X1 line 4"),
-    ("leader", FIRST + "leader 2|", "WrongWire line 4: expected payload 0 leader 1"),
-    ("layers", FIRST + "hops 1|", "WrongWire line 4: expected payload 0 hops 0"),
-    # A name comes before what is wrong in later lines, and after nothing else than faults of the network.
-    ("leader", NAMED + "leader 1|", "NotWhole line 5"), ("leader", NAMED + "hops 0|", "X1 line 5"),
-    ("layers", NAMED + "hops 0|", "WrongProgram line 3: leader"),
-    ("colouring", NAMED + "x|", "WrongProgram line 3: leader"),
-    ("colouring", "transcript 3 colouring 2|", "NotWhole line 3"),
-    ("layers", "transcript 3 leader x|", "WrongProgram line 3: leader"),
-    ("leader", "transcript 3 leader x|", "X1 line 3"),
-    ("leader", "transcript 3 leader|", "X1 line 3"), ("leader", "transcript 3 2|", "X1 line 3"),
-    ("leader", "transcript 3 leader 2 2|", "X1 line 3"), ("leader", "transcript 2 leader 2|", "X1 line 3"),
-    # Hyphens are inside a name; and the payloads of a sequel are its own and the colouring's, each within its bound.
-    ("leader", "transcript 3 independent-set 2|", "WrongProgram line 3: independent-set"),
-    ("leader", "transcript 3 -set 2|", "X1 line 3"), ("leader", "transcript 3 set- 2|", "X1 line 3"),
-    ("leader", "transcript 3 - 2|", "X1 line 3"), ("leader", "transcript 3 independent_set 2|", "X1 line 3"),
-    ("independent-set", "transcript 3 independent-set 2|", "NotWhole line 3"),
-    ("independent-set", FIRST + "joined 0|", "WrongWire line 4: expected payload 0 hello 1"),
-    ("matching", FIRST + "free 0|", "WrongWire line 4: expected payload 0 hello 1"),
-    ("recolouring", FIRST + "anew 0|", "WrongWire line 4: expected payload 0 hello 1"),
-    ("matching", FIRST + "joined 0|", "X1 line 4"), ("independent-set", FIRST + "take 0|", "X1 line 4"),
-    ("recolouring", FIRST + "free 0|", "X1 line 4"), ("colouring", FIRST + "anew 0|", "X1 line 4"),
-    ("matching", FIRST + f"take {2**16}|", "X1 line 4"), ("recolouring", FIRST + f"anew {2**16}|", "X1 line 4"),
-    ("independent-set", FIRST + f"joined {2**16}|", "X1 line 4"),
-    ("leader", "transcript 3 Leader 2|", "X1 line 3"), ("leader", "transcript 3 lead\x1ber 2|", "X1 line 3"),
-    ("leader", "transcript 4 leader 2|", "X1 line 3"),
-    ("recolouring", "transcript 3 independent-set 2|", "WrongProgram line 3: independent-set"),
-    ("independent-set", "transcript 3 independentset 2|", "WrongProgram line 3: independentset"),
+    ("replay", "leader", EDGE + NAMED + "leader 1|", "NotWhole line 5"),
+    ("replay", "leader", EDGE + NAMED + "hops 0|", "X1 line 5"),
+    ("replay", "layers", EDGE + NAMED + "hops 0|", "WrongProgram line 3: leader"),
+    ("replay", "colouring", EDGE + NAMED + "x|", "WrongProgram line 3: leader"),
+    ("replay", "colouring", EDGE + "transcript 3 colouring 2|", "NotWhole line 3"),
+    ("replay", "layers", EDGE + "transcript 3 leader x|", "WrongProgram line 3: leader"),
+    ("replay", "leader", EDGE + "transcript 3 independent-set 2|", "WrongProgram line 3: independent-set"),
+    ("replay", "independent-set", EDGE + "transcript 3 independent-set 2|", "NotWhole line 3"),
+    ("replay", "independent-set", EDGE + "transcript 3 independentset 2|", "WrongProgram line 3: independentset"),
+    ("run", "layers --root 4", ROW, "NoRoot vertex 4"), ("rounds", "layers --root 20000", ROW, "NoRoot vertex 20000"),
+    ("run", "layers --root 1", NONE, "NoRoot vertex 1"),
+    ("rounds", "layers --root 9", "p edge 2 1|e 1 1|", "F6 line 2"),
+    ("rounds", "layers --root 3", "p edge 2 0|i 1 5|i 2 5|", "NoRoot vertex 3"),
+    ("run", "layers --root 1", "p edge 2 0|i 1 5|i 2 5|", "N2 vertices 1 2"),
+    # Two vertices of identifier 1 stay two of one identifier, whichever is the root.
+    ("rounds", "layers --root 2", "p edge 3 0|i 1 1|i 2 1|", "N2 vertices 1 2"),
+    ("events", "layers --root 3", EDGE + "put 9 0|", "NoRoot vertex 3"),
+    ("events", "layers --root 2", EDGE + "put 9 0|", "NoSuch line 3"),
+    ("events", "layers --root 2", EDGE + "put 2 0|take 1 0|take 1 0|", "LinkEmpty line 5: link from 2 to 1"),
+    ("replay", "layers --root 3", EDGE + "transcript 3 leader 2|", "NoRoot vertex 3"),
+    ("replay", "layers --root 2", EDGE + "transcript 1 2|1 put 2 payload 0 hops 0|",
+     "WrongWire line 4: expected safe 0"),
 ]
-UNKNOWN = "error: invalid value '{}' for '--program <NAME>'|" \
-          "  [possible values: colouring, leader, layers, matching, independent-set, recolouring]||" \
-          "For more information, try '--help'.|"
-
-
+# Words of any command that takes a program, and a part of what is said of them. A root is looked at before the passes.
+WRONG = [
+    ("--program recolouring --passes 1 --passes 1", "'--passes <N>' cannot be used multiple times"),
+    ("--program recolouring --passes 2 --root 1", "'--root <V>' cannot be used with '--program recolouring'"),
+    ("--program layers --passes 2 --root 1", "'--passes <N>' cannot be used with '--program layers'"),
+    ("--passes 2", "'--passes <N>' cannot be used with '--program colouring'"),
+    *((f"--program={word}", f"error: invalid value '{word}' for '--program <NAME>'\n  [possible values: colouring, "
+                            "leader, layers, matching, independent-set, recolouring]\n")
+      for word in ("colour", "", "Leader", "layers2", "independent_set")),
+]
 # Programs of their own, and those that go on after the colouring.
 PLAIN, SEQUELS = ("colouring", "leader", "layers"), ("matching", "independent-set", "recolouring")
 
 
-def play(*words, data):
-    """The status and both outputs of `forestplay` with a text in which '|' is a line feed, or bytes."""
-    return called(PLAY, *words, data=data if isinstance(data, bytes) else text(data))
+def play(command, asked, *words, data):
+    """The status and both outputs of `forestplay` with a program, of a text in which '|' is a line feed, or bytes."""
+    return called(PLAY, command, "--program", *asked.split(), *words,
+                  data=data if isinstance(data, bytes) else text(data))
 
 
-class Played(Case):
-    def ends(self, words, net, last, results, more):
-        """What nodes end with: by one worker, by three, and in rounds, where nothing is added."""
-        lines = [f"node {v} pulse {last} {end}" for v, end in enumerate(results, 1)]
-        wanted = "".join(f"{line} {more[v]}|" if v in more else f"{line}|" for v, line in enumerate(lines, 1))
-        for workers in (1, 3):
-            done = play("run", *words, "--workers", workers, data=net)
-            self.same(f"run {words} on {net} by {workers}", done, (0, text(wanted), b""))
-        if "colouring" not in words:
-            done = play("rounds", *words, data=net)
-            ends = text(f"pulse {last}|" + "".join(f"{v} {end}|" for v, end in enumerate(results, 1)))
-            self.note(f"rounds {words} on {net}", done[::2] == (0, b"") and done[1].endswith(ends), done)
+def program_of(asked):
+    """The definition of a program as it is asked for."""
+    name, *option = asked.replace("--", "").split()
+    return program_at(name, **({option[0]: int(option[1])} if option else {}))
 
 
-class Programs(Played):
+class Programs(Case):
     def test_ends(self):
-        for program, net, last, results, added in ENDS:
-            self.ends(["--program", program], net, last, results, added)
+        """By one worker, by three, in rounds, where nothing is added, and by the definition."""
+        for asked, net, last, said in ENDS:
+            ends = said.split("|") if said else []
+            wanted = "".join(f"node {v} pulse {last} {end}|" for v, end in enumerate(ends, 1))
+            for workers in (1, 3):
+                self.same(f"run {asked} on {net} by {workers}", play("run", asked, "--workers", workers, data=net),
+                          (0, text(wanted), b""))
+            found = [re.sub(r" (to \d+|elected)$", "", end) for end in ends]
+            if asked != "colouring":
+                done = play("rounds", asked, data=net)
+                lines = text(f"pulse {last}|" + "".join(f"{v} {end}|" for v, end in enumerate(found, 1)))
+                self.note(f"rounds {asked} on {net}", done[::2] == (0, b"") and done[1].endswith(lines), done)
+            graph, program = network_of(text(net)), program_of(asked)
+            results = [node.result() for node in synchronous_run(graph, program).values()]
+            self.same(f"{asked} on {net} by the definition", (program.last_pulse(graph), results), (last, found))
+
+    def test_texts(self):
+        for asked, net, wanted in ROUNDS:
+            self.same(f"rounds of {asked} on {net}", play("rounds", asked, data=net), (0, text(wanted), b""))
+        for asked, events, wanted in EVENTS:
+            self.same(f"events of {asked}", play("events", asked, data=EDGE + events), (0, text(wanted), b""))
 
     def test_transcripts(self):
         """The transcript of a run is one run, which its own program replays and the others refuse: by the name in the
@@ -140,17 +180,30 @@ class Programs(Played):
         its own first word is, or where the colouring ends."""
         for program, payload in zip((*PLAIN, *SEQUELS), ("hello 1", "leader 1", "hops 0", *["hello 1"] * 3)):
             head = "2 2" if program == "colouring" else f"3 {program} 2"
-            _, run, _ = play("run", "--program", program, "--transcript", "--workers", 1, data=EDGE)
+            _, run, _ = play("run", program, "--transcript", "--workers", 1, data=EDGE)
             begins = text(f"transcript {head}|1 1 put 2 payload 0 {payload}|")
             self.note(f"transcript of {program}", run.startswith(begins), run)
-            unnamed = text(FIRST_STAMPED) + run.split(b"\n", 1)[1]
+            unnamed = b"transcript 2 2\n" + run.split(b"\n", 1)[1]
             for other in PLAIN if program in PLAIN else ("colouring", "leader", *SEQUELS):
                 fault = "X1 line 4" if program == "colouring" else f"WrongProgram line 3: {program}"
                 for how, data, said in (("", run, fault), (" without its name", unnamed, "X1 line 4")):
-                    status, _, errors = play("replay", "--program", other, data=text(EDGE) + data)
+                    status, _, errors = play("replay", other, data=text(EDGE) + data)
                     wanted = text(f"forestplay: {said}|") if other != program else b""
                     self.note(f"{program}{how} replayed as {other}", status == (other != program)
                               and (errors == wanted or how and program in SEQUELS), (status, errors))
+
+    def test_transcripts_with_options(self):
+        """A transcript is replayed with the root or the passes that its run had; with others it is refused at a wire
+        that differs, or without wires at a pulse more, or at the end."""
+        for asked, most, net in (("layers --root", 2, EDGE), ("recolouring --passes", 3, EDGE),
+                                 ("recolouring --passes", 3, ALONE)):
+            for own, other in product(range(1, most + 1), repeat=2):
+                _, run, _ = play("run", f"{asked} {own}", "--transcript", "--workers", 1, data=net)
+                status, _, fault = play("replay", f"{asked} {other}", data=text(net) + run)
+                code = "" if other == own else "WrongWire" if net == EDGE else "NotReady" if own > other else "NotWhole"
+                self.note(f"transcript of {asked} {own} with {other} on {net}", status == bool(code)
+                          and fault.startswith(f"forestplay: {code} line ".encode() if code else b"")
+                          and bool(fault) == bool(code), (run[:80], fault))
 
     def test_illegal_inboxes(self):
         """Which inboxes no round has, by the definitions' pages: the first rule of the election, and of the layers that
@@ -166,26 +219,67 @@ class Programs(Played):
             got = program(net, len(net.neighbours)).refuses(pulse, [payload])
             self.note(f"{program.name} at pulse {pulse}: {payload}", got is wanted, got)
 
-    def test_rounds(self):
-        for program, net, wanted in ROUNDS:
-            self.same(f"rounds of {program} on {net}", play("rounds", "--program", program, data=net),
-                      (0, text(wanted), b""))
-
-    def test_events(self):
-        """Node 2 sends nothing in pulse 0, so it said safe 0 before node 1's payload came: that is put first."""
-        wanted = "node 1 pulse 0|link 1 2 taken 1|node 2 pulse 0|link 2 1 taken 0 safe 0|"
-        done = play("events", "--program", "layers", data=EDGE + "put 1 0|take 2 0|put 2 0|")
-        self.same("the root is heard", done, (0, text(wanted), b""))
-
     def test_refused(self):
-        for program, lines, fault in REFUSED:
-            self.same(f"{program} {lines}", play("replay", "--program", program, data=EDGE + lines),
+        first = EDGE + "transcript 1 2|1 put 2 payload 0 "
+        for command, asked, data, fault in (
+            *REFUSED, *(("replay", "leader", f"{EDGE}transcript {head}|", "X1 line 3") for head in NO_HEADS),
+            *(("replay", program, f"{first}{payload}|", "X1 line 4")
+              for program, payloads in NO_PAYLOADS.items() for payload in payloads),
+            *(("replay", program, f"{first}{payload}|", f"WrongWire line 4: expected payload 0 {due}")
+              for program, payload, due in NOT_DUE),
+        ):
+            self.same(f"{command} {asked} {data}", play(command, asked, data=data),
                       (1, b"", f"forestplay: {fault}\n".encode()))
 
     def test_words(self):
-        for word in ("colour", "", "Leader", "layers2", "independent", "independent_set"):
-            for command in ("events", "replay", "rounds", "run"):
-                done = play(command, f"--program={word}", data=EDGE)
-                self.same(f"{command} {word!r}", done, (2, b"", text(UNKNOWN.format(word))))
-        self.same("no turns", play("run", "--turns", 0, data=EDGE), (3, b"", b"forestplay: stopped\n"))
-        self.same("turns of no node", play("run", "--turns", 0, data="p edge 0 0|"), (0, b"", b""))
+        """Only one program takes each option, given once."""
+        for command in ("events", "replay", "rounds", "run"):
+            for option, value, own in (("root", "V", "layers"), ("passes", "N", "recolouring")):
+                for other in (program for program in (*PLAIN, *SEQUELS) if program != own):
+                    wanted = f"error: the argument '--{option} <{value}>' cannot be used with '--program {other}'|" \
+                             f"  [only with: --program {own}]||For more information, try '--help'.|"
+                    self.same(f"{command} {other} --{option}", play(command, other, f"--{option}=1", data=EDGE),
+                              (2, b"", text(wanted)))
+            for words, said in WRONG:
+                self.refusal(f"{command} {words}", called(PLAY, command, *words.split()), 2, said.encode())
+        for command, option in product(("plan", "plain", "transcript", "forests", "check"), ("--root", "--passes")):
+            self.refusal(f"forestplan {command} {option}", called(PLAN, command, option, "1"), 2, b"")
+        self.same("no turns", play("run", "leader", "--turns", 0, data=EDGE), (3, b"", b"forestplay: stopped\n"))
+        self.same("turns of no node", play("run", "leader", "--turns", 0, data=NONE), (0, b"", b""))
+
+
+class ByDefinition(Case):
+    needs_programs = False
+
+    def test_commands(self):
+        """Each command of forestlab that takes a program takes both options, and refuses a root that isn't there and
+        another number of passes."""
+        layers, passes = ["path3", "--program", "layers", "--root"], ["path2", "--program", "recolouring", "--passes"]
+        of_layers = forestlab("simulate", *layers, "3", "--seed", "2")[1]
+        of_passes = forestlab("simulate", *passes, "2", "--seed", "2")[1]
+        self.note("simulate with a root", of_layers.startswith(b"transcript 3 layers 3\n"), of_layers[:60])
+        self.note("simulate with passes", of_passes.startswith(b"transcript 3 recolouring 2\n"), of_passes[:60])
+        for words, data, status, said in (
+            (["explore", *layers, "3"], b"", 0, b"1 layer 2 by 0, 2 layer 1 by 1, 3 layer 0\n"),
+            (["transcript", "check", "path3", "-", *layers[1:], "3"], of_layers, 0, b"whole run of 3 nodes"),
+            (["transcript", "check", "path3", "-", *layers[1:], "2"], of_layers, 1, b"WrongWire"),
+            (["picture", "rounds", *layers, "3"], b"", 0, b"layer 2 by 0"),
+            (["explore", *layers, "4"], b"", 1,
+             b"explore: there is no node 4 that could be the root: the network has 3\n"),
+            (["simulate", *layers, "0"], b"", 1, b"there is no node 0"),
+            (["picture", "player", *layers, "9"], b"", 1, b"there is no node 9"),
+            (["explore", "path3", "--root", "1"], b"", 1,
+             b"explore: --root is for --program layers, not for colouring\n"),
+            (["explore", *passes, "2"], b"", 0, b"1 channel 1, 2 channel 2\n"),
+            (["transcript", "check", "path2", "-", *passes[1:], "2"], of_passes, 0, b"whole run of 2 nodes"),
+            (["transcript", "check", "path2", "-", *passes[1:], "1"], of_passes, 1, b"WrongWire"),
+            (["picture", "results", *passes, "2"], b"", 0, b"pulse 22"),
+            (["picture", "player", *passes, "3"], b"", 0, b'"last":24'),
+            (["explore", *passes, "4"], b"", 2, b"--passes"), (["simulate", *passes, "0"], b"", 2, b"--passes"),
+            (["picture", "run", *passes, "1x"], b"", 2, b"--passes"),
+            (["picture", "plan", "path2", "--passes", "2"], b"", 2, b"--passes"),
+            (["simulate", *layers, "1", "--passes", "2"], b"", 1, b"not for layers"),
+            (["simulate", *passes, "2", "--root", "1"], b"", 1, b"--root is for --program layers"),
+        ):
+            done = forestlab(*words, data=data)
+            self.note(" ".join(words), done[0] == status and said in done[1] + done[2], done)
