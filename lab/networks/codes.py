@@ -119,11 +119,6 @@ def code_of(words):
     return None
 
 
-def is_like_a_code(words):
-    """Whether it is written as a code is, so that nobody means a file."""
-    return re.fullmatch(r"[A-Z]\d{1,2}", words) is not None
-
-
 def tell_code(told):
     """What it means, and what to do, a line each."""
     return [f"{told.name}{told.number}, a fault of {told.of}: {told.what}", *[f"here: {told.more}"] * bool(told.more),

@@ -65,7 +65,6 @@ The forests depend on the numbers, and so does the plan.""",
              "Says what a network is, and what a run on it comes to; or what is wrong with its text.", """\
   barred      how many channels are barred, if any is
   forests     the greatest number of neighbours of a node with a greater identifier
-  in turn     how long it would take if nodes chose in the order of their numbers
   payloads    the messages of the rounds: every run of `plan` has just these. If they
               may be many, a bound is printed, unless --payloads has forestplay count them
   wires       what all links of such a run carry: the payloads, as many

@@ -3,14 +3,6 @@ from lab.networks.costs import Run, times
 from lab.words import counted
 
 
-def steps_in_turn(network):
-    """How many rounds it takes if a node chooses once all its neighbours with a lower number have."""
-    step = {}
-    for v in network.vertices:
-        step[v] = 1 + max((step[w] for w in network.neighbours[v] if w < v), default=0)
-    return max(step.values(), default=0)
-
-
 def facts(reading, network, is_counted):
     """(name, what) of each line that `tell` prints."""
     run = Run(network, is_counted)
@@ -31,7 +23,6 @@ def facts(reading, network, is_counted):
         *[("barred", barred)] * bool(bars),
         ("forests",
          f"{run.forests:,}, so the last pulse is 12 + 3 * {run.forests:,} * {network.channels:,} = {run.last:,}"),
-        ("in turn", f"{counted(steps_in_turn(network), 'round')}, if the nodes chose in the order of their numbers"),
         ("payloads", f"{most}{run.payloads:,}; {run.how}"),
         ("wires", f"{most}2 * {run.payloads:,} + 2 * {edges:,} * {run.last + 1:,} = {run.wires:,}"),
         ("transcript", f"{most}{2 * run.wires + network.nodes * run.last + 1:,} lines"),

@@ -7,7 +7,7 @@ import sys
 
 from lab.networks import edge_list, sites
 from lab.networks.channels import table_of
-from lab.networks.codes import code_of, is_like_a_code, tell_code
+from lab.networks.codes import code_of, tell_code
 from lab.networks.command_line import command_line
 from lab.networks.describe import facts, warnings
 from lab.networks.edge_list import Listed
@@ -104,11 +104,8 @@ def without_ignored(left_out, notes, given, name):
 def was_told(given):
     """What is said of a network, or of a code if there is no file of that name."""
     words = " ".join(given.file)
-    if path_of(words) is None:
-        if found := code_of(words):
-            return "".join(line + "\n" for line in tell_code(found))
-        if is_like_a_code(words):
-            raise Wrong(f"{words} is neither a file nor a code of the programs: docs/claim/FORMATS.md has all codes")
+    if path_of(words) is None and (found := code_of(words)):
+        return "".join(line + "\n" for line in tell_code(found))
     if len(given.file) > 1:
         given.refuse("one FILE, or a code and where it is, as `C8 vertex 1`")
     return network_told(words, given.payloads)

@@ -72,8 +72,7 @@ class Codes(Case):
 
     def test_what_is_no_code(self):
         for words, wanted, said in (
-            *(([code], 1, f"network: {code} is neither a file nor a code of the programs: docs/claim/FORMATS.md has "
-               "all codes\n") for code in ("C9", "E6")),
+            (["C9"], 1, "network: C9: No such file or directory\n"),
             (["nowhere.col"], 1, "network: nowhere.col: No such file or directory\n"),
             (["C8", "and", "C9"], 2, "one FILE, or a code and where it is, as `C8 vertex 1`\n"),
         ):

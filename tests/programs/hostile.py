@@ -35,9 +35,9 @@ MARKS = [b"\xef\xbb\xbf", b"\xff\xfe", b"\xfe\xff", b"\r\n", b"\r\r\n", b"\n\r",
 
 def each_byte(data):
     """Each byte in place of each of the text, and before it."""
-    places, values = range(len(data) + 1), [bytes([b]) for b in range(256)]
-    return chain((data[:at] + value + data[at + 1:] for at, value in product(places, values)),
-                 (data[:at] + value + data[at:] for at, value in product(places, values)))
+    for at, value in product(range(len(data) + 1), map(bytes, zip(range(256)))):
+        yield data[:at] + value + data[at + 1:]
+        yield data[:at] + value + data[at:]
 
 
 def each_mark(data):

@@ -78,15 +78,6 @@ def numbers(text):
     return [int(number.replace(",", "")) for number in re.findall(r"\d[\d,]*", text.replace(", ", " "))]
 
 
-def steps_in_order(net):
-    """Rounds in which each node that has no lower neighbour left chooses."""
-    left, rounds = set(net.neighbours), 0
-    while left:
-        left -= {v for v in left if not any(w < v for w in net.neighbours[v] if w in left)}
-        rounds += 1
-    return rounds
-
-
 LONG_NAMES = b"p edge 4 4\ni 2 %d\ni 4 0\ne 1 2\ne 2 3\ne 1 4\ne 1 3\n" % (2**128 - 1)
 
 
@@ -342,7 +333,6 @@ class OwnNetworks(Case):
                 "edges": [edges, edges],
                 "neighbours": [min(degrees), max(degrees)] + ([] if bars else [enough]),
                 "forests": [net.forest_count, 12, 3, net.forest_count, enough, last],
-                "in turn": [steps_in_order(net)],
                 "payloads": [payloads],
                 "wires": [2, payloads, 2, edges, last + 1, wires],
                 "transcript": [1 + len(degrees) * last + 2 * wires],

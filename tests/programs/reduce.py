@@ -2,7 +2,7 @@
 
 On each network of up to three nodes, and on two others: what goes wrong is the
 same, the ends are the same states, and every state of the reduced search is one of the whole search."""
-import itertools
+from itertools import product
 
 from lab.definitions.colours import Network
 from lab.schedules.space import Space
@@ -12,16 +12,22 @@ from tests.programs.plain_networks import all_of
 MOST = 200_000
 
 
-TWO = Network({1: 1, 2: 2}, [(1, 2)])
-BARRED = Network({1: 9, 2: 200, 3: 5}, [(1, 2), (2, 3)], {2: [0]})
+RULES = ((), ("early",), ("acks",), ("acks", "early"))
 
 
-def networks():
+def row_of(nodes):
+    return Network({v: v for v in range(1, nodes + 1)}, [(v, v + 1) for v in range(1, nodes)])
+
+
+def rows():
+    """(network, rules left out, whether puts are steps)."""
     for nodes in (1, 2, 3):
         for edges in all_of(nodes):
-            yield f"{nodes} {edges}", Network({v: v for v in range(1, nodes + 1)}, edges)
-    yield "names and a bar", BARRED
-    yield "row of four", Network({v: v for v in range(1, 5)}, [(1, 2), (2, 3), (3, 4)])
+            net = Network({v: v for v in range(1, nodes + 1)}, edges)
+            yield from ((net, *more) for more in (product(RULES, (False, True)) if nodes < 3 else [((), False)]))
+    for net in (Network({1: 9, 2: 200, 3: 5}, [(1, 2), (2, 3)], {2: [0]}), row_of(3)):
+        yield from ((net, without, False) for without in RULES[:3])
+    yield row_of(4), (), False
 
 
 def keys_of(space, states):
@@ -37,34 +43,17 @@ def keys_of(space, states):
 class Reduced(Case):
     needs_programs = False
 
-    def compared(self, name, net, without, puts):
-        whole = Space(net, without, MOST, puts, beyond=bool(without))
-        less = Space(net, without, MOST, puts, beyond=bool(without), reduce=True)
-        self.assertEqual(set(less.faults.values()), set(whole.faults.values()))
-        self.assertEqual(keys_of(less, less.ends), keys_of(whole, whole.ends))
-        self.assertLessEqual(keys_of(less, range(less.count)), keys_of(whole, range(whole.count)))
-        self.assertLessEqual(less.count, whole.count)
-        if net.number:
-            self.assertLess(less.count, whole.count)
-
-    def test_all_small_networks(self):
-        for name, net in networks():
-            with self.subTest(name):
-                self.compared(name, net, (), False)
-
-    def test_puts_and_rules(self):
-        small = [(name, net) for name, net in networks() if len(net.neighbours) < 3]
-        for (name, net), without in itertools.product(small, ((), ("early",), ("acks",), ("acks", "early"))):
-            for puts in (False, True):
-                with self.subTest(name, without=without, puts=puts):
-                    self.compared(name, net, without, puts)
-        for without in (("early",), ("acks",)):
-            for net in (Network({1: 1, 2: 2, 3: 3}, [(1, 2), (2, 3)]), BARRED):
-                with self.subTest(net=net.identifiers, without=without):
-                    self.compared("three", net, without, False)
+    def test_networks(self):
+        for net, without, puts in rows():
+            with self.subTest(edges=net.number, without=without, puts=puts):
+                whole, less = (Space(net, without, MOST, puts, beyond=bool(without), reduce=it) for it in (False, True))
+                self.assertEqual(set(less.faults.values()), set(whole.faults.values()))
+                self.assertEqual(keys_of(less, less.ends), keys_of(whole, whole.ends))
+                self.assertLessEqual(keys_of(less, range(less.count)), keys_of(whole, range(whole.count)))
+                self.assertLessEqual(less.count, whole.count - bool(net.number))
 
     def test_that_early_is_found(self):
-        self.assertTrue(Space(TWO, ("early",), MOST, reduce=True).faults)
+        self.assertTrue(Space(row_of(2), ("early",), MOST, reduce=True).faults)
 
 
 class Command(Case):
