@@ -1,5 +1,4 @@
-"""The table of all commands (tests/commands.py) beside the programs, the help texts and bin/: none is missing, and each
-answer is the one of the program."""
+"""The table of all commands (tests/commands.py) beside the help texts and bin/: none is missing."""
 import os
 import re
 import shutil
@@ -10,19 +9,12 @@ from build import completion
 from build.__main__ import MODULES
 from lab.__main__ import COMMANDS as OF_LAB
 from tests import TOP
-from tests.cases import Case, called, contents, text
-from tests.commands import COMMANDS, HELPS, SCRIPTS, commands_of, listed_below
-from tests.programs.slow_reader import ANSWERS, answer_to
+from tests.cases import Case, called, contents, text_in
+from tests.commands import HELPS, SCRIPTS, commands_of, listed_below
 from tests.settings import PATHS
 
-HELP = os.path.join(TOP, "lab", "help")
 # Seconds; a busy machine takes long for the many calls.
 LIMIT = 300
-
-
-def listed(helped):
-    """The commands that a program's help lists."""
-    return re.findall(r"^  ([a-z]+) ", re.search(r"^Commands:\n((?:  .*\n)+)", helped, re.M).group(1), re.M)
 
 
 def differences(there, table):
@@ -32,28 +24,15 @@ def differences(there, table):
 
 
 class Commands(Case):
-    def test_help_of_programs(self):
-        """A command of a program that the table hasn't is missing there."""
-        for program, path in PATHS.items():
-            found = listed(called(path, "--help")[1].decode())
-            names = [command.name for command in commands_of(program)]
-            self.note(f"tests/commands.py has the commands of {program} --help", found == names,
-                      differences(found, names))
-
     def test_help_texts(self):
-        wanted = sorted(f"{name}.txt" for _, name in HELPS)
-        there = sorted(os.listdir(HELP))
-        self.note("lab/help/ has the texts of the commands in tests/commands.py", there == wanted,
-                  differences(there, wanted))
-
-    def test_answers(self):
-        """Each answer by the slow reader, which knows no transcript but an empty one; those of the programs are in
-        tests/faults/streams.py and install.py."""
-        self.same("the slow reader has each command", sorted(ANSWERS), sorted(command.name for command in COMMANDS))
-        for command in COMMANDS:
-            if command.name != "transcript":
-                got = answer_to(command.name, text(command.data))
-                self.same(f"{command.name} by the slow reader", got, (0, text(command.answer), b""))
+        """A command of a program that the table hasn't is missing there, and so is its help text, or that of none;
+        black_box.py compares the texts with the programs'."""
+        for program in PATHS:
+            listed = re.search(r"^Commands:\n((?:  .*\n)+)", text_in("lab", "help", f"{program}.txt"), re.M).group(1)
+            found, names = re.findall("^  ([a-z]+) ", listed, re.M), [command.name for command in commands_of(program)]
+            self.note(f"tests/commands.py has the commands of {program}", found == names, differences(found, names))
+        wanted, there = sorted(f"{name}.txt" for _, name in HELPS), sorted(os.listdir(os.path.join(TOP, "lab", "help")))
+        self.note("lab/help/ has their texts", there == wanted, differences(there, wanted))
 
     def test_scripts(self):
         """A command of forestlab that the table hasn't is missing there, and so is one below it that its help lists."""

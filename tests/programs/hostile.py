@@ -111,9 +111,9 @@ class Hostile(Case):
     def test_texts(self):
         """All but the random texts, of some commands."""
         count = 0
-        for command, odd, is_reader in [(it.name, it.odd, it.is_reader) for it in COMMANDS]:
+        for command, whole, odd, is_reader in [(it.name, it.data, it.odd, it.is_reader) for it in COMMANDS]:
             data = text(odd)
-            wholes = chain.from_iterable(beginnings(text(whole)) for whole in WHOLE.get(command, [odd]))
+            wholes = chain.from_iterable(beginnings(text(it)) for it in WHOLE.get(command, [whole, odd]))
             numbers = each_number(data)
             kinds = {
                 "each beginning": wholes,
