@@ -90,12 +90,16 @@ NO_HEADS = ("3 leader x", "3 leader", "3 2", "3 leader 2 2", "2 leader 2", "4 le
 # Payloads that no node of a program sends: words of another one, and numbers out of range. Those of a sequel are its
 # own and the colouring's, each within its bound.
 NO_PAYLOADS = {
-    "colouring": ("leader 1", "hops 0", "anew 0"), "leader": (f"leader {2**128}", "leader", "hello 1"),
+    "colouring": ("leader 1", "hops 0", "anew 0", f"hello {2**128}", f"label {2**16}", f"colour {2**128}",
+                  f"chosen {2**16}"),
+    "leader": (f"leader {2**128}", "leader", "hello 1"),
     "layers": ("hello 1", "leader 1", f"hops {2**32}", "hop 0"), "matching": ("joined 0", f"take {2**16}"),
     "independent-set": ("take 0", f"joined {2**16}"), "recolouring": ("free 0", f"anew {2**16}"),
 }
 # What node 1 of an edge doesn't send first, and what it sends.
-NOT_DUE = [("leader", "leader 2", "leader 1"), ("layers", "hops 1", "hops 0"), ("matching", "free 0", "hello 1"),
+NOT_DUE = [*(("colouring", payload, "hello 1") for payload in (
+               f"hello {2**128 - 1}", f"label {2**16 - 1}", f"colour {2**128 - 1}", f"chosen {2**16 - 1}")),
+           ("leader", "leader 2", "leader 1"), ("layers", "hops 1", "hops 0"), ("matching", "free 0", "hello 1"),
            ("independent-set", "joined 0", "hello 1"), ("recolouring", "anew 0", "hello 1")]
 NAMED = "transcript 3 leader 2||1 1 put 2 payload 0 "
 # A command, its program, its input and the fault. The text comes first, then the root, then what is wrong in later

@@ -2,15 +2,12 @@
 
 Expected texts are worked by hand, or come from the definitions in lab/definitions/rounds.py; none is taken from a
 program."""
-import random
-
 from lab.definitions.colours import network_of
 from lab.definitions.nodes import ports_of, synchronous_pulses
 from lab.definitions.rounds import FIRST_MERGE, head_of, merge_step, phase_words, rounds_text
 from tests.cases import Case, called, examples, text
 from tests.commands import EDGE
-from tests.programs.plain_networks import (climbing, complete, cycle, path, random_of, shaped, some_bars, star, text_of,
-                                           tree, two_sided)
+from tests.programs.sequels import networks_by_chance
 from tests.settings import PLAY
 
 SEED = 2026
@@ -40,19 +37,6 @@ BARRED_EDGES = [
 EMPTY_TEXT = "rounds 1 0 0 0 12|pulse 0 greet|pulse 1 orient|" + "".join(
     f"pulse {p} {name}|" for p, name in enumerate(EDGE_NAMES, 2)
 )
-
-
-def networks():
-    """Each by its name: the examples, and shapes."""
-    all_of, source = examples(), random.Random(SEED)
-    for shape in (path, cycle, tree, star, two_sided, complete):
-        all_of[shape.__name__] = text_of(source, 9, shaped(source, shape, 9, 8))
-    for title, family in [("random", random_of(8, 5, 14)), ("climbing", climbing(3, 40))]:
-        for i, (nodes, edges) in enumerate(family(source)):
-            all_of[f"{title} {i}"] = text_of(source, nodes, edges)
-    for i, (nodes, edges) in enumerate(random_of(12, 1, 9)(source)):
-        all_of[f"barred {i}"] = text_of(source, nodes, edges, bars=some_bars(source, nodes, 4))
-    return all_of
 
 
 def made_text(net):
@@ -88,7 +72,7 @@ class Rounds(Case):
         ]:
             self.same(f"the definition of {name}", rounds_text(network_of(text(data))), text(wanted))
             self.same(f"the rounds of {name}", called(PLAY, "rounds", data=text(data)), (0, text(wanted), b""))
-        for name, data in networks().items():
+        for name, data in (*examples().items(), *enumerate(networks_by_chance(40, 14, SEED))):
             net = network_of(data)
             wanted = rounds_text(net)
             self.note(f"both definitions on {name}", wanted == made_text(net), data)
