@@ -3,7 +3,7 @@
 A run of nodes without a common clock is a list of steps: a node takes a wire from a link, puts one on a link, or
 makes a pulse. Whoever plays a run keeps a list of the steps that are possible, and asks a policy which comes next:
 
-    policy = policy_of("slow-link", network.vertices, network.edges, seed="7")
+    policy = Policy("slow-link", network.vertices, network.edges, seed="7")
     step = policy.choose(steps)         # one of the list
 
 All chance comes from the seed. So a run depends on the network, the policy, the seed and what the nodes do, and not
@@ -11,7 +11,7 @@ on how fast they are. A policy decides nothing about what is right: any order of
 definitions (simulate.py) and students' nodes (the workshop's driver) are played under the same policies."""
 import random
 from dataclasses import dataclass
-from typing import Callable, Sequence
+from typing import Sequence
 
 
 @dataclass
@@ -37,128 +37,46 @@ class Step:
         return self.node, self.neighbour or self.node
 
 
-class Policy:
-    """Chooses steps. `vertices` and `edges` (pairs, the lower vertex first) are the network's."""
+# What each policy does, in words; and what waits under it until no other step is possible: of a step, and of the edge
+# or the node that the seed chooses.
+POLICIES = {"random": "any step that is possible, each as likely as any other",
+            "slow-link": "what goes over one edge, in either direction, waits", "slow-node": "what one node does waits",
+            "fast-node": "what one node does comes first",
+            "bursts": "one link until nothing is possible on it, then another",
+            "newest": "the link that was put on last",
+            "oldest": "the step that has been possible for longest: the friendliest order",
+            "in-turn": "each link in turn", "late-acks": "acknowledgements wait", "late-safes": "safes wait"}
+WAITS = {"slow-link": lambda step, edge: tuple(sorted(step.link)) == edge,
+         "slow-node": lambda step, v: step.node == v, "fast-node": lambda step, v: step.node != v,
+         "late-acks": lambda step, _: step.wire == "ack", "late-safes": lambda step, _: step.wire == "safe"}
 
-    def __init__(self, vertices: Sequence[int], edges: Sequence[tuple[int, int]], seed: str):
+
+class Policy:
+    """Chooses steps by one of the POLICIES. `vertices` and `edges` (pairs, the lower vertex first) are the network's;
+    `chosen` is the edge or the node that waits or comes first, or None."""
+
+    def __init__(self, name: str, vertices: Sequence[int], edges: Sequence[tuple[int, int]], seed: str):
         # Of a seed's generator only random() gives the same numbers in all versions of Python.
-        self.vertices, self.edges, self.source = list(vertices), list(edges), random.Random(seed)
+        self.name, self.source, self.last = name, random.Random(f"{seed} {name}"), ((0, 0), "")
+        among = edges if name == "slow-link" else vertices if name.endswith("-node") else ()
+        self.chosen = self.any_of(list(among)) if among else None
 
     def any_of(self, things: Sequence):
         return things[int(self.source.random() * len(things))]
 
     def choose(self, steps: Sequence[Step]) -> Step:
         """One of the steps, of which there is at least one."""
-        raise NotImplementedError
-
-
-class AnyStep(Policy):
-    """Any step, each as likely as any other."""
-
-    def choose(self, steps):
-        return self.any_of(steps)
-
-
-class Waiting(Policy):
-    """Some steps wait until no other is possible; among those that don't wait, any."""
-
-    def waits(self, step: Step) -> bool:
-        raise NotImplementedError
-
-    def choose(self, steps):
-        return self.any_of([step for step in steps if not self.waits(step)] or steps)
-
-
-class SlowLink(Waiting):
-    """What goes over one edge, in either direction, waits. `slow` is that edge, or None in a network without edges."""
-
-    def __init__(self, vertices, edges, seed):
-        super().__init__(vertices, edges, seed)
-        self.slow = self.any_of(self.edges) if self.edges else None
-
-    def waits(self, step):
-        return tuple(sorted(step.link)) == self.slow
-
-
-class SlowNode(Waiting):
-    """The steps of one node, `slow`, wait."""
-
-    def __init__(self, vertices, edges, seed):
-        super().__init__(vertices, edges, seed)
-        self.slow = self.any_of(self.vertices)
-
-    def waits(self, step):
-        return step.node == self.slow
-
-
-class FastNode(Waiting):
-    """The steps of one node, `fast`, come first."""
-
-    def __init__(self, vertices, edges, seed):
-        super().__init__(vertices, edges, seed)
-        self.fast = self.any_of(self.vertices)
-
-    def waits(self, step):
-        return step.node != self.fast
-
-
-class LateAcks(Waiting):
-    """Acknowledgements wait."""
-
-    def waits(self, step):
-        return step.wire == "ack"
-
-
-class LateSafes(Waiting):
-    """Safes wait."""
-
-    def waits(self, step):
-        return step.wire == "safe"
-
-
-class Bursts(Policy):
-    """One link until nothing is possible on it, then another."""
-    link = None
-
-    def choose(self, steps):
-        step = next((step for step in steps if step.link == self.link), None) or self.any_of(steps)
-        self.link = step.link
+        if self.name == "newest":
+            return max(steps, key=lambda step: step.latest)     # it pulls the older wires of its link with it
+        if self.name == "oldest":
+            return min(steps, key=lambda step: step.since)
+        if self.name == "in-turn":
+            step = min([step for step in steps if (step.link, step.kind) > self.last] or steps,
+                       key=lambda step: (step.link, step.kind))
+        elif self.name == "bursts":
+            step = next((step for step in steps if step.link == self.last[0]), None) or self.any_of(steps)
+        else:
+            waits = WAITS.get(self.name, lambda step, chosen: False)
+            return self.any_of([step for step in steps if not waits(step, self.chosen)] or steps)
+        self.last = step.link, step.kind
         return step
-
-
-class Newest(Policy):
-    """The link that was put on last of all: the newest wire pulls the older ones of its link with it."""
-
-    def choose(self, steps):
-        return max(steps, key=lambda step: step.latest)
-
-
-class Oldest(Policy):
-    """The step that has been possible for longest: wires come in the order in which they were sent."""
-
-    def choose(self, steps):
-        return min(steps, key=lambda step: step.since)
-
-
-class InTurn(Policy):
-    """Each link in turn."""
-    last = ((0, 0), "")
-
-    def choose(self, steps):
-        def turn(step):
-            return step.link, step.kind
-        later = [step for step in steps if turn(step) > self.last]
-        step = min(later or steps, key=turn)
-        self.last = turn(step)
-        return step
-
-
-POLICIES: dict[str, Callable[..., Policy]] = {
-    "random": AnyStep, "slow-link": SlowLink, "slow-node": SlowNode, "fast-node": FastNode, "bursts": Bursts,
-    "newest": Newest, "oldest": Oldest, "in-turn": InTurn, "late-acks": LateAcks, "late-safes": LateSafes,
-}
-
-
-def policy_of(name: str, vertices: Sequence[int], edges: Sequence[tuple[int, int]], seed: str) -> Policy:
-    """The policy of one of the names of POLICIES, at the beginning of a run."""
-    return POLICIES[name](vertices, edges, f"{seed} {name}")

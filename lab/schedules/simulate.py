@@ -10,7 +10,7 @@ from lab.definitions.nodes import Colouring, NetState, Refused, missing_words, w
 from lab.definitions.own_program import check_repeats
 from lab.definitions.programs import add_program, check_root, note_ignored_bars, program_at
 from lab.networks.fields import shown
-from lab.schedules.policies import POLICIES, Step, policy_of
+from lab.schedules.policies import POLICIES, Policy, Step
 from lab.schedules.reading import network_at
 from lab.transcripts.fields import first_line
 from lab.transcripts.reading import Entry
@@ -18,12 +18,6 @@ from lab.transcripts.stamps import Clock, unfinished
 from lab.words import add_output, add_seed, called, parser_of, text_at, write
 from lab.wrong import Wrong, wrong_line
 
-HABITS = {"random": "any step that is possible, each as likely as any other",
-          "slow-link": "what goes over one edge, in either direction, waits", "slow-node": "what one node does waits",
-          "fast-node": "what one node does comes first",
-          "bursts": "one link until nothing is possible on it, then another", "newest": "the link that was put on last",
-          "oldest": "the step that has been possible for longest: the friendliest order",
-          "in-turn": "each link in turn", "late-acks": "acknowledgements wait", "late-safes": "safes wait"}
 HELP = """\
 Writes the transcript of a run without a clock that no thread made: step by step, a
 policy chooses what happens next among all that is possible. The same network, policy
@@ -40,7 +34,7 @@ NotWhole; with --to-the-end the policy plays the rest.
 """
 MORE_HELP = f"""\
 The policies; those that choose an edge or a node choose it by the seed:
-{chr(10).join(f"  {name:<12}{habit}" for name, habit in HABITS.items())}
+{chr(10).join(f"  {name:<12}{habit}" for name, habit in POLICIES.items())}
 
 The transcript is of edition 2, as `forestplan transcript` writes it, or of another
 program of edition 3, which names it, so that `forestlab transcript`, `forestlab
@@ -80,51 +74,38 @@ class Held:
 
 
 class Player:
-    """A run on its way. `steps[v]` are the steps that are possible at v; beside each list of wires is when each was
-    added to it, by the number of steps made."""
+    """A run on its way. `steps[v]` are the steps that are possible at v; `since[kind, v, w]` has for each wire that can
+    be put or taken, and for a pulse, how many steps were made when it came there."""
 
     def __init__(self, net, program=Colouring):
         check_repeats(net, program)
         self.state, self.now, self.rows = NetState(net, program), 0, []
-        self.clock = Clock(net.neighbours)
-        links = list(self.state.link)
-        self.out_since, self.link_since = {at: deque() for at in links}, {at: deque() for at in links}
-        self.pulse_since = {}
-        self.steps = {}
+        self.clock, self.since, self.steps = Clock(net.neighbours), {}, {}
         for v in sorted(self.state.nodes):
             self.look_at(v)
 
     def look_at(self, v):
         """What is possible at v now."""
-        node, found = self.state.nodes[v], []
-        if node.can_pulse():
-            found.append(Step("pulse", v, since=self.pulse_since.setdefault(v, self.now)))
-            found[-1].latest = found[-1].since
-        else:
-            self.pulse_since.pop(v, None)
+        node, self.steps[v] = self.state.nodes[v], []
+        waiting = [("pulse", 0, [("",)] * node.can_pulse())]
         for port, w in enumerate(self.state.neighbours[v]):
-            out, since = node.ports[port].out, self.out_since[v, port]
-            since.extend([self.now] * (len(out) - len(since)))
-            if out:
-                found.append(Step("put", v, w, out[0][0].lower(), since[0], since[0]))
-            wires, since = self.state.link_to(v, port), self.link_since[w, self.state.port_to[w, v]]
+            waiting += [("put", w, node.ports[port].out), ("take", w, self.state.link_to(v, port))]
+        for kind, w, wires in waiting:
+            times = self.since.setdefault((kind, v, w), deque())
+            if len(times) > len(wires):
+                times.popleft()
+            times.extend([self.now] * (len(wires) - len(times)))
             if wires:
-                found.append(Step("take", v, w, wires[0][0].lower(), since[0], since[-1]))
-        self.steps[v] = found
+                latest = times[-1] if kind == "take" else times[0]
+                self.steps[v].append(Step(kind, v, w, wires[0][0].lower(), times[0], latest))
 
     def make(self, step):
         """One of the steps; adds its row (stamp, vertex, line), and returns its entry."""
         self.now += 1
         v, w, kind = step.node, step.neighbour, step.kind.title()
-        port = self.state.port_to[v, w] if w else None
-        wire = self.state.step(kind, v, port)
+        wire = self.state.step(kind, v, self.state.port_to[v, w] if w else None)
         what = wire if w else self.state.nodes[v].pulse_number
         words = f"{v} {step.kind} {w} {wire_words(wire)}" if w else f"{v} pulse {what}"
-        if step.kind == "put":
-            self.out_since[v, port].popleft()
-            self.link_since[v, port].append(self.now)
-        elif step.kind == "take":
-            self.link_since[w, self.state.port_to[w, v]].popleft()
         stamp = self.clock.next(kind, v, w)
         self.rows.append((stamp, v, words))
         self.look_at(v)
@@ -168,7 +149,7 @@ def played(net, policy="random", seed="1", slow=(), lazy=(), player=None, progra
     """The rows (stamp, vertex, line) of a run of a program on a network of the definitions, in the order in which they
     were made; `player` may be on its way."""
     player = player or Player(net, program)
-    chooser = policy_of(policy, sorted(net.neighbours), edges_of(net), seed)
+    chooser = Policy(policy, sorted(net.neighbours), edges_of(net), seed)
     player.play(Held(chooser, slow, lazy) if slow or lazy else chooser)
     return player.rows
 

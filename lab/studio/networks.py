@@ -12,8 +12,8 @@ from lab.pictures.layout import laid_out
 from lab.pictures.pages import net_of
 from lab.pictures.places import LARGEST_CIRCLE, circle
 from lab.programs import TOP
+from lab.schedules.policies import POLICIES
 from lab.schedules.rules import OF_PROGRAMS, OF_SCHEDULES
-from lab.schedules.simulate import HABITS
 from lab.studio.asked import MOST_DRAWN, OPENED, network_asked
 from lab.studio.lessons import lessons
 from lab.wrong import Wrong
@@ -36,7 +36,7 @@ def hello(_asked, _tell):
         "examples": sorted(stem(file) for file in os.listdir(EXAMPLES) if file.endswith(".col")),
         "kinds": {name: {"sizes": kind.sizes, "chance": kind.is_by_chance} for name, kind in KINDS.items()},
         "programs": [*PROGRAMS, *OPENED["own"]],
-        "policies": HABITS,
+        "policies": POLICIES,
         "rules": {"orders": said_of(OF_SCHEDULES),
                   "rounds": {name: said_of(of) for name, of in OF_PROGRAMS.items()}},
         "lessons": lessons(),

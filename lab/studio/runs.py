@@ -5,7 +5,7 @@ from lab.definitions.programs import program_words
 from lab.pictures.program_rounds import ProgramRounds, is_own, rounds_of
 from lab.pictures.sizes import last_pulse, least_wires
 from lab.pictures.watch_page import MOST_ENTRIES, Run, Steps, look_of, steps_of_text
-from lab.schedules.policies import POLICIES, policy_of
+from lab.schedules.policies import POLICIES, Policy
 from lab.schedules.reading import network_of
 from lab.schedules.rules import OF_SCHEDULES
 from lab.schedules.simulate import Held, Player, edges_of, events_of, text_of_rows
@@ -38,7 +38,7 @@ def played(asked, network, program, tell):
         raise Wrong(f"a run has more than {most:,} wires: take the threads, since a seeded run is played slowly")
     if asked["policy"] not in POLICIES:
         raise Wrong(f"there is no policy {asked['policy']}")
-    chooser = policy_of(asked["policy"], sorted(net.neighbours), edges_of(net), str(asked.get("seed", "1")))
+    chooser = Policy(asked["policy"], sorted(net.neighbours), edges_of(net), str(asked.get("seed", "1")))
     policy, player = Held(chooser, *held_of(asked, net)), Player(net, program)
     made = Steps(player.state)
     for step in first_steps(asked, net, program):
@@ -105,7 +105,7 @@ def singled_out(asked, network):
     """The link or the node that the policy has chosen by its seed, if it chooses one."""
     if asked.get("transcript") or asked.get("how") == "threads":
         return None
-    policy = policy_of(asked["policy"], network.vertices, network.edges, str(asked.get("seed", "1")))
+    policy = Policy(asked["policy"], network.vertices, network.edges, str(asked.get("seed", "1")))
     of = getattr(policy, "slow", None) or getattr(policy, "fast", None)
     return of and (f"node {of}" if isinstance(of, int) else "the link {}–{}".format(*of))
 

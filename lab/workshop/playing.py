@@ -4,7 +4,7 @@ import time
 from argparse import Namespace
 from typing import Callable
 
-from lab.schedules.policies import policy_of
+from lab.schedules.policies import Policy
 from lab.workshop.alpha_run import AlphaRun
 from lab.workshop.alpha_verdict import finding_of
 from lab.workshop.cases import Case, smaller
@@ -60,7 +60,7 @@ class Player:
         rounds = RightRounds(case.network, self.options.program)
         if self.options.assignment == "rounds":
             return RoundsRun(rounds)
-        return AlphaRun(rounds, policy_of(case.policy, case.network.vertices, case.network.edges, case.seed))
+        return AlphaRun(rounds, Policy(case.policy, case.network.vertices, case.network.edges, case.seed))
 
     def name_owner(self, case: Case) -> None:
         """Says whose node is wrong, and whose the others are."""

@@ -12,7 +12,7 @@ from lab.definitions.nodes import last_pulse
 from lab.networks.network_text import read_network
 from lab.pictures import watch_page
 from lab.pictures.watch_page import Run, Steps, steps_of_text
-from lab.schedules.policies import policy_of
+from lab.schedules.policies import Policy
 from lab.schedules.simulate import Player, edges_of, text_of_rows
 from tests import TOP
 from tests.cases import Case, example, said_by
@@ -170,7 +170,7 @@ class OneRun(Page):
                 net, network = network_of(data), read_network(data.decode(), name)
                 player = Player(net)
                 steps = Steps(player.state)
-                for entry in player.entries(policy_of("random", sorted(net.neighbours), edges_of(net), "watch")):
+                for entry in player.entries(Policy("random", sorted(net.neighbours), edges_of(net), "watch")):
                     steps.add(entry)
                     if player.now == 40:
                         self.check_same(network, player, steps)

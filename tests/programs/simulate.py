@@ -11,7 +11,7 @@ import sys
 from lab.definitions.colours import colours, network_of
 from lab.definitions.nodes import NetState, last_pulse, wire_words
 from lab.schedules.policies import POLICIES
-from lab.schedules.simulate import HABITS, played
+from lab.schedules.simulate import played
 from lab.schedules.space import Space
 from lab.schedules.stepwise import Stepwise
 from lab.transcripts.check import whole_run
@@ -166,9 +166,6 @@ class Runs(Case):
 
     def test_standard_input(self):
         self.assertEqual(simulate("-", data=example("two")), simulate("two"))
-
-    def test_help_has_all_policies(self):
-        self.assertEqual(sorted(HABITS), sorted(POLICIES))
 
 
 def walk(net, events, source):

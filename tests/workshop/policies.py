@@ -1,5 +1,5 @@
 """Each policy on steps of which it is plain by its rule which one it chooses."""
-from lab.schedules.policies import POLICIES, Step, policy_of
+from lab.schedules.policies import POLICIES, Policy, Step
 from lab.workshop.cases import NETWORKS, cases_of
 from tests.cases import Case
 from tests.workshop.base import options_of
@@ -11,7 +11,7 @@ STEPS = [Step("take", 1, 2, "ack", 3, 9), Step("take", 2, 1, "safe", 1, 1), Step
 
 
 def chosen(name, seed="1", count=60, steps=STEPS):
-    policy = policy_of(name, VERTICES, EDGES, seed)
+    policy = Policy(name, VERTICES, EDGES, seed)
     return policy, [steps.index(policy.choose(steps)) for _ in range(count)]
 
 
@@ -27,18 +27,18 @@ class Policies(Case):
         for seed in map(str, range(6)):
             with self.subTest(seed=seed):
                 policy, steps = chosen("slow-link", seed)
-                self.assertEqual(set(steps), {2, 3} if policy.slow == (1, 2) else {0, 1, 3})
+                self.assertEqual(set(steps), {2, 3} if policy.chosen == (1, 2) else {0, 1, 3})
                 policy, steps = chosen("slow-node", seed)
-                self.assertEqual({STEPS[step].node for step in steps}, {1, 2, 3} - {policy.slow})
+                self.assertEqual({STEPS[step].node for step in steps}, {1, 2, 3} - {policy.chosen})
                 policy, steps = chosen("fast-node", seed)
-                self.assertEqual({STEPS[step].node for step in steps}, {policy.fast})
+                self.assertEqual({STEPS[step].node for step in steps}, {policy.chosen})
 
     def test_what_waits_comes_if_nothing_else_can(self):
         for name in POLICIES:
             self.same(name, set(chosen(name, steps=STEPS[:1])[1]), {0})
 
     def test_bursts_stay_on_a_link_and_turns_go_round(self):
-        policy = policy_of("bursts", VERTICES, EDGES, "1")
+        policy = Policy("bursts", VERTICES, EDGES, "1")
         first = policy.choose(STEPS)
         self.assertTrue(all(policy.choose(STEPS) is first for _ in range(20)))
         self.assertIsNot(policy.choose([step for step in STEPS if step is not first]), first)
@@ -58,5 +58,5 @@ class Policies(Case):
         self.assertNotEqual(chosen("random", "7")[1], chosen("random", "8")[1])
 
     def test_a_network_without_edges_has_no_slow_link(self):
-        policy = policy_of("slow-link", [1], [], "1")
+        policy = Policy("slow-link", [1], [], "1")
         self.assertEqual(policy.choose([Step("pulse", 1)]).node, 1)
