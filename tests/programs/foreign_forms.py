@@ -36,10 +36,34 @@ SITES = [
     ("a heading over numbers", "a b km\nUlm Aue 1\nUlm Hof 2\nAue Hof 3\nBonn Bonn 0\n",
      "1 edge from a node to itself left out"),
 ]
+YED = """<?xml version="1.0" encoding="UTF-8" standalone="no"?>
+<!DOCTYPE graphml SYSTEM "http://graphml.graphdrawing.org/dtds/1.0rc/graphml.dtd">
+<graphml xmlns="http://graphml.graphdrawing.org/xmlns" xmlns:y="http://www.yworks.com/xml/graphml">
+  <key attr.name="description" attr.type="string" for="node" id="d5"/>
+  <key for="node" id="d6" yfiles.type="nodegraphics"/>
+  <graph edgedefault="undirected" id="G">
+    <node id="n0"><data key="d5"/><data key="d6"><y:ShapeNode><y:Geometry height="30" width="30" x="100.0" y="50.0"/>
+      <y:NodeLabel alignment="center" x="5.0" y="6.0">Ulm<y:LabelModel/></y:NodeLabel></y:ShapeNode></data></node>
+    <node id="n1" yfiles.foldertype="group"><data key="d6"><y:GroupNode><y:Geometry x="1" y="2"/>
+      <y:NodeLabel>South</y:NodeLabel></y:GroupNode></data>
+      <graph edgedefault="undirected" id="n1:">
+        <node id="n1::n0"><data key="d6"><y:ShapeNode><y:Geometry x="20" y="-3.5"/><y:NodeLabel>Aue</y:NodeLabel>
+        </y:ShapeNode></data></node>
+        <node id="n1::n1"><data key="d6"><y:ShapeNode><y:Geometry x="60" y="20"/><y:NodeLabel>Hof</y:NodeLabel>
+        </y:ShapeNode></data></node>
+      </graph></node>
+    <edge id="e0" source="n0" target="n1::n1"><data key="d10"><y:PolyLineEdge/></data></edge>
+  </graph>
+</graphml>
+"""
 # (what it is, the text, the edges by names in which `_` is a blank, nodes without one, a part of what is said). The
 # first six were written by networkx 3.6.1, by its writers of edge lists, weighted edge lists, adjacency lists and
 # multiline adjacency lists.
 GRAPH = "03 04 34 41 12"
+GROUP = ('graph [ node [ id 1 label "A" isGroup 1 ] node [ id 2 label "A" ] node [ id 3 ] '
+         "edge [ source 2 target 3 ] ]")
+DOT = 'graph {\n "Ulm" [label=<<b>U</b> -- <i>x</i>>];\n Ulm -- Aue [label=<3 <sub>km</sub>>]; Aue -- Hof\n}\n'
+
 FORMS = [
     ("an edge list", "0 3 {}\n0 4 {}\n3 4 {}\n4 1 {}\n1 2 {}\n", GRAPH, "",
      "pairs; 5 nodes, 5 edges, at most 3 neighbours; it counts from 0"),
@@ -91,27 +115,29 @@ FORMS = [
     ("DIMACS without its word", "p 3 2\ne 1 2\ne 2 3\n", "12 23", "", "DIMACS; 3 nodes, 2 edges"),
     ("DIMACS with a loop", "p edge 3 2\ne 1 1\ne 2 3\n", "23", "1", "left out"),
     *((name, text, "Ulm-Aue Aue-Hof Ulm-Hof", "Bonn", said) for name, text, said in SITES),
+    ("Matrix Market",
+     "%%MatrixMarket matrix coordinate real symmetric\n% by hand\n4 4 5\n2 1 0.5\n3 2 1\n3 3 1\n4 1 0\n3 1 2\n",
+     "12 23 13", "4",
+     "1 edge from a node to itself left | entries of value zero left out: 1 | values not read"),
+    ("yEd", YED, "Ulm-Hof", "Aue", "groups of nodes, without an edge of their own, are no nodes: 1"),
+    ("a group of yEd with an edge", YED.replace('target="n1::n1"', 'target="n1"'), "Ulm-South", "Aue Hof", "GraphML"),
+    ("labels of Graphviz", DOT, "Ulm-Aue Aue-Hof", "", "DOT; 3 nodes"),
+    ("a group of GML", GROUP, "2-3", "", "groups of nodes, without an edge of their own, are no nodes: 1"),
+    ("labels that come twice", GROUP.replace("isGroup", "x"), "2-3", "1", "named by their label: A comes twice"),
+    ("nodes without a name", GROUP.replace("isGroup 1", 'name "B"'), "2-3", "1", "by their name: some have none"),
+    ("other lines of DIMACS", "p edge 3 2\ne 1 2\nx 1 3\nd 2\n", "12", "3", "lines `n`, `d`, `v` and `x` not read: 2"),
+    ("two nodes of a name", "c name 1 A\nc name 2 A\nc name 3 B\np edge 3 1\ne 1 3\n", "AB", "A",
+     "two nodes are named A"),
+    # What the guess refuses is read if its form is named.
+    ("a matrix as pairs", "0 1\n1 0\n", "01", "", "pairs; 2 nodes", "--as", "pairs"),
+    ("wide lines", "A,B,t,u\nB,C,s,v\n", "AB BC", "", "pairs; 3", "--as", "pairs"),
+    ("wide lines with a heading", "A,B,t,u\nB,C,s,v\n", "BC", "", "pairs with", "--as", "pairs", "--heading", "yes"),
+    ("lists without lines", "Ulm Aue Hof\nBonn Kiel Jena\n", "Ulm-Aue Ulm-Hof Bonn-Kiel Bonn-Jena", "",
+     "no line for 4 of the nodes", "--as", "adjacency"),
+    ("lists of METIS", "     1 2\n     2 1 3\n     3 2\n", "12 23", "", "adjacency", "--as", "adjacency"),
+    ("no heading", "one,other\nUlm,Aue\n", "one-other Ulm-Aue", "", "pairs; 4 nodes", "--heading", "no"),
+    ("signs", "1 = 2\n2 = 3\n", "1= 2=", "", "pairs; 3 nodes", "--as", "pairs"),
 ]
-YED = """<?xml version="1.0" encoding="UTF-8" standalone="no"?>
-<!DOCTYPE graphml SYSTEM "http://graphml.graphdrawing.org/dtds/1.0rc/graphml.dtd">
-<graphml xmlns="http://graphml.graphdrawing.org/xmlns" xmlns:y="http://www.yworks.com/xml/graphml">
-  <key attr.name="description" attr.type="string" for="node" id="d5"/>
-  <key for="node" id="d6" yfiles.type="nodegraphics"/>
-  <graph edgedefault="undirected" id="G">
-    <node id="n0"><data key="d5"/><data key="d6"><y:ShapeNode><y:Geometry height="30" width="30" x="100.0" y="50.0"/>
-      <y:NodeLabel alignment="center" x="5.0" y="6.0">Ulm<y:LabelModel/></y:NodeLabel></y:ShapeNode></data></node>
-    <node id="n1" yfiles.foldertype="group"><data key="d6"><y:GroupNode><y:Geometry x="1" y="2"/>
-      <y:NodeLabel>South</y:NodeLabel></y:GroupNode></data>
-      <graph edgedefault="undirected" id="n1:">
-        <node id="n1::n0"><data key="d6"><y:ShapeNode><y:Geometry x="20" y="-3.5"/><y:NodeLabel>Aue</y:NodeLabel>
-        </y:ShapeNode></data></node>
-        <node id="n1::n1"><data key="d6"><y:ShapeNode><y:Geometry x="60" y="20"/><y:NodeLabel>Hof</y:NodeLabel>
-        </y:ShapeNode></data></node>
-      </graph></node>
-    <edge id="e0" source="n0" target="n1::n1"><data key="d10"><y:PolyLineEdge/></data></edge>
-  </graph>
-</graphml>
-"""
 PETERSEN = [pair for v in range(5) for pair in ((v, (v + 1) % 5), (v + 5, (v + 2) % 5 + 5), (v, v + 5))]
 BESIDE = {v: sorted({a + b - v for a, b in PETERSEN if v in (a, b)}) for v in range(10)}
 MATRIX = [["01"[w in BESIDE[v]] for w in range(10)] for v in range(10)]
@@ -151,14 +177,12 @@ REFUSED = [
     ("TGF", "1 First\n2 Second\n#\n1 2\n", "TGF"),
     ("UCINET", "dl n=3 format=edgelist1\ndata:\n1 2\n2 3\n", "UCINET"),
     ("GDF", "nodedef>name VARCHAR\na\nb\nedgedef>node1,node2\na,b\n", "GDF"),
-    ("settings", "a = 1\nb = 2\n", "`=`, which is no name of a node"),
     ("arrows", "1 -> 2\n2 -> 3\n", "`->`, which is no name of a node"),
     ("prose", "The quick brown fox\njumps over the lazy\ndog and goes away\n", "--as pairs"),
     ("tuples of networkx", "(0, 0) 1\n(0, 1) {}\n(0, 1) 1\n(0, 0) {}\n", "convert_node_labels_to_integers"),
     ("nodes without neighbours, or pairs", "0 0\n1 0\n2 0\n", "--as multiline"),
     ("a ring with weights, or five nodes that know two each", "1 2 3\n2 3 4\n3 4 5\n4 5 1\n5 1 2\n",
      "pairs with a weight"),
-    ("the same from 0", "0 1 2\n1 2 3\n2 3 4\n3 4 0\n4 0 1\n", "--as adjacency"),
     ("names and numbers", "site,power\nUlm,1\nAue,6\n", "names beside numbers"),
     ("names and channels", "site,channel\nUlm,1\nAue,6\n", "--bars one of site and channel"),
     ("a table with a number of each line", "link,one,other,km\n1,Ulm,Aue,5\n2,Aue,Hof,6\n", "--as pairs"),
@@ -188,7 +212,33 @@ REFUSED = [
     ("Matrix Market of a table", "%%MatrixMarket matrix array real general\n1 1\n1\n", "`matrix array real general`"),
     ("Matrix Market that is no square", "%%MatrixMarket matrix coordinate real general\n2 3 1\n1 1 1\n",
      "as many columns as rows"),
+    ("an adjacency with a comma", "A B, C\nB A\n", "has a mark that separates fields", "--as", "adjacency"),
+    ("an adjacency with bars", "A|B|C\nB|A\n", "has a mark that separates fields", "--as", "adjacency"),
+    ("an adjacency with lines of one", "Trier,Gera,Husum\nGera,Jena\nHusum\nKiel,Ulm\nJena\nUlm\n",
+     "has a mark that separates fields", "--as", "adjacency"),
+    ("a label of Graphviz that is cut", DOT[:40], "is the text cut?"),
     ("Matrix Market that is cut", "%%MatrixMarket matrix coordinate real general\n3 3 2\n1 2 1\n", "is it cut?"),
+]
+
+
+# Lines of `read` with words, and what they have left out or refused, or None if that is nothing.
+LINK = '{"nodes": [{"id": "A"}, {"id": "B"}], "links": [{"source": "A", "target": "B", "km": 3, "of": "x"}]}'
+STRICT = [
+    ("", "1 2\n2 2\n", "--strict is asked for: 1 edge from a node to itself left out, first at line 2: 2"),
+    ("", "1 2\n2 1\n", None), ("", "source,target\nA,B\n", None), ("", "\ufeff1 2\n", None),
+    ("--as pairs", "A,B,3\nB,C,2\n", None), ("", "source,target,km\nA,B,3\n", "1 column not read: km"),
+    ("", "A B {'weight': 2}\n", "data in braces not read"),
+    ("", "graph { a -- b [len=2, color=red] }\n", "2 keys of edges not read: color, len"),
+    ("", '{"nodes": [{"id": 1, "on": true}], "links": []}\n', "1 key of nodes not read: on"),
+    ("", "graph [ node [ id 1 ] edge [ source 1 target 1 w 2 ] ]\n", "1 key of edges not read: w"),
+    ("", "p sp 2 1\na 1 2 3\n", "weights of lines `a` not read: 1"),
+    ("--ignore km", "source,target,km\nA,B,3\n", None), ("--ignore km", "source,target,km,dB\nA,B,3,7\n", ""),
+    ("--ignore dB,km", "source,target,km,dB\nA,B,3,7\n", None), ("--ignore k", "source,target,km\nA,B,3\n", ""),
+    ("--ignore km", LINK, ""), ("--ignore km,of", LINK, None), ("--ignore data", "A B {'weight': 2}\n", None),
+    ("--ignore len", "graph { a -- b [len=2] }\n", None), ("--ignore len", "graph { a -- b [len=2]; a -- a }\n", ""),
+    ("--ignore on", "graph { a -- b [on=no]; b -- c [on=yes] }\n", ""), ("--ignore ", "A,B\nB,C\n", ""),
+    # A heading doesn't say that its other columns are none.
+    ("--heading yes", "source,target,of\nA,B,x\n", ""),
 ]
 
 
@@ -200,124 +250,43 @@ def named_pairs(edges):
 
 class ForeignForms(Case):
     def test_read(self):
-        for name, text, edges, alone, said in FORMS:
+        for name, text, edges, alone, said, *words in FORMS:
             path = self.file("net.txt", text)
-            status, wrote, told = call("read", path)
+            status, wrote, told = call("read", path, *words)
             self.note(f"read: {name}", status == 0 and pairs_in(wrote) == (named_pairs(edges), set(alone.split())),
                       (status, wrote, told))
-            self.note(f"read: {name}: what is said", f"network: {path}: ".encode() in told and said.encode() in told,
-                      told)
+            self.note(f"read: {name}: what is said", f"network: {path}: ".encode() in told and all(
+                part.encode() in told for part in said.split(" | ")), told)
             self.same(f"read: {name}: read again", call("read", "-", data=wrote)[1], wrote)
             self.same(f"read: {name}: it is planned", called(PLAN, "check", data=wrote + called(
                 PLAN, "plain", data=wrote)[1])[::2], (0, b""))
-        for name in ("GraphML with labels", "JSON of D3"):
-            text = next(text for known, text, _ in SITES if known == name)
-            places = comments(call("read", "-", data=text.encode())[1], "at")
-            wanted = {v: (f"{v - 1} 0" if "GraphML" in name else f"{2 * v - 1} {2 * v}") for v in range(1, 5)}
-            self.note(f"read: {name}: its places", places == wanted, places)
-
-    def test_drawings(self):
-        """Labels, places and groups of yEd, and labels of Graphviz in the form of HTML."""
-        status, wrote, told = call("read", "-", data=YED.encode())
-        self.note("yEd", status == 0 and pairs_in(wrote) == ({frozenset(("Ulm", "Hof"))}, {"Aue"}), (wrote, told))
-        self.note("its places", comments(wrote, "at") == {1: "100 50", 2: "20 -3.5", 3: "60 20"}, wrote)
-        self.note("its group", b"groups of nodes, without an edge of their own, are no nodes: 1\n" in told, told)
-        joined = YED.replace('target="n1::n1"', 'target="n1"')
-        self.note("a group with an edge is a node", call("read", "-", data=joined.encode())[1].count(b"c name") == 4)
-        dot = 'graph {\n "Ulm" [label=<<b>U</b> -- <i>x</i>>];\n Ulm -- Aue [label=<3 <sub>km</sub>>]; Aue -- Hof\n}\n'
-        got = call("read", "-", data=dot.encode())
-        wanted = {frozenset(("Ulm", "Aue")), frozenset(("Aue", "Hof"))}
-        self.note("labels of Graphviz", got[0] == 0 and pairs_in(got[1]) == (wanted, set()), got)
-        self.refusal("such a label that is cut", call("read", "-", data=dot[:40].encode()), 1, b"is the text cut?")
-
-    def test_matrix_market(self):
-        head = "%%MatrixMarket matrix coordinate real symmetric\n% by hand\n"
-        text = head + "4 4 5\n2 1 0.5\n3 2 1\n3 3 1\n4 1 0\n3 1 2\n"
-        status, wrote, told = call("read", "-", data=text.encode())
-        wanted = {frozenset(pair) for pair in ("12", "23", "13")}
-        self.note("Matrix Market", status == 0 and pairs_in(wrote) == (wanted, {"4"}), (wrote, told))
-        for said in (b"1 edge from a node to itself left", b"entries of value zero left out: 1", b"values not read"):
-            self.note(f"it says {said.decode()}", said in told, told)
+        for name, wanted in (("GraphML with labels", {v: f"{v - 1} 0" for v in range(1, 5)}),
+                             ("JSON of D3", {v: f"{2 * v - 1} {2 * v}" for v in range(1, 5)}),
+                             ("yEd", {1: "100 50", 2: "20 -3.5", 3: "60 20"})):
+            text = next(text for known, text, *_ in FORMS if known == name)
+            self.same(f"read: {name}: its places", comments(call("read", "-", data=text.encode())[1], "at"), wanted)
 
     def test_refused(self):
         """A line that names the form, with status 1; and `network tell` doesn't name `read` then."""
-        for name, text, said in REFUSED:
+        for name, text, said, *words in REFUSED:
             data = text.encode("latin-1")
-            status, wrote, told = call("read", "-", data=data)
+            status, wrote, told = call("read", "-", *words, data=data)
             good = (status, wrote, told.count(b"\n")) == (1, b"", 1) and said.encode() in told
             self.note(f"refused: {name}", good, (status, wrote, told))
-            self.note(f"tell of {name}", b"can read it" not in call("tell", "-", data=data)[2])
-
-    def test_said(self):
-        """What isn't read of a form is said, and what is left out is counted."""
-        group = ('graph [ node [ id 1 label "A" isGroup 1 ] node [ id 2 label "A" ] node [ id 3 ] '
-                 "edge [ source 2 target 3 ] ]")
-        for text, said in ((group, b"groups of nodes, without an edge of their own, are no nodes: 1"),
-                           (group.replace("isGroup", "x"), b"nodes aren't named by their label: A comes twice"),
-                           (group.replace("isGroup 1", 'name "B"'),
-                            b"nodes aren't named by their name: some have none"),
-                           ("p edge 3 2\ne 1 2\nx 1 3\nd 2\n", b"lines `n`, `d`, `v` and `x` not read: 2"),
-                           ("c name 1 A\nc name 2 A\np edge 2 1\ne 1 2\n", b"two nodes are named A")):
-            status, _, told = call("read", "-", data=text.encode())
-            self.note(f"said of {text!r}", status == 0 and said in told, told)
+            self.note(f"tell of {name}", words or b"can read it" not in call("tell", "-", data=data)[2])
         clash = call("names", "triangle", data=b"plan\n1 2\n2 2\n3 1\n")
         self.refusal("names of a clash", clash, 1, b"vertices 1 and 2 are neighbours")
-
-    def test_vouched(self):
-        """What the guess refuses is read if its form is named."""
-        for words, data, edges in (
-            (["--as", "pairs"], b"0 1\n1 0\n", 1),
-            (["--as", "pairs"], b"A,B,t,u\nB,C,s,v\n", 2),
-            (["--as", "pairs", "--heading", "yes"], b"A,B,t,u\nB,C,s,v\n", 1),
-            (["--as", "adjacency"], b"Ulm Aue Hof\nBonn Kiel Jena\n", 4),
-            (["--as", "adjacency"], b"     1 2\n     2 1 3\n     3 2\n", 2),
-            (["--heading", "no"], b"one,other\nUlm,Aue\nAue,Hof\nHof,Ulm\n", 4),
-            (["--heading", "yes", "--ignore", "km", "--strict"], b"source,target,km\nUlm,Aue,1\nAue,Hof,2\n", 2),
-            (["--as", "pairs"], b"1 -> 2\n2 -> 3\n", 2),
-        ):
-            status, wrote, told = call("read", "-", *words, data=data)
-            good = status == 0 and b"\np edge " in b"\n" + wrote and wrote.count(b"\ne ") == edges
-            self.note(f"{words} {data}", good, (wrote, told))
 
     def test_strict(self):
         """What would be left out is a refusal if that is asked for, and nothing is if nothing would be. A column or key
         that the caller says to ignore isn't left out; one that isn't there is refused, and so is one that may say which
         edges count, whatever the caller says."""
-        link = '{"nodes": [{"id": "A"}, {"id": "B"}], "links": [{"source": "A", "target": "B", "km": 3, "of": "x"}]}'
-        loop = "--strict is asked for: 1 edge from a node to itself left out, first at line 2: 2"
-        for words, data, said in (
-            ("", "1 2\n2 2\n", loop), ("", "1 2\n2 1\n", None), ("", "source,target\nA,B\n", None),
-            ("", "\ufeff1 2\n", None), ("--as pairs", "A,B,3\nB,C,2\n", None),
-            ("", "source,target,km\nA,B,3\n", "1 column not read: km"),
-            ("", "A B {'weight': 2}\n", "data in braces not read"),
-            ("", "graph { a -- b [len=2, color=red] }\n", "2 keys of edges not read: color, len"),
-            ("", '{"nodes": [{"id": 1, "on": true}], "links": []}\n', "1 key of nodes not read: on"),
-            ("", "graph [ node [ id 1 ] edge [ source 1 target 1 w 2 ] ]\n", "1 key of edges not read: w"),
-            ("", "p sp 2 1\na 1 2 3\n", "weights of lines `a` not read: 1"),
-            ("--ignore km", "source,target,km\nA,B,3\n", None), ("--ignore km", "source,target,km,dB\nA,B,3,7\n", ""),
-            ("--ignore dB,km", "source,target,km,dB\nA,B,3,7\n", None), ("--ignore k", "source,target,km\nA,B,3\n", ""),
-            ("--ignore km", link, ""), ("--ignore km,of", link, None), ("--ignore data", "A B {'weight': 2}\n", None),
-            ("--ignore len", "graph { a -- b [len=2] }\n", None),
-            ("--ignore len", "graph { a -- b [len=2]; a -- a }\n", ""),
-            ("--ignore on", "graph { a -- b [on=no]; b -- c [on=yes] }\n", ""), ("--ignore ", "A,B\nB,C\n", ""),
-            # A heading doesn't say that its other columns are none.
-            ("--heading yes", "source,target,of\nA,B,x\n", ""),
-        ):
+        for words, data, said in STRICT:
             words = words.split(" ") if words else []
             done = call("read", "-", "--strict", *words, data=data.encode())
-            if said is None:
-                self.note(f"nothing is left out of {data!r} with {words}", done[0] == 0 and done[1], done)
-            else:
-                self.refusal(f"left out of {data!r} with {words}", done, 1, said.encode())
-            if not words:
-                self.note(f"read without the word: {data!r}", call("read", "-", data=data.encode())[0] == 0)
-
-    def test_adjacency_with_marks(self):
-        """A mark that separates fields in some lines alone isn't part of names."""
-        for data in (b"A B, C\nB A\n", b"A|B|C\nB|A\n", b"Trier,Gera,Husum\nGera,Jena\nHusum\nKiel,Ulm\nJena\nUlm\n"):
-            got = call("read", "-", "--as", "adjacency", data=data)
-            self.note(f"{data}", got[:2] == (1, b"") and b"has a mark that separates fields" in got[2] or b"most other "
-                      b"lines have one" in got[2], got)
+            good = done[0] == 0 and done[1] if said is None else done[:2] == (1, b"") and said.encode() in done[2]
+            self.note(f"left out of {data!r} with {words}", good, done)
+            self.note(f"read without the word: {data!r}", words or call("read", "-", data=data.encode())[0] == 0)
 
     def test_tell(self):
         """A number is quoted as it is in the text, and a text that says fewer edges than it has isn't cut. That a
