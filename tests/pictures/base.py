@@ -1,27 +1,25 @@
-"""What the tests of pictures share: how a picture is drawn, and the texts that it is drawn from, by the definitions."""
+"""What the tests of pictures share: how a picture is drawn, and the networks and texts that it is drawn from, by the
+definitions."""
 import random
-import re
 
-from lab.definitions.colours import network_of
+from lab.definitions.colours import network_of, plan_text
 from lab.pictures import picture
-from tests.cases import Case, called, examples, forestlab, in_process
-from tests.pictures.marks import marks, number, parsed
+from tests.cases import Case, example, in_process
 from tests.programs.made_transcripts import made_transcript, transcript_text
-from tests.settings import PLAN
 
 SEED = 2026
-EDGE, APART = b"p edge 2 1\ne 1 2\n", b"p edge 5 3\ne 1 2\ne 2 3\ne 1 3\n"
-OPTION = {"plan": "--plan", "matrix": "--plan", "run": "--transcript", "overview": "--transcript",
-          "node": "--transcript", "tally": "--transcript"}
+ONE, EDGE, APART = b"p edge 1 0\n", b"p edge 2 1\ne 1 2\n", b"p edge 5 3\ne 1 2\ne 2 3\ne 1 3\n"
+ROW, TRIANGLE = b"p edge 3 2\ne 1 2\ne 2 3\n", b"p edge 3 3\ne 1 2\ne 1 3\ne 2 3\n"
+# Barred channels of ten vertices: one, four, five, and fourteen at a vertex, of one to four digits.
+BARRED = example("petersen") + b"b 1 2\n" + b"".join(
+    b"b %d %d\n" % (v, channel) for v, bars in ((3, (1, 2048, 77, 500)), (7, (4, 3, 2, 1, 1024)), (10, range(1, 15)))
+    for channel in bars)
+# The form of the text that a kind draws, if it isn't that of rounds.
+FORM = dict.fromkeys(("plan", "matrix"), "plan") | dict.fromkeys(("run", "overview", "node", "tally"), "transcript")
 
 
-def call(words, data=b"", **more):
-    """What a command in a process of its own makes of these words and this standard input."""
-    return forestlab("picture", *words, data=data, **more)
-
-
-def painter(words, data=b""):
-    """The same in this process, since there are many pictures."""
+def painter(*words, data=b""):
+    """What `picture` makes of these words and this standard input; in this process, since there are many."""
     return in_process("picture", picture.main, *words, data=data)
 
 
@@ -35,53 +33,26 @@ def transcript(network, seed, capacity=4):
     return transcript_text(len(net.neighbours), made_transcript(random.Random(f"{SEED} {seed}"), net, capacity))
 
 
-def transcript_by(network, workers):
-    return called(PLAN, "transcript", "--workers", workers, data=network)[1]
-
-
 class PictureCase(Case):
-    examples, painter = examples(), staticmethod(painter)
+    needs_programs = False
 
-    def words(self, kind, network, text, *options):
-        """The words of a call of `picture KIND` for a network and a text, both given as bytes."""
-        return [kind, self.file("net.col", network), OPTION.get(kind, "--rounds"), self.file("text", text), *options]
+    def called(self, kind, network, *options, text=None):
+        """What `picture KIND` makes of a network, if there is one, and a text, given as bytes."""
+        words = [] if network is None else [self.file("net.col", network)]
+        if text is None and FORM.get(kind) == "plan":
+            text = plan_text(network)
+        if text is not None:
+            words += [f"--{FORM.get(kind, 'rounds')}", self.file("text", text)]
+        return painter(kind, *words, *options)
 
-    def done(self, *given, **more):
-        """What such a call makes."""
-        return call(self.words(*given), **more) if more else painter(self.words(*given))
-
-    def picture(self, words):
-        """The picture that a call draws."""
-        status, drawn, fault = painter(words)
+    def drawn(self, kind, *given, **more):
+        """The picture that such a call draws."""
+        status, drawn, fault = self.called(kind, *given, **more)
         if status:
-            raise AssertionError(f"{words[0]} is refused: {fault.decode()}")
+            raise AssertionError(f"{kind} is refused: {fault.decode()}")
         return drawn.decode()
 
-    def draw(self, *given):
-        return self.picture(self.words(*given))
-
-    def by_rounds(self, network, text, *options):
-        """The tally that is counted by a text of rounds."""
-        return self.picture(["tally", self.file("net.col", network), "--rounds", self.file("text", text), *options])
-
-    def refused(self, name, done, words=b"", status=1):
-        """Nothing is drawn, and one line says why; of words that are refused more."""
-        good = done[:2] == (status, b"") and words in done[2]
-        self.note(f"refused: {name}", good and (status == 2 or re.fullmatch(rb"picture: [^\n]+\n", done[2])), done)
-
-    def words_rows(self, name, network, text):
-        """Neither the payloads' words nor the names of pulses overlap or reach over the edge. A bold letter of DejaVu
-        Sans is 0.7 of its size wide on average."""
-        root = parsed(self.draw("run", network, text))
-        for mark_name, before in (("words", 0.5), ("name", 0)):
-            boxes = []
-            for mark in marks(root, mark_name):
-                size = number(mark, "font-size")
-                wide = 0.7 * size * len(mark.text)
-                boxes.append((number(mark, "x") - before * wide, number(mark, "y") - size, wide, size))
-            wrong = [(a, b) for at, a in enumerate(boxes) for b in boxes[:at]
-                     if a[0] < b[0] + b[2] and b[0] < a[0] + a[2] and a[1] < b[1] + b[3] and b[1] < a[1] + a[3]]
-            self.note(f"run of {name}: its {mark_name} don't overlap", not wrong, wrong[:2])
-            self.note(f"run of {name}: its {mark_name} are within the picture",
-                      all(x > 0 and x + wide < number(root, "width") for x, _, wide, _ in boxes), boxes)
-        return len(marks(root, "words"))
+    def facts(self, name, found):
+        """Rows of what a picture shows and of what it has to, by their names."""
+        for what, (shown, wanted) in found.items():
+            self.same(f"{name}: {what}", shown, wanted)

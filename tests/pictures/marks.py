@@ -4,6 +4,8 @@ import re
 import xml.etree.ElementTree as tree
 
 SVG = "{http://www.w3.org/2000/svg}"
+# How wide a letter is, in parts of its size: DejaVu Sans takes from a half to six tenths.
+LETTER = 0.5
 
 
 def parsed(picture):
@@ -17,21 +19,26 @@ def data_of(page):
     return json.loads(re.search(r"(?m)^var D = (.*);$", page)[1])
 
 
-def marks(root, name):
-    """The elements of a class, in the order in which they are drawn."""
-    return [element for element in root.iter() if element.get("class") == name]
+def marks(root, *names):
+    """The elements of some classes, in the order in which they are drawn."""
+    return [element for element in root.iter() if element.get("class") in names]
 
 
 def title(group):
     return group.find(f"{SVG}title").text
 
 
-def titles(root, name):
-    return [title(group) for group in marks(root, name)]
+def titles(root, *names):
+    return [title(group) for group in marks(root, *names)]
+
+
+def words(root, name):
+    """What is written in the texts of a class."""
+    return [mark.text or "" for mark in marks(root, name)]
 
 
 def texts(root):
-    return [element.text for element in root.iter(f"{SVG}text")]
+    return [element.text or "" for element in root.iter(f"{SVG}text")]
 
 
 def number(element, key):
@@ -46,7 +53,9 @@ def centre(element):
 
 
 def ends(element):
-    """Where a line or a curve begins and ends."""
+    """Where a line or a curve begins and ends, or the first line of a group."""
+    if element.tag == f"{SVG}g":
+        return ends(element.find(f"{SVG}line"))
     if element.tag == f"{SVG}line":
         return (number(element, "x1"), number(element, "y1")), (number(element, "x2"), number(element, "y2"))
     numbers = [float(word) for word in re.findall(r"-?[0-9.]+", element.get("d"))]
@@ -61,11 +70,10 @@ def hue(element):
 def numbered(root, *names):
     """(class, fill, number) of each mark of these classes and of the text drawn next; None for a mark without a
     number."""
-    elements, found = list(root.iter()), []
-    for index, element in enumerate(elements):
+    elements, found = [*root.iter(), tree.Element("end")], []
+    for element, after in zip(elements, elements[1:]):
         if element.get("class") in names:
-            after = elements[index + 1] if index + 1 < len(elements) else None
-            has_number = after is not None and after.tag == f"{SVG}text" and after.get("font-weight") == "bold"
+            has_number = after.tag == f"{SVG}text" and after.get("font-weight") == "bold"
             found.append((element.get("class"), hue(element), after.text if has_number else None))
     return found
 
@@ -77,3 +85,44 @@ def gap(p, q):
 def nearest(places, point):
     """The key of the place that is nearest to a point."""
     return min(places, key=lambda key: gap(places[key], point))
+
+
+def pairs_joined(root, name, places):
+    """The pairs of keys of places that the lines of a class join."""
+    return sorted(tuple(sorted(nearest(places, end) for end in ends(mark))) for mark in marks(root, name))
+
+
+def shapes(root, turn=1, shift=0):
+    """(element, shape) of all that is drawn in a picture but lines, where it is seen; a shape is a box and a radius
+    that is added around it: left, top, right, bottom, radius."""
+    for element in root:
+        moves = element.get("transform", "")
+        by = complex(*map(float, re.findall(r"translate\(([-\d.]+)[ ,]([-\d.]+)\)", moves)[0])) if moves else 0
+        turned, moved = turn * (-1j if "rotate(-90)" in moves else 1), shift + turn * by
+        if corners := corners_of(element):
+            one, other = (moved + turned * complex(*corner) for corner in corners)
+            (left, right), (top, bottom) = sorted((one.real, other.real)), sorted((one.imag, other.imag))
+            yield element, (left, top, right, bottom, float(element.get("r", 0)))
+        yield from shapes(element, turned, moved)
+
+
+def corners_of(element):
+    """Two corners of a text or a square, or twice the middle of a circle; None of what is neither."""
+    if element.tag == f"{SVG}text" and element.text:
+        x, y, size = (number(element, key) for key in ("x", "y", "font-size"))
+        wide = LETTER * size * len(element.text)
+        left = x - {"middle": 0.5, "end": 1}.get(element.get("text-anchor"), 0) * wide
+        return (left, y - 0.75 * size), (left + wide, y + 0.02 * size)
+    if element.tag == f"{SVG}circle":
+        return 2 * [centre(element)]
+    if element.tag == f"{SVG}rect" and element.get("class"):
+        (x, y), wide, high = centre(element), number(element, "width") / 2, number(element, "height") / 2
+        return (x - wide, y - high), (x + wide, y + high)
+    return None
+
+
+def depth(one, other):
+    """How far one shape reaches into another; negative if they are apart."""
+    across, down = (max(one[k] - other[k + 2], other[k] - one[k + 2]) for k in (0, 1))
+    apart = (across * across + down * down) ** 0.5 if min(across, down) > 0 else max(across, down)
+    return one[4] + other[4] - apart

@@ -1,4 +1,5 @@
-"""Pictures of runs without a clock, counted beside their transcripts and lab/definitions/nodes.py."""
+"""Pictures of runs without a clock, read back: into the entries of their transcripts, and what those are by
+lab/definitions/nodes.py."""
 import re
 from collections import Counter
 
@@ -11,18 +12,42 @@ from lab.pictures.automaton_picture import usual as usual_of_node
 from lab.transcripts.check import find_order
 from lab.transcripts.reading import read
 from lab.transcripts.stamps import Clock
-from tests.cases import example
-from tests.pictures.base import EDGE, PictureCase, circle_of, transcript, transcript_by
-from tests.pictures.marks import ends, gap, marks, number, parsed, texts, title, titles
+from tests.cases import called, example
+from tests.pictures.base import EDGE, TRIANGLE, PictureCase, circle_of, transcript
+from tests.pictures.marks import SVG, centre, ends, marks, number, parsed, texts, title, titles, words
 from tests.programs.made_transcripts import entries_of, transcript_text
+from tests.settings import PLAN
 
 WIRES = ("payload", "ack", "safe", "close")
+HUES = dict(zip(WIRES, ("#0072B2", "#8C8C8C", "#D55E00", "#111111")))
 
 
-def takes_of(text):
-    """The arrows' titles that a transcript has: one for each take."""
-    return Counter(f"{f[2]} to {f[0]}: {' '.join(f[3:])}" for own in entries_of(text).values() for f in own
-                   if f[1] == "take")
+def transcript_by(network, workers):
+    return called(PLAN, "transcript", "--workers", workers, data=network)[1]
+
+
+def pulses(window):
+    return ["--pulses", "{}..{}".format(*window)] if window else []
+
+
+def usual(last):
+    """The pulses of an overview or tally for which none are named: all, or of more than 100 the first 40."""
+    return (0, last) if last <= 100 else (0, 39)
+
+
+def parts(values):
+    """Where each of some numbers is between the least and the greatest, in thousandths."""
+    low, high = min(values), max(values)
+    return [1000 * (value - low) / (high - low) for value in values]
+
+
+def are_near(one, other, most):
+    return len(one) == len(other) and all(abs(a - b) < most for a, b in zip(one, other))
+
+
+def begins_and_tip(group):
+    """Where an arrow begins, and where its tip is."""
+    return ends(group)[0], ends(group.find(f"{SVG}path"))[0]
 
 
 def times_of(network, text):
@@ -37,33 +62,32 @@ def times_of(network, text):
     return found
 
 
-def usual(last):
-    """The pulses of an overview or tally for which none are named: all, or of more than 100 the first 40."""
-    return (0, last) if last <= 100 else (0, 39)
-
-
 class Replayed:
-    """A transcript replayed by the definitions: counts of the steps, and the levels of one node's ports after each
-    entry."""
+    """A transcript replayed by the definitions: each step that it makes with the pulse of its node, and of one node the
+    pulse, the entry and the levels of its ports after each entry."""
 
     def __init__(self, network, text, watched):
         net = network_of(network)
         state, (_, entries) = NetState(net), read(text)
-        self.steps, self.levels = Counter(), []
+        self.steps, self.moments = [], []
         for entry in find_order(net, entries).made:
             node, v = state.nodes[entry.vertex], entry.vertex
             port = None if entry.neighbour is None else state.port_to[v, entry.neighbour]
-            before = stage_of(node), [level_of(p) for p in node.ports]
+            before = [stage_of(node), *map(level_of, node.ports)]
             state.step(entry.kind, v, port)
-            after = stage_of(node), [level_of(p) for p in node.ports]
+            after, p = [stage_of(node), *map(level_of, node.ports)], node.pulse_number
             cause = "pulse" if entry.kind == "Pulse" else entry.what[0].lower()
-            if entry.kind == "Pulse" or entry.kind == "Take" and before[0] != after[0]:
-                self.steps[f"{before[0]} to {after[0]} by {cause}"] += 1
-            if entry.kind == "Pulse" or entry.kind == "Take" and cause in ("payload", "safe"):
-                for at in range(len(node.ports)) if port is None else [port]:
-                    self.steps[f"{before[1][at]} to {after[1][at]} by {cause}"] += 1
+            if entry.kind == "Pulse":
+                self.steps += [(p, f"{a} to {b} by {cause}") for a, b in zip(before, after)]
+            elif entry.kind == "Take":
+                moved = [0] * (before[0] != after[0]) + [port + 1] * (cause in ("payload", "safe"))
+                self.steps += [(p, f"{before[at]} to {after[at]} by {cause}") for at in moved]
             if v == watched:
-                self.levels.append((node.pulse_number, entry, after[1]))
+                self.moments.append((p, entry, after[1:]))
+
+    def between(self, first, last):
+        """How often each step is made in some pulses."""
+        return Counter(step for p, step in self.steps if first <= p <= last)
 
 
 def stage_of(node):
@@ -79,218 +103,171 @@ def level_of(port):
     return safes, paid
 
 
-def fill_of(kind, wire):
-    hue = dict(zip(WIRES, ("#0072B2", "#8C8C8C", "#D55E00", "#111111")))[wire]
-    return (hue, None) if kind == "take" else ("#FFFFFF", hue)
-
-
 class Runs(PictureCase):
+    needs_programs = True
+
     def test_whole_runs(self):
-        chain = self.examples["chain6"]
-        for name, network in (("two", EDGE), ("path", self.examples["path"]), ("chain6", chain)):
+        chain = example("chain6")
+        for name, network in (("two", EDGE), ("path", example("path")), ("chain6", chain)):
             for seed in (1, 2):
                 self.whole_run_rows(f"{name}, made {seed}", network, transcript(network, seed, seed))
         self.whole_run_rows("chain6_slow", chain, example("chain6_slow.transcript"))
-
-    def test_runs(self):
-        for name, network, v in (("triangle", self.examples["triangle"], 1), ("petersen", self.examples["petersen"], 4),
-                                 ("a ring", circle_of(14), 3)):
-            runs = {f"made {seed}": transcript(network, seed, seed) for seed in (1, 4)}
-            runs |= {f"{workers} workers": transcript_by(network, workers) for workers in "24"}
-            self.run_rows(name, network, runs, v)
-
-    def test_words(self):
-        triangle = self.examples["triangle"]
         for seed in range(4):
-            count = self.words_rows(f"triangle, made {seed}", triangle, transcript(triangle, seed))
-            self.note(f"run of triangle, made {seed}: payloads have their words", count > 5, count)
+            root = parsed(self.drawn("run", TRIANGLE, text=transcript(TRIANGLE, seed)))
+            self.note(f"payloads of a triangle's run {seed} have their words", len(words(root, "words")) > 5)
 
     def whole_run_rows(self, name, network, text):
-        """Of a run that is drawn whole: an arrow for each take, a bar for each payload up to the tick that reads it."""
+        """A run that is drawn whole is read back from left to right into its transcript. Its bars go from where a
+        payload is taken to the tick that reads it."""
         last = last_pulse(network_of(network))
-        root = parsed(self.draw("run", network, text, "--pulses", f"0..{last}", "--only", "payload,ack,safe,close"))
-        arrows = {kind: marks(root, kind) for kind in WIRES}
-        self.note(f"run of {name}: an arrow for each take",
-                  Counter(title(group) for kind in WIRES for group in arrows[kind]) == takes_of(text))
-        lines = [(title(group), *ends(next(mark for mark in group if mark.tag.endswith("line")))) for kind in WIRES
-                 for group in arrows[kind]]
-        self.note(f"run of {name}: arrows point right", all(start[0] < end[0] for _, start, end in lines))
-        rows = sorted({ends(mark)[0][1] for mark in marks(root, "tick")})
-        ticks = [sorted(ends(mark)[0][0] for mark in marks(root, "tick") if ends(mark)[0][1] == y) for y in rows]
-        self.note(f"run of {name}: a tick for each pulse",
-                  [len(row) for row in ticks] == [last + 1] * len(entries_of(text)), ticks)
-        self.bars_rows(f"run of {name}", root, rows, ticks)
-        self.order_rows(f"run of {name}", lines, rows, ticks, text)
+        root = parsed(self.drawn("run", network, *pulses((0, last)), "--only", ",".join(WIRES), text=text))
+        ticks = {}
+        for mark in marks(root, "tick"):
+            (x, y), _ = ends(mark)
+            ticks.setdefault(y + 10, []).append(x)
+        rows = dict(enumerate(sorted(ticks), 1))
+        found = {v: [(x, f"pulse {p}") for p, x in enumerate(ticks[y])][1:] for v, y in rows.items()}
+        wrong, tips = [], []
+        for group in marks(root, *WIRES):
+            v, w, said = re.fullmatch(r"(\d+) to (\d+): (.*)", title(group)).groups()
+            start, tip = begins_and_tip(group)
+            found[int(v)].append((start[0], f"put {w} {said}"))
+            found[int(w)].append((tip[0], f"take {v} {said}"))
+            if (start[1], tip[1]) != (rows[int(v)], rows[int(w)]):
+                wrong.append(title(group))
+            if said.startswith("payload"):
+                tips.append((tip, (ticks[tip[1]][int(said.split()[1]) + 1], tip[1])))
+        self.facts(f"run of {name}", {
+            "its entries": ({v: [said for _, said in sorted(own)] for v, own in found.items()},
+                            {v: [" ".join(entry[1:]) for entry in own] for v, own in entries_of(text).items()}),
+            "arrows between other rows": (wrong, []),
+            "each payload is kept until it is read": ([ends(bar) for bar in marks(root, "bar")], tips),
+        })
 
-    def bars_rows(self, name, root, rows, ticks):
-        """Bars and payloads come in the same order: each bar from the arrow's tip to the tick after its pulse."""
-        wrong = []
-        for bar, group in zip(marks(root, "bar"), marks(root, "payload")):
-            from_to, pulse = title(group).split(":")[0].split(" to "), int(title(group).split()[4])
-            (x1, y), (x2, _) = ends(bar)
-            row, line = ticks[int(from_to[1]) - 1], rows[int(from_to[1]) - 1]
-            tip = max(ends(mark)[0][0] for mark in group.iter() if mark.tag.endswith("path"))
-            if x1 > x2 or max(abs(line + 10 - y), abs(row[pulse + 1] - x2), abs(tip - x1)) > 0.2:
-                wrong.append((title(group), x1, x2))
-        count = len(marks(root, "bar")), len(marks(root, "payload"))
-        self.note(f"{name}: each payload is kept till the tick that reads it", not wrong and count[0] == count[1],
-                  wrong or count)
-
-    def order_rows(self, name, lines, rows, ticks, text):
-        """On each node's line the ticks and the beginnings of its arrows come in the transcript's order."""
-        wrong = []
-        for v, own in entries_of(text).items():
-            y = rows[v - 1] + 10
-            starts = sorted((start[0], words.split(": ")[0].split(" to ")[1] + " " + words.split(": ")[1])
-                            for words, start, _ in lines if abs(start[1] - y) < 0.2)
-            puts = [f"{f[2]} {' '.join(f[3:])}" for f in own if f[1] == "put"]
-            if [words for _, words in starts] != puts:
-                wrong.append((v, starts[:3], puts[:3]))
-            before = Counter()
-            for f in own:
-                before[f[1]] += 1
-                if f[1] == "put" and ticks[v - 1][before["pulse"]] > starts[before["put"] - 1][0] + 0.2:
-                    wrong.append((v, f))
-        self.note(f"{name}: each node's entries are in its order", not wrong, wrong[:2])
+    def test_runs(self):
+        for name, network, v in (("triangle", TRIANGLE, 1), ("petersen", example("petersen"), 4),
+                                 ("a ring", circle_of(14), 3)):
+            texts_of = {f"made {seed}": transcript(network, seed, seed) for seed in (1, 4)} | {
+                f"{workers} workers": transcript_by(network, workers) for workers in "24"}
+            last, lower = last_pulse(network_of(network)), set()
+            for (which, text), some in zip(texts_of.items(), 2 * [(3, 7), (last - 3, last)]):
+                label = f"{name}, {which}"
+                if name != "a ring":
+                    lower.add(self.window_rows(label, network, text, 0, 3))
+                for window in (None, some):
+                    self.overview_rows(label, network, text, window)
+                    self.tally_rows(label, network, text, window)
+                self.node_rows(label, network, text, v, some)
+            self.note(f"the lower half of {name} is the same for each run", len(lower) == (name != "a ring"))
 
     def window_rows(self, name, network, text, first, last):
-        """A few pulses: the lower half has each payload put in them once, from its pulse to the next; the ticks are
-        theirs."""
-        picture = self.draw("run", network, text, "--pulses", f"{first}..{last}")
-        root, payloads = parsed(picture), Counter()
-        for own in entries_of(text).values():
-            payloads.update(f"{f[0]} to {f[2]}: {' '.join(f[3:])}" for f in own
-                            if f[1] == "put" and f[3] == "payload" and first <= int(f[4]) <= last)
-        self.note(f"window of {name}: the lower half", Counter(titles(root, "round")) == payloads)
-        ticks = sum(first <= int(f[2]) <= last + 1 for own in entries_of(text).values() for f in own if f[1] == "pulse")
-        ticks += len(entries_of(text)) * (first == 0)
-        self.note(f"window of {name}: ticks", len(marks(root, "tick")) == ticks, len(marks(root, "tick")))
-        bands = len(marks(root, "band"))
-        self.note(f"window of {name}: bands", bands == last - first + 1, bands)
+        """A few pulses: below, each payload that is put in them goes from its putter's row and pulse to its taker's row
+        and the next pulse."""
+        picture = self.drawn("run", network, *pulses((first, last)), text=text)
+        root, entries = parsed(picture), [entry for own in entries_of(text).values() for entry in own]
         lower = marks(root, "lower")[0]
-        self.lower_rows(f"window of {name}", lower, first, last)
+        slots = [(x, y + 8) for (x, y), _ in map(ends, marks(lower, "slot"))]
+        columns, rows = (sorted({slot[axis] for slot in slots}) for axis in (0, 1))
+        nodes = len(entries_of(text))
+        arrows = {title(group): begins_and_tip(group) for group in marks(lower, "round")}
+        puts = [(int(v), int(w), int(more[0]), f"{v} to {w}: payload {' '.join(more)}")
+                for v, kind, w, *more in entries if kind == "put" and more.pop(0) == "payload"]
+        self.facts(f"window of {name}", {
+            "ticks": (len(marks(root, "tick")), nodes * (first == 0) + sum(
+                entry[1] == "pulse" and first <= int(entry[2]) <= last + 1 for entry in entries)),
+            "bands": (len(marks(root, "band")), last - first + 1),
+            "a slot for each node and pulse": (sorted(slots), [(x, y) for x in columns for y in rows]),
+            "as many": ((len(columns), len(rows)), (last - first + 2, nodes)),
+            "payloads": (arrows, {said: ((columns[p - first], rows[v - 1]), (columns[p - first + 1], rows[w - 1]))
+                                  for v, w, p, said in puts if first <= p <= last}),
+        })
         return picture[picture.index('<g class="lower"'):]
-
-    def lower_rows(self, name, lower, first, last):
-        """Each payload of the lower half goes from its putter's row and pulse to its taker's row and the next pulse."""
-        slots = [ends(mark)[0] for mark in marks(lower, "slot")]
-        columns, rows = sorted({x for x, _ in slots}), sorted({y + 8 for _, y in slots})
-        self.note(f"{name}: a slot for each node and pulse",
-                  len(columns) == last - first + 2 and len(slots) == len(rows) * len(columns), slots)
-        wrong = []
-        for group in marks(lower, "round"):
-            v, w, pulse = (int(title(group).replace(":", "").split()[at]) for at in (0, 2, 4))
-            start = ends(next(mark for mark in group if mark.tag.endswith("line")))[0]
-            tip = ends(next(mark for mark in group if mark.tag.endswith("path")))[0]
-            wanted = (columns[pulse - first], rows[v - 1]), (columns[pulse - first + 1], rows[w - 1])
-            if gap(start, wanted[0]) > 0.3 or gap(tip, wanted[1]) > 0.3:
-                wrong.append((title(group), start, tip))
-        self.note(f"{name}: payloads go from pulse to pulse", not wrong, wrong[:2])
 
     def overview_rows(self, name, network, text, window=None):
         """All pulses, or some: their ticks and the next pulse's, as far apart as their times; other pulses' ticks are
         grey."""
         last, times = last_pulse(network_of(network)), times_of(network, text)
         first, final = window or usual(last)
-        name = f"overview of {name}, pulses {first} to {final}"
-        root = parsed(self.draw("overview", network, text, *(["--pulses", f"{first}..{final}"] if window else [])))
+        root = parsed(self.drawn("overview", network, *pulses(window), text=text))
         wanted = sorted((v, times[v, p]) for v, p in times if first <= p <= final + 1)
-        rows = {y: v for v, y in enumerate(sorted({ends(mark)[0][1] for mark in marks(root, "tick")}), 1)}
-        shown = sorted((rows[ends(mark)[0][1]], ends(mark)[0][0]) for mark in marks(root, "tick"))
-        self.note(f"{name}: ticks", [v for v, _ in shown] == [v for v, _ in wanted], (len(shown), len(wanted)))
-        (low, high), (left, right) = ((min(x for _, x in pairs), max(x for _, x in pairs)) for pairs in (wanted, shown))
-        wrong = [(v, x) for (v, x), (_, time) in zip(shown, wanted)
-                 if abs(left + (time - low) / (high - low) * (right - left) - x) > 0.2]
-        self.note(f"{name}: they are as far apart as their times", not wrong, wrong[:5])
-        grey = sum(not first <= p <= final + 1 and low <= time <= high for (_, p), time in times.items())
-        self.note(f"{name}: grey ticks", len(marks(root, "outside")) == grey, (len(marks(root, "outside")), grey))
-        self.note(f"{name}: bands", len(marks(root, "band")) == final - first + 1, len(marks(root, "band")))
-        self.note(f"{name}: its title", f": pulses {first} to {final} of {last}," in texts(root)[0], texts(root)[0])
+        ticks = [ends(mark)[0] for mark in marks(root, "tick")]
+        rows = {y: v for v, y in enumerate(sorted({y for _, y in ticks}), 1)}
+        shown = sorted((rows[y], x) for x, y in ticks)
+        low, high = (of(time for _, time in wanted) for of in (min, max))
+        self.facts(f"overview of {name}, pulses {first} to {final}", {
+            "ticks": ([v for v, _ in shown], [v for v, _ in wanted]),
+            "as far apart as their times": (
+                are_near(*(parts([x for _, x in row]) for row in (shown, wanted)), 0.3), True),
+            "grey ticks": (len(marks(root, "outside")), sum(
+                not first <= p <= final + 1 and low <= time <= high for (_, p), time in times.items())),
+            "bands": (len(marks(root, "band")), final - first + 1),
+            "its title": (f": pulses {first} to {final} of {last}," in texts(root)[0], True),
+        })
 
-    def node_rows(self, name, network, text, v, first, last):
-        replayed = Replayed(network, text, v)
-        shown = Counter()
-        for words in titles(parsed(self.draw("node", network, text)), "step"):
-            step, count = words.rsplit(": ", 1)
-            shown[step] += int(count)
-        # The drawing has an arrow for each step that can be; `Counter` compares steps made no time as absent.
-        self.note(f"automaton of {name}", shown == replayed.steps, (shown - replayed.steps, replayed.steps - shown))
-        root = parsed(self.draw("node", network, text, "--vertex", v, "--pulses", f"{first}..{last}"))
-        moments = [moment for moment in replayed.levels if first <= moment[0] <= last]
-        for kind in ("put", "take"):
-            wanted = Counter(f"{kind} {entry.what[0].lower()}" for _, entry, _ in moments if entry.kind == kind.title())
-            self.note(f"timing of {name}: {kind}s", Counter(titles(root, kind)) == wanted, titles(root, kind))
-        wrong = [title(group) for kind in ("put", "take") for group in marks(root, kind)
-                 if (group[1].get("fill"), group[1].get("stroke")) != fill_of(*title(group).split())]
-        self.note(f"timing of {name}: what is taken is full, what is put a ring", not wrong, wrong)
-        ticks = sum(entry.kind == "Pulse" for _, entry, _ in moments)
-        self.note(f"timing of {name}: ticks", len(marks(root, "tick")) == ticks, len(marks(root, "tick")))
-        for at, lane in enumerate(marks(root, "lane")):
-            heights = [safes + paid / 2 for safes, paid in (levels[at] for _, _, levels in moments)]
-            ys = [float(y) for y in re.findall(r"M [0-9.]+ ([0-9.]+)|V ([0-9.]+)", lane.get("d")) for y in y if y]
-            wanted = [high for k, high in enumerate(heights) if k == 0 or high != heights[k - 1]]
-            base = ys[0] + 17 * wanted[0]
-            self.note(f"timing of {name}: lane {at}", [round((base - y) / 17, 1) for y in ys] == wanted, wanted)
-        self.note(f"timing of {name}: a lane for each port", len(marks(root, "lane")) == len(moments[0][2]))
+    def node_rows(self, name, network, text, v, window):
+        replayed, last = Replayed(network, text, v), last_pulse(network_of(network))
+        for asked in (None, window):
+            root, shown = parsed(self.drawn("node", network, *pulses(asked), text=text)), Counter()
+            for step, count in (words.rsplit(": ", 1) for words in titles(root, "step")):
+                shown[step] += int(count)
+            # The drawing has an arrow for each step that can be; `Counter` compares steps made no time as absent.
+            self.note(f"automaton of {name}, pulses {asked}", shown == replayed.between(*asked or (0, last)), shown)
+        root = parsed(self.drawn("node", network, "--vertex", v, *pulses((0, 4)), text=text))
+        moments = [moment for moment in replayed.moments if moment[0] <= 4]
+        shown = [(ends(mark)[0][0], "pulse", None, None) for mark in marks(root, "tick")] + [
+            (centre(dot)[0], title(group), dot.get("fill"), dot.get("stroke"))
+            for group in marks(root, "put", "take") for dot in group.iter(f"{SVG}circle")]
+        wanted = [("pulse", None, None) if entry.kind == "Pulse" else (
+            f"take {wire}", HUES[wire], None) if entry.kind == "Take" else (f"put {wire}", "#FFFFFF", HUES[wire])
+            for entry in (entry for _, entry, _ in moments)
+            for wire in [entry.what[0].lower() if entry.kind != "Pulse" else None]]
+        lanes = [[float(y) for y in re.findall(r"(?:M [0-9.]+|V) ([0-9.]+)", lane.get("d"))]
+                 for lane in marks(root, "lane")]
+        heights = [[high for high, before in zip(own, [None, *own]) if high != before] for own in zip(*(
+            [safes + paid / 2 for safes, paid in levels] for _, _, levels in moments))]
+        self.facts(f"timing of {name}", {
+            "its entries; what is taken is full, what is put a ring": ([mark for _, *mark in sorted(shown)],
+                                                                       [[*mark] for mark in wanted]),
+            "its lanes": ([[round(own[0] + (ys[0] - y) / 17, 1) for y in ys] for ys, own in zip(lanes, heights)],
+                          heights),
+            "a lane for each port": (len(lanes), len(heights)),
+        })
 
     def tally_rows(self, name, network, text, window=None):
         """All pulses, or the bars of some; the title counts all wires."""
-        net, last = network_of(network), last_pulse(network_of(network))
-        first, final = window or usual(last)
-        name = f"{name}, pulses {first} to {final}"
-        root = parsed(self.draw("tally", network, text, *(["--pulses", f"{first}..{final}"] if window else [])))
-        self.tally_marks(name, root, net, text, (first, final), last)
+        root = parsed(self.drawn("tally", network, *pulses(window), text=text))
+        self.tally_marks(name, root, network_of(network), text, window)
 
-    def tally_marks(self, name, root, net, text, window, last):
+    def tally_marks(self, name, root, net, text, window=None):
         """A tally's bars and title, beside the transcript of a whole run."""
-        first, final = window
-        counts = Counter()
-        for own in entries_of(text).values():
-            counts.update((f[3], last if f[3] == "close" else int(f[4])) for f in own if f[1] == "put")
-        shown = {}
-        for kind in WIRES:
-            for group in marks(root, kind):
-                pulse, count = map(int, re.fullmatch(rf"pulse (\d+): {kind} (\d+)", title(group)).groups())
-                shown[kind, pulse] = count
-        wanted = {(kind, pulse): count for (kind, pulse), count in counts.items() if first <= pulse <= final}
-        self.note(f"tally of {name}: a bar for each kind and pulse", shown == wanted, shown)
-        groups = [group for kind in WIRES for group in marks(root, kind)]
-        heights = [(number(group[1], "height"), int(title(group).split()[-1])) for group in groups]
-        unit = sum(height for height, _ in heights) / sum(count for _, count in heights)
+        last = last_pulse(net)
+        first, final = window or usual(last)
+        counts = Counter((entry[3], last if entry[3] == "close" else int(entry[4]))
+                         for own in entries_of(text).values() for entry in own if entry[1] == "put")
+        groups = marks(root, *WIRES)
+        shown = [re.fullmatch(r"pulse (\d+): (\w+) (\d+)", title(group)).groups() for group in groups]
+        heights = [number(group[1], "height") for group in groups]
+        unit = sum(heights) / sum(int(count) for *_, count in shown)
         bars = sorted({(number(group[1], "x"), number(group[1], "width")) for group in groups})
         # A figure with one decimal place may be off by a twentieth.
-        gaps = [b - a - wide for (a, wide), (b, _) in zip(bars, bars[1:])]
-        self.note(f"tally of {name}: bars don't overlap, and narrow ones leave no gap",
-                  all(gap > -0.2 and (wide > 2 or gap < 0.2) for gap, (_, wide) in zip(gaps, bars)), gaps[:5])
-        self.note(f"tally of {name}: bars as high as their counts",
-                  all(abs(height - unit * count) < 0.2 for height, count in heights), heights)
-        total, payloads = sum(counts.values()), sum(count for (kind, _), count in counts.items() if kind == "payload")
+        gaps = [(b - a - wide, wide) for (a, wide), (b, _) in zip(bars, bars[1:])]
+        payloads = sum(count for (kind, _), count in counts.items() if kind == "payload")
         edges = "1 edge" if len(net.number) == 1 else f"{len(net.number)} edges"
-        said = f"{total:,} wires = 2 · {payloads:,} payloads + 2 · {edges} · ({last} + 1)"
-        self.note(f"tally of {name}: its title",
-                  texts(root)[0] == said and total == 2 * payloads + 2 * len(net.number) * (last + 1), texts(root)[0])
-
-    def run_rows(self, name, network, texts_of, v):
-        """All pictures of some runs of one network; the lower half is the same for all of them."""
-        last = last_pulse(network_of(network))
-        lower = set()
-        for at, (which, text) in enumerate(texts_of.items()):
-            label, some = f"{name}, {which}", (3, 7) if at % 2 == 0 else (last - 3, last)
-            if len(network_of(network).neighbours) <= 12:
-                lower.add(self.window_rows(label, network, text, 0, min(3, last)))
-            for window in (None, some):
-                self.overview_rows(label, network, text, window)
-                self.tally_rows(label, network, text, window)
-            self.node_rows(label, network, text, v, 0, min(4, last))
-        if lower:
-            self.note(f"the lower half of {name} is the same for each of {len(texts_of)} runs",
-                      len(lower) == 1 < len(texts_of))
+        said = f"{sum(counts.values()):,} wires = 2 · {payloads:,} payloads + 2 · {edges} · ({last} + 1)"
+        self.facts(f"tally of {name}, pulses {first} to {final}", {
+            "a bar for each kind and pulse": ({(kind, int(pulse)): int(count) for pulse, kind, count in shown}, {
+                (kind, pulse): count for (kind, pulse), count in counts.items() if first <= pulse <= final}),
+            "as high as their counts": (are_near(heights, [unit * int(count) for *_, count in shown], 0.2), True),
+            "bars that overlap, or narrow ones with a gap": (
+                [off for off, wide in gaps if off < -0.2 or wide < 2 and off > 0.2], []),
+            "its title": (texts(root)[0], said),
+        })
 
     def test_long(self):
         """Of a long run the first 40 pulses are drawn, and only what they depend on is read: the same picture as of a
         run that was stopped a little later. The tally is the same by the rounds. By hand: its last pulse
         is 12 + 3 · 3 · (3 + 200 + 1)."""
-        network = self.examples["petersen"] + b"".join(b"b 1 %d\n" % channel for channel in range(1, 201))
+        network = example("petersen") + b"".join(b"b 1 %d\n" % channel for channel in range(1, 201))
         net = network_of(network)
         last, text = last_pulse(net), transcript_by(network, 1).decode()
         rows = [row.partition(" ")[2] for row in text.splitlines()[1:]]
@@ -300,29 +277,26 @@ class Runs(PictureCase):
 
         text, short = by_vertex(rows), by_vertex(rows[:max(rows.index(f"{v} pulse 60") for v in net.neighbours)])
         self.note("a long text is long", len(rows) > 100_000, len(rows))
-        for kind, words in (("overview", ()), ("node", ("--pulses", "0..39")), ("node", ("--vertex", 3)), ("run", ())):
-            self.note(f"{kind} {words} of a long text",
-                      self.draw(kind, network, text, *words) == self.draw(kind, network, short, *words))
-        picture = self.draw("overview", network, text)
-        said = texts(parsed(picture))
-        self.note("overview of a long run: what it says",
-                  ": pulses 0 to 39 of 1848," in said[0] and "the first 40 pulses of 1849:" in said[-1], said[-1])
-        self.note("node of a long run: what it says",
-                  "in pulses 0 to 39 of the run" in texts(parsed(self.draw("node", network, text)))[1])
+        for kind, *options in (["overview"], ["node", "--pulses", "0..39"], ["node", "--vertex", 3], ["run"]):
+            self.note(f"{kind} {options} of a long text", self.drawn(kind, network, *options, text=text)
+                      == self.drawn(kind, network, *options, text=short))
         # By the program's own last pulse: 2 · 199 · 201 wires, and 2 · 199 · 25 of the colouring.
         path = read_network(network_text("path200"), "path200")
         self.same("node of a long run of another program", (usual_of_node(path, 200), usual_of_node(path, 24)),
                   ((0, 39), (0, 24)))
-        root, whole = parsed(self.draw("tally", network, text)), parsed(
-            self.by_rounds(network, rounds_text(net), "--pulses", f"0..{last}")
-        )
-        self.tally_marks("a long run", root, net, text, (0, 39), last)
-        self.tally_marks("a long run, all of it by the rounds", whole, net, text, (0, last), last)
-        self.note("tally of a long run: what it says",
-                  any("the first 40 pulses of 1849" in words for words in texts(root)))
-        by_rounds = parsed(self.by_rounds(network, rounds_text(net)))
-        self.tally_marks("a long run, by the rounds", by_rounds, net, text, (0, 39), last)
-        self.note("tally by the rounds says so", "; counted by the rounds" in texts(by_rounds)[1], texts(by_rounds)[1])
-        wrong = [re.sub(r"^(5 put \d+ safe) 20$", r"\1 21", row) for row in rows]
-        status, picture, _ = self.done("overview", network, by_vertex(wrong))
+        rounds = self.file("rounds", rounds_text(net))
+        for kind, options, given, said in (
+                ("overview", [], text, ": pulses 0 to 39 of 1848,"),
+                ("overview", [], text, "the first 40 pulses of 1849:"),
+                ("node", [], text, "in pulses 0 to 39 of the run"),
+                ("tally", [], text, "the first 40 pulses of 1849"),
+                ("tally", ["--rounds", rounds], None, "; counted by the rounds"),
+                ("tally", ["--rounds", rounds, *pulses((0, last))], None, "; counted by the rounds")):
+            root = parsed(self.drawn(kind, network, *options, text=given))
+            self.note(f"{kind} {options[2:]} of a long run: {said}", said in " ".join(texts(root)), texts(root)[:3])
+            if kind == "tally":
+                self.tally_marks(f"a long run, by {'text' if given else 'rounds'}", root, net, text,
+                                 (0, last) if options[2:] else None)
+        wrong = by_vertex([re.sub(r"^(5 put \d+ safe) 20$", r"\1 21", row) for row in rows])
+        status, picture, _ = self.called("overview", network, text=wrong)
         self.note("a long text with a mistake in these pulses", (status, picture) == (1, b""))

@@ -4,7 +4,6 @@ What is read here is the page's table. It is compared with the transcript's own 
 acknowledgements of the payloads that it put and hasn't had, and so on. Nothing comes from lab/pictures."""
 import os
 import random
-import re
 from unittest import mock
 
 from lab.definitions.colours import colours, network_of
@@ -15,149 +14,131 @@ from lab.pictures.watch_page import Run, Steps, steps_of_text
 from lab.schedules.policies import Policy
 from lab.schedules.simulate import Player, edges_of, text_of_rows
 from tests import TOP
-from tests.cases import Case, example, said_by
+from tests.cases import example
+from tests.pictures.base import ONE, PictureCase, painter
 from tests.pictures.marks import data_of
-from tests.programs.made_transcripts import made_transcript, merged_text, transcript_text
-
-
-def watch(*words, data=b""):
-    return said_by("picture", "watch", *words, data=data)
+from tests.programs.made_transcripts import made_transcript, merged_text
 
 
 def run_of(name, seed):
-    """An example by its name, the network, and the lines of a run of it, each node's."""
+    """The text of a run of an example."""
     net = network_of(example(name))
-    return example(name), net, made_transcript(random.Random(seed), net, 3)
+    return merged_text(len(net.neighbours), made_transcript(random.Random(seed), net, 3))
+
+
+def fields_of(text):
+    return [line.split(" ") for line in text.decode().splitlines()[1:]]
 
 
 class Counted:
-    """What the lines of a transcript say of a node, line by line: which wires it put and took, and its pulse."""
+    """What the lines of a transcript say of a node, line by line: for whom it put payloads in which pulse, the wires
+    that it has taken, as (neighbour, words ..), and its pulse."""
 
     def __init__(self, neighbours, last):
-        self.near, self.last, self.pulse, self.asked, self.taken = neighbours, last, 0, {}, {}
+        self.near, self.last, self.pulse, self.asked, self.taken = sorted(neighbours), last, 0, set(), []
 
-    def step(self, words):
-        if words[1] == "pulse":
-            self.pulse = int(words[2])
-        elif words[1] == "take":
-            self.taken.setdefault((int(words[2]), words[3], words[4] if len(words) > 4 else ""), []).append(words[3:])
-        elif words[3] == "payload":
-            self.asked.setdefault(int(words[4]), []).append(int(words[2]))
+    def step(self, kind, what, *wire):
+        if kind == "pulse":
+            self.pulse = int(what)
+        elif kind == "take":
+            self.taken.append((int(what), *wire))
+        elif wire[0] == "payload":
+            self.asked.add((int(what), wire[1]))
 
-    def took(self, w, kind, pulse):
-        return self.taken.get((w, kind, str(pulse)), [])
+    def lacks(self, *wire):
+        return [[wire[0], w] for w in self.near if (w, *wire) not in self.taken]
 
-    def has(self, pulse):
-        return sorted([" ".join(wire[2:]), w] for w in self.near for wire in self.took(w, "payload", pulse))
+    def payloads(self, pulse):
+        return [[" ".join(more), w] for w, kind, *wire in self.taken if kind == "payload"
+                for at, *more in [wire] if at == str(pulse)]
 
-    def safes(self, pulse):
-        return [w for w in self.near if self.took(w, "safe", pulse)]
+    def look(self):
+        """What is shown of it but for acknowledgements."""
+        p = self.pulse
+        early = [["safe", w] for w in self.near if (w, "safe", str(p + 1)) in self.taken]
+        return {"p": p, "h": sorted(self.payloads(p)), "k": sorted(self.payloads(p + 1) + early),
+                "w": self.lacks("close") if p == self.last else self.lacks("safe", str(p))}
 
-    def closed(self):
-        return [w for w in self.near if (w, "close", "") in self.taken]
-
-
-class Page(Case):
-    needs_programs = False
-
-    def drawn(self, *words, data=b""):
-        status, page, fault = watch(*words, data=data)
-        self.assertEqual((status, fault), (0, ""))
-        return page
+    def can_await(self, acks):
+        """Whether it can wait for these acknowledgements: right after a pulse its payloads are still to be put, and
+        their acknowledgements already awaited."""
+        p, missing = str(self.pulse), {w for _, w in self.lacks("ack", str(self.pulse))}
+        return self.pulse == self.last or {w for w in missing if (w, p) in self.asked} <= acks <= missing
 
 
-class OneRun(Page):
-    def check_rows(self, data, text, table):
-        """The page's rows are the text's lines, and what a node is after each is what its lines say."""
-        net = network_of(data)
-        nodes = {v: Counted(sorted(ws), last_pulse(net)) for v, ws in net.neighbours.items()}
-        lines = [line.split(" ") for line in text.decode().splitlines()[1:]]
-        run = table["runs"][0]
-        self.assertEqual(len(run["rows"]), len(lines))
-        for (stamp, v, look, said), line in zip(run["rows"], lines):
-            self.assertEqual([str(stamp), str(v)], line[:2])
-            node = nodes[v]
-            node.step(line[1:])
-            self.check_look(run["looks"][look], node)
-        links, ends = {}, {}
-        for at, line in enumerate(lines):
-            if line[2] == "put":
-                links.setdefault((line[1], line[3]), []).append([at, int(line[0])])
-            elif line[2] == "take":
-                ends.setdefault((line[3], line[1]), []).append([at, int(line[0])])
-        self.assertEqual(len(run["wires"]), sum(map(len, links.values())))
-        for v, w, _, *flight in run["wires"]:
-            link = str(v), str(w)
-            self.assertEqual(flight, links[link].pop(0) + ends[link].pop(0))
-        final = {v: run["looks"][[row for row in run["rows"] if row[1] == v][-1][2]] for v in nodes}
-        self.assertEqual({v: look["c"] - 1 for v, look in final.items()}, colours(net))
-        self.assertTrue(all(look["e"] for look in final.values()))
+class Watch(PictureCase):
+    def table(self, name, *texts, options=()):
+        """What the page of some runs of an example follows."""
+        return data_of(self.page(name, *texts, options=options))
 
-    def check_look(self, look, node):
-        p = node.pulse
-        self.assertEqual(look["p"], p)
-        self.assertEqual(sorted(look["h"]), node.has(p))
-        self.assertEqual(sorted(look["k"]), sorted(node.has(p + 1) + [["safe", w] for w in node.safes(p + 1)]))
-        if p == node.last:
-            self.assertEqual(look["w"], [["close", w] for w in node.near if w not in node.closed()])
-            return
-        asked = node.asked.get(p, [])
-        waits = [["ack", w] for kind, w in look["w"] if kind == "ack"]
-        # Right after a pulse its payloads are still to be put, and their acknowledgements already awaited.
-        self.assertLessEqual({w for w in asked if not node.took(w, "ack", p)}, {w for _, w in waits})
-        self.assertTrue(all(not node.took(w, "ack", p) for _, w in waits))
-        safes = [w for kind, w in look["w"] if kind == "safe"]
-        self.assertEqual(safes, [w for w in node.near if w not in node.safes(p)])
+    def page(self, name, *texts, options=()):
+        paths = [self.file(f"run{at}", text) for at, text in enumerate(texts)]
+        return self.drawn("watch", example(name), *paths, *options)
 
     def test_rows(self):
+        """The page's rows are the text's lines, and what a node is after each is what its lines say."""
         for name in ("two", "triangle", "barred", "star", "petersen"):
-            with self.subTest(name):
-                data, net, lines = run_of(name, f"watch {name}")
-                text = merged_text(len(net.neighbours), lines)
-                page = self.drawn(self.file("net.col", data), self.file("run", text))
-                self.check_rows(data, text, data_of(page))
-                self.assertNotRegex(page, r"(src|href)=|https?://(?!www\.w3\.org/2000/svg)|@[A-Z]+@")
+            text, net = run_of(name, f"watch {name}"), network_of(example(name))
+            page, lines = self.page(name, text), fields_of(text)
+            run, nodes = data_of(page)["runs"][0], {v: Counted(ws, last_pulse(net)) for v, ws in net.neighbours.items()}
+            wrong, last, links = [], {}, {}
+            for at, ((stamp, v, look, _), line) in enumerate(zip(run["rows"], lines)):
+                node, look = nodes[v], run["looks"][look]
+                node.step(*line[2:])
+                acks = {w for kind, w in look["w"] if kind == "ack"}
+                shown = {"p": look["p"], "h": sorted(look["h"]), "k": sorted(look["k"]),
+                         "w": [wait for wait in look["w"] if wait[0] != "ack"]}
+                if [str(stamp), str(v)] != line[:2] or shown != node.look() or not node.can_await(acks):
+                    wrong.append((line, look))
+                last[v] = look
+                if line[2] != "pulse":
+                    ends = (line[1], line[3]) if line[2] == "put" else (line[3], line[1])
+                    links.setdefault(ends, {"put": [], "take": []})[line[2]].append([at, stamp])
+            wires = {}
+            for v, w, _, *flight in run["wires"]:
+                wires.setdefault((str(v), str(w)), []).append(flight)
+            self.facts(f"rows of {name}", {
+                "as many as lines": (len(run["rows"]), len(lines)),
+                "those that are wrong": (wrong[:3], []),
+                "wires": (wires, {ends: [put + take for put, take in zip(both["put"], both["take"])]
+                                  for ends, both in links.items()}),
+                "the plan": ({v: (look["c"] - 1, bool(look["e"])) for v, look in last.items()},
+                             {v: (colour, True) for v, colour in colours(net).items()}),
+            })
+            self.assertNotRegex(page, r"(src|href)=|https?://(?!www\.w3\.org/2000/svg)|@[A-Z]+@")
 
     def test_edition_1_is_put_in_an_order(self):
-        data = example("chain6")
-        page = self.drawn(self.file("chain6.col", data), os.path.join(TOP, "examples", "chain6_slow.transcript"))
-        table = data_of(page)
-        rows = table["runs"][0]["rows"]
-        self.assertEqual(len(rows), 866)
-        self.assertEqual(rows, sorted(rows, key=lambda row: row[:2]))
+        path = os.path.join(TOP, "examples", "chain6_slow.transcript")
+        rows = data_of(self.drawn("watch", example("chain6"), path))["runs"][0]["rows"]
+        self.assertEqual((len(rows), rows), (866, sorted(rows, key=lambda row: row[:2])))
 
     def test_pulses(self):
-        data, _, lines = run_of("petersen", "pulses")
-        paths = self.file("net.col", data), self.file("run", merged_text(10, lines))
-        whole = data_of(self.drawn(*paths))["runs"][0]
-        part = data_of(self.drawn(*paths, "--pulses", "3..5"))
-        run = part["runs"][0]
-        self.assertEqual(part["pulses"], [3, 5])
-        stamps = [row[0] for row in run["rows"]]
-        self.assertTrue(0 < len(stamps) < len(whole["rows"]))
-        pulses = [run["looks"][row[2]]["p"] for row in run["rows"]]
-        self.assertTrue(pulses[0] == 3 and pulses[-1] == 5)
+        text = run_of("petersen", "pulses")
+        whole, part = (self.table("petersen", text, options=words) for words in ([], ["--pulses", "3..5"]))
+        whole, run = whole["runs"][0], part["runs"][0]
         # What the nodes are before the first row, and the wires that are on their way, come from the rows before.
         at = [row[:2] for row in whole["rows"]].index(run["rows"][0][:2])
         before = {row[1]: whole["looks"][row[2]] for row in whole["rows"][:at]}
-        self.assertEqual(run["start"], [before.get(v, whole["start"][v - 1]) for v in range(1, 11)])
-        flying = [wire[:2] + wire[4:5] for wire in whole["wires"] if wire[3] < at <= wire[5]]
-        self.assertEqual(sorted(wire[:2] + wire[4:5] for wire in run["wires"] if wire[3] < 0), sorted(flying))
+        self.facts("pulses 3 to 5", {
+            "those shown": (part["pulses"], [3, 5]),
+            "the first and the last row": ([run["looks"][run["rows"][k][2]]["p"] for k in (0, -1)], [3, 5]),
+            "before the first row": (run["start"], [before.get(v, whole["start"][v - 1]) for v in range(1, 11)]),
+            "wires on their way": (sorted(wire[:2] + wire[4:5] for wire in run["wires"] if wire[3] < 0), sorted(
+                wire[:2] + wire[4:5] for wire in whole["wires"] if wire[3] < at <= wire[5])),
+        })
 
     def test_cut_text(self):
         """A text that ends early is drawn as far as it goes, and says so."""
-        data, _, own = run_of("triangle", "cut")
-        lines = merged_text(3, own).splitlines(keepends=True)
-        page = self.drawn(self.file("net.col", data), "-", data=b"".join(lines[:200]))
-        self.assertEqual(len(data_of(page)["runs"][0]["rows"]), 199)
-        self.assertIn("standard input ends before the nodes are through.", page)
+        lines = run_of("triangle", "cut").splitlines(keepends=True)
+        status, page, _ = painter("watch", "triangle", "-", data=b"".join(lines[:200]))
+        self.assertEqual((status, len(data_of(page.decode())["runs"][0]["rows"])), (0, 199))
+        self.assertIn("standard input ends before the nodes are through.", page.decode())
 
     def test_a_run_that_is_too_long_says_how_to_see_the_rest(self):
-        data, _, lines = run_of("triangle", "long")
-        network, text = read_network(data.decode(), "triangle"), merged_text(3, lines)
+        network, text = read_network(example("triangle").decode(), "triangle"), run_of("triangle", "long").decode()
         for most, pulses, is_said in ((20_000, None, False), (100, None, True), (100, (3, 4), False)):
             with self.subTest(most=most, pulses=pulses), mock.patch.object(watch_page, "MOST_ENTRIES", most):
-                run = Run("triangle", network, steps_of_text("triangle", network, text.decode(), pulses), pulses)
+                run = Run("triangle", network, steps_of_text("triangle", network, text, pulses), pulses)
                 self.assertEqual(f"at most {most:,} entries of a run; --pulses A..B shows other" in
                                  watch_page.draw([run]), is_said)
                 self.assertLessEqual(len(run.moments), most)
@@ -165,77 +146,44 @@ class OneRun(Page):
     def test_run_of_a_player(self):
         """The steps of a player show what its transcript shows, on the way and at the end."""
         for name in ("two", "triangle", "barred", "petersen"):
-            with self.subTest(name):
-                data = example(name)
-                net, network = network_of(data), read_network(data.decode(), name)
-                player = Player(net)
-                steps = Steps(player.state)
-                for entry in player.entries(Policy("random", sorted(net.neighbours), edges_of(net), "watch")):
-                    steps.add(entry)
-                    if player.now == 40:
-                        self.check_same(network, player, steps)
-                self.check_same(network, player, steps)
+            net, network = network_of(example(name)), read_network(example(name).decode(), name)
+            player = Player(net)
+            steps = Steps(player.state)
+            for entry in player.entries(Policy("random", sorted(net.neighbours), edges_of(net), "watch")):
+                steps.add(entry)
+                if player.now == 40:
+                    self.check_same(name, network, player, steps)
+            self.check_same(name, network, player, steps)
 
-    def check_same(self, network, player, steps):
+    def check_same(self, name, network, player, steps):
         text = text_of_rows(network.nodes, player.rows)
-        ours, wanted = Run("run", network, steps.by_stamp()), Run("run", network, steps_of_text("run", network, text))
-        self.assertEqual(ours.table(), wanted.table())
-        self.assertEqual((ours.pulses, ours.is_whole), (wanted.pulses, wanted.is_whole))
+        ours, wanted = (Run("run", network, found) for found in (
+            steps.by_stamp(), steps_of_text("run", network, text)))
+        self.same(f"a player of {name}", (ours.table(), ours.pulses, ours.is_whole),
+                  (wanted.table(), wanted.pulses, wanted.is_whole))
 
     def test_title(self):
-        data = b"p edge 1 0\n"
-        page = self.drawn(self.file("net.col", data), "-", data=b"transcript 2 1\n")
+        page = self.drawn("watch", ONE, self.file("run", b"transcript 2 1\n"))
         self.assertIn("<h1>net: a run without a clock</h1>", page)
 
-
-class TwoRuns(Page):
     def test_same_rounds(self):
-        (data, net, _), _ = runs = [run_of("petersen", f"two {k}") for k in "ab"]
-        texts = [merged_text(10, lines) for _, _, lines in runs]
-        paths = [self.file(name, text) for name, text in zip("ab", texts)]
-        page = self.drawn(self.file("net.col", data), *paths)
-        table = data_of(page)
-        self.assertEqual(table["same"], [True] * (last_pulse(net) + 1))
-        self.assertEqual(sum(map(len, table["sent"])), 269)
-        for run, text in zip(table["runs"], texts):
-            lines = [line.split(" ") for line in text.decode().splitlines()[1:]]
-            for p, moment in enumerate(run["all"]):
-                # The last line in which a node makes pulse p, by its stamp and its number.
-                made = [(int(line[0]), at) for at, line in enumerate(lines, 1) if line[2:] == ["pulse", str(p)]]
-                self.assertEqual((len(made), moment), (10 if p else 0, list(made[-1]) if p else [0, 0]))
+        """Two runs beside each other: a pulse of both is where a node makes it last."""
+        runs = [run_of("petersen", f"two {k}") for k in "ab"]
+        table, last = self.table("petersen", *runs), last_pulse(network_of(example("petersen")))
+        self.assertEqual((table["same"], sum(map(len, table["sent"]))), ([True] * (last + 1), 269))
+        for run, text in zip(table["runs"], runs):
+            made = {}
+            for at, line in enumerate(fields_of(text), 1):
+                if line[2] == "pulse":
+                    made[int(line[3])] = [int(line[0]), at]
+            self.same("when each pulse is made last", run["all"], [[0, 0], *(made[p] for p in range(1, last + 1))])
 
     def test_a_run_that_is_cut(self):
         """Of a text that ends early the last moment is its end."""
-        (data, _, _), _ = runs = [run_of("triangle", f"cut {k}") for k in "ab"]
-        texts = [merged_text(3, lines) for _, _, lines in runs]
-        lines = texts[0].splitlines(keepends=True)
+        one, other = (run_of("triangle", f"cut {k}") for k in "ab")
+        lines = one.splitlines(keepends=True)
         at = next(at for at, line in enumerate(lines) if line.endswith(b" pulse 5\n"))
-        cut = b"".join(lines[:at + 1])
-        page = self.drawn(self.file("net.col", data), self.file("a", cut), self.file("b", texts[1]))
+        page = self.page("triangle", b"".join(lines[:at + 1]), other)
         # One node alone has made pulse 5.
         self.assertEqual(data_of(page)["runs"][0]["all"][5:], [[int(lines[at].split(b" ")[0]), at]])
         self.assertIn("At a whole number of the slider each run is at the moment when the last of its nodes", page)
-
-
-class Refusals(Page):
-    def test_refusals(self):
-        data, _, lines = run_of("triangle", "wrong")
-        good, old = merged_text(3, lines), transcript_text(3, lines)
-        late = re.sub(rb"^1 ", b"2 ", good, count=1, flags=re.M)
-        network, two = self.file("net.col", data), self.file("two.col", example("two"))
-        at = old.index(b"\n1 pulse 5\n")
-        missing = old[:at] + old[at + len(b"\n1 pulse 5"):]
-        cases = [
-            ("a wrong stamp", [network, "-"], late, "WrongStamp"),
-            ("another network", [two, "-"], good, "line 1: 3 nodes, and two has 2 (Nodes)"),
-            ("a line left out", [network, "-"], missing, "NothingToPut: node "),
-            ("no transcript", [network, "-"], b"plan\n", "X1"),
-            ("three runs", [network, "a", "b", "c"], b"", "a page has room for two runs"),
-            ("standard input twice", ["-", "-"], b"", "standard input has one text"),
-            ("pulses that aren't there", [network, "-", "--pulses", "3..99"], good, "pulses 3 to 99 are not among 0"),
-            ("too large", [os.path.join(TOP, "examples", "disk100.col"), "-"], b"", "watch draws at most 40 nodes"),
-        ]
-        for name, words, given, end in cases:
-            done = watch(*words, data=given)
-            self.refusal(name, done, 1, end)
-            self.same(f"{name}: in one line", done[2].count("\n"), 1)
