@@ -1,6 +1,7 @@
 """Programs that misbehave are named, and none is left running: not at the end of a run, and not when the workshop
 itself is interrupted or terminated."""
 import os
+import re
 import signal
 import subprocess
 import sys
@@ -45,6 +46,7 @@ ROWS = (
     (f"subprocess.Popen(['sleep', {MARK!r}]); " + LONG, "silent", "it wrote nothing within 2 seconds"),
     ("bytearray(1 << 31)", "ended", "MemoryError"),
     (TOO_MUCH, "ended", "SIGXFSZ (it wrote too much"),
+    ("right(lines); sys.exit(0)", "ended", "status 0 instead of an answer"),
     ("sys.stderr.write('debugging\\n' * 100_000); right(lines)", None, ""),
 )
 # The same from the first message on.
@@ -85,15 +87,15 @@ class Misbehaving(Played):
         found = played("rounds", "two", node, timeout=timeout).finding
         said = dict(found.lines) if found else {}
         good = (found and found.kind) == kind and (not kind or words in said["wrong"])
-        is_there = said.get("where") in (None, "node 1, pulse 4 (step)", "node 1, pulse 0 (greet)")
-        self.note(how, good and is_there, said)
+        place = re.fullmatch(r"node 1, pulse [045] \(\w+\)", said.get("where", "node 1, pulse 4 (step)"))
+        self.note(how, good and place, said)
         self.same(f"{how}: none is left", left_at_last(), [])
 
     def test_each_is_named(self):
         for code, kind, words in ROWS:
             self.named(code, command(code.replace("{file!r}", repr(os.path.join(self.folder, "big")))), kind, words)
         for code, kind, words in AT_ONCE:
-            self.named(code, command(code, 1), kind, words, 0.3)
+            self.named(code, command(code, 1), kind, words, 0.3 if kind else 2)
         self.named("goes at once", [sys.executable, "-S", "-c", "", MARK], "ended", "status 0")
         self.named("stays", command("right(lines)", last=LONG), None, "")
 

@@ -245,6 +245,7 @@ class Lines(Played):
             ("colouring", "alpha", "put 0 safe", "`safe` is no wire, which are `payload P WORD NUMBER`"),
             ("colouring", "alpha", f"pulse {1 << 32}", f"`pulse {1 << 32}` is no line of an answer"),
             ("colouring", "alpha", "colour 0 3", "`colour 0 3` is no line of an answer, which are `put PORT WIRE`"),
+            ("colouring", "rounds", "put 0 hello 1\nput 0 hello 1", "is a second payload by this port in one pulse"),
             ("colouring", "rounds", "put 7 hello 1", "there is no port 7; the node has port 0 alone"),
             ("colouring", "rounds", "my colours: [3, 1]", "`my colours: [3, 1]` is no line of an answer"),
         ):

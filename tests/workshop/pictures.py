@@ -2,9 +2,9 @@
 import os
 import re
 
-from tests.cases import Case, called, example, said_by, text_in
+from tests.cases import called, example, said_by, text_in
 from tests.settings import PLAN
-from tests.workshop.base import call, python
+from tests.workshop.base import Played, call, python
 
 GREETED = """\
 transcript 2 2
@@ -26,7 +26,7 @@ ROWS = (
 )
 
 
-class Pictures(Case):
+class Pictures(Played):
     def picture(self, kind, more, *options, begin=GREETED):
         return said_by("picture", kind, "two", "--transcript", self.file("run", begin + more), *options)
 
@@ -84,3 +84,6 @@ class Pictures(Case):
         self.assertRegex(svg, r"\(NotWhole\): it stops at node [12]\.")
         self.assertRegex(done.stdout, f"node {re.search(r'it stops at node ([12])', svg)[1]} at pulse 0 doesn't put")
         self.assertEqual(len(re.findall('<g class="payload"', svg)), 2)
+        wrong = self.wrong_node("layers_again", "alpha_node.py", "layers")
+        call("alpha", "path3", "--program", "layers", "--picture", file, "--", *wrong)
+        self.assertIn("isn't possible there", text_in(file))
