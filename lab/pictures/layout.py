@@ -70,37 +70,11 @@ def placed(network, part):
 
 
 def first_places(part, landmarks):
-    """By the distances from the landmarks, each less its mean: the two directions in which they differ most."""
-    rows = []
-    for _, ways in landmarks[:LANDMARKS]:
-        squares = [ways[v] * ways[v] for v in part]
-        mean = sum(squares) / len(squares)
-        rows.append([square - mean for square in squares])
-    for at in range(len(part)):
-        mean = sum(row[at] for row in rows) / len(rows)
-        for row in rows:
-            row[at] -= mean
-    first = main_direction(rows, None)
-    second = main_direction(rows, first)
+    """By how much nearer each is to one landmark than to another: the first two give x, the next two y."""
+    (_, left), (_, right), (_, above), (_, below) = (landmarks * 4)[:4]
     # A little of the number keeps apart vertices that all landmarks see alike.
-    return {v: (first[at] + 0.013 * (at * 7 % 11), second[at] + 0.017 * (at * 5 % 13)) for at, v in enumerate(part)}
-
-
-def main_direction(rows, other):
-    """The vertices' coordinates along the direction in which the rows differ most, at a right angle to another one."""
-    count = len(rows[0])
-    values = [value + 0.01 * (at * 3 % 7) for at, value in enumerate(rows[0])]
-    for _ in range(60):
-        if other:
-            part_of = sum(a * b for a, b in zip(values, other)) / (sum(b * b for b in other) or 1)
-            values = [a - part_of * b for a, b in zip(values, other)]
-        ahead = [sum(a * b for a, b in zip(row, values)) for row in rows]
-        values = [sum(row[at] * far for row, far in zip(rows, ahead)) for at in range(count)]
-        length = sqrt(sum(value * value for value in values)) or 1
-        values = [value / length for value in values]
-    widest = max(rows[0]) - min(rows[0])
-    size = sqrt(widest) / ((max(values) - min(values)) or 1)
-    return [value * size for value in values]
+    return {v: (0.9 * (left[v] - right[v]) + 0.013 * (at * 7 % 11), 0.9 * (above[v] - below[v]) + 0.017 * (at * 5 % 13))
+            for at, v in enumerate(part)}
 
 
 def relaxed(places, pulls):
