@@ -2,7 +2,6 @@
 
 Each has a small input and the answer to it, worked by hand. What tests every command reads it from here, and
 tests/programs/commands.py fails if a command is missing. In the texts '|' is a line feed."""
-import re
 from dataclasses import dataclass
 
 EDGE, TRIANGLE, APART, ALONE = "p edge 2 1|e 1 2|", "p edge 3 3|e 1 2|e 1 3|e 2 3|", "p edge 2 0|", "p edge 1 0|"
@@ -119,9 +118,3 @@ SCRIPTS = (
     Script("workshop", ("--help",), "", r"usage: forestlab workshop [^\0]*"),
     Script("sheet", ("--seed", "7", "--lesson", "2"), "", r"<!doctype html>[^\0]*</html>\n"),
 )
-
-
-def listed_below(helped):
-    """The commands below one of forestlab that its help lists."""
-    first = re.split("positional arguments:|^Example", helped, flags=re.M)[0]
-    return re.findall(r"^  ([a-z]+)(?: [A-Z]+)* {2,}[a-z]", first, re.M)

@@ -10,7 +10,7 @@ from build.__main__ import MODULES
 from lab.__main__ import COMMANDS as OF_LAB
 from tests import TOP
 from tests.cases import Case, called, contents, text_in
-from tests.commands import HELPS, SCRIPTS, commands_of, listed_below
+from tests.commands import HELPS, SCRIPTS, commands_of
 from tests.settings import PATHS
 
 # Seconds; a busy machine takes long for the many calls.
@@ -41,24 +41,15 @@ class Commands(Case):
         names = [script.name for script in SCRIPTS]
         self.note("tests/commands.py has the commands of forestlab", set(OF_LAB) == {name.split()[0] for name in names},
                   differences(OF_LAB, names))
-        self.note("forestlab --help lists them", re.findall(r"^  ([a-z]+) {2,}[a-z]", self.helped("forestlab"), re.M)
-                  == list(OF_LAB), self.helped("forestlab"))
-        count = 0
-        for script in SCRIPTS:
-            for name in listed_below(self.helped("forestlab", *script.name.split())):
-                words, count = [*script.name.split(), name], count + 1
-                self.note(f"{' '.join(words)} --help has an example",
-                          f"forestlab {' '.join(words)} " in self.helped("forestlab", *words).partition("\nExample")[2])
-        self.note("commands below others", count > 30, count)
+        found = completion.helps(os.path.join(TOP, "bin"), "forestlab")
+        self.same("forestlab --help lists them", found[0][2], list(OF_LAB))
+        below = [(" ".join(words), text) for words, text, _ in found if len(words) > 2]
+        for name, text in below:
+            self.note(f"{name} --help has an example", f"{name} " in text.partition("\nExample")[2])
+        self.note("commands below others", len(below) > 30, below)
         for name in MODULES:
             done = called(sys.executable, os.path.join(TOP, "build"), name, "--help")
             self.note(f"python3 build {name} --help", done[0] == 0 and done[1] and not done[2], done)
-
-    def helped(self, *words):
-        """What `--help` prints."""
-        status, helped, fault = self.call(*words, "--help")
-        self.note(f"{' '.join(words)} --help", (status, fault) == (0, b"") and helped, (status, fault))
-        return helped.decode()
 
     def test_output(self):
         """-o writes to a file, and leaves the one that was there if it can't, or if something is wrong."""

@@ -12,11 +12,12 @@ import subprocess
 import sys
 import tempfile
 
+from build import completion
 from lab.__main__ import COMMANDS as OF_LAB
 from lab.definitions.colours import plan_text
 from tests import TOP
 from tests.cases import Case, called, contents, copied, example, text
-from tests.commands import APART, COMMANDS, HELPS, PROGRAMS, listed_below
+from tests.commands import APART, COMMANDS, HELPS, PROGRAMS
 from tests.commands import SCRIPTS as OF_BIN
 from tests.pages.pages import PAGES, lines_of
 from tests.shell import run_line, wait_until
@@ -168,7 +169,7 @@ class Install(Case):
                 self.note(f"groff sets the page of {name}", got[::2] == (0, b""), got)
         wanted = {"forestlab", *(f"forestlab {it.name}" for it in OF_BIN)}
         wanted |= {f"{words} {below}" for words in wanted - {"forestlab"}
-                   for below in listed_below(texts.get(words, b"").decode())}
+                   for below in completion.commands_in(tuple(words.split()), texts.get(words, b"").decode())}
         self.same("the commands of forestlab", set(blocks), wanted)
 
     def test_again(self):
