@@ -74,6 +74,14 @@ def pairs_in(text):
             {named[v] for v, ws in net.neighbours.items() if not ws})
 
 
+def by_names(text):
+    """Of each node by its name what the lines of a network say."""
+    net = read_network(text.decode(), "net")
+    names = {v: net.names.get(v, str(v)) for v in net.vertices}
+    return {names[v]: (net.given.get(v), net.said.get(v), net.barred(v), {names[w] for w in net.neighbours[v]})
+            for v in net.vertices}
+
+
 def numbers(text):
     return [int(number.replace(",", "")) for number in re.findall(r"\d[\d,]*", text.replace(", ", " "))]
 
@@ -237,26 +245,28 @@ class OwnNetworks(Case):
                 read_any(data, "any")
 
     def test_numbers(self):
-        """The same network by names, and the numbers in the order that was asked for."""
-        for name in ("petersen", "disk100", "star"):
-            before = example(f"{name}.col")
-            wanted = {frozenset(map(str, edge)) for edge in edges_of(before)}
-            places = comments(before, "at")
-            for words in ("--by random", "--by random --seed 9", "--by degree", "--by degree --reverse", "--by place"):
-                text = self.written("number", "-", *words.split(), data=before)
-                names = comments(text, "name")
-                self.same(f"{name} numbered {words}", pairs_in(text)[0], wanted)
-                self.same(f"{name} numbered {words} keeps its places",
-                          {int(names[v]): place for v, place in comments(text, "at").items()}, places)
+        """`number` and `read` leave each node its name, place, identifier, bars and neighbours; and the numbers have
+        the order that was asked for."""
+        for name, before in {**{name: example(name) for name in ("petersen", "disk100", "star")},
+                             "identifiers": LONG_NAMES, "bars": BARRED}.items():
+            for words in ("read -", "number - --by random", "number - --by random --seed 9", "number - --by degree",
+                          "number - --by degree --reverse", "number - --by place"):
+                if "place" in words and b"c at" not in before:
+                    continue
+                text = self.written(*words.split(), data=before)
+                self.same(f"{name} by {words}", by_names(text), by_names(before))
                 net = network_of(text)
                 order = [len(net.neighbours[v]) if "degree" in words else float(comments(text, "at")[v].split()[0])
-                         for v in sorted(net.neighbours)]
-                if "random" not in words:
-                    self.same(f"{name} numbered {words}: the order", order, sorted(order, reverse="reverse" in words))
-            again = [call("number", "-", "--by", "random", "--seed", seed, data=before)[1] for seed in (1, 1, 2)]
+                         for v in sorted(net.neighbours) if "degree" in words or "place" in words]
+                self.same(f"{name} by {words}: the order", order, sorted(order, reverse="reverse" in words))
+            again = [call("number", "-", "--by", "random", "--seed", seed, data=before)[1] for seed in (1, 1, 4)]
             self.note(f"{name} numbered by chance: by its seed", again[0] == again[1] != again[2])
-        done = call("number", "-", "--by", "place", data=b"p edge 2 1\ne 1 2\nc at 1 0 0\n")
-        self.refusal("numbered by places that aren't there", done, 1, b"have no place")
+        for words, data, said in (
+            (["number", "-", "--by", "place"], b"p edge 2 1\ne 1 2\nc at 1 0 0\n", b"have no place"),
+            (["read", "-"], b"p tw 2 1\n1 2\ni 1 2\n", b"1 and 2 have one identifier"),
+            (["number", "-", "--by", "degree"], b"p edge 2 0\ni 2 9\ni 1 9\n", b"1 and 2 have one identifier"),
+        ):
+            self.refusal(f"{words}: {said}", call(*words, data=data), 1, said)
 
     def test_names(self):
         network = self.written("read", "-", data=b'source,target\nUlm,"Aue, west"\n"Aue, west",Jena\n')
@@ -273,26 +283,7 @@ class OwnNetworks(Case):
         self.note("tell", status == 0, told)
         return dict(re.findall(r"^(.*?): (.*)$", text.decode(), re.M)), told
 
-    def test_identifiers(self):
-        """A line `i V NUMBER` goes with its vertex; two of one number are refused."""
-        for words in (["read", "-"], ["number", "-", "--by", "degree"], ["number", "-", "--by", "random", "--seed", 3]):
-            data = LONG_NAMES if words[0] == "read" else LONG_NAMES + b"i 1 1\ni 3 3\n"
-            net, made = network_of(LONG_NAMES), network_of(self.written(*words, data=data))
-            edges = [{frozenset(found.identifiers[v] for v in pair) for pair in found.number} for found in (net, made)]
-            self.note(f"{words}: who has which neighbours, by identifiers", edges[0] == edges[1] and len(edges[0]) == 4,
-                      edges)
-        for words, data in ((["read", "-"], b"p tw 2 1\n1 2\ni 1 2\n"),
-                            (["number", "-", "--by", "degree"], b"p edge 2 0\ni 2 9\ni 1 9\n")):
-            self.refusal(f"{words}: two of one identifier", call(*words, data=data), 1, b"1 and 2 have one identifier")
-
     def test_bars(self):
-        """A line `b V CHANNEL` goes with its vertex, which is known by its neighbours here."""
-        for words in (["read", "-"], ["number", "-", "--by", "degree"], ["number", "-", "--by", "random", "--seed", 3]):
-            net, made = network_of(BARRED), network_of(self.written(*words, data=BARRED))
-            wanted = [(1, [1, 2047]), (2, []), (2, []), (3, [1])]
-            for each in (net, made):
-                found = sorted((len(each.neighbours[v]), sorted(each.barred[v])) for v in each.neighbours)
-                self.same(f"{words}: whose channels are barred", found, wanted)
         text = self.written("read", "-", data=b"p edge 3 1\ne 0 1\nb 0 7\n")
         self.note("a bar in a text that counts from 0", b"\nb 1 7\n" in text, text)
         for data, said in (
