@@ -91,10 +91,12 @@ def example(name):
     return contents("examples", name if "." in name else f"{name}.col")
 
 
-def called(path, *words, data=b"", **more):
-    """The status and both outputs of a program."""
+def called(path, *words, data=b"", limit=300, **streams):
+    """The status and both outputs of a program with this standard input; a stream may be another one."""
     words = [word if isinstance(word, bytes) else str(word) for word in words]
-    done = run_program(path, words, data, **more)
+    given = {"input": data} if "stdin" not in streams else {}
+    streams = {"stdout": subprocess.PIPE, "stderr": subprocess.PIPE} | streams
+    done = subprocess.run([path, *words], timeout=limit, **given, **streams)
     return done.returncode, done.stdout, done.stderr
 
 
@@ -127,11 +129,3 @@ def in_process(name, main, *words, data=b""):
     out.flush()
     errors.flush()
     return status, out.buffer.getvalue(), errors.buffer.getvalue()
-
-
-def run_program(path, words, data=b"", limit=300, **streams):
-    """A program with these words and this standard input, run to its end; a stream may be another one."""
-    given = {"input": data} if "stdin" not in streams else {}
-    streams.setdefault("stdout", subprocess.PIPE)
-    streams.setdefault("stderr", subprocess.PIPE)
-    return subprocess.run([path, *words], timeout=limit, **given, **streams)

@@ -18,7 +18,7 @@ import time
 import unittest
 
 from tests import FORESTLAB, TOP
-from tests.cases import run_program
+from tests.cases import called
 from tests.pages import studio_page
 from tests.programs.studio import processes_of
 from tests.running import Counting
@@ -415,7 +415,7 @@ class Adversary(studio_page.Page):
     def played(self):
         """What forestplay does with the page's list."""
         text = self.page.value("element('list').value").encode()
-        return text, run_program(PLAY, ["events"], self.network + text)
+        return text, called(PLAY, "events", data=self.network + text)
 
     def listed(self):
         for _ in range(25):
@@ -425,10 +425,10 @@ class Adversary(studio_page.Page):
                 self.page.click_on("#rest")
             text, done = self.played()
             shown = self.page.text("state").encode() + b"\n"
-            self.row(f"forestplay shows the same {when}", (done.returncode, done.stdout) == (0, shown), (done, shown))
-        made = run_program(FORESTLAB, ["simulate", self.net, "--events", "-"], text)
-        again = run_program(PLAY, ["replay"], self.network + made.stdout)
-        self.row("forestplay replays its transcript", (again.returncode, again.stdout) == (0, done.stdout), again)
+            self.row(f"forestplay shows the same {when}", done[:2] == (0, shown), (done, shown))
+        made = called(FORESTLAB, "simulate", self.net, "--events", "-", data=text)
+        again = called(PLAY, "replay", data=self.network + made[1])
+        self.row("forestplay replays its transcript", again[:2] == (0, done[1]), again)
         self.has("the end", r"/All have halted, with channels \d+(, \d+)*\.$/.test(element('said').textContent)")
         self.has("what can't be won isn't", "D.dares.filter(dare => ['wrong', 'plan'].includes(dare.kind) && "
                  "judged(dare)[0]).length", 0)
@@ -442,7 +442,7 @@ class Adversary(studio_page.Page):
                  f"{len(path)} && judged(D.dares[0])[0]")
         _, done = self.played()
         # The proved machine keeps what comes early apart, so without `early` the events are possible there.
-        good = done.returncode == 0 if "early" in self.name else done.returncode == 1 and b" line " in done.stderr
+        good = done[0] == 0 if "early" in self.name else done[0] == 1 and b" line " in done[2]
         self.row("forestplay accepts the list alone if it goes right there", good, done)
 
 
