@@ -10,7 +10,6 @@ weights, edges that come again and edges from a node to itself don't count. Only
 is read of the answer, is not proved."""
 import collections
 import collections.abc
-import operator
 import os
 import shutil
 import site
@@ -92,17 +91,14 @@ def check(G, plan, bars=None, licence=None):
     network, order = text_of(G, bars, licence)
     if not isinstance(plan, collections.abc.Mapping):
         raise TypeError(f"a {type(plan).__name__} is no plan: a dict with the channel of each node is wanted")
-    known = set(order)
-    strange = [node for node in plan if node not in known]
-    if strange:
-        raise ValueError(f"the plan has {strange[0]!r}, which is no node of the graph")
-    numbers = {node: _whole(channel, f"the channel of {node!r}", licence is None) for node, channel in plan.items()}
-    real = _real(licence)
-    outside = [node for node in plan if real is not None and numbers[node] not in real]
-    if outside:
-        raise ValueError(f"{outside[0]!r} has channel {plan[outside[0]]!r}, which isn't in the licence")
-    rows = [f"{v} {numbers[node] if real is None else real[numbers[node]]}\n" for v, node in enumerate(order, 1)
-            if node in numbers]
+    number, counted, rows = {node: v for v, node in enumerate(order, 1)}, _counted(licence), []
+    for node, channel in plan.items():
+        if node not in number:
+            raise ValueError(f"the plan has {node!r}, which is no node of the graph")
+        own = counted(channel, f"the channel of {node!r}")
+        if own is None:
+            raise ValueError(f"{node!r} has channel {channel!r}, which isn't in the licence")
+        rows.append(f"{number[node]} {own}\n")
     return int(_called("forestplan", ["check"], f"{network}plan\n{''.join(rows)}", order).split()[1])
 
 
@@ -139,57 +135,52 @@ def transcript(G, bars=None, workers=2, identifiers=None):
 
 def text_of(G, bars=None, licence=None, identifiers=None, places=None):
     """The graph as the programs read it, and its nodes in the order of their numbers."""
-    pairs = _pairs(G)
+    pairs, counted = _pairs(G), _counted(licence)
     order = list(dict.fromkeys([*G, *(node for pair in pairs for node in pair)]))
     number = {node: v for v, node in enumerate(order, 1)}
-    for said in (bars, identifiers, places):
-        strange = [node for node in said or () if node not in number]
-        if strange:
-            raise ValueError(f"{strange[0]!r} is no node of the graph")
-    real = _real(licence)
-    barred = {node: {_whole(channel, f"a bar of {node!r}", real is None)
-                     for channel in _items(own, f"bars of {node!r}")} for node, own in (bars or {}).items()}
-    edges = {(min(pair), max(pair)) for pair in ((number[one], number[other]) for one, other in pairs)}
-    edges = sorted(edge for edge in edges if edge[0] != edge[1])
+    strange = [node for said in (bars, identifiers, places) for node in said or () if node not in number]
+    if strange:
+        raise ValueError(f"{strange[0]!r} is no node of the graph")
+    barred = {(number[node], counted(channel, f"a bar of {node!r}")) for node, own in (bars or {}).items()
+              for channel in _items(own, f"bars of {node!r}")}
+    edges = {tuple(sorted((number[one], number[other]))) for one, other in pairs if one != other}
     lines = [f"c at {number[node]} {x:.3f} {y:.3f}" for node, (x, y) in (places or {}).items()]
     lines += [f"c name {v} {' '.join(str(node).split())}" for v, node in enumerate(order, 1)]
     lines.append(f"p edge {len(order)} {len(edges)}")
     lines += [f"i {number[node]} {own}" for node, own in (identifiers or {}).items()]
-    lines += [f"b {number[node]} {channel if real is None else real[channel]}" for node, own in barred.items()
-              for channel in sorted(own) if real is None or channel in real]
-    lines += [f"e {v} {w}" for v, w in edges]
+    lines += [f"b {v} {channel}" for v, channel in sorted(barred, key=str) if channel is not None]
+    lines += [f"e {v} {w}" for v, w in sorted(edges)]
     return "\n".join(lines) + "\n", order
 
 
 def _pairs(G):
-    """The edges of a graph; what is neither of networkx nor a dict of lists is refused."""
+    """The edges of a graph; what is neither of networkx nor a dict of lists is refused, and so are neighbours that may
+    be none, or something else."""
     if callable(getattr(G, "edges", None)):
         return [(one, other) for one, other, *_ in G.edges()]
     if not isinstance(G, collections.abc.Mapping) or isinstance(G, collections.abc.Set):
-        raise TypeError(f"a {type(G).__name__} is no graph: a graph of networkx is wanted (Graph makes one of pairs, "
-                        "from_pandas_adjacency of a matrix), or a dict with the neighbours of each node")
+        raise _no_graph(f"a {type(G).__name__} is no graph")
     if G and COLUMNS.issuperset(G):
-        raise TypeError(f"a dict with {', '.join(map(repr, G))} is a table, and a dict with the neighbours of each "
-                        "node is wanted: networkx.Graph(zip(ONES, OTHERS)) is a graph of two columns")
-    pairs = [(one, other) for one in G for other in _items(G[one], f"neighbours of {one!r}")]
-    for one in G:
-        _see_neighbours(one, G[one], G)
+        raise _no_graph(f"a dict with {', '.join(map(repr, G))} is a table")
+    pairs = []
+    for one, several in G.items():
+        found = list(_items(several, f"neighbours of {one!r}"))
+        if len(found) == len(G) > 2 and all(isinstance(other, int) and other in (0, 1) for other in found):
+            raise _no_graph(f"the neighbours of {one!r} may be a row of a matrix")
+        for other in found:
+            value = several[other] if isinstance(several, collections.abc.Mapping) else True
+            if not isinstance(value, collections.abc.Mapping) and (not value or value != value):
+                raise _no_graph(f"the neighbour {other!r} of {one!r} has the value {value!r}, and may be none")
+            is_more = isinstance(other, tuple) and other[:1] and other[0] in G
+            if other != other or other not in G and (is_more or other in (None, "")):
+                raise _no_graph(f"a neighbour of {one!r} is {other!r}, which isn't the name of a node alone")
+            pairs.append((one, other))
     return pairs
 
 
-def _see_neighbours(one, several, G):
-    """Refuses neighbours that may be none, or something else: a row of a matrix, pairs with a weight, or no name."""
-    values = several.values() if isinstance(several, collections.abc.Mapping) else ()
-    if any(not isinstance(value, collections.abc.Mapping) and (not value or value != value) for value in values):
-        raise TypeError(f"some neighbours of {one!r} have the value 0 or none, and may be none: leave them out")
-    found = list(several)
-    if len(found) == len(G) > 2 and all(isinstance(other, int) and other in (0, 1) for other in found):
-        raise TypeError(f"the neighbours of {one!r} may be a row of a matrix: networkx.from_numpy_array makes a graph")
-    for other in found:
-        if isinstance(other, tuple) and other not in G and other and other[0] in G:
-            raise TypeError(f"a neighbour of {one!r} is {other!r}, a node and a weight: leave the weight out")
-        if other != other or other in (None, "") and other not in G:
-            raise TypeError(f"a neighbour of {one!r} is {other!r}, which names no node: leave it out")
+def _no_graph(what):
+    return TypeError(f"{what}: a graph of networkx is wanted, which has functions that make one of pairs, tables and "
+                     "matrices, or a dict with a list of the neighbours of each node")
 
 
 def _items(several, what):
@@ -199,27 +190,24 @@ def _items(several, what):
     return several
 
 
-def _whole(value, what, is_counted):
-    """A channel: a whole number, from 0 on, or if it `is_counted` from 1 on."""
-    try:
-        number = operator.index(value if not isinstance(value, bool) else None)
-    except TypeError:
-        raise TypeError(f"{what} is {value!r}, and has to be a whole number") from None
-    if not is_counted <= number <= 2048 + (not is_counted) * 10 ** 12:
-        raise ValueError(f"{what} is {number}, and channels count from {int(is_counted)} on")
-    return int(number)
+def _counted(licence):
+    """A function of a channel, and what it is: the one, counted from 1, that it is in the licence, or None; itself, if
+    there is no licence."""
+    def whole(value, what, least, most):
+        if isinstance(value, bool) or not hasattr(value, "__index__"):
+            raise TypeError(f"{what} is {value!r}, and has to be a whole number")
+        if not least <= value <= most:
+            raise ValueError(f"{what} is {value}, and channels count from {least} on")
+        return int(value)
 
-
-def _real(licence):
-    """The channel, counted from 1, of each real number of a licence, or None without one."""
     if licence is None:
-        return None
+        return lambda channel, what: whole(channel, what, 1, 2048)
     if isinstance(licence, (str, bytes)) or not isinstance(licence, collections.abc.Sequence):
         raise TypeError(f"the licence is {licence!r}, and has to be a list of whole numbers, in order of preference")
-    real = {_whole(channel, "a channel of the licence", False): k for k, channel in enumerate(licence, 1)}
+    real = {whole(channel, "a channel of the licence", 0, 10 ** 12): k for k, channel in enumerate(licence, 1)}
     if len(real) < len(licence):
         raise ValueError("the licence names a channel twice")
-    return real
+    return lambda channel, what: real.get(whole(channel, what, 0, 10 ** 12))
 
 
 def home():
