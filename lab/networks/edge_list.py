@@ -7,6 +7,7 @@ from collections.abc import Callable
 from dataclasses import dataclass, field
 
 from lab.networks.fields import shown
+from lab.words import counted
 from lab.wrong import Wrong, wrong_line
 
 # More bytes than a network within the limits needs in any form.
@@ -107,14 +108,12 @@ def with_clean_names(found: Listed, name: str) -> None:
             raise Wrong(f"{name}: two nodes have names that differ in blanks or in their kind of letters alone, as "
                         f"{shown(twin_of(cleaned))}: rename one of them")
         found.rename(lambda raw: cleaned.get(raw) or clean(raw))
-        count = "1 name" if len(mended) == 1 else f"{len(mended):,} names"
-        found.notes.append(f"{count} mended (blanks, invisible or composed letters), first at line {lines[mended[0]]}: "
-                           f"{shown(cleaned[mended[0]])}")
+        found.notes.append(f"{counted(len(mended), 'name')} mended (blanks, invisible or composed letters), first at "
+                           f"line {lines[mended[0]]}: {shown(cleaned[mended[0]])}")
     lost = [raw for raw in lines if "\ufffd" in raw]
     if lost:
-        count = "1 name has" if len(lost) == 1 else f"{len(lost):,} names have"
-        found.left_out.append(f"{count} a letter that another program lost, first at line {lines[lost[0]]}: "
-                              f"{shown(lost[0])}, so two names may have become one")
+        found.left_out.append(f"{counted(len(lost), 'name has', 'names have')} a letter that another program lost, first "
+                              f"at line {lines[lost[0]]}: {shown(lost[0])}, so two names may have become one")
     spoilt = next((raw for raw in lines if not raw.isascii() and SPOILT.search(raw)), None)
     if spoilt:
         raise wrong_line(name, lines[spoilt], f"`{shown(spoilt)}` was UTF-8, and another program took it for "
@@ -166,76 +165,53 @@ def bytes_of(stream: io.BufferedIOBase, name: str) -> bytes:
 
 
 def decoded(data: bytes, name: str) -> tuple[str, list[str], list[str]]:
-    """The text with line feeds as line ends, what had to be mended, and what was guessed, which --strict refuses."""
+    """The text with line feeds as line ends, what had to be mended, and what was guessed, which --strict refuses. It is
+    UTF-8, or in the encoding that XML says in its first line, or UTF-16; else western Windows, whose letters it has."""
     for head, what in NO_TEXT.items():
         if data.startswith(head):
             raise Wrong(f"{name}: it is no text but {what}")
-    notes, guessed = [], []
-    if data.startswith((codecs.BOM_UTF16_LE, codecs.BOM_UTF16_BE)):
-        try:
-            text = data.decode("utf-16")
-        except UnicodeDecodeError:
-            raise Wrong(f"{name}: it begins like UTF-16, and isn't: is it cut?") from None
-        notes.append("UTF-16 text")
-    else:
-        if data.startswith(codecs.BOM_UTF8):
-            notes.append("a byte order mark is left out")
-        text, encoding = as_declared(data, name)
-        if encoding:
-            notes.append(f"read as {encoding}")
-        if text is None:
-            refuse_both(data, name)
-            refuse_other_letters(data, name)
-            # Western Windows has Latin-1 with more letters, and some bytes are none.
-            try:
-                text, encoding = data.decode("cp1252"), "Windows-1252"
-            except UnicodeDecodeError:
-                text, encoding = data.decode("latin-1"), "Latin-1"
-            guessed.append(f"read as {encoding}, since it is no UTF-8")
+    declared = DECLARED.match(data) if not data.isascii() else None
+    encoding = declared[1].decode().lower() if declared else "utf-8"
+    encoding = "utf-16" if data.startswith((codecs.BOM_UTF16_LE, codecs.BOM_UTF16_BE)) else encoding
+    is_other, guessed = encoding not in ("utf-8", "utf8"), []
+    if is_other and is_utf8(data):
+        raise Wrong(f"{name}: its first line says {encoding}, and it is UTF-8: correct that line")
+    notes = [f"read as {encoding}"] if is_other else []
+    try:
+        text = data.decode(encoding if is_other else "utf-8-sig")
+    except (LookupError, UnicodeDecodeError):
+        if is_other:
+            raise Wrong(f"{name}: it begins like {encoding}, and can't be read so: is it cut?") from None
+        refuse_letters(data, name)
+        # Western Windows has Latin-1 with more letters, and some bytes are none.
+        encoding = "Latin-1" if re.search(rb"[\x81\x8d\x8f\x90\x9d]", data) else "Windows-1252"
+        text = data.decode(encoding)
+        guessed = [f"read as {encoding}, since it is no UTF-8"]
     if "\0" in text:
         raise Wrong(f"{name}: it has bytes of value zero, so it is no text")
+    if data.startswith(codecs.BOM_UTF8):
+        notes.append("a byte order mark is left out")
     text = text.replace("\r\n", "\n")
     if "\r" in text:
         notes.append("lines end with a carriage return alone")
-    text = text.replace("\r", "\n")
-    if text and not text.endswith("\n"):
+    if text and not text.endswith(("\n", "\r")):
         guessed.append(NO_END)
-    return text, notes, guessed
+    return text.replace("\r", "\n"), notes, guessed
 
 
-def as_declared(data: bytes, name: str) -> tuple[str | None, str]:
-    """The text as UTF-8, or in the encoding that XML says in its first line, which is named then; None if it is
-    neither."""
+def is_utf8(data: bytes) -> bool:
     try:
-        text = data.decode("utf-8-sig")
+        return bool(data.decode())
     except UnicodeDecodeError:
-        text = None
-    declared = DECLARED.match(data)
-    encoding = declared[1].decode().lower() if declared else "utf-8"
-    if encoding in ("utf-8", "utf8") or data.isascii():
-        return text, ""
-    if text is not None:
-        raise Wrong(f"{name}: its first line says {encoding}, and it is UTF-8: correct that line")
-    try:
-        return data.decode(encoding), f"{encoding}, as its first line says"
-    except (LookupError, UnicodeDecodeError):
-        raise Wrong(f"{name}: its first line says {encoding}, and it can't be read so") from None
+        return False
 
 
-def refuse_both(data: bytes, name: str) -> None:
-    """Refuses a text of which some lines are UTF-8 and others aren't: one name would have two spellings. That two
-    letters of Windows-1252 are one of UTF-8 by chance is rare."""
+def refuse_letters(data: bytes, name: str) -> None:
+    """Refuses a text of which some lines are UTF-8 and others aren't, since one name would have two spellings; and one
+    that has other letters than western Windows. That two of its letters are one of UTF-8 by chance is rare."""
     for number, line in enumerate(data.split(b"\n"), 1):
-        try:
-            is_both = not line.isascii() and bool(line.decode())
-        except UnicodeDecodeError:
-            is_both = False
-        if is_both:
+        if not line.isascii() and is_utf8(line):
             raise wrong_line(name, number, f"it is UTF-8, and other lines aren't: `{shown(line.decode().strip())}`")
-
-
-def refuse_other_letters(data: bytes, name: str) -> None:
-    """Refuses a text that isn't UTF-8 and has other letters than western Windows: its names would be others."""
     found = OTHER_LETTERS.search(data)
     if found:
         raise wrong_line(name, 1 + data.count(b"\n", 0, found.start()), "it is neither UTF-8 nor western Windows, but "

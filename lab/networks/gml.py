@@ -80,8 +80,10 @@ def read(text: str, name: str) -> Listed:
             if said.pop("isgroup", "") == "1":
                 groups.add(node)
             labels = [said.pop(word, "") for word in graph.words]
-            graph.node(line, node, {known: said[known] for known in said.keys() - {"graphics", "gid"}}, labels)
-            see_place(graph.found, node, entries)
+            drawn = next((value for _, known, value in entries if known == "graphics"), [])
+            place = {known: value for _, known, value in drawn} if isinstance(drawn, list) else {}
+            graph.node(line, node, {known: said[known] for known in said.keys() - {"graphics", "gid"}}, labels,
+                       (place.get("x"), place.get("y")))
         elif key == "edge":
             said = texts_of(entries, name, line, ("source", "target"))
             graph.edge(line, [said.pop(end, None) for end in ("source", "target")], said)
@@ -105,13 +107,3 @@ def refuse_others(tree: list, graph: list, name: str) -> None:
                 if key != "edge" and {"source", "target"} <= {known for _, known, _ in value}:
                     raise wrong_line(name, line, f"`{shown(key)} [` has source and target, and only an edge has")
                 below.append((value, value is graph))
-
-
-def see_place(found: Listed, node: str, entries: list) -> None:
-    """The place of `graphics [ x .. y .. ]`."""
-    drawn = next((dict(part[1:] for part in value) for _, key, value in entries
-                  if key == "graphics" and isinstance(value, list)), {})
-    try:
-        found.places[node] = float(drawn["x"]), float(drawn["y"])
-    except (KeyError, TypeError, ValueError):
-        pass

@@ -59,10 +59,9 @@ def read_graphml(text: str, name: str) -> Listed:
         if element.tag == "node":
             see_drawing(element, said)
             graph.node(at, element.get("id"), {key: said[key] for key in said.keys() - {"label", "name", "x", "y"}},
-                       [said.get(word) for word in graph.words])
+                       [said.get(word) for word in graph.words], (said.get("x"), said.get("y")))
             if element.find("graph") is not None:
                 groups.add(element.get("id"))
-            see_place(graph.found, element.get("id"), said)
         elif element.tag == "edge":
             graph.edge(at, ends_of(element), said)
     if any((part.text or "").strip() for part in root.findall(".//edge//EdgeLabel")):
@@ -79,13 +78,6 @@ def see_drawing(node: ElementTree.Element, said: dict[str, str]) -> None:
         elif part.tag == "Geometry":
             said.setdefault("x", part.get("x", ""))
             said.setdefault("y", part.get("y", ""))
-
-
-def see_place(found: Listed, node: str, said: dict[str, str]) -> None:
-    try:
-        found.places[node] = float(said["x"]), float(said["y"])
-    except (KeyError, ValueError):
-        pass
 
 
 def read_gexf(text: str, name: str) -> Listed:

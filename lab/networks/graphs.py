@@ -1,5 +1,7 @@
 """What the forms have in common that list nodes by an id and edges by two of them: what is refused of such a list, and
 what is counted since it isn't read."""
+import contextlib
+
 from lab.networks.edge_list import FLAGS, NOT, Listed
 from lab.networks.fields import Unread, shown, value_of
 from lab.networks.network_text import MAX_NODES
@@ -32,8 +34,9 @@ class Graph:
     def wrong(self, at: int, what: str) -> Wrong:
         return Wrong(f"{self.name} {self.place} {at}: {what}")
 
-    def node(self, at: int, node: str | None, said: dict, labels=()) -> None:
-        """A node, what its keys say that aren't read, and what it is called by each of the words."""
+    def node(self, at: int, node: str | None, said: dict, labels=(), place=(None, None)) -> None:
+        """A node, what its keys say that aren't read, what it is called by each of the words, and where it is, if these
+        are two numbers."""
         if not node or node in self.nodes:
             raise self.wrong(at, f"a second node {shown(node)}" if node else "a node without an id")
         if len(self.nodes) == MAX_NODES:
@@ -45,6 +48,8 @@ class Graph:
         for word, label in zip(self.words, labels):
             if label:
                 self.labels[word][node] = label
+        with contextlib.suppress(TypeError, ValueError):
+            self.found.places[node] = float(place[0]), float(place[1])
 
     def edge(self, at: int, ends: list, said: dict) -> None:
         """An edge of two ids, and what its keys say."""

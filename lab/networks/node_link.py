@@ -82,10 +82,8 @@ def read(text: str, name: str) -> Listed:
     known = [str(at) if by_place else one if one is None else word_of(one) for at, one in enumerate(ids)]
     for at, (node, one) in enumerate(zip(nodes, known), 1):
         label = next((word_of(node[key]) for key in ("label", "name") if type(node.get(key)) in (str, int)), "")
-        graph.node(at, one, said_of(node, OF_NODES), [label])
-        place = node.get("x"), node.get("y")
-        if all(isinstance(number, (int, float)) for number in place):
-            graph.found.places[one] = place
+        place = [node[key] if isinstance(node.get(key), (int, float)) else None for key in "xy"]
+        graph.node(at, one, said_of(node, OF_NODES), [label], place)
     for at, link in enumerate(links, 1 + len(nodes)):
         words = next((words for words in ENDS if words[0] in link), ENDS[0])
         ends = [link.get(word) for word in words]
