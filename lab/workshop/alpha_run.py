@@ -1,7 +1,6 @@
 """A run without a clock: the workshop holds the links and delivers one wire at a time. What the nodes put, take and
 make is written down with Lamport's stamps, and `forestplay replay` judges it."""
 from collections import deque
-from typing import NamedTuple
 
 from lab.schedules.policies import Policy, Step
 from lab.workshop.findings import Fault
@@ -13,24 +12,18 @@ from lab.workshop.right_rounds import RightRounds
 OWN_DATA = "its own data"
 
 
-class Wire(NamedTuple):
-    """`words` as a transcript has them; `stamp` is its put's stamp; `count`, how many puts there were, up to it."""
-    words: str
-    stamp: int
-    count: int
-
-
-class Link(deque[Wire]):
-    """The wires of a link; `step` is the take of the oldest."""
+class Link(Step):
+    """A link that isn't empty, as the step that takes its oldest wire. `wires` has of each its words as a transcript
+    has them, the stamp of its put, and how many puts there were, up to it."""
 
     def __init__(self, v: int, w: int):
-        super().__init__()
-        self.step = Step("take", w, v)
+        super().__init__("take", w, v)
+        self.wires: deque[tuple[str, int, int]] = deque()
 
     def renew(self) -> None:
         """Says of the step what the link holds now."""
-        if self:
-            self.step.wire, self.step.since, self.step.latest = self[0].words.split()[0], self[0].count, self[-1].count
+        (words, _, self.since), (_, _, self.latest) = self.wires[0], self.wires[-1]
+        self.wire = words.split()[0]
 
 
 class AlphaRun:
@@ -40,7 +33,7 @@ class AlphaRun:
 
     def __init__(self, rounds: RightRounds, policy: Policy):
         self.rounds, self.network, self.policy = rounds, rounds.network, policy
-        self.links = {(v, w): Link(v, w) for v in self.network.vertices for w in self.network.neighbours[v]}
+        self.links: dict[tuple[int, int], Link] = {}
         self.count, self.counters = 0, dict.fromkeys(self.network.vertices, 0)
         self.entries: list[Entry] = []
         self.results: dict[int, str] = {}
@@ -53,13 +46,16 @@ class AlphaRun:
             data = own_data(self.network, v, "alpha", self.rounds.forests, self.rounds.last)
             if not self.is_answered(nodes, v, data, OWN_DATA):
                 return
-        while len(self.entries) <= self.rounds.events and any(self.links.values()):
-            step = self.policy.choose([link.step for link in self.links.values() if link])
-            v, w, link = step.node, step.neighbour, self.links[step.link]
-            wire = link.popleft()
-            link.renew()
-            self.write(v, f"take {w} {wire.words}", wire.stamp)
-            line = f"take {self.rounds.ports[v][w]} {wire.words}"
+        while self.links and len(self.entries) <= self.rounds.events:
+            link = self.policy.choose(list(self.links.values()))
+            v, w = link.node, link.neighbour
+            words, stamp, _ = link.wires.popleft()
+            if link.wires:
+                link.renew()
+            else:
+                del self.links[w, v]
+            self.write(v, f"take {w} {words}", stamp)
+            line = f"take {self.rounds.ports[v][w]} {words}"
             if not self.is_answered(nodes, v, [line], f"`{line}`"):
                 return
         nodes.stop(PATIENCE)
@@ -88,8 +84,9 @@ class AlphaRun:
                 words = wire_of(line, wire, program)
                 self.write(v, f"put {w} {words}")
                 self.count += 1
-                self.links[v, w].append(Wire(words, self.counters[v], self.count))
-                self.links[v, w].renew()
+                link = self.links.setdefault((v, w), Link(v, w))
+                link.wires.append((words, self.counters[v], self.count))
+                link.renew()
             case fields if result := result_of(program, fields):
                 self.results[v] = result
             case _:
