@@ -5,7 +5,7 @@ import random
 from lab.definitions.colours import network_of, plan_text
 from lab.pictures import picture
 from tests.cases import Case, example, in_process
-from tests.programs.made_transcripts import made_transcript, transcript_text
+from tests.programs.made_transcripts import made_transcript, merged_text
 
 SEED = 2026
 ONE, EDGE, APART = b"p edge 1 0\n", b"p edge 2 1\ne 1 2\n", b"p edge 5 3\ne 1 2\ne 2 3\ne 1 3\n"
@@ -29,8 +29,14 @@ def circle_of(nodes):
 
 
 def transcript(network, seed, capacity=4):
+    """The text of a run, of edition 2."""
     net = network_of(network)
-    return transcript_text(len(net.neighbours), made_transcript(random.Random(f"{SEED} {seed}"), net, capacity))
+    return merged_text(len(net.neighbours), made_transcript(random.Random(f"{SEED} {seed}"), net, capacity))
+
+
+def fields_of(text):
+    """Of each entry its stamp, its vertex, its kind and further words."""
+    return [line.split(" ") for line in text.decode().splitlines()[1:]]
 
 
 class PictureCase(Case):

@@ -67,8 +67,6 @@ class Broken(PictureCase):
         for name, rule in (("petersen", "pair"), ("drops", "parent"), ("disk100", "children"), ("queen5_5", "earlier")):
             self.rule_rows(f"{name} without {rule}", RuledRounds(network_of(example(name)), [rule]),
                            f"examples/{name}.col", "--without", rule)
-        both = self.drawn("broken", None, "--without", "pair,earlier")
-        self.note("without two rules", "pair’ and ‘earlier" in both, both[:900])
 
     def rule_rows(self, name, rounds, *options):
         (self.forest_rows if rounds.clash.pulse else self.merge_rows)(name, rounds, *self.picture_of(*options))
@@ -133,5 +131,3 @@ class Broken(PictureCase):
                 "red nodes": (sorted(nearest(places, centre(mark)) for mark in marks(root, "wrong-node")), nodes),
                 "bars": (bool(marks(root, "bar")), rule == "bars"),
             })
-        twice = self.drawn("broken", None, "--program", "recolouring", "--passes", "2", "--without", "anew")
-        self.note("in two passes", "After pulse 22 the neighbours 1 and 2 both have channel 1" in twice, twice[-900:])

@@ -38,10 +38,12 @@ class Layout(PictureCase):
                     self.layout_rows(kind, name)
         for kind, name, *options in OTHERS:
             self.layout_rows(kind, name, *options)
+        for seed in range(4):
+            self.layout_rows("run", "triangle", seed=seed)
 
-    def layout_rows(self, kind, of, *options):
-        network, name = NETWORKS.get(of), " ".join(map(str, [kind, of, *options]))
-        picture = self.drawn(kind, network, *options, text=transcript(network, of) if kind in OF_RUNS else None)
+    def layout_rows(self, kind, of, *options, seed="layout"):
+        network, name = NETWORKS.get(of), " ".join(map(str, [kind, of, *options, seed]))
+        picture = self.drawn(kind, network, *options, text=transcript(network, seed) if kind in OF_RUNS else None)
         root = parsed(picture)
         wide, high = map(float, root.get("viewBox").split()[2:])
         found = [(element, shape) for element, shape in shapes(root)

@@ -11,7 +11,7 @@ from lab.definitions.rounds import rounds_text
 from tests import FORESTLAB, TOP
 from tests.cases import called, contents, example, examples, text_in
 from tests.pictures.base import APART, FORM, ONE, ROW, SEED, TRIANGLE, PictureCase, circle_of, painter, transcript
-from tests.pictures.marks import gap, parsed, texts
+from tests.pictures.marks import gap
 from tests.programs.made_transcripts import made_transcript, merged_text, transcript_text
 from tests.programs.schedules import text_of
 from tests.settings import PLAN, PLAY
@@ -19,17 +19,34 @@ from tests.settings import PLAN, PLAY
 OF_RUNS = [kind for kind, form in FORM.items() if form == "transcript"]
 PLAN_OF_PETERSEN = plan_text(example("petersen"))
 RUN_OF_APART, RUN_OF_PETERSEN = transcript(APART, "refused"), transcript(example("petersen"), "refused")
-LATE = merged_text(3, made_transcript(random.Random(SEED), network_of(TRIANGLE), 3)).replace(b"\n1 ", b"\n2 ", 1)
-MISSING = transcript(TRIANGLE, "missing").replace(b"\n1 pulse 5\n", b"\n")
+RUN_OF_TRIANGLE = transcript(TRIANGLE, "refused")
 LONG_STAR = b"p edge 64 63\n" + b"".join(b"e %d 64\n" % v for v in range(1, 64))
 # What rows name: networks and texts by the names of their files.
 FILES = {
     "net": APART, "row": ROW, "one": ONE, "none": b"p edge 0 0\n", "wrong": b"p edge 2 1\ne 1 1\n", "empty": b"",
     "star": LONG_STAR, "three": text_of("star of four").encode(), "all": text_of("all of four").encode(),
-    "five": b"p edge 5 1\ne 1 2\n", "run": RUN_OF_APART,
+    "five": b"p edge 5 1\ne 1 2\n", "run": RUN_OF_APART, "plan": PLAN_OF_PETERSEN, "short1": b"transcript 2 1\n",
     **{f"ring{nodes}": circle_of(nodes) for nodes in (13, 41, 101, 401, 2001)},
     **{f"short{nodes}": f"transcript 1 {nodes}\n".encode() for nodes in (13, 64, 101)},
 }
+# Words of a call, the text on standard input, and what is in the picture.
+SAID = [
+    ("--help", b"", "forestlab picture plan - <"),
+    ("plan - --plan {plan}", example("petersen"), "Channel plan of this network"),
+    ("overview {star} --transcript {short64}", b"", "the first 40 pulses of 205"),
+    ("overview {star} --transcript {short64} --pulses 0..99", b"", "neighbours are never more than one pulse apart"),
+    ("overview {star} --transcript {short64} --pulses 0..100", b"", "101 pulses, too many"),
+    ("results drops --program recolouring", b"", "2 channels; before there were 3."),
+    ("why barred --vertex 1 --text", b"", "\n  channel 1 is barred at it\n"),
+    ("why petersen --vertex 6 --text", b"", "\n4 told 3 colour 0 in pulse 10, in forest 0\n"),
+    ("why petersen --vertex 6", b"", "petersen: why node 6 has channel"),
+    ("watch {one} {short1}", b"", "<h1>one: a run without a clock</h1>"),
+    ("watch {net} -", RUN_OF_APART[:RUN_OF_APART.index(b"\n", 900) + 1],
+     "standard input ends before the nodes are through."),
+    ("broken --without pair,earlier", b"", "pair’ and ‘earlier"),
+    ("broken --program recolouring --passes 2 --without anew", b"",
+     "After pulse 22 the neighbours 1 and 2 both have channel 1"),
+]
 # Words of a call, the text on standard input, the status, and a part of the line that says why.
 REFUSED = [
     ("", b"", 2, "picture: error: "), ("plan", b"", 2, "picture plan: error: "), ("maps x", b"", 2, "invalid choice"),
@@ -73,7 +90,8 @@ REFUSED = [
     ("watch {net} a b c", b"", 1, "a page has room for two runs"),
     ("watch {net} {run} --pulses 3..99", b"", 1, "pulses 3 to 99 are not among 0"),
     ("watch two -", RUN_OF_APART, 1, "line 1: 5 nodes, and two has 2 (Nodes)"), ("watch two -", b"plan\n", 1, "X1"),
-    ("watch triangle -", LATE, 1, "WrongStamp"), ("watch triangle -", MISSING, 1, "WrongWire: node "),
+    ("watch triangle -", RUN_OF_TRIANGLE.replace(b"\n1 ", b"\n2 ", 1), 1, "WrongStamp"),
+    ("watch triangle -", re.sub(rb"\n\d+ 1 pulse 5\n", b"\n", RUN_OF_TRIANGLE), 1, "NothingToPut: "),
     *((f"{kind} petersen --plan -", text, 1, said) for kind in ("plan", "matrix") for text, said in (
         (b"", "(C6)"), (PLAN_OF_PETERSEN[:-5], "(C"), (PLAN_OF_PETERSEN + b"1 2\n", "(C"),
         (PLAN_OF_PETERSEN.replace(b"3 1", b"3 5"), "(C"))),
@@ -87,9 +105,12 @@ REFUSED = [
 class Pictures(PictureCase):
     needs_programs = True
 
-    def test_refused(self):
+    def test_said_and_refused(self):
         """Nothing is drawn, and one line says why; of words that are refused it is the last one."""
         paths = {name: self.file(name, data) for name, data in FILES.items()}
+        for words, given, said in SAID:
+            status, picture, fault = painter(*words.format(**paths).split(), data=given)
+            self.note(f"{words}: {said}", (status, fault) == (0, b"") and said in picture.decode(), fault)
         for words, given, status, said in REFUSED:
             done = painter(*words.format(**paths).split(), data=given)
             lines = done[2].decode().splitlines(keepends=True)
@@ -119,18 +140,8 @@ class Pictures(PictureCase):
             self.note(f"{kind} of a transcript with stamps", good and all("Lamport's clock" in line for line in others),
                       others[:3])
 
-    def test_captions(self):
-        """Of more pulses than can be followed the overview says how many they are."""
-        for pulses, said in (([], "the first 40 pulses of 205"), (["--pulses", "0..100"], "101 pulses, too many"),
-                             (["--pulses", "0..99"], "neighbours are never more than")):
-            root = parsed(self.drawn("overview", LONG_STAR, *pulses, text=FILES["short64"]))
-            self.note(f"overview of pulses {pulses}: {said}", said in texts(root)[-1], texts(root)[-1])
-
-    def test_standard_input(self):
+    def test_places(self):
         network = example("petersen")
-        done = painter("plan", "-", "--plan", self.file("text", PLAN_OF_PETERSEN), data=network)
-        self.note("a network on it", done[::2] == (0, b"") and b"Channel plan of this network" in done[1], done)
-        self.note("help names it", b"forestlab picture plan - <" in painter("--help")[1])
         plain = b"".join(line + b"\n" for line in network.split(b"\n") if not line.startswith(b"c at"))
         for data, said in ((network, b""), (plain, b""), (plain + b"c at 1 0 0\n", b"for 1 of 10 vertices")):
             done = self.called("plan", data)

@@ -1,5 +1,4 @@
 """Pictures of what nodes have found, read off their marks; each result is worked by hand."""
-from tests.cases import example
 from tests.pictures.base import ROW, TRIANGLE, PictureCase
 from tests.pictures.marks import SVG, centre, data_of, marks, pairs_joined, parsed, texts, titles, words
 
@@ -42,8 +41,6 @@ class Results(PictureCase):
             })
         root = parsed(self.drawn("results", TRIANGLE + b"b 2 1\nb 2 9\n", "--program", "recolouring"))
         self.same("bars", len(marks(root, "bar")), 2)
-        root = parsed(self.drawn("results", example("drops"), "--program", "recolouring"))
-        self.note("channels before", "2 channels; before there were 3." in texts(root), texts(root)[:3])
 
     def test_the_player_draws_the_same(self):
         """Partners; and channels in the circles, of a program whose nodes have some."""

@@ -9,11 +9,8 @@ from lab.definitions.rounds import rounds_text
 from lab.networks.named import network_text
 from lab.networks.network_text import read_network
 from lab.pictures.automaton_picture import usual as usual_of_node
-from lab.transcripts.check import find_order
-from lab.transcripts.reading import read
-from lab.transcripts.stamps import Clock
 from tests.cases import called, example
-from tests.pictures.base import EDGE, TRIANGLE, PictureCase, circle_of, transcript
+from tests.pictures.base import EDGE, TRIANGLE, PictureCase, circle_of, fields_of, transcript
 from tests.pictures.marks import SVG, centre, ends, marks, number, parsed, texts, title, titles, words
 from tests.programs.made_transcripts import entries_of, transcript_text
 from tests.settings import PLAN
@@ -50,44 +47,22 @@ def begins_and_tip(group):
     return ends(group)[0], ends(group.find(f"{SVG}path"))[0]
 
 
-def times_of(network, text):
-    """{(vertex, pulse): length of the longest chain of entries that ends with it}, along an order that the text can
-    have."""
-    net = network_of(network)
-    clock, found = Clock(net.neighbours), {(v, 0): 0 for v in net.neighbours}
-    for entry in find_order(net, read(text)[1]).made:
-        time = clock.next(entry.kind, entry.vertex, entry.neighbour)
-        if entry.kind == "Pulse":
-            found[entry.vertex, entry.what] = time
-    return found
-
-
-class Replayed:
-    """A transcript replayed by the definitions: each step that it makes with the pulse of its node, and of one node the
-    pulse, the entry and the levels of its ports after each entry."""
-
-    def __init__(self, network, text, watched):
-        net = network_of(network)
-        state, (_, entries) = NetState(net), read(text)
-        self.steps, self.moments = [], []
-        for entry in find_order(net, entries).made:
-            node, v = state.nodes[entry.vertex], entry.vertex
-            port = None if entry.neighbour is None else state.port_to[v, entry.neighbour]
-            before = [stage_of(node), *map(level_of, node.ports)]
-            state.step(entry.kind, v, port)
-            after, p = [stage_of(node), *map(level_of, node.ports)], node.pulse_number
-            cause = "pulse" if entry.kind == "Pulse" else entry.what[0].lower()
-            if entry.kind == "Pulse":
-                self.steps += [(p, f"{a} to {b} by {cause}") for a, b in zip(before, after)]
-            elif entry.kind == "Take":
-                moved = [0] * (before[0] != after[0]) + [port + 1] * (cause in ("payload", "safe"))
-                self.steps += [(p, f"{before[at]} to {after[at]} by {cause}") for at in moved]
-            if v == watched:
-                self.moments.append((p, entry, after[1:]))
-
-    def between(self, first, last):
-        """How often each step is made in some pulses."""
-        return Counter(step for p, step in self.steps if first <= p <= last)
+def replayed(network, text, watched):
+    """What the entries of a run do by the definitions: (pulse, step) of each step of a node or a port, and of one node
+    its pulse, the entry's kind and wire, and the levels of its ports after it."""
+    state, steps, moments = NetState(network_of(network)), [], []
+    for _, v, kind, *more in fields_of(text):
+        node, port = state.nodes[int(v)], None if kind == "pulse" else state.port_to[int(v), int(more[0])]
+        before = [stage_of(node), *map(level_of, node.ports)]
+        state.step(kind.title(), int(v), port)
+        after, p, cause = [stage_of(node), *map(level_of, node.ports)], node.pulse_number, (more[1:2] or [kind])[0]
+        moved = range(len(after)) if kind == "pulse" else []
+        if kind == "take":
+            moved = [0] * (before[0] != after[0]) + [port + 1] * (cause in ("payload", "safe"))
+        steps += [(p, f"{before[at]} to {after[at]} by {cause}") for at in moved]
+        if int(v) == watched:
+            moments.append((p, kind, cause, after[1:]))
+    return steps, moments
 
 
 def stage_of(node):
@@ -164,29 +139,25 @@ class Runs(PictureCase):
         """A few pulses: below, each payload that is put in them goes from its putter's row and pulse to its taker's row
         and the next pulse."""
         picture = self.drawn("run", network, *pulses((first, last)), text=text)
-        root, entries = parsed(picture), [entry for own in entries_of(text).values() for entry in own]
-        lower = marks(root, "lower")[0]
+        lower = marks(parsed(picture), "lower")[0]
         slots = [(x, y + 8) for (x, y), _ in map(ends, marks(lower, "slot"))]
         columns, rows = (sorted({slot[axis] for slot in slots}) for axis in (0, 1))
-        nodes = len(entries_of(text))
-        arrows = {title(group): begins_and_tip(group) for group in marks(lower, "round")}
-        puts = [(int(v), int(w), int(more[0]), f"{v} to {w}: payload {' '.join(more)}")
-                for v, kind, w, *more in entries if kind == "put" and more.pop(0) == "payload"]
+        puts = [(int(v), int(more[0]), int(more[2]), f"{v} to {more[0]}: {' '.join(more[1:])}")
+                for _, v, kind, *more in fields_of(text) if kind == "put" and more[1] == "payload"]
         self.facts(f"window of {name}", {
-            "ticks": (len(marks(root, "tick")), nodes * (first == 0) + sum(
-                entry[1] == "pulse" and first <= int(entry[2]) <= last + 1 for entry in entries)),
-            "bands": (len(marks(root, "band")), last - first + 1),
             "a slot for each node and pulse": (sorted(slots), [(x, y) for x in columns for y in rows]),
-            "as many": ((len(columns), len(rows)), (last - first + 2, nodes)),
-            "payloads": (arrows, {said: ((columns[p - first], rows[v - 1]), (columns[p - first + 1], rows[w - 1]))
-                                  for v, w, p, said in puts if first <= p <= last}),
+            "as many": ((len(columns), len(rows)), (last - first + 2, len(network_of(network).neighbours))),
+            "payloads": ({title(group): begins_and_tip(group) for group in marks(lower, "round")}, {
+                said: ((columns[p - first], rows[v - 1]), (columns[p - first + 1], rows[w - 1]))
+                for v, w, p, said in puts if first <= p <= last}),
         })
         return picture[picture.index('<g class="lower"'):]
 
     def overview_rows(self, name, network, text, window=None):
         """All pulses, or some: their ticks and the next pulse's, as far apart as their times; other pulses' ticks are
         grey."""
-        last, times = last_pulse(network_of(network)), times_of(network, text)
+        last, times = last_pulse(network_of(network)), {(v, 0): 0 for v in network_of(network).neighbours}
+        times |= {(int(v), int(more[0])): int(stamp) for stamp, v, kind, *more in fields_of(text) if kind == "pulse"}
         first, final = window or usual(last)
         root = parsed(self.drawn("overview", network, *pulses(window), text=text))
         wanted = sorted((v, times[v, p]) for v, p in times if first <= p <= final + 1)
@@ -205,29 +176,29 @@ class Runs(PictureCase):
         })
 
     def node_rows(self, name, network, text, v, window):
-        replayed, last = Replayed(network, text, v), last_pulse(network_of(network))
+        (steps, moments), last = replayed(network, text, v), last_pulse(network_of(network))
         for asked in (None, window):
             root, shown = parsed(self.drawn("node", network, *pulses(asked), text=text)), Counter()
             for step, count in (words.rsplit(": ", 1) for words in titles(root, "step")):
                 shown[step] += int(count)
             # The drawing has an arrow for each step that can be; `Counter` compares steps made no time as absent.
-            self.note(f"automaton of {name}, pulses {asked}", shown == replayed.between(*asked or (0, last)), shown)
+            first, final = asked or (0, last)
+            self.note(f"automaton of {name}, pulses {first} to {final}",
+                      shown == Counter(step for p, step in steps if first <= p <= final), shown)
         root = parsed(self.drawn("node", network, "--vertex", v, *pulses((0, 4)), text=text))
-        moments = [moment for moment in replayed.moments if moment[0] <= 4]
+        moments = [moment for moment in moments if moment[0] <= 4]
         shown = [(ends(mark)[0][0], "pulse", None, None) for mark in marks(root, "tick")] + [
             (centre(dot)[0], title(group), dot.get("fill"), dot.get("stroke"))
             for group in marks(root, "put", "take") for dot in group.iter(f"{SVG}circle")]
-        wanted = [("pulse", None, None) if entry.kind == "Pulse" else (
-            f"take {wire}", HUES[wire], None) if entry.kind == "Take" else (f"put {wire}", "#FFFFFF", HUES[wire])
-            for entry in (entry for _, entry, _ in moments)
-            for wire in [entry.what[0].lower() if entry.kind != "Pulse" else None]]
+        wanted = [["pulse", None, None] if kind == "pulse" else [
+            f"{kind} {wire}", *((HUES[wire], None) if kind == "take" else ("#FFFFFF", HUES[wire]))]
+            for _, kind, wire, _ in moments]
         lanes = [[float(y) for y in re.findall(r"(?:M [0-9.]+|V) ([0-9.]+)", lane.get("d"))]
                  for lane in marks(root, "lane")]
         heights = [[high for high, before in zip(own, [None, *own]) if high != before] for own in zip(*(
-            [safes + paid / 2 for safes, paid in levels] for _, _, levels in moments))]
+            [safes + paid / 2 for safes, paid in levels] for *_, levels in moments))]
         self.facts(f"timing of {name}", {
-            "its entries; what is taken is full, what is put a ring": ([mark for _, *mark in sorted(shown)],
-                                                                       [[*mark] for mark in wanted]),
+            "its entries; what is taken is full, what is put a ring": ([mark for _, *mark in sorted(shown)], wanted),
             "its lanes": ([[round(own[0] + (ys[0] - y) / 17, 1) for y in ys] for ys, own in zip(lanes, heights)],
                           heights),
             "a lane for each port": (len(lanes), len(heights)),
@@ -242,8 +213,8 @@ class Runs(PictureCase):
         """A tally's bars and title, beside the transcript of a whole run."""
         last = last_pulse(net)
         first, final = window or usual(last)
-        counts = Counter((entry[3], last if entry[3] == "close" else int(entry[4]))
-                         for own in entries_of(text).values() for entry in own if entry[1] == "put")
+        counts = Counter((more[1], last if more[1] == "close" else int(more[2]))
+                         for _, _, kind, *more in fields_of(text) if kind == "put")
         groups = marks(root, *WIRES)
         shown = [re.fullmatch(r"pulse (\d+): (\w+) (\d+)", title(group)).groups() for group in groups]
         heights = [number(group[1], "height") for group in groups]
@@ -269,8 +240,8 @@ class Runs(PictureCase):
         is 12 + 3 · 3 · (3 + 200 + 1)."""
         network = example("petersen") + b"".join(b"b 1 %d\n" % channel for channel in range(1, 201))
         net = network_of(network)
-        last, text = last_pulse(net), transcript_by(network, 1).decode()
-        rows = [row.partition(" ")[2] for row in text.splitlines()[1:]]
+        last, stamped = last_pulse(net), transcript_by(network, 1)
+        rows = [" ".join(row) for _, *row in fields_of(stamped)]
 
         def by_vertex(rows):
             return transcript_text(10, {v: [row for row in rows if row.startswith(f"{v} ")] for v in net.neighbours})
@@ -295,7 +266,7 @@ class Runs(PictureCase):
             root = parsed(self.drawn(kind, network, *options, text=given))
             self.note(f"{kind} {options[2:]} of a long run: {said}", said in " ".join(texts(root)), texts(root)[:3])
             if kind == "tally":
-                self.tally_marks(f"a long run, by {'text' if given else 'rounds'}", root, net, text,
+                self.tally_marks(f"a long run, by {'text' if given else 'rounds'}", root, net, stamped,
                                  (0, last) if options[2:] else None)
         wrong = by_vertex([re.sub(r"^(5 put \d+ safe) 20$", r"\1 21", row) for row in rows])
         status, picture, _ = self.called("overview", network, text=wrong)

@@ -3,7 +3,6 @@
 What is read here is the page's table. It is compared with the transcript's own lines, counted: a node waits for the
 acknowledgements of the payloads that it put and hasn't had, and so on. Nothing comes from lab/pictures."""
 import os
-import random
 from unittest import mock
 
 from lab.definitions.colours import colours, network_of
@@ -15,19 +14,8 @@ from lab.schedules.policies import Policy
 from lab.schedules.simulate import Player, edges_of, text_of_rows
 from tests import TOP
 from tests.cases import example
-from tests.pictures.base import ONE, PictureCase, painter
+from tests.pictures.base import PictureCase, fields_of, transcript
 from tests.pictures.marks import data_of
-from tests.programs.made_transcripts import made_transcript, merged_text
-
-
-def run_of(name, seed):
-    """The text of a run of an example."""
-    net = network_of(example(name))
-    return merged_text(len(net.neighbours), made_transcript(random.Random(seed), net, 3))
-
-
-def fields_of(text):
-    return [line.split(" ") for line in text.decode().splitlines()[1:]]
 
 
 class Counted:
@@ -78,7 +66,7 @@ class Watch(PictureCase):
     def test_rows(self):
         """The page's rows are the text's lines, and what a node is after each is what its lines say."""
         for name in ("two", "triangle", "barred", "star", "petersen"):
-            text, net = run_of(name, f"watch {name}"), network_of(example(name))
+            text, net = transcript(example(name), f"watch {name}"), network_of(example(name))
             page, lines = self.page(name, text), fields_of(text)
             run, nodes = data_of(page)["runs"][0], {v: Counted(ws, last_pulse(net)) for v, ws in net.neighbours.items()}
             wrong, last, links = [], {}, {}
@@ -113,7 +101,7 @@ class Watch(PictureCase):
         self.assertEqual((len(rows), rows), (866, sorted(rows, key=lambda row: row[:2])))
 
     def test_pulses(self):
-        text = run_of("petersen", "pulses")
+        text = transcript(example("petersen"), "pulses")
         whole, part = (self.table("petersen", text, options=words) for words in ([], ["--pulses", "3..5"]))
         whole, run = whole["runs"][0], part["runs"][0]
         # What the nodes are before the first row, and the wires that are on their way, come from the rows before.
@@ -127,15 +115,9 @@ class Watch(PictureCase):
                 wire[:2] + wire[4:5] for wire in whole["wires"] if wire[3] < at <= wire[5])),
         })
 
-    def test_cut_text(self):
-        """A text that ends early is drawn as far as it goes, and says so."""
-        lines = run_of("triangle", "cut").splitlines(keepends=True)
-        status, page, _ = painter("watch", "triangle", "-", data=b"".join(lines[:200]))
-        self.assertEqual((status, len(data_of(page.decode())["runs"][0]["rows"])), (0, 199))
-        self.assertIn("standard input ends before the nodes are through.", page.decode())
-
     def test_a_run_that_is_too_long_says_how_to_see_the_rest(self):
-        network, text = read_network(example("triangle").decode(), "triangle"), run_of("triangle", "long").decode()
+        network = read_network(example("triangle").decode(), "triangle")
+        text = transcript(example("triangle"), "long").decode()
         for most, pulses, is_said in ((20_000, None, False), (100, None, True), (100, (3, 4), False)):
             with self.subTest(most=most, pulses=pulses), mock.patch.object(watch_page, "MOST_ENTRIES", most):
                 run = Run("triangle", network, steps_of_text("triangle", network, text, pulses), pulses)
@@ -162,13 +144,9 @@ class Watch(PictureCase):
         self.same(f"a player of {name}", (ours.table(), ours.pulses, ours.is_whole),
                   (wanted.table(), wanted.pulses, wanted.is_whole))
 
-    def test_title(self):
-        page = self.drawn("watch", ONE, self.file("run", b"transcript 2 1\n"))
-        self.assertIn("<h1>net: a run without a clock</h1>", page)
-
     def test_same_rounds(self):
         """Two runs beside each other: a pulse of both is where a node makes it last."""
-        runs = [run_of("petersen", f"two {k}") for k in "ab"]
+        runs = [transcript(example("petersen"), f"two {k}") for k in "ab"]
         table, last = self.table("petersen", *runs), last_pulse(network_of(example("petersen")))
         self.assertEqual((table["same"], sum(map(len, table["sent"]))), ([True] * (last + 1), 269))
         for run, text in zip(table["runs"], runs):
@@ -180,7 +158,7 @@ class Watch(PictureCase):
 
     def test_a_run_that_is_cut(self):
         """Of a text that ends early the last moment is its end."""
-        one, other = (run_of("triangle", f"cut {k}") for k in "ab")
+        one, other = (transcript(example("triangle"), f"cut {k}") for k in "ab")
         lines = one.splitlines(keepends=True)
         at = next(at for at, line in enumerate(lines) if line.endswith(b" pulse 5\n"))
         page = self.page("triangle", b"".join(lines[:at + 1]), other)
