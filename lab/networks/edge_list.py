@@ -112,8 +112,8 @@ def with_clean_names(found: Listed, name: str) -> None:
                            f"line {lines[mended[0]]}: {shown(cleaned[mended[0]])}")
     lost = [raw for raw in lines if "\ufffd" in raw]
     if lost:
-        found.left_out.append(f"{counted(len(lost), 'name has', 'names have')} a letter that another program lost, first "
-                              f"at line {lines[lost[0]]}: {shown(lost[0])}, so two names may have become one")
+        found.left_out.append(f"{counted(len(lost), 'name has', 'names have')} a letter that another program lost, "
+                              f"first at line {lines[lost[0]]}: {shown(lost[0])}, so two names may have become one")
     spoilt = next((raw for raw in lines if not raw.isascii() and SPOILT.search(raw)), None)
     if spoilt:
         raise wrong_line(name, lines[spoilt], f"`{shown(spoilt)}` was UTF-8, and another program took it for "

@@ -10,6 +10,7 @@ from lab.wrong import Wrong
 from tests.cases import Case
 from tests.programs.foreign_texts import (as_csv, as_dot, as_gml, as_graphml, as_json, as_metis, beside, excuses,
                                           found_in)
+from tests.programs.foreign_forms import named_pairs
 from tests.programs.foreign_texts import graph_of as any_graph
 
 TEXTS, SEED = 25, 20261130
@@ -170,7 +171,7 @@ def plain(writer, *changes):
 NEAR = (
     ("a colon without a blank", PLAIN, neighbours("{}:", " ")),
     *((f"{before!r} before commas", ALL, neighbours(before, ", ", last=last))
-      for before, last in (("{}: ", ""), ("{} -> ", ""), ("{}: [", "]"), ("{} = [", "]"))),
+      for before, last in (("{}: ", ""), ("{} -> ", ""), ("{}: [", "]"))),
     ("neighbours with a bar between them", ALL, neighbours("{},", "|")),
     ("neighbours in one field", (CELLS, *NUMBERS), lambda nodes, pairs, source: "source,target\n" + "".join(
         f"{node},{' '.join(ones)}\n" for node, ones in beside(nodes, pairs, True).items() if ones)),
@@ -222,9 +223,8 @@ NEAR = (
     *((f"two pairs a line {between!r} {inside!r}", PLAIN, two(between, inside)) for between, inside in (
         (" ", "-"), (", ", ":"), (" ", "="), ("\t", "/"), (";", "\u2013"), (" ", "->"))),
     *((f"a mark {form!r}", ALL, each(form)) for form in (
-        "- {a},{b}", "* {a},{b}", "\u2022 {a},{b}", "1. {a},{b}", "+{a},{b}", ">{a},{b}", "@{a},{b}", "{a},{b}*",
-        "{a},{b}.", "{a},{b}\u00b0", "{a},{b}^1", "{a},{b}\\", "**{a}**,**{b}**", '="{a}",="{b}"', "{a},{b} {w} km",
-        "{a},{b}@{w}", "{a},{b}={w}")),
+        "- {a},{b}", "\u2022 {a},{b}", "1. {a},{b}", "+{a},{b}", "{a},{b}*", "{a},{b}.", "{a},{b}^1", '="{a}",="{b}"',
+        "{a},{b} {w} km", "{a},{b}@{w}", "{a},{b}={w}")),
     *((f"numbers {form!r}", NUMBERS, each(form)) for form in (
         "{a}.0,{b}.0", "+{a} +{b}", "'{a},'{b}", "{a} 2.5 {b}", "0.5;{a};{b}")),
     *((f"numbers and a weight {form!r}", NUMBERS, each(form)) for form in ("{w},{a},{b}", "{a} {w} {b}")),
@@ -289,14 +289,11 @@ NEAR = (
     *((f"{name} {there!r} or {other!r}", WORDS, of_all(writer, mark, there, other, *key))
       for name, writer, mark, there, other, *key in (
           *(("JSON of all pairs", as_json, WEIGHT, there, other) for there, other in (
-              (WEIGHT, '"weight": 0'), (WEIGHT, '"hidden": true'), ('"id": 1', '"present": ""'),
-              ('"id": 1', '"present": null'))),
+              (WEIGHT, '"weight": 0'), (WEIGHT, '"hidden": true'), ('"id": 1', '"present": ""'))),
           *(("JSON with", as_json, WEIGHT, there, other) for there, other in (
-              (WEIGHT, '"weight": -1'), (WEIGHT, '"on": false'), (WEIGHT, '"kind": "far"'),
-              ('"status": "active"', '"status": "removed"'), ('"near": "yes"', '"near": "no"'))),
+              (WEIGHT, '"on": false'), (WEIGHT, '"kind": "far"'), ('"near": "yes"', '"near": "no"'))),
           ("GraphML of all pairs", as_graphml, ">2<", ">2<", ">0<"),
-          *(("GraphML of all pairs", as_graphml, ">2<", there, other, "interferes")
-            for there, other in ((">yes<", ">no<"), (">1<", ">0<"))),
+          ("GraphML of all pairs", as_graphml, ">2<", ">yes<", ">no<", "interferes"),
           ("GraphML of all pairs", as_graphml, '<data key="w">2</data>', "", '<data key="w"></data>', "present"),
           *(("GML of all pairs", as_gml, "edge [", f"edge [ {there}", f"edge [ {other}") for there, other in (
               ("weight 1", "weight 0"), ("near 1", "near 0"), ("", 'present ""\n'))),
@@ -352,16 +349,24 @@ COUNTED = (
     '{"nodes": [{"id": "A"}, {"id": "B"}], "links": [{"source": "A", "target": "B", "key": "removed"}]}',
     '<graphml><key id="d" for="edge" yfiles.type="edgegraphics"/><graph><node id="A"/><node id="B"/><edge source="A" '
     'target="B"><data key="d"><E><EdgeLabel>removed</EdgeLabel></E></data></edge></graph></graphml>')
-# Texts that programs write and that are read with nothing left out but a column of numbers of the rows.
-WRITTEN = (
-    ",source,target\n0,Ulm,Aue\n1,Aue,Hof\n", "from to\n1 Ulm Aue\n2 Aue Hof\n",
-    '"from" "to"\n"1" "Ulm" "Aue"\n"2" "Aue" "Hof"\n',
-    "  source target\n0    Ulm    Aue\n1    Aue    Hof\n")
-# Names with a mark that lists have, too, and no part that is another node: they are read, and counted.
-WITH_MARKS = (
-    ("source,target\nUlm,Smith & Co\nHof,Aue\nA/B,Ulm\n", 1),
-    ("source,target\nUlm,Smith & Co\nWald & Sons,Aue\n", 1), ("source,target\nUlm,Aue\nHof,Aue\n", 0),
-    ("von;nach\nUlm;Berg+Wald\nHof;Aue\n", 1), ("Aue,Ulm\nUlm,Berg und Wald\nHof,Aue\n", 1),
+# Texts that are read as these edges, with so much left out: as programs write them, with a column of numbers of the
+# rows; with a mark that lists have, and no part that is another node; and without the end of the last line.
+READ = (
+    *((text, "Ulm-Aue Aue-Hof", 1) for text in (
+        ",source,target\n0,Ulm,Aue\n1,Aue,Hof\n", "from to\n1 Ulm Aue\n2 Aue Hof\n",
+        '"from" "to"\n"1" "Ulm" "Aue"\n"2" "Aue" "Hof"\n', "  source target\n0    Ulm    Aue\n1    Aue    Hof\n")),
+    ("Site A,Site B\nCelle,Ulm\nUlm,Hof\n", "Celle-Ulm Ulm-Hof", 0),
+    ("source target\n   s3    s2\n   s3  rtr.b\n", "s3-s2 s3-rtr.b", 0),
+    ("source;target\nap18;sw2\ncore01;edge.1\nap18;edge.1\ncore01;rtr.a\n",
+     "ap18-sw2 core01-edge.1 ap18-edge.1 core01-rtr.a", 1),
+    ("source,target\nUlm,Smith & Co\nHof,Aue\nA/B,Ulm\n", "Ulm-Smith_&_Co Hof-Aue A/B-Ulm", 1),
+    ("source,target\nUlm,Smith & Co\nWald & Sons,Aue\n", "Ulm-Smith_&_Co Wald_&_Sons-Aue", 1),
+    ("source,target\nUlm,Aue\nHof,Aue\n", "Ulm-Aue Hof-Aue", 0),
+    ("von;nach\nUlm;Berg+Wald\nHof;Aue\n", "Ulm-Berg+Wald Hof-Aue", 1),
+    ("Aue,Ulm\nUlm,Berg und Wald\nHof,Aue\n", "Aue-Ulm Ulm-Berg_und_Wald Hof-Aue", 1),
+    ('{"nodes": [{"name": 10}, {"name": 13}, {"name": 17}], "links": [{"source": 0, "target": 2}]}\n', "10-17", 0),
+    ("Ulm,Aue\nAue,Hof", "Ulm-Aue Aue-Hof", 1), ("Ulm,Aue\nAue,Hof\n", "Ulm-Aue Aue-Hof", 0),
+    ("p edge 2 1\ne 1 2", "12", 1), ("graph { a -- b }", "ab", 0),
 )
 # Tables of sites, and of bars if there are some, that have more than is read, or less: each is refused.
 TABLES = (
@@ -457,33 +462,16 @@ class NearTexts(Case):
         self.note("most with quotes are read", min(read.values()) > TEXTS // 2, read)
 
     def test_texts(self):
-        """Of each text: it is refused, or so much is left out."""
+        """Of each text: it is refused, or read with so much left out."""
         for kind, texts in (("refused", REFUSED), ("counted", COUNTED)):
             for text in texts:
                 found, left_out = found_in(text.encode())
                 good = found is None if kind == "refused" else found is not None and len(left_out) == 1
                 self.note(f"{kind}: {text!r}", good, (found, left_out))
-        for text, count in WITH_MARKS:
+        for text, edges, count in READ:
             found, left_out = found_in(text.encode())
-            is_headed = text.startswith(("source", "von"))
-            self.note(f"read: {text!r}", found and len(found[0]) == text.count("\n") - is_headed and [
-                " may be a list" in what for what in left_out] == [True] * count, (found, left_out))
-
-    def test_written(self):
-        for text in WRITTEN:
-            found, left_out = found_in(text.encode())
-            wanted = frozenset((frozenset(("Ulm", "Aue")), frozenset(("Aue", "Hof"))))
-            self.note(f"written: {text!r}", found == (wanted, frozenset()) and len(left_out) == 1, (found, left_out))
-        for text in ("Site A,Site B\nCelle,Ulm\nUlm,Hof\n", "source target\n   sw3    sw2\n   sw3  rtr-b\n"):
-            found, left_out = found_in(text.encode())
-            self.note(f"written: {text!r}", found and len(found[0]) == 2 and not left_out, (found, left_out))
-        named_twice = "source;target\nap18;sw2\ncore01;edge-1\nap18;edge-1\ncore01;rtr-a\n"
-        self.note("names that come twice below a heading", found_in(named_twice.encode())[0] is not None)
-
-    def test_numbers_as_names(self):
-        """A node's name in JSON may be a number."""
-        text = b'{"nodes": [{"name": 10}, {"name": 13}, {"name": 17}], "links": [{"source": 0, "target": 2}]}'
-        self.note("numbers as names", found_in(text)[0] == ({frozenset(("10", "17"))}, {"13"}), found_in(text))
+            good = found and found[0] == named_pairs(edges) and len(left_out) == count
+            self.note(f"read: {text!r}", good, (found, left_out))
 
     def test_tables(self):
         for name, *tables in TABLES:
@@ -516,14 +504,6 @@ class NearTexts(Case):
         for name, *tables in COUNTED_TABLES:
             found = of_tables(*tables, reach=3)
             self.note(f"counted: {name}", len(made_of(found, "sites")[2]) == 1, found.left_out)
-
-    def test_cut(self):
-        """A list without the end of its last line may be cut inside a name; JSON ends with a bracket."""
-        for text, count in ((b"Ulm,Aue\nAue,Hof", 1), (b"Ulm,Aue\nAue,Hof\n", 0), (b"p edge 2 1\ne 1 2", 1),
-                            (as_dot(["a", "b"], [("a", "b")]).strip().encode(), 0)):
-            left_out = found_in(text)[1]
-            said = [what for what in left_out if "its last line has no line end" in what]
-            self.note(f"a line without its end: {text!r}", len(said) == count, left_out)
 
     def test_pairs_within_the_reach(self):
         """A pair that is within the reach, too, isn't an edge that comes twice."""
