@@ -8,6 +8,10 @@ VERTICES, EDGES = [1, 2, 3], [(1, 2), (2, 3)]
 # Links 2-1, 1-2 and 2-3 hold wires, and node 3 can make a pulse: put first is the safe, last the second wire of 2-1.
 STEPS = [Step("take", 1, 2, "ack", 3, 9), Step("take", 2, 1, "safe", 1, 1), Step("take", 3, 2, "payload", 4, 4),
          Step("pulse", 3, 0, "", 2, 2)]
+# By policy, which of the steps it chooses: of all, or by the edge or the node that the seed chose.
+RIGHT = {"random": {0, 1, 2, 3}, "newest": {0}, "oldest": {1}, "late-acks": {1, 2, 3}, "late-safes": {0, 2, 3},
+         "in-turn": {0, 1, 2, 3}, "slow-link": {(1, 2): {2, 3}, (2, 3): {0, 1, 3}},
+         "slow-node": {1: {1, 2, 3}, 2: {0, 2, 3}, 3: {0, 1}}, "fast-node": {1: {0}, 2: {1}, 3: {2, 3}}}
 
 
 def chosen(name, seed="1", count=60, steps=STEPS):
@@ -19,23 +23,19 @@ class Policies(Case):
     needs_programs = False
 
     def test_by_their_rules(self):
-        for name, right in (("random", {0, 1, 2, 3}), ("newest", {0}), ("oldest", {1}), ("late-acks", {1, 2, 3}),
-                            ("late-safes", {0, 2, 3})):
-            self.same(name, set(chosen(name)[1]), right)
-
-    def test_a_slow_link_a_slow_node_and_a_fast_one(self):
-        for seed in map(str, range(6)):
-            with self.subTest(seed=seed):
-                policy, steps = chosen("slow-link", seed)
-                self.assertEqual(set(steps), {2, 3} if policy.chosen == (1, 2) else {0, 1, 3})
-                policy, steps = chosen("slow-node", seed)
-                self.assertEqual({STEPS[step].node for step in steps}, {1, 2, 3} - {policy.chosen})
-                policy, steps = chosen("fast-node", seed)
-                self.assertEqual({STEPS[step].node for step in steps}, {policy.chosen})
+        """And the same seed chooses the same."""
+        for name, right in RIGHT.items():
+            for seed in map(str, range(6)):
+                policy, steps = chosen(name, seed)
+                wanted = right[policy.chosen] if isinstance(right, dict) else right
+                self.same(f"{name} {seed}", (set(steps), steps), (wanted, chosen(name, seed)[1]))
+        self.assertNotEqual(chosen("random", "7")[1], chosen("random", "8")[1])
 
     def test_what_waits_comes_if_nothing_else_can(self):
         for name in POLICIES:
             self.same(name, set(chosen(name, steps=STEPS[:1])[1]), {0})
+        # A network without edges has no slow link.
+        self.assertEqual(Policy("slow-link", [1], [], "1").choose([Step("pulse", 1)]).node, 1)
 
     def test_bursts_stay_on_a_link_and_turns_go_round(self):
         policy = Policy("bursts", VERTICES, EDGES, "1")
@@ -51,12 +51,3 @@ class Policies(Case):
         for names, runs in ((NETWORKS.split(","), "120"), (["two"], "10")):
             pairs = [(case.network.name, case.policy) for case in cases_of(options_of("alpha", *names, "--runs", runs))]
             self.assertEqual(sorted(pairs), sorted((name, policy) for name in names for policy in POLICIES))
-
-    def test_the_same_seed_chooses_the_same(self):
-        for name in POLICIES:
-            self.same(name, chosen(name, "7")[1], chosen(name, "7")[1])
-        self.assertNotEqual(chosen("random", "7")[1], chosen("random", "8")[1])
-
-    def test_a_network_without_edges_has_no_slow_link(self):
-        policy = Policy("slow-link", [1], [], "1")
-        self.assertEqual(policy.choose([Step("pulse", 1)]).node, 1)
