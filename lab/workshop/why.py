@@ -108,12 +108,12 @@ class Why:
     def in_forest(self, p: int, forest: int) -> str:
         """Its colour in a forest before a pulse, its parent there, and its children."""
         up, colours = self.up.get(forest), self.first.colours
-        said = [f"it had {in_digits(colours[p - 1][self.v][forest])}"] if p > 2 else []
+        said = [f"it had {in_digits(p, colours[p - 1][self.v][forest])}"] if p > 2 else []
         if up is None:
             said.append("it is a root")
         else:
             came = self.first.inbox(p, self.v).get(up)
-            sent = f" and sent {in_digits(int(came.split()[1]))}" if came else ""
+            sent = f" and sent {in_digits(p, int(came.split()[1]))}" if came else ""
             said.append(f"its parent is by port {up}{sent}")
         children = [port for port, f in sorted(self.forest_by.items()) if f == forest and port != up]
         have = f" and have {colours[p - 2][self.v][forest]}" if p in DROPPED else ""
@@ -138,5 +138,6 @@ class Why:
         return ", ".join(last_of(said)) or "nothing has come"
 
 
-def in_digits(number: int) -> str:
-    return f"{number} (binary {number:b})" if number < SHORT else str(number)
+def in_digits(p: int, number: int) -> str:
+    """A colour; in the pulses of bit steps with its digits."""
+    return f"{number} (binary {number:b})" if 3 <= p <= 6 and number < SHORT else str(number)

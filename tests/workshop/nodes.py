@@ -76,12 +76,12 @@ OTHERS = {
         "layers_port": (2, 3, "result", 3, "by the least port by which it comes; if none comes, in none"),
     },
     "matching": {
-        "matching_again": (2, 16, "WrongWire", 16, "; in forest 0 it had 1 (binary 1), its parent is by port 1 and its "
+        "matching_again": (2, 16, "WrongWire", 16, "; in forest 0 it had 1, its parent is by port 1 and its "
                            "children are by port 0; it sent `free 0` by port 1 in pulse 13, `free 0` came by port 0 in "
                            "pulse 14, `take 0` came by port 1 in pulse 15, `free 0` came by port 0 in pulse 16"),
         "matching_all": (1, 13, "NothingToPut", 13, "pulse 13 is the first of the turn of colour 0 in forest 0: a node "
                          "without a partner sends `free 0` to its parent in this forest, and nothing else is sent; in "
-                         "forest 0 it had 0 (binary 0), its parent is by port 0 and it has no child; nothing has come"),
+                         "forest 0 it had 0, its parent is by port 0 and it has no child; nothing has come"),
         "matching_turn": (2, 14, "WrongWire", 14, "pulse 14 is the second of the turn of colour 0 in forest 0"),
         "matching_untold": (3, 14, "NothingToPut", 14, "its children are by port 1; `free 0` came by port 1 in pulse"),
         # Up to the cut the words are those of the colouring.

@@ -27,13 +27,13 @@ OF_ROW = (
                         "and it has no child"),
     (1, 3, {"forest": 0}, "in forest 0 it had 7 (binary 111), its parent is by port 1 and sent 11 (binary 1011) and "
                           "its children are by port 0"),
-    (3, 7, {"forest": 0}, "in forest 0 it had 1 (binary 1), it is a root and its children are by port 0"),
-    (2, 8, {"forest": 0}, "in forest 0 it had 5 (binary 101), its parent is by port 0 and sent 1 (binary 1) and it has "
+    (3, 7, {"forest": 0}, "in forest 0 it had 1, it is a root and its children are by port 0"),
+    (2, 8, {"forest": 0}, "in forest 0 it had 5, its parent is by port 0 and sent 1 and it has "
                           "no child"),
     (1, 8, {"port": 0}, "drop of 5: who has 5 takes the least of 0, 1, 2 that neither its parent nor its children "
                         "have; these have what it had itself before the shift. In pulse 12 nothing is sent, before "
-                        "that its children get it; in forest 0 it had 1 (binary 1), its parent is by port 1 and sent "
-                        "0 (binary 0) and its children are by port 0 and have 5"),
+                        "that its children get it; in forest 0 it had 1, its parent is by port 1 and sent "
+                        "0 and its children are by port 0 and have 5"),
     (1, 12, {}, "nodes choose in the pulses after 12 alone"),
 )
 
@@ -55,9 +55,9 @@ class Words(Case):
                "in forest 0 it had {}, {}; it had merged colour 0; {}"
         above, below = "its parent is by port 0 and it has no child", "it is a root and its children are by port 0"
         for v, p, colour, own, links, rest in (
-            (1, 13, 0, "0 (binary 0)", above, "nothing has come"),
-            (2, 13, 0, "1 (binary 1)", below, "nothing has come"),
-            (2, 15, 1, "1 (binary 1)", below, "`chosen 0` came by port 0 in pulse 14"),
+            (1, 13, 0, "0", above, "nothing has come"),
+            (2, 13, 0, "1", below, "nothing has come"),
+            (2, 15, 1, "1", below, "`chosen 0` came by port 0 in pulse 14"),
         ):
             self.same(f"node {v} in pulse {p}", Why(rounds, v).of(p), turn.format(p, colour, own, links, rest))
         self.assertEqual(rounds.results, {1: "channel 1", 2: "channel 2"})
