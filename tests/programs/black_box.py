@@ -10,6 +10,7 @@ from lab.definitions.colours import forests_text, plan_text
 from tests import TOP
 from tests.cases import Case, called, contents, example, examples, text
 from tests.commands import COMMANDS, EDGE, HELPS, PROGRAMS, TRIANGLE, commands_of
+from tests.programs.slow_reader import answer_to
 from tests.settings import PATHS, PLAN, SECOND_PLAN
 from tests.shell import run_line
 
@@ -117,9 +118,11 @@ class BlackBox(Case):
             self.note(f"comment of {name}", network.startswith(b"c ") or not name.startswith("example"))
 
     def says(self, name, data, said):
+        """The verdict of `check`, and of the reader of plans of the commands."""
         wanted = (0, f"{said}\n".encode(), b"") if said.startswith("proper") else (
             1, b"", f"forestplan: {said}\n".encode())
         self.same(name, called(PLAN, "check", data=data), wanted)
+        self.same(f"{name} by the slow reader", answer_to("check", data), wanted)
 
     def test_verdicts(self):
         for data, said in WORKED_VERDICTS:
