@@ -1,10 +1,9 @@
 """Tables of sites beside the pairs of a network: names, places, identifiers, and channels that are barred by name."""
-import math
 import re
-from dataclasses import dataclass
+from typing import NamedTuple
 
 from lab.networks.edge_list import Listed, clean, note_alike
-from lab.networks.fields import shown, whole
+from lab.networks.fields import shown, value_of, whole
 from lab.networks.network_text import IDENTIFIERS, MAX_BARS, MAX_CHANNEL, MAX_EDGES, MAX_NODES
 from lab.networks.places import Point, across_of, near, on_ground, on_map
 from lab.networks.site_doubts import check_marks, refuse_far, refuse_maps, refuse_names, refuse_no_place, refuse_units
@@ -13,14 +12,12 @@ from lab.words import counted
 from lab.wrong import Wrong
 
 
-@dataclass
-class Places:
+class Places(NamedTuple):
     """The places of a table's rows: the headings of both numbers, what makes kilometres of them, or None if they are
-    degrees; of each row what it says, its numbers, and a point by which distances are measured, if it has a place."""
+    degrees; of each row that has a place its numbers, and a point by which distances are measured."""
 
     titles: tuple[str, str]
     unit: float | None
-    said: list[list[str]]
     numbers: list[tuple[float, float] | None]
     points: list[Point | None]
 
@@ -39,14 +36,12 @@ def places_of(found: Table, read: list[int]) -> Places | None:
         found.left_out.append(f"{found.name}: places by {first} and {second}, not by {' and '.join(pairs[1][:2])}")
     read += found.columns([title for pair in pairs for title in pair[:2]])
     refuse_maps(found, read)
-    columns = found.columns((first, second))
-    said = [[fields[at] for at in columns] for _, fields in found.rows]
-    places = Places((first, second), *unit or [None], said, [], [])
-    for (line, _), fields in zip(found.rows, said):
-        place = place_in(found, line, fields, not unit)
-        places.numbers.append(place)
-        places.points.append(place and (on_ground(*place) if not unit else (*(part * unit[0] for part in place), 0.0)))
-    there = [place for place in places.numbers if place]
+    said = [[fields[at] for at in found.columns((first, second))] for _, fields in found.rows]
+    numbers = [place_in(found, line, fields, not unit) for (line, _), fields in zip(found.rows, said)]
+    points = [place and (on_ground(*place) if not unit else (*(part * unit[0] for part in place), 0.0))
+              for place in numbers]
+    places = Places((first, second), *unit or [None], numbers, points)
+    there = list(filter(None, numbers))
     if there and not unit:
         (south, north), (west, east) = ((min(parts), max(parts)) for parts in zip(*there))
         found.notes.append(f"the sites of {found.name} are at {south:g} to {north:g} degrees north, {west:g} to "
@@ -61,7 +56,7 @@ def place_in(found: Table, line: int, said: list[str], is_globe: bool) -> tuple[
     """The numbers of a row's place; None if it says nothing of it."""
     if not any(said):
         return None
-    place = tuple(number_of(field) for field in said)
+    place = tuple(map(value_of, said))
     if None in place:
         raise found.wrong(line, f"no place: `{shown(' '.join(said))}`; two numbers are wanted, without separators of "
                           "thousands")
@@ -69,15 +64,6 @@ def place_in(found: Table, line: int, said: list[str], is_globe: bool) -> tuple[
     if is_globe and not (-90 <= place[0] <= 90 and -180 <= place[1] <= 360):
         raise found.wrong(line, f"no latitude and longitude in degrees: `{shown(' '.join(said))}`; are they exchanged?")
     return place
-
-
-def number_of(field: str) -> float | None:
-    """A number with a point, or with a comma as spreadsheets write it; None for another word."""
-    try:
-        number = float(field.replace(",", ".") if field.count(",") == 1 else field)
-    except ValueError:
-        return None
-    return number if math.isfinite(number) else None
 
 
 def names_for(found: Table, columns: list[int], wanted: set[str]) -> list[str]:
@@ -138,7 +124,7 @@ def with_sites(found: Listed, data: bytes, name: str, reach: float | None) -> No
     if places:
         there = {one: place for one, place in zip(names, places.numbers) if place}
         found.places = on_map(there) if places.unit is None else {
-            one: (x * places.unit, -y * places.unit) for one, (x, y) in there.items()}
+            one: (x, -y) for one, (x, y, _) in zip(there, filter(None, places.points))}
     if reach is not None:
         join_near(found, sites, places, reach)
 
