@@ -8,15 +8,11 @@ from lab.networks.network_text import (
     IDENTIFIERS, MAX_BARS, MAX_CHANNEL, MAX_NODES, SKIPPED, Reading, fields_of, shown, whole)
 from lab.wrong import Wrong, wrong_line
 
-BEGINS = re.compile(r"^[ \t]*(p[ \t]+[a-z]+[ \t]+[0-9]+|p[ \t]+[0-9]+[ \t]+[0-9]+|e[ \t]+[0-9]+[ \t]+[0-9]+)\b", re.M)
+EDGE = re.compile(r"^[ \t]*(p[ \t]+[a-z]+[ \t]+[0-9]+|p[ \t]+[0-9]+[ \t]+[0-9]+|e[ \t]+[0-9]+[ \t]+[0-9]+)\b", re.M)
 
 # The words after `p` that the programs read, those of texts that are networks, too, and those of others.
 ALIKE = (None, "sp", "tw", "max", "min", "ds", "vc", "cep", "mat", "graph")
 WORDS, OTHERS = ("edge", "edges", "col"), ("cnf", "wcnf", "sat", "td", "htd", "fhtd")
-
-
-def begins(text: str) -> bool:
-    return BEGINS.search(text) is not None
 
 
 def read(text: str, name: str) -> Listed:

@@ -14,16 +14,11 @@ NAME = r"-?(?:\.[0-9]+|[0-9]+(?:\.[0-9]*)?)(?![\w.])|[^\W\d]\w*"
 # One pass over the text: whichever of these begins first at a place is there.
 TOKEN = re.compile(rf"(?P<space>{SPACE}+)|(?P<mark>--|->|[{{}}\[\];,:=])|(?P<quoted>{QUOTED})|(?P<html><)|"
                    rf'(?P<name>{NAME})|(?P<cut>/\*|")|(?P<strange>[^\s{{}}\[\];,:="<]+|.)', re.S)
-BEGINS = re.compile(rf"{SPACE}*+(?:strict\b{SPACE}*+)?(?:di)?graph\b{SPACE}*+(?:{QUOTED}|{NAME})?{SPACE}*+\{{",
-                    re.S | re.I)
+BEGINS = rf"{SPACE}*+(?:strict\b{SPACE}*+)?(?:di)?graph\b{SPACE}*+(?:{QUOTED}|{NAME})?{SPACE}*+\{{"
 COMPASS = {"n", "ne", "e", "se", "s", "sw", "w", "nw", "c", "_"}
 WORDS = {"node", "edge", "graph", "digraph", "subgraph", "strict"}
 # No file that a person or a program writes has as many edges between two subgraphs.
 MOST_EDGES = 4 * MAX_EDGES
-
-
-def begins(text: str) -> bool:
-    return BEGINS.match(text) is not None
 
 
 def tokens_of(text, name):

@@ -6,16 +6,22 @@ from lab.networks import dimacs, dot, gml, graphml, matrix_market, node_link, ro
 from lab.networks.edge_list import Listed
 from lab.wrong import Wrong
 
+
+def at_start(pattern: str):
+    """Whether a text begins so."""
+    return re.compile(pattern, re.I | re.S | re.M).match
+
+
+XML = r"\s*(<.{0,4096}?)?<%s\b"
 # How a text of each form begins and its reader, in the order in which they are tried.
 READERS = {
-    "graphml": (graphml.BEGINS["graphml"].match, graphml.read_graphml), "json": (node_link.begins, node_link.read),
-    "matrixmarket": (matrix_market.begins, matrix_market.read), "gml": (gml.begins, gml.read),
-    "dot": (dot.begins, dot.read), "dimacs": (dimacs.begins, dimacs.read),
-    "gexf": (graphml.BEGINS["gexf"].match, graphml.read_gexf),
-    "pajek": (small_forms.BEGINS["pajek"].match, small_forms.read_pajek),
-    "leda": (small_forms.BEGINS["leda"].match, small_forms.read_leda),
-    "graph6": (small_forms.BEGINS["graph6"].match, small_forms.read_graph6),
-    "sparse6": (small_forms.BEGINS["sparse6"].match, small_forms.read_sparse6),
+    "graphml": (at_start(XML % "graphml"), graphml.read_graphml), "json": (at_start(r"\s*\{"), node_link.read),
+    "matrixmarket": (at_start(r"\s*%%matrixmarket"), matrix_market.read), "gml": (at_start(gml.BEGINS), gml.read),
+    "dot": (at_start(dot.BEGINS), dot.read), "dimacs": (dimacs.EDGE.search, dimacs.read),
+    "gexf": (at_start(XML % "gexf"), graphml.read_gexf),
+    "pajek": (at_start(r"\*(vertices|network)\b"), small_forms.read_pajek),
+    "leda": (at_start(r"leda\.graph"), small_forms.read_leda), "graph6": (at_start(">>graph6<<"), small_forms.read_graph6),
+    "sparse6": (at_start(r">>sparse6<<|:[?-~]+$"), small_forms.read_sparse6),
 }
 # Before these lines of comment may be.
 COMMENTED = ("gexf", "pajek", "leda", "graph6", "sparse6")
@@ -38,7 +44,7 @@ def listed(text: str, name: str, form: str | None, heading: bool | None) -> List
                          if begins(bare if known in COMMENTED else text)), None)
     if form in READERS:
         return READERS[form][1](text, name)
-    what = next((what for head, what in UNREAD if re.match(head, bare, re.I | re.S | re.M)), None)
+    what = next((what for head, what in UNREAD if at_start(head)(bare)), None)
     if form is None and what:
         raise Wrong(f"{name}: it looks like {what}, which isn't read; with networkx, nx.write_graphml(G, FILE) writes "
                     "what is read")

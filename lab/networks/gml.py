@@ -7,19 +7,13 @@ from lab.networks.fields import shown
 from lab.networks.graphs import Graph
 from lab.wrong import Wrong, wrong_line
 
-BEGINS = re.compile(
-    r"\s*(#[^\n]*\n\s*)*((creator|version|comment|directed|label)\s+(\"[^\"]*\"|[0-9.]+)\s+)*graph\s*\[", re.I
-)
+BEGINS = r"\s*(#[^\n]*\n\s*)*((creator|version|comment|directed|label)\s+(\"[^\"]*\"|[0-9.]+)\s+)*graph\s*\["
 TOKEN = re.compile(r'(?P<space>\s+|#[^\n]*)|(?P<mark>[\[\]])|"(?P<string>[^"]*)"|(?P<word>[^\s\[\]"#]+(?=[\s\[\]"]|$))|'
                    r'(?P<strange>.)', re.S)
 
 
 class Quoted(str):
     """A text that was in quotes."""
-
-
-def begins(text: str) -> bool:
-    return BEGINS.match(text) is not None
 
 
 def tokens_of(text: str):

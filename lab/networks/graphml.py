@@ -1,5 +1,4 @@
 """A network in XML: GraphML, as networkx, yEd, Gephi and igraph write it, and GEXF."""
-import re
 from xml.etree import ElementTree
 
 from lab.networks.edge_list import Listed
@@ -7,7 +6,6 @@ from lab.networks.fields import Unread
 from lab.networks.graphs import Graph
 from lab.wrong import Wrong
 
-BEGINS = {form: re.compile(rf"\s*<.{{0,4096}}?<{form}\b|\s*<{form}\b", re.S | re.I) for form in ("graphml", "gexf")}
 # Elements and keys of GEXF of edges that come and go.
 TIMES = {"start", "end", "spell", "spells", "startopen", "endopen", "timestamp"}
 

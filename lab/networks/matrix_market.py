@@ -11,10 +11,6 @@ FIELDS = {"pattern": 2, "integer": 3, "real": 3, "complex": 4}
 SYMMETRIES = ("general", "symmetric", "skew-symmetric", "hermitian")
 
 
-def begins(text: str) -> bool:
-    return text.lstrip()[:len(HEAD)].lower() == HEAD
-
-
 def read(text: str, name: str) -> Listed:
     """The entries that aren't zero as edges; a node for each row."""
     rows = [(line, raw.split()) for line, raw in enumerate(text.split("\n"), 1) if raw.strip()]

@@ -18,10 +18,6 @@ OF_GRAPHS = {"directed", "multigraph", "graph", "nodes", *LINKS}
 OF_NODES = {"id", "key", "label", "name", "x", "y", "index"}
 
 
-def begins(text: str) -> bool:
-    return text.lstrip().startswith("{")
-
-
 def word_of(value) -> str:
     """A node's id as a name: a text stays, a number or a list is what JSON writes of it."""
     return value if isinstance(value, str) else json.dumps(value)

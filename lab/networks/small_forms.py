@@ -6,9 +6,6 @@ from lab.networks.fields import is_number, shown, whole
 from lab.networks.graphs import Graph
 from lab.wrong import Wrong, wrong_line
 
-# How a text of each form begins.
-BEGINS = {"pajek": re.compile(r"\*(vertices|network)\b", re.I), "leda": re.compile(r"leda\.graph", re.I),
-          "graph6": re.compile(r">>graph6<<"), "sparse6": re.compile(r">>sparse6<<|:[?-~]+$", re.M)}
 # A vertex of Pajek: its number, its name, and its place or its shape.
 VERTEX = re.compile(r'(\S+)\s+("[^"\\]*"|[^\s"\'\\]+)(\s+([-+.\d]|(ellipse|box|diamond|triangle|cross|empty)\b).*)?')
 
