@@ -20,7 +20,8 @@ READERS = {
     "dot": (at_start(dot.BEGINS), dot.read), "dimacs": (dimacs.EDGE.search, dimacs.read),
     "gexf": (at_start(XML % "gexf"), graphml.read_gexf),
     "pajek": (at_start(r"\*(vertices|network)\b"), small_forms.read_pajek),
-    "leda": (at_start(r"leda\.graph"), small_forms.read_leda), "graph6": (at_start(">>graph6<<"), small_forms.read_graph6),
+    "leda": (at_start(r"leda\.graph"), small_forms.read_leda),
+    "graph6": (at_start(">>graph6<<"), small_forms.read_graph6),
     "sparse6": (at_start(r">>sparse6<<|:[?-~]+$"), small_forms.read_sparse6),
 }
 # Before these lines of comment may be.

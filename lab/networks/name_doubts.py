@@ -37,7 +37,6 @@ NOTHING = MISSING | {"true", "false", "wahr", "falsch", "nil", "dto", "dto.", "d
                      "id.", "yes", "no", "ja", "nein", "ok", "on", "off", "self", "nobody", "isolated", "see above"}
 # A value with its unit, or a time.
 VALUE = re.compile(r"[-+]?\d[\d.,]*\s?(km|m|mi|[kmg]?hz|dbm?|%|ms|min|h|w)|([01]?\d|2[0-3]):[0-5]\d:[0-5]\d", re.I)
-TIME = re.compile(r"([01]?\d|2[0-3]):[0-5]\d")
 
 
 class Pairs:
@@ -75,8 +74,6 @@ def doubts_of_names(pairs: Pairs) -> Iterator[tuple[int, str]]:
         core = end.lstrip("0") or "0" if end.isdecimal() else re.sub(r"^\W+|[\W_]+$", "", end)
         if seen.setdefault(core, end) != end and core:
             yield line, f"`{shown(end)}` may be `{shown(seen[core])}` with a mark"
-    if all(map(TIME.fullmatch, pairs.lines)):
-        yield pairs.rows[0][0], "all names may be times"
     if pairs.others and (has_more(pairs.ones, pairs.others) or has_more(pairs.others, pairs.ones) or are_pairs(
             [JOINED.fullmatch(end) for end in pairs.lines])):
         yield pairs.rows[0][0], "its names may be pairs, or have more than a name, as all of their column have"
