@@ -33,6 +33,14 @@ class Run:
         else:
             self.payloads, self.how, self.is_bound = most_payloads(network), "--payloads counts them", True
         self.wires = 2 * self.payloads + 2 * len(network.edges) * (self.last + 1)
+        # Of a transcript; a line has two vertices, a pulse, and words of 13 letters.
+        self.lines = 2 * self.wires + network.nodes * self.last + 1
+        self.letters = 2 * digits(network.nodes) + digits(self.last) + 13
+
+
+def digits(most):
+    """How many digits the numbers from 0 to the greatest have on average."""
+    return len("".join(map(str, range(most + 1)))) / (most + 1)
 
 
 def rounds_here(network):

@@ -3,6 +3,12 @@ from lab.networks.costs import Run, times
 from lab.words import counted
 
 
+def size(count):
+    """Bytes, to two digits."""
+    unit, name = next(it for it in ((1e9, "GB"), (1e6, "MB"), (1e3, "kB"), (1, "bytes")) if count >= it[0])
+    return f"{float(f'{count / unit:.2g}'):g} {name}"
+
+
 def facts(reading, network, is_counted):
     """(name, what) of each line that `tell` prints."""
     run = Run(network, is_counted)
@@ -25,7 +31,7 @@ def facts(reading, network, is_counted):
          f"{run.forests:,}, so the last pulse is 12 + 3 * {run.forests:,} * {network.channels:,} = {run.last:,}"),
         ("payloads", f"{most}{run.payloads:,}; {run.how}"),
         ("wires", f"{most}2 * {run.payloads:,} + 2 * {edges:,} * {run.last + 1:,} = {run.wires:,}"),
-        ("transcript", f"{most}{2 * run.wires + network.nodes * run.last + 1:,} lines"),
+        ("transcript", f"{most}{run.lines:,} lines, about {size(run.lines * run.letters)} without stamps"),
         ("time", times(run)),
     ]
 

@@ -328,6 +328,7 @@ class OwnNetworks(Case):
                 "wires": [2, payloads, 2, edges, last + 1, wires],
                 "transcript": [1 + len(degrees) * last + 2 * wires],
             }
+            got["transcript"] = got["transcript"][:1]
             self.note(f"tell of {name}", {key: got.get(key) for key in wanted} == wanted, (told, wanted))
             self.note(f"tell of {name}: no warning", warned == b"", warned)
             self.note(f"tell of {name}: the time", told["time"] == "less than a second", told)
@@ -338,6 +339,14 @@ class OwnNetworks(Case):
         for data in (b"p edge 2 1\ne 1 2\n", b"p edge 2 2\ne 1 2\ne 2 1\n", b"p edge 3 2\ne 1 2\ne 2 1\ne 2 3\ne 3 2\n",
                      b"p edge 0 0\n"):
             self.note(f"not warned of {data}", self.told_of(data)[1] == b"")
+
+    def test_bytes(self):
+        """Those of a transcript, within a tenth of one that is written."""
+        for data in (example("petersen"), example("queen5_5"), self.written("ring", 1000)):
+            count, unit = re.search(r"about ([\d.]+) (bytes|kB|MB)", self.told_of(data)[0]["transcript"]).groups()
+            told = float(count) * {"bytes": 1, "kB": 1e3, "MB": 1e6}[unit]
+            there = len(called(PLAN, "transcript", "--edition", "1", data=data)[1])
+            self.note(f"the bytes of a transcript of {len(data)}", 0.9 < told / there < 1.1, (told, there))
 
     def test_bounds(self):
         """What `network tell` says without the program of a network that is too large to be worked out: of a smaller
