@@ -78,13 +78,8 @@ def answering(*lines: str) -> list[str]:
                                         f"print({text!r}, end='', flush=True)"]
 
 
-def command_line(*words: str) -> list[str]:
-    """The command itself."""
-    return [*DOOR, *words]
-
-
 def call(*words: str, **more) -> subprocess.CompletedProcess:
-    return subprocess.run(command_line(*words), capture_output=True, text=True, timeout=LIMIT, **more)
+    return subprocess.run([*DOOR, *words], capture_output=True, text=True, timeout=LIMIT, **more)
 
 
 @functools.cache

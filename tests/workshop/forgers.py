@@ -12,7 +12,7 @@ import unittest
 
 from lab.workshop.guard import USERS, Guard, give, kept_in
 from tests.shell import wait_until
-from tests.workshop.base import LIMIT, call, command_line, played
+from tests.workshop.base import DOOR, LIMIT, call, played
 from tests.workshop.misbehaving import MARK, left, left_at_last
 
 BEGIN = """\
@@ -106,7 +106,7 @@ class Forgers(unittest.TestCase):
 
     def test_nor_if_the_workshop_is_killed(self):
         """The nodes themselves end with it."""
-        words = command_line("rounds", "two", *PYTHON, f"import time; time.sleep({MARK})", MARK)
+        words = [*DOOR, "rounds", "two", *PYTHON, f"import time; time.sleep({MARK})", MARK]
         workshop = subprocess.Popen(words, stdout=subprocess.PIPE)
         wait_until(lambda: len(left()) > 2, LIMIT, 0.001)       # the workshop's own words have the mark, too
         workshop.send_signal(signal.SIGKILL)
@@ -117,8 +117,8 @@ class Forgers(unittest.TestCase):
         """Of an ordinary user; of root the system counts none. It forks until it may not, and no longer."""
         more = ("n = 0\ntry:\n    while n < 4000:\n        if os.fork() == 0:\n            time.sleep(%s)\n"
                 "        n += 1\nexcept OSError:\n    pass\n") % MARK
-        words = command_line("rounds", "path1", "--timeout", "20", "--", "python3", "-S", "-c",
-                             program({"started": "n < 1000"}, more))
+        words = [*DOOR, "rounds", "path1", "--timeout", "20", "--", "python3", "-S", "-c",
+                 program({"started": "n < 1000"}, more)]
         user = {"user": USERS[0], "group": USERS[0], "extra_groups": []} if os.geteuid() == 0 else {}
         done = subprocess.run(words, capture_output=True, text=True, timeout=LIMIT, cwd="/", **user)
         self.assertEqual((done.returncode, got(done.stdout)), (1, {"started": "True"}), done)
