@@ -114,22 +114,6 @@ def entries_of(text):
     return found
 
 
-def mixed_text(source, nodes, lines):
-    """As it may be written too: vertices in any order, each with its entries in its own order, and in an odd layout."""
-    order = [v for v in lines for _ in lines[v]]
-    source.shuffle(order)
-    own = {v: iter(lines[v]) for v in lines}
-    rows = ["", f" transcript 1\t0{nodes}\r"] + [odd(source, next(own[v])) for v in order]
-    return "\n".join(rows).encode()
-
-
-def odd(source, line):
-    if source.random() < 0.7:
-        return line
-    line = source.choice((line, line.replace(" ", "\t"), "  " + line, line + " \r", re.sub(r"(\d+)", r"00\1", line)))
-    return source.choice((line, line + "\n", line + "\n \t\r"))
-
-
 def another_stamp(source, row):
     """Another stamp; a number of 2^64 or above is no stamp."""
     stamp, _, rest = row.partition(" ")

@@ -10,8 +10,8 @@ import sys
 
 from lab.definitions.colours import colours, network_of
 from lab.definitions.nodes import NetState, last_pulse, wire_words
-from lab.schedules.policies import POLICIES
-from lab.schedules.simulate import played
+from lab.schedules.policies import POLICIES, Policy
+from lab.schedules.simulate import Held, Player, played
 from lab.schedules.space import Space
 from lab.schedules.stepwise import Stepwise
 from lab.transcripts.check import whole_run
@@ -28,71 +28,29 @@ def simulate(*words, data=b""):
     return forestlab("simulate", *words, data=data)
 
 
-class Event:
-    """What a row of `played` says, as an event of the definitions."""
-
-    def __init__(self, state, row):
-        words = row[2].split(" ")
-        self.v, self.kind = int(words[0]), words[1].title()
-        self.w = int(words[2]) if self.kind != "Pulse" else None
-        self.port = None if self.w is None else state.port_to[self.v, self.w]
-        self.wire = words[3] if self.w else ""
-
-
-def waiting_steps(state):
-    """(vertex, edge, wire) of each step that is possible."""
-    for kind, v, port in state.possible():
-        if kind == "Pulse":
-            yield v, None, ""
-        else:
-            yield v, tuple(sorted((v, state.neighbours[v][port]))), state.carried(kind, v, port)[0].lower()
-
-
-def what_of(event):
-    return event.v, None if event.w is None else tuple(sorted((event.v, event.w))), event.wire
-
-
 class Waits(Case):
-    """What waits comes only if nothing else is possible."""
-
     needs_programs = False
 
-    def check(self, net, rows, waits):
-        state, waited = NetState(net), 0
-        for row in rows:
-            event = Event(state, row)
-            if waits(*what_of(event)):
-                waited += 1
-                self.assertTrue(all(waits(*what) for what in waiting_steps(state)), row)
-            state.step(event.kind, event.v, event.port)
-        self.assertTrue(all(node.drained() for node in state.nodes.values()))
-        self.assertGreater(waited, 0)
-
-    def test_waits(self):
-        chain, petersen = network_of(example("chain6")), network_of(example("petersen"))
-        rows = [
-            ("a slow edge", chain, dict(slow=[(3, 2)]), lambda v, edge, wire: edge == (2, 3)),
-            ("two slow edges", chain, dict(slow=[(1, 2), (5, 6)], policy="oldest"),
-             lambda v, edge, wire: edge in ((1, 2), (5, 6))),
-            ("a lazy node", petersen, dict(lazy=[4], policy="bursts"), lambda v, edge, wire: v == 4),
-            ("both", petersen, dict(lazy=[4], slow=[(1, 2)]), lambda v, edge, wire: v == 4 or edge == (1, 2)),
-            ("late acknowledgements", petersen, dict(policy="late-acks"), lambda v, edge, wire: wire == "ack"),
-            ("late safes", petersen, dict(policy="late-safes"), lambda v, edge, wire: wire == "safe"),
-        ]
-        for name, net, given, waits in rows:
-            with self.subTest(name):
-                self.check(net, played(net, **given), waits)
+    def test_what_waits(self):
+        """What goes over a slow edge, and what a lazy node does, comes only if nothing else is possible."""
+        net = network_of(example("chain6"))
+        player, held = Player(net), Held(Policy("bursts", [], [], "1"), slow=[(3, 2)], lazy=[5])
+        while steps := [step for own in player.steps.values() for step in own]:
+            step = held.choose(steps)
+            waiting = [one for one in steps if one.node == 5 or sorted((one.node, one.neighbour)) == [2, 3]]
+            self.note(f"{step}", step not in waiting or len(waiting) == len(steps), steps)
+            player.make(step)
 
     def test_how_far_a_slow_edge_lets_others_run(self):
         """By hand: while nothing goes over 2-3 in six in a row, nodes 2 and 3 wait for each other's acknowledgement at
         pulse 0, so 1 and 4 wait for their safe; 5 makes one pulse by 4's safe, and 6 another by 5's."""
         net = network_of(example("chain6"))
         state = NetState(net)
-        for row in played(net, slow=[(2, 3)], seed="5"):
-            event = Event(state, row)
-            if what_of(event)[1] == (2, 3):
+        for _, v, line in played(net, slow=[(2, 3)], seed="5"):
+            _, kind, w, *_ = (*line.split(" "), "")
+            if kind != "pulse" and {v, int(w)} == {2, 3}:
                 break
-            state.step(event.kind, event.v, event.port)
+            state.step(kind.title(), v, None if kind == "pulse" else state.port_to[v, int(w)])
         self.assertEqual([node.pulse_number for node in state.nodes.values()], [0, 0, 0, 0, 1, 2])
 
 
