@@ -34,11 +34,6 @@ def transcript(network, seed, capacity=4):
     return merged_text(len(net.neighbours), made_transcript(random.Random(f"{SEED} {seed}"), net, capacity))
 
 
-def fields_of(text):
-    """Of each entry its stamp, its vertex, its kind and further words."""
-    return [line.split(" ") for line in text.decode().splitlines()[1:]]
-
-
 class PictureCase(Case):
     needs_programs = False
 

@@ -123,9 +123,10 @@ class Pictures(PictureCase):
         lines = rounds_text(network_of(star)).split(b"\n")
         for at in source.sample(range(len(lines) - 1), 24):
             kind = source.choice(("forests", "rounds", "bits", "player"))
-            changed = source.choice(([], [lines[at][:-1]], [lines[at] + b"1"], 2 * [lines[at]], [b"star"]))
-            done = self.called(kind, star, text=b"\n".join([*lines[:at], *changed, *lines[at + 1:]]))
-            self.note(f"{kind} of rounds with {changed} for {lines[at]}", done[:2] == (1, b"") and re.fullmatch(
+            line, rest = lines[at], lines[at + 1:]
+            changed = source.choice((rest, [line[:-1], *rest], [line + b"1", *rest], [line, line, *rest], [line]))
+            done = self.called(kind, star, text=b"\n".join([*lines[:at], *changed]))
+            self.note(f"{kind} of rounds with {changed[:2]} for {line}", done[:2] == (1, b"") and re.fullmatch(
                 rb"picture: [^\n]+\n", done[2]), done)
 
     def test_stamped(self):

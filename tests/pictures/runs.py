@@ -4,13 +4,14 @@ import re
 from collections import Counter
 
 from lab.definitions.colours import network_of
-from lab.definitions.nodes import NetState, last_pulse
+from lab.definitions.nodes import last_pulse
 from lab.definitions.rounds import rounds_text
 from lab.networks.named import network_text
 from lab.networks.network_text import read_network
 from lab.pictures.automaton_picture import usual as usual_of_node
 from tests.cases import called, example
-from tests.pictures.base import EDGE, TRIANGLE, PictureCase, circle_of, fields_of, transcript
+from tests.pictures.base import EDGE, TRIANGLE, PictureCase, circle_of, transcript
+from tests.pictures.counted import fields_of, played
 from tests.pictures.marks import SVG, centre, ends, marks, number, parsed, texts, title, titles, words
 from tests.programs.made_transcripts import entries_of, transcript_text
 from tests.settings import PLAN
@@ -45,37 +46,6 @@ def are_near(one, other, most):
 def begins_and_tip(group):
     """Where an arrow begins, and where its tip is."""
     return ends(group)[0], ends(group.find(f"{SVG}path"))[0]
-
-
-def replayed(network, text, watched):
-    """What the entries of a run do by the definitions: (pulse, step) of each step of a node or a port, and of one node
-    its pulse, the entry's kind and wire, and the levels of its ports after it."""
-    state, steps, moments = NetState(network_of(network)), [], []
-    for _, v, kind, *more in fields_of(text):
-        node, port = state.nodes[int(v)], None if kind == "pulse" else state.port_to[int(v), int(more[0])]
-        before = [stage_of(node), *map(level_of, node.ports)]
-        state.step(kind.title(), int(v), port)
-        after, p, cause = [stage_of(node), *map(level_of, node.ports)], node.pulse_number, (more[1:2] or [kind])[0]
-        moved = range(len(after)) if kind == "pulse" else []
-        if kind == "take":
-            moved = [0] * (before[0] != after[0]) + [port + 1] * (cause in ("payload", "safe"))
-        steps += [(p, f"{before[at]} to {after[at]} by {cause}") for at in moved]
-        if int(v) == watched:
-            moments.append((p, kind, cause, after[1:]))
-    return steps, moments
-
-
-def stage_of(node):
-    if node.pulse_number == node.last:
-        return "last"
-    return "asks" if not node.said else "ready" if all(port.safe for port in node.ports) else "safe"
-
-
-def level_of(port):
-    """(safes, whether the next pulse's payload is here) above the node's own pulse."""
-    safes = port.safe + port.early_safe
-    paid = (port.present, port.early)[safes] is not None if safes < 2 else False
-    return safes, paid
 
 
 class Runs(PictureCase):
@@ -176,7 +146,15 @@ class Runs(PictureCase):
         })
 
     def node_rows(self, name, network, text, v, window):
-        (steps, moments), last = replayed(network, text, v), last_pulse(network_of(network))
+        last, steps, moments = last_pulse(network_of(network)), [], []
+        for node, kind, more, before, after in played(network, text):
+            cause, moved = (more[1:2] or [kind])[0], range(len(after)) if kind == "pulse" else []
+            if kind == "take":
+                port = [1 + node.near.index(int(more[0]))] * (cause in ("payload", "safe"))
+                moved = [0] * (before[0] != after[0]) + port
+            steps += [(node.pulse, f"{before[at]} to {after[at]} by {cause}") for at in moved]
+            if node.near == sorted(network_of(network).neighbours[v]):
+                moments.append((node.pulse, kind, cause, after[1:]))
         for asked in (None, window):
             root, shown = parsed(self.drawn("node", network, *pulses(asked), text=text)), Counter()
             for step, count in (words.rsplit(": ", 1) for words in titles(root, "step")):
@@ -204,13 +182,11 @@ class Runs(PictureCase):
             "a lane for each port": (len(lanes), len(heights)),
         })
 
-    def tally_rows(self, name, network, text, window=None):
-        """All pulses, or the bars of some; the title counts all wires."""
-        root = parsed(self.drawn("tally", network, *pulses(window), text=text))
-        self.tally_marks(name, root, network_of(network), text, window)
-
-    def tally_marks(self, name, root, net, text, window=None):
-        """A tally's bars and title, beside the transcript of a whole run."""
+    def tally_rows(self, name, network, text, window=None, by=()):
+        """A tally's bars, all or those of some pulses, and its title, which counts all wires, beside the transcript of
+        a whole run; it may be drawn by another text."""
+        net = network_of(network)
+        root = parsed(self.drawn("tally", network, *by, *pulses(window), text=None if by else text))
         last = last_pulse(net)
         first, final = window or usual(last)
         counts = Counter((more[1], last if more[1] == "close" else int(more[2]))
@@ -233,6 +209,7 @@ class Runs(PictureCase):
                 [off for off, wide in gaps if off < -0.2 or wide < 2 and off > 0.2], []),
             "its title": (texts(root)[0], said),
         })
+        return root
 
     def test_long(self):
         """Of a long run the first 40 pulses are drawn, and only what they depend on is read: the same picture as of a
@@ -248,26 +225,21 @@ class Runs(PictureCase):
 
         text, short = by_vertex(rows), by_vertex(rows[:max(rows.index(f"{v} pulse 60") for v in net.neighbours)])
         self.note("a long text is long", len(rows) > 100_000, len(rows))
-        for kind, *options in (["overview"], ["node", "--pulses", "0..39"], ["node", "--vertex", 3], ["run"]):
-            self.note(f"{kind} {options} of a long text", self.drawn(kind, network, *options, text=text)
-                      == self.drawn(kind, network, *options, text=short))
+        for kind, *options, said in (
+                ["overview", "the first 40 pulses of 1849:"], ["run", "pulses 1 to 3 of 1848"],
+                ["node", "in pulses 0 to 39 of the run"], ["node", "--vertex", 3, "pulses 0 to 4"]):
+            long, stopped = (self.drawn(kind, network, *options, text=given) for given in (text, short))
+            self.note(f"{kind} {options} of a long text", long == stopped and said in long, said)
         # By the program's own last pulse: 2 · 199 · 201 wires, and 2 · 199 · 25 of the colouring.
         path = read_network(network_text("path200"), "path200")
         self.same("node of a long run of another program", (usual_of_node(path, 200), usual_of_node(path, 24)),
                   ((0, 39), (0, 24)))
         rounds = self.file("rounds", rounds_text(net))
-        for kind, options, given, said in (
-                ("overview", [], text, ": pulses 0 to 39 of 1848,"),
-                ("overview", [], text, "the first 40 pulses of 1849:"),
-                ("node", [], text, "in pulses 0 to 39 of the run"),
-                ("tally", [], text, "the first 40 pulses of 1849"),
-                ("tally", ["--rounds", rounds], None, "; counted by the rounds"),
-                ("tally", ["--rounds", rounds, *pulses((0, last))], None, "; counted by the rounds")):
-            root = parsed(self.drawn(kind, network, *options, text=given))
-            self.note(f"{kind} {options[2:]} of a long run: {said}", said in " ".join(texts(root)), texts(root)[:3])
-            if kind == "tally":
-                self.tally_marks(f"a long run, by {'text' if given else 'rounds'}", root, net, stamped,
-                                 (0, last) if options[2:] else None)
+        for window, by, said in ((None, [], "the first 40 pulses of 1849"),
+                                 (None, ["--rounds", rounds], "; counted by the rounds"),
+                                 ((0, last), ["--rounds", rounds], "; counted by the rounds")):
+            root = self.tally_rows(f"a long run {by[:1]}", network, stamped, window, by)
+            self.note(f"tally of a long run: {said}", said in " ".join(texts(root)), texts(root)[:3])
         wrong = by_vertex([re.sub(r"^(5 put \d+ safe) 20$", r"\1 21", row) for row in rows])
         status, picture, _ = self.called("overview", network, text=wrong)
         self.note("a long text with a mistake in these pulses", (status, picture) == (1, b""))

@@ -15,7 +15,7 @@ from lab.words import in_words
 from tests.cases import example
 from tests.pictures.base import SEED, TRIANGLE, PictureCase
 from tests.pictures.marks import SVG, centre, data_of, ends, marks, parsed, texts, title, titles
-from tests.programs.schedules import put_all, text_of
+from tests.programs.schedules import text_of
 
 NETWORKS = {"two": text_of("two").encode(), "path": example("path"), "triangle": TRIANGLE}
 
@@ -178,14 +178,11 @@ class Schedules(PictureCase):
 
     def test_given_run(self):
         """The run of a list of events, as the page writes it, is the bold one."""
-        source, state, s, takes = random.Random(SEED), NetState(network_of(NETWORKS["two"])), 0, []
-        lines, space = put_all(state), space_of("two")
+        source, space, s, events = random.Random(SEED), space_of("two"), 0, []
         while space.steps(s):
             event, s = source.choice(space.steps(s))
-            state.step(event.kind.capitalize(), event.v, event.port)
-            takes.append(f"{event.kind} {event.v}" + ("" if event.port is None else f" {event.port}"))
-            lines += [takes[-1], *put_all(state)]
-        path = self.file("run.events", "\n".join(lines) + "\n")
+            events.append(event)
+        path = self.file("run.events", "".join(f"{event}\n" for event in space.with_puts(events)))
         root = parsed(self.drawn("schedules", NETWORKS["two"], "--columns", "0..40", "--events", path))
         bold = sorted((ends(group)[0][0], title(group).split(":")[0]) for group in marks(root, "bold"))
-        self.same("the run that is given is bold", [words for _, words in bold], takes[:40])
+        self.same("the run that is given is bold", [words for _, words in bold], [*map(str, events[:40])])

@@ -3,6 +3,7 @@
 What is read here is the page's table. It is compared with the transcript's own lines, counted: a node waits for the
 acknowledgements of the payloads that it put and hasn't had, and so on. Nothing comes from lab/pictures."""
 import os
+from itertools import islice, product
 from unittest import mock
 
 from lab.definitions.colours import colours, network_of
@@ -14,52 +15,14 @@ from lab.schedules.policies import Policy
 from lab.schedules.simulate import Player, edges_of, text_of_rows
 from tests import TOP
 from tests.cases import example
-from tests.pictures.base import PictureCase, fields_of, transcript
+from tests.pictures.base import PictureCase, transcript
+from tests.pictures.counted import fields_of, played
 from tests.pictures.marks import data_of
 
 
-class Counted:
-    """What the lines of a transcript say of a node, line by line: for whom it put payloads in which pulse, the wires
-    that it has taken, as (neighbour, words ..), and its pulse."""
-
-    def __init__(self, neighbours, last):
-        self.near, self.last, self.pulse, self.asked, self.taken = sorted(neighbours), last, 0, set(), []
-
-    def step(self, kind, what, *wire):
-        if kind == "pulse":
-            self.pulse = int(what)
-        elif kind == "take":
-            self.taken.append((int(what), *wire))
-        elif wire[0] == "payload":
-            self.asked.add((int(what), wire[1]))
-
-    def lacks(self, *wire):
-        return [[wire[0], w] for w in self.near if (w, *wire) not in self.taken]
-
-    def payloads(self, pulse):
-        return [[" ".join(more), w] for w, kind, *wire in self.taken if kind == "payload"
-                for at, *more in [wire] if at == str(pulse)]
-
-    def look(self):
-        """What is shown of it but for acknowledgements."""
-        p = self.pulse
-        early = [["safe", w] for w in self.near if (w, "safe", str(p + 1)) in self.taken]
-        return {"p": p, "h": sorted(self.payloads(p)), "k": sorted(self.payloads(p + 1) + early),
-                "w": self.lacks("close") if p == self.last else self.lacks("safe", str(p))}
-
-    def can_await(self, acks):
-        """Whether it can wait for these acknowledgements: right after a pulse its payloads are still to be put, and
-        their acknowledgements already awaited."""
-        p, missing = str(self.pulse), {w for _, w in self.lacks("ack", str(self.pulse))}
-        return self.pulse == self.last or {w for w in missing if (w, p) in self.asked} <= acks <= missing
-
-
 class Watch(PictureCase):
-    def table(self, name, *texts, options=()):
-        """What the page of some runs of an example follows."""
-        return data_of(self.page(name, *texts, options=options))
-
     def page(self, name, *texts, options=()):
+        """The page of some runs of an example."""
         paths = [self.file(f"run{at}", text) for at, text in enumerate(texts)]
         return self.drawn("watch", example(name), *paths, *options)
 
@@ -68,15 +31,13 @@ class Watch(PictureCase):
         for name in ("two", "triangle", "barred", "star", "petersen"):
             text, net = transcript(example(name), f"watch {name}"), network_of(example(name))
             page, lines = self.page(name, text), fields_of(text)
-            run, nodes = data_of(page)["runs"][0], {v: Counted(ws, last_pulse(net)) for v, ws in net.neighbours.items()}
-            wrong, last, links = [], {}, {}
-            for at, ((stamp, v, look, _), line) in enumerate(zip(run["rows"], lines)):
-                node, look = nodes[v], run["looks"][look]
-                node.step(*line[2:])
-                acks = {w for kind, w in look["w"] if kind == "ack"}
-                shown = {"p": look["p"], "h": sorted(look["h"]), "k": sorted(look["k"]),
-                         "w": [wait for wait in look["w"] if wait[0] != "ack"]}
-                if [str(stamp), str(v)] != line[:2] or shown != node.look() or not node.can_await(acks):
+            run, wrong, last, links = data_of(page)["runs"][0], [], {}, {}
+            nodes = (node for node, *_ in played(example(name), text))
+            for at, ((stamp, v, look, _), line, node) in enumerate(zip(run["rows"], lines, nodes)):
+                look, p = run["looks"][look], node.pulse
+                early = node.payloads(p + 1) + [["safe", w] for w in node.near if node.level(w)[0] == 2]
+                if [str(stamp), str(v)] != line[:2] or [p, node.waits(), sorted(node.payloads(p)), sorted(early)] != [
+                        look["p"], look["w"], sorted(look["h"]), sorted(look["k"])]:
                     wrong.append((line, look))
                 last[v] = look
                 if line[2] != "pulse":
@@ -102,7 +63,7 @@ class Watch(PictureCase):
 
     def test_pulses(self):
         text = transcript(example("petersen"), "pulses")
-        whole, part = (self.table("petersen", text, options=words) for words in ([], ["--pulses", "3..5"]))
+        whole, part = (data_of(self.page("petersen", text, options=words)) for words in ([], ["--pulses", "3..5"]))
         whole, run = whole["runs"][0], part["runs"][0]
         # What the nodes are before the first row, and the wires that are on their way, come from the rows before.
         at = [row[:2] for row in whole["rows"]].index(run["rows"][0][:2])
@@ -127,27 +88,22 @@ class Watch(PictureCase):
 
     def test_run_of_a_player(self):
         """The steps of a player show what its transcript shows, on the way and at the end."""
-        for name in ("two", "triangle", "barred", "petersen"):
+        for name, most in product(("two", "triangle", "barred", "petersen"), (40, None)):
             net, network = network_of(example(name)), read_network(example(name).decode(), name)
             player = Player(net)
-            steps = Steps(player.state)
-            for entry in player.entries(Policy("random", sorted(net.neighbours), edges_of(net), "watch")):
+            steps, policy = Steps(player.state), Policy("random", sorted(net.neighbours), edges_of(net), "watch")
+            for entry in islice(player.entries(policy), most):
                 steps.add(entry)
-                if player.now == 40:
-                    self.check_same(name, network, player, steps)
-            self.check_same(name, network, player, steps)
-
-    def check_same(self, name, network, player, steps):
-        text = text_of_rows(network.nodes, player.rows)
-        ours, wanted = (Run("run", network, found) for found in (
-            steps.by_stamp(), steps_of_text("run", network, text)))
-        self.same(f"a player of {name}", (ours.table(), ours.pulses, ours.is_whole),
-                  (wanted.table(), wanted.pulses, wanted.is_whole))
+            text = text_of_rows(network.nodes, player.rows)
+            ours, wanted = (Run("run", network, found) for found in (
+                steps.by_stamp(), steps_of_text("run", network, text)))
+            self.same(f"a player of {name} after {most} entries", (ours.table(), ours.pulses, ours.is_whole),
+                      (wanted.table(), wanted.pulses, wanted.is_whole))
 
     def test_same_rounds(self):
         """Two runs beside each other: a pulse of both is where a node makes it last."""
         runs = [transcript(example("petersen"), f"two {k}") for k in "ab"]
-        table, last = self.table("petersen", *runs), last_pulse(network_of(example("petersen")))
+        table, last = data_of(self.page("petersen", *runs)), last_pulse(network_of(example("petersen")))
         self.assertEqual((table["same"], sum(map(len, table["sent"]))), ([True] * (last + 1), 269))
         for run, text in zip(table["runs"], runs):
             made = {}

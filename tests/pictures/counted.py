@@ -1,0 +1,54 @@
+"""What the lines of a run say of a node, line by line, counted: nothing here comes from the definitions' nodes."""
+from lab.definitions.colours import network_of
+from lab.definitions.nodes import last_pulse
+
+
+def fields_of(text):
+    """Of each entry its stamp, its vertex, its kind and further words."""
+    return [line.split(" ") for line in text.decode().splitlines()[1:]]
+
+
+class Counted:
+    """A node: its neighbours, its pulse, the wires that it has taken, by neighbour, kind and pulse, and the neighbours
+    and pulses of all payloads that it puts in the run."""
+
+    def __init__(self, v, neighbours, last, lines):
+        self.near, self.last, self.pulse, self.taken = sorted(neighbours), last, 0, {}
+        self.asked = {(int(fields[3]), int(fields[5])) for fields in lines
+                      if fields[1:3] == [str(v), "put"] and fields[4] == "payload"}
+
+    def step(self, kind, what, *wire):
+        if kind == "pulse":
+            self.pulse = int(what)
+        elif kind == "take":
+            self.taken[int(what), wire[0], int(wire[1]) if wire[1:] else self.last] = " ".join(wire[2:])
+
+    def payloads(self, pulse):
+        return [[words, w] for (w, kind, p), words in self.taken.items() if (kind, p) == ("payload", pulse)]
+
+    def waits(self):
+        """What it waits for: acknowledgements, and safes or closes."""
+        p, awaited = self.pulse, "close" if self.pulse == self.last else "safe"
+        return [[kind, w] for kind in ("ack", awaited) for w in self.near
+                if (w, kind, p) not in self.taken and (kind != "ack" or (w, p) in self.asked)]
+
+    def stage(self):
+        kinds = {kind for kind, _ in self.waits()}
+        return "last" if self.pulse == self.last else "asks" if "ack" in kinds else "safe" if kinds else "ready"
+
+    def level(self, w):
+        """How far a neighbour is known to be: (safes, whether the next pulse's payload is here) above its own pulse."""
+        safes = sum((w, "safe", p) in self.taken for p in (self.pulse, self.pulse + 1))
+        return safes, safes < 2 and (w, "payload", self.pulse + safes) in self.taken
+
+
+def played(network, text):
+    """Of each entry of a run its node after it, its kind and further words, and the node's stage and its ports' levels
+    before and after it."""
+    net, lines = network_of(network), fields_of(text)
+    nodes = {v: Counted(v, ws, last_pulse(net), lines) for v, ws in net.neighbours.items()}
+    for _, v, kind, *more in lines:
+        node = nodes[int(v)]
+        before = [node.stage(), *map(node.level, node.near)]
+        node.step(kind, *more)
+        yield node, kind, more, before, [node.stage(), *map(node.level, node.near)]
