@@ -28,17 +28,14 @@ def tokens_of(text, name):
     while at < len(text):
         found = TOKEN.match(text, at)
         kind, value, start, at = found.lastgroup, found.group(), line, found.end()
-        if kind == "name" and value[0] == "-" and re.match(r"\w", text[found.start() - 1:found.start()]):
-            raise wrong_line(name, line, f"`{shown(value)}` after a name without a blank: a name with - needs quotes")
-        if kind == "strange":
-            raise wrong_line(name, line, f"DOT isn't read on from `{shown(value)}`; a name of other letters than these "
-                                         "and digits needs quotes")
         if kind == "html":
             at = end_of_html(text, at)
             value = text[found.start():at]
-        if kind == "cut" or at is None:
-            raise wrong_line(name, line, f"`{value[:2]}` begins a text or a comment here, and nothing ends it: is the "
-                                         "text cut?")
+        # A name with - in it would be two, the second one a number.
+        is_behind = kind == "name" and value[0] == "-" and re.match(r"\w", text[found.start() - 1:found.start()])
+        if kind in ("cut", "strange") or at is None or is_behind:
+            raise wrong_line(name, line, f"DOT isn't read on from `{shown(value[:40])}`: a name of other letters than "
+                                         "these and digits needs quotes. If nothing ends it, is the text cut?")
         if kind == "quoted":
             value = value[1:-1].replace("\\\n", "").replace('\\"', '"')
         line += text.count("\n", found.start(), at)

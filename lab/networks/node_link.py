@@ -6,10 +6,6 @@ from lab.networks.fields import shown
 from lab.networks.graphs import Graph
 from lab.wrong import Wrong
 
-# Keys of other forms, what each has in them, and how networkx reads them.
-READERS = {"adjacency": (list, "nx.adjacency_graph(json.load(open(FILE)))"),
-           "elements": (dict, "nx.cytoscape_graph(json.load(open(FILE)))"),
-           "children": (list, "nx.Graph(nx.tree_graph(json.load(open(FILE))))")}
 LINKS = ("links", "edges")
 # How networkx and D3 name the ends of a link, and how vis.js does.
 ENDS = (("source", "target"), ("from", "to"))
@@ -46,10 +42,8 @@ def graph_of(text: str, name: str) -> tuple[dict, list, list]:
     graph = graph if isinstance(graph, dict) else {}
     nodes, links = graph.get("nodes"), [key for key in LINKS if isinstance(graph.get(key), list)]
     if not links or not isinstance(nodes, list):
-        reader = next((reader for key, (kind, reader) in READERS.items() if isinstance(graph.get(key), kind)),
-                      "nx.from_dict_of_lists(json.load(open(FILE)))")
         raise Wrong(f"{name}: JSON, and no object with lists `nodes` and `links`, which alone is read; with networkx, "
-                    f"G = {reader} and nx.write_graphml(G, FILE)")
+                    "adjacency_graph, cytoscape_graph, tree_graph or from_dict_of_lists, and write_graphml(G, FILE)")
     others = [key for key, value in graph.items() if key != links[0] and (are_links(value) or key in links)]
     if others:
         raise Wrong(f"{name}: a second list of links, `{shown(others[0])}`: write all into one")
