@@ -212,11 +212,10 @@ def compiled(command: list[str], copy: str, guard: Guard) -> list[str]:
     name, ending = os.path.splitext(command[-1])
     if command[:1] != ["java"] or ending != ".java" or not shutil.which("javac"):
         return command
-    user = {} if guard.user is None else {"user": guard.user, "group": guard.user, "extra_groups": []}
     with contextlib.suppress(subprocess.TimeoutExpired):
         subprocess.run(["javac", "-proc:none", "-d", ".", command[-1]], cwd=copy, env=guard.environment(),
                        timeout=GRACE, stdin=subprocess.DEVNULL, stdout=subprocess.DEVNULL, stderr=subprocess.DEVNULL,
-                       **user)
+                       **guard.owner())
     is_made = os.path.isfile(os.path.join(copy, f"{name}.class"))
     return ["java", "-Xmx64m", "-XX:+UseSerialGC", "-cp", ".", name] if is_made else command
 

@@ -18,6 +18,7 @@ import shutil
 import signal
 import stat
 import struct
+import subprocess
 import time
 from dataclasses import dataclass
 from typing import Collection, Iterator, NamedTuple, Sequence
@@ -183,6 +184,10 @@ class Guard:
             raise Fault("flood", f"it takes more than {memory >> 20} megabytes of memory")
         self.looked = time.monotonic()
 
+    def owner(self) -> dict:
+        """What a process is started with, so that it is of the programs' user."""
+        return {} if self.user is None else {"user": self.user, "group": self.user, "extra_groups": []}
+
     def tasks(self) -> int:
         """How many processes and threads the programs' user has now."""
         user = os.geteuid() if self.user is None else self.user
@@ -191,9 +196,7 @@ class Guard:
 
 def give(folder: str, user: int) -> None:
     """Gives a folder, with all that is in it, to a user."""
-    for at, folders, files in os.walk(folder):
-        for path in (at, *(os.path.join(at, name) for name in (*folders, *files))):
-            os.chown(path, user, user, follow_symlinks=False)
+    subprocess.run(["chown", "-hR", f"{user}:{user}", folder], check=True)
 
 
 def call_filter() -> bytes:
@@ -316,24 +319,17 @@ def below_this(kept: Collection[int] = ()) -> Iterator[Running]:
         more += below.get(process.number, ())
 
 
-def left_behind(kept: Collection[int] = ()) -> set[int]:
-    """The numbers of those that go on; what has ended is collected."""
-    found = set()
-    for process in below_this(kept):
-        if process.is_over and process.parent == os.getpid():
-            with contextlib.suppress(ChildProcessError):
-                os.waitpid(process.number, os.WNOHANG)
-        elif not process.is_over:
-            found.add(process.number)
-    return found
-
-
 def end_all(kept: Sequence[int] = ()) -> None:
-    """Ends them. What is stopped starts no more, so all are stopped before one is killed."""
+    """Ends and collects them. What is stopped starts no more, so all are stopped before one is killed."""
     stopped: set[int] = set()
-    while found := left_behind(kept):
-        to_stop = found - stopped
-        for number in to_stop or found:
+    while found := list(below_this(kept)):
+        running = {process.number for process in found if not process.is_over}
+        to_stop = running - stopped
+        for number in to_stop or running:
             with contextlib.suppress(ProcessLookupError, PermissionError):
                 os.kill(number, signal.SIGSTOP if to_stop else signal.SIGKILL)
         stopped |= to_stop
+        for process in found:
+            if process.is_over and process.parent == os.getpid():
+                with contextlib.suppress(ChildProcessError):
+                    os.waitpid(process.number, os.WNOHANG)

@@ -48,7 +48,8 @@ class Nodes:
         return [f"to {v}", *lines] if self.is_shared else lines
 
     def ask(self, v: int, lines: list[str], if_late: Callable[[], None] | None = None) -> list[str]:
-        return self.of[v].ask(self.addressed(v, lines), if_late)
+        self.of[v].send(self.addressed(v, lines))
+        return self.of[v].receive(if_late)
 
     def ask_all(self, questions: dict[int, list[str]]) -> dict[int, Answer]:
         """What each node answers, or its fault. With a process a node all questions are out before the first answer

@@ -1,6 +1,7 @@
 """One student's program as a process: a message goes to its standard input, and its answer, up to a line `end`,
 comes from its standard output. Whatever it does, the workshop goes on: what is no answer is a Fault, and `stop`
 leaves no process."""
+import contextlib
 import os
 import select
 import signal
@@ -32,12 +33,11 @@ class Process:
         self.limits, self.guard, self.asked, self.until = limits, guard, 0, 0.0
         self.errors = None
         workshop = os.getpid()
-        user = {} if guard.user is None else {"user": guard.user, "group": guard.user, "extra_groups": []}
         try:
             self.errors = tempfile.TemporaryFile()
             self.process = subprocess.Popen(command, stdin=subprocess.PIPE, stdout=subprocess.PIPE, stderr=self.errors,
                                             bufsize=0, start_new_session=True, env=guard.environment(),
-                                            cwd=guard.folder, **user,
+                                            cwd=guard.folder, **guard.owner(),
                                             preexec_fn=lambda: guard.enter(limits, tasks, workshop))
         except OSError as why:
             if self.errors:
@@ -53,10 +53,6 @@ class Process:
 
     def look(self) -> None:
         self.guard.look(self.process.pid, self.limits.memory)
-
-    def ask(self, lines: list[str], if_late: Callable[[], None] | None = None) -> list[str]:
-        self.send(lines)
-        return self.receive(if_late)
 
     def send(self, lines: list[str]) -> None:
         """Sends a message; what the program wrote without being asked is garbage."""
@@ -127,20 +123,16 @@ class Process:
 
     def end(self) -> None:
         """No more messages: a program that reads to the end of its input ends now."""
-        try:
+        with contextlib.suppress(OSError):
             self.process.stdin.close()
-        except OSError:
-            pass
 
     def stop(self, until: float) -> None:
         """Kills it, and what it started, unless it ends by itself until then. The group is killed before the
         process is collected: until then nobody else can get its number."""
         self.end()
         exit_of(self.process.pid, until)
-        try:
+        with contextlib.suppress(ProcessLookupError, PermissionError):
             os.killpg(self.process.pid, signal.SIGKILL)
-        except (ProcessLookupError, PermissionError):
-            pass
         self.process.wait()
         self.guard.programs.discard(self.process.pid)
         self.process.stdout.close()
@@ -168,10 +160,7 @@ def name_of(number: int) -> str:
     """A signal's name, and what it means if it is one of a limit."""
     why = {signal.SIGXFSZ: " (it wrote too much to a file or to standard error)",
            signal.SIGXCPU: " (it used too much processor time)"}
-    try:
-        return signal.Signals(number).name + why.get(number, "")
-    except ValueError:
-        return str(number)
+    return next((one.name for one in signal.Signals if one == number), str(number)) + why.get(number, "")
 
 
 def last_errors(text: bytes) -> str:
