@@ -21,7 +21,7 @@ import struct
 import subprocess
 import time
 from dataclasses import dataclass
-from typing import Collection, Iterator, NamedTuple, Sequence
+from typing import Collection, Iterator, Sequence
 
 from lab.workshop.findings import Fault
 
@@ -54,21 +54,15 @@ FCNTL, LOCKS = 72, (5, 6, 7, 36, 37, 38)
 SYSTEM = ctypes.CDLL(None, use_errno=True)
 
 
-class Limits(NamedTuple):
-    """`timeout`, in seconds, of an answer; `memory` in bytes; `written`, the bytes of each file that a program writes,
-    its standard error too; `children`, how many processes and threads all programs of a run may have. `over` is the
-    time at which all runs end."""
-    timeout: float
-    memory: int
-    written: int
-    children: int
-    over: float
+class Limits:
+    """Of a number of programs, which share what may be written: `timeout`, in seconds, of an answer; `memory` in bytes;
+    `written`, the bytes of each file that a program writes, its standard error too; `children`, how many processes and
+    threads all programs of a run may have. `over` is the time at which all runs end."""
 
-
-def limits_of(timeout: float, megabytes: int, programs: int, over: float = float("inf")) -> Limits:
-    """The limits of a number of programs, which share what may be written."""
-    written = max(MEGABYTE, min(16 * MEGABYTE, WRITTEN_IN_ALL // max(1, programs)))
-    return Limits(timeout, megabytes * MEGABYTE, written, CHILDREN + CHILDREN_EACH * programs, over)
+    def __init__(self, timeout: float, megabytes: int, programs: int, over: float = float("inf")):
+        self.timeout, self.memory, self.over = timeout, megabytes * MEGABYTE, over
+        self.written = max(MEGABYTE, min(16 * MEGABYTE, WRITTEN_IN_ALL // max(1, programs)))
+        self.children = CHILDREN + CHILDREN_EACH * programs
 
 
 def limit(limits: Limits, tasks: int) -> None:

@@ -9,7 +9,7 @@ from lab.workshop.alpha_run import AlphaRun
 from lab.workshop.alpha_verdict import finding_of
 from lab.workshop.cases import Case, smaller
 from lab.workshop.findings import Fault, Finding, listed
-from lab.workshop.guard import Guard, limits_of
+from lab.workshop.guard import Guard, Limits
 from lab.workshop.nodes import Nodes
 from lab.workshop.open_run import OpenRun
 from lab.workshop.protocol import shown
@@ -32,7 +32,7 @@ class Player:
 
     def nodes(self, case: Case) -> Nodes:
         programs = len(self.commands) if self.options.one_process else case.network.nodes
-        limits = limits_of(self.options.timeout, self.options.memory, programs, self.over)
+        limits = Limits(self.options.timeout, self.options.memory, programs, self.over)
         return Nodes(case.owners, self.commands, limits, self.guard, self.options.one_process)
 
     def play(self, case: Case) -> bool:

@@ -52,7 +52,7 @@ class Pages(Case):
             (talking, defaults.timeout, r"no answer within ([\d,]+) seconds"),
             (workshop, defaults.memory, r"([\d,]+)\s+megabytes of\s+memory"),
             (workshop, guard.PROCESSOR_SECONDS, r"([\d,]+) seconds of processor time"),
-            (workshop, guard.limits_of(1, 1, 16).written >> 20, r"may have ([\d,]+) megabytes"),
+            (workshop, guard.Limits(1, 1, 16).written >> 20, r"may have ([\d,]+) megabytes"),
             (workshop, guard.OPEN_FILES, r"It may open ([\d,]+) files"),
             (talking, protocol.MOST_LETTERS, r"up to ([\d,]+) letters a line"),
             (talking, processes.LAST_LINES, r"shows the last (\w+) lines"),
@@ -66,7 +66,7 @@ class Pages(Case):
         ):
             found = re.search(words, text)[1].replace(",", "")
             self.same(words, NUMBERS.get(found, found), f"{number:.0f}")
-        self.assertEqual(guard.limits_of(1, 1, 17).written < guard.limits_of(1, 1, 16).written, True)
+        self.assertEqual(guard.Limits(1, 1, 17).written < guard.Limits(1, 1, 16).written, True)
 
     def test_the_page_has_each_policy_and_each_payload(self):
         for names, text in ((POLICIES, "WORKSHOP.md"), (map(bytes.decode, PAYLOADS["colouring"]), "PROTOCOL.md")):
