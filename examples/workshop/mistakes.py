@@ -6,205 +6,143 @@ python3 examples/workshop/mistakes.py DIR [NAME ..]      writes a folder DIR/NAM
 import os
 import shutil
 import sys
-from typing import NamedTuple
 
 RIGHT = os.path.join(os.path.dirname(os.path.abspath(__file__)), "python")
 
-
-class Mistake(NamedTuple):
-    what: str
-    right: str
-    wrong: str
-
-
-# Of the colouring: for a node of either kind.
+# By name what the mistake is, the right text, and the wrong one. Of the colouring: for a node of either kind.
 COLOURING = {
-    "shift_root": Mistake(
-        "a root keeps its colour in a shift",
-        "least_but(own) if above is None else above\n            elif",
+    "shift_root": ("a root keeps its colour in a shift", "least_but(own) if above is None else above\n            elif",
         "own if above is None else above\n            elif"),
-    "no_shift": Mistake(
-        "only roots shift",
-        "least_but(own) if above is None else above\n            elif",
+    "no_shift": ("only roots shift", "least_but(own) if above is None else above\n            elif",
         "least_but(own) if above is None else own\n            elif"),
-    "drop_parent": Mistake(
-        "a drop avoids the parent alone", "least_but(self.before[forest], above)", "least_but(above)"),
-    "drop_children": Mistake(
-        "a drop avoids the children alone", "least_but(self.before[forest], above)", "least_but(self.before[forest])"),
-    "drop_all": Mistake("5, 4 and 3 are dropped at once", "elif own == {8: 5, 10: 4, 12: 3}[p]:", "elif own >= 3:"),
-    "bit_highest": Mistake(
-        "the bit step takes the highest digit that differs",
-        "    digit = 0\n    while above is not None and (own >> digit & 1) == (above >> digit & 1):\n        digit "
-        "+= 1",
+    "drop_parent": ("a drop avoids the parent alone", "least_but(self.before[forest], above)", "least_but(above)"),
+    "drop_children": ("a drop avoids the children alone",
+        "least_but(self.before[forest], above)", "least_but(self.before[forest])"),
+    "drop_all": ("5, 4 and 3 are dropped at once", "elif own == {8: 5, 10: 4, 12: 3}[p]:", "elif own >= 3:"),
+    "bit_highest": ("the bit step takes the highest digit that differs",
+        "    digit = 0\n    while above is not None and (own >> digit & 1) == (above >> digit & 1):\n"
+        "        digit += 1",
         "    digit = (own ^ above).bit_length() - 1 if above is not None else 0"),
-    "bit_root": Mistake(
-        "a root keeps its colour in a bit step",
+    "bit_root": ("a root keeps its colour in a bit step",
         "    digit = 0\n    while", "    if above is None:\n        return own\n    digit = 0\n    while"),
-    "bit_parent": Mistake(
-        "the bit step takes the parent's digit",
-        "return 2 * digit + (own >> digit & 1)",
-        "return 2 * digit + ((own if above is None else above) >> digit & 1)"),
-    "label_ports": Mistake(
-        "parents are numbered by port, and not by identifier",
+    "bit_parent": ("the bit step takes the parent's digit",
+        "return 2 * digit + (own >> digit & 1)", "return 2 * digit + ((own if above is None else above) >> digit & 1)"),
+    "label_ports": ("parents are numbered by port, and not by identifier",
         "sorted((name, port) for port, name in names.items() if name > self.name)",
         "[(name, port) for port, name in names.items() if name > self.name]"),
-    "label_falling": Mistake(
-        "parents are numbered by falling identifier", "if name > self.name)", "if name > self.name)[::-1]"),
-    "names_text": Mistake(
-        "parents are sorted as texts, and not as numbers",
+    "label_falling": ("parents are numbered by falling identifier",
+        "if name > self.name)", "if name > self.name)[::-1]"),
+    "names_text": ("parents are sorted as texts, and not as numbers",
         "sorted((name, port) for port, name in names.items() if name > self.name)",
         "sorted(((name, port) for port, name in names.items() if name > self.name), key=lambda up: str(up[0]))"),
-    "names_64": Mistake(
-        "identifiers are kept in 64 binary digits", 'own["identifier"]\n', 'own["identifier"] % (1 << 64)\n'),
-    "names_float": Mistake(
-        "binary digits by floating point",
-        "(own >> digit & 1) == (above >> digit & 1)",
-        "int(own / 2 ** digit) % 2 == int(above / 2 ** digit) % 2"),
-    "merge_this": Mistake(
-        "a choice is told in this forest alone, and not in those before", "if f <= forest]", "if f == forest]"),
-    "merge_all": Mistake("a choice is told by all ports", "if f <= forest]", "]"),
-    "merge_last": Mistake(
-        "a choice is told in the last pulse of a merge too",
+    "names_64": ("identifiers are kept in 64 binary digits", 'own["identifier"]\n', 'own["identifier"] % (1 << 64)\n'),
+    "names_float": ("binary digits by floating point",
+        "(own >> digit & 1) == (above >> digit & 1)", "int(own / 2 ** digit) % 2 == int(above / 2 ** digit) % 2"),
+    "merge_this": ("a choice is told in this forest alone, and not in those before",
+        "if f <= forest]", "if f == forest]"),
+    "merge_all": ("a choice is told by all ports", "if f <= forest]", "]"),
+    "merge_last": ("a choice is told in the last pulse of a merge too",
         "        if step == 3 * self.width - 1:\n            return {}\n", ""),
-    "merge_old": Mistake(
-        "whose turn it is goes by the present colour, and not by the one before the merge",
+    "merge_old": ("whose turn it is goes by the present colour, and not by the one before the merge",
         "(self.colours[forest], self.old) !=", "(self.colours[forest], self.merged) !="),
-    "merge_keep": Mistake(
-        "what was taken in the merge before still counts",
+    "merge_keep": ("what was taken in the merge before still counts",
         "self.old, self.taken = self.merged, set()\n        else", "self.old = self.merged\n        else"),
-    "merge_first_heard": Mistake(
-        "what comes in the first pulse of a merge counts",
+    "merge_first_heard": ("what comes in the first pulse of a merge counts",
         "        else:\n            self.taken |= heard", "        self.taken |= heard"),
-    "bars_forgotten": Mistake(
-        "barred channels are forgotten",
+    "bars_forgotten": ("barred channels are forgotten",
         'self.barred = {channel - 1 for channel in own["barred"]}', "self.barred = set()"),
-    "bars_channels": Mistake(
-        "a barred channel is taken for a colour", '{channel - 1 for channel in own["barred"]}', 'set(own["barred"])'),
-    "bars_first": Mistake(
-        "everybody begins with colour 0, barred or not",
+    "bars_channels": ("a barred channel is taken for a colour",
+        '{channel - 1 for channel in own["barred"]}', 'set(own["barred"])'),
+    "bars_first": ("everybody begins with colour 0, barred or not",
         "self.merged = self.least_free(set())\n        self.old", "self.merged = 0\n        self.old"),
-    "bars_width": Mistake(
-        "the pairs of a merge are counted without the bars", 'own["delta"] + own["bars"] + 1', 'own["delta"] + 1'),
+    "bars_width": ("the pairs of a merge are counted without the bars",
+        'own["delta"] + own["bars"] + 1', 'own["delta"] + 1'),
 }
 
 # Of the synchroniser.
 ALPHA = {
-    "acks_unwaited": Mistake(
-        "safe is said without waiting for acknowledgements", "            self.ports[at].waits = True\n", ""),
-    "acks_after": Mistake(
-        "an acknowledgement is put after whatever the payload leads to",
+    "acks_unwaited": ("safe is said without waiting for acknowledgements",
+        "            self.ports[at].waits = True\n", ""),
+    "acks_after": ("an acknowledgement is put after whatever the payload leads to",
         '            self.put(at, f"ack {rest[0]}")\n',
         '            self.go_on()\n            self.put(at, f"ack {rest[0]}")\n'),
-    "acks_own_pulse": Mistake(
-        "an acknowledgement has the node's pulse, and not the payload's", 'f"ack {rest[0]}"', 'f"ack {self.pulse}"'),
-    "acks_first": Mistake(
-        "safe is said with the first acknowledgement",
-        "not any(port.waits for port in self.ports)",
+    "acks_own_pulse": ("an acknowledgement has the node's pulse, and not the payload's",
+        'f"ack {rest[0]}"', 'f"ack {self.pulse}"'),
+    "acks_first": ("safe is said with the first acknowledgement", "not any(port.waits for port in self.ports)",
         "(not self.ports or sum(port.waits for port in self.ports) < len(self.ports))"),
-    "early_present": Mistake(
-        "an early payload is put among the present ones",
-        "        if pulse == self.pulse:\n            port.present = payload\n        else:\n            port.early "
-        "= payload",
+    "early_present": ("an early payload is put among the present ones",
+        "        if pulse == self.pulse:\n            port.present = payload\n        else:\n"
+        "            port.early = payload",
         "        port.present = payload"),
-    "early_lost": Mistake(
-        "an early payload is lost with the next pulse",
+    "early_lost": ("an early payload is lost with the next pulse",
         "port.present, port.early = port.early, None", "port.present, port.early = None, None"),
-    "early_safe_lost": Mistake(
-        "an early safe is lost with the next pulse",
+    "early_safe_lost": ("an early safe is lost with the next pulse",
         "port.safe, port.early_safe = port.early_safe, False", "port.safe, port.early_safe = False, False"),
-    "early_safe_now": Mistake(
-        "an early safe counts for this pulse, and is then lost",
-        "        if pulse == self.pulse:\n            port.safe = True\n        else:\n            port.early_safe = "
-        "True",
+    "early_safe_now": ("an early safe counts for this pulse, and is then lost",
+        "        if pulse == self.pulse:\n            port.safe = True\n        else:\n"
+        "            port.early_safe = True",
         "        port.safe = True"),
-    "safes_any": Mistake(
-        "a pulse is made with the first safe",
+    "safes_any": ("a pulse is made with the first safe",
         "all(port.safe for port in self.ports)", "(not self.ports or any(port.safe for port in self.ports))"),
-    "safes_none": Mistake(
-        "a pulse is made without the neighbours' safes",
+    "safes_none": ("a pulse is made without the neighbours' safes",
         "self.said and all(port.safe for port in self.ports)", "self.said"),
-    "safes_counted": Mistake(
-        "safes are counted, early ones too, whoever said them",
-        "all(port.safe for port in self.ports)",
+    "safes_counted": ("safes are counted, early ones too, whoever said them", "all(port.safe for port in self.ports)",
         "sum(port.safe + port.early_safe for port in self.ports) >= len(self.ports)"),
-    "safe_unsaid": Mistake(
-        "a pulse is made before the node itself is safe",
+    "safe_unsaid": ("a pulse is made before the node itself is safe",
         "self.pulse < self.last and self.said and all", "self.pulse < self.last and all"),
-    "safe_twice": Mistake(
-        "safe is said with every wire that comes once all is acknowledged",
+    "safe_twice": ("safe is said with every wire that comes once all is acknowledged",
         "        self.go_on()                            # a `close` asks for nothing\n",
         "        self.say_safe_if_it_is()\n        self.go_on()\n"),
-    "safe_with_ack": Mistake(
-        "a node that sends nothing in a pulse doesn't say safe",
+    "safe_with_ack": ("a node that sends nothing in a pulse doesn't say safe",
         "            self.ports[at].waits = True\n        self.say_safe_if_it_is()",
         "            self.ports[at].waits = True"),
-    "said_kept": Mistake(
-        "having said safe isn't forgotten with the next pulse", "            self.said = False\n", ""),
-    "close_early": Mistake(
-        "close is put after the last safe, before the last pulse",
+    "said_kept": ("having said safe isn't forgotten with the next pulse", "            self.said = False\n", ""),
+    "close_early": ("close is put after the last safe, before the last pulse",
         '                self.put(at, f"safe {self.pulse}")\n',
-        '                self.put(at, f"safe {self.pulse}")\n'
-        '                if self.pulse == self.last - 1:\n                    self.put(at, "close")\n'),
-    "close_safe": Mistake(
-        "a safe of the last pulse too",
-        '                self.put(at, "close")\n',
+        '                self.put(at, f"safe {self.pulse}")\n                if self.pulse == self.last - 1:\n'
+        '                    self.put(at, "close")\n'),
+    "close_safe": ("a safe of the last pulse too", '                self.put(at, "close")\n',
         '                self.put(at, f"safe {self.pulse}")\n                self.put(at, "close")\n'),
-    "close_never": Mistake("no close", '                self.put(at, "close")\n', "                pass\n"),
-    "one_pulse": Mistake(
-        "one pulse for each wire at most", "        while self.pulse < self.last and", "        if self.pulse < "
-                                                                                       "self.last and"),
-    "leaves": Mistake(
-        "the program ends with the first close that comes",
+    "close_never": ("no close", '                self.put(at, "close")\n', "                pass\n"),
+    "one_pulse": ("one pulse for each wire at most",
+        "        while self.pulse < self.last and", "        if self.pulse < self.last and"),
+    "leaves": ("the program ends with the first close that comes",
         "        self.go_on()                            # a `close` asks for nothing\n",
         '        if kind == "close":\n            raise SystemExit\n        self.go_on()\n'),
-    "no_channel": Mistake(
-        "the channel isn't said", "            self.answer.append(self.program.result())\n", ""),
+    "no_channel": ("the channel isn't said", "            self.answer.append(self.program.result())\n", ""),
 }
 
 # Of the other programs: for a node of either kind.
 OTHERS = {
-    "layers_again": Mistake(
-        "it sends its layer in every pulse, and not once",
+    "layers_again": ("it sends its layer in every pulse, and not once",
         "        if self.layer is not None or not inbox:\n",
         "        if self.layer is not None:\n            return self.to_all() if p < self.last else {}\n"
         "        if not inbox:\n"),
-    "layers_last": Mistake(
-        "it goes by the last message that comes, and not by the first",
+    "layers_last": ("it goes by the last message that comes, and not by the first",
         "if self.layer is not None or not inbox:", "if self.layer == 0 or not inbox:"),
-    "layers_port": Mistake(
-        "it forgets by which port the message came",
+    "layers_port": ("it forgets by which port the message came",
         "        self.by = min(inbox)\n        self.layer = inbox[self.by][1] + 1",
         "        self.layer = inbox[min(inbox)][1] + 1"),
-    "matching_again": Mistake(
-        "a node that has a partner takes a child, too",
+    "matching_again": ("a node that has a partner takes a child, too",
         "if self.partner is not None or self.colours", "if self.colours"),
-    "matching_all": Mistake(
-        "it says to all parents that it is free, and not to that in this forest alone",
+    "matching_all": ("it says to all parents that it is free, and not to that in this forest alone",
         "self.up.items() if up == forest}", "self.up.items()}"),
-    "matching_turn": Mistake(
-        "it takes a child in the turn of any colour",
+    "matching_turn": ("it takes a child in the turn of any colour",
         "if self.partner is not None or self.colours[forest] != colour or not inbox:",
         "if self.partner is not None or not inbox:"),
-    "matching_untold": Mistake(
-        "it doesn't tell the child that it takes it", 'return {self.partner: ("take", forest)}', "return {}"),
-    "set_beside": Mistake(
-        "a node joins though a neighbour has",
+    "matching_untold": ("it doesn't tell the child that it takes it",
+        'return {self.partner: ("take", forest)}', "return {}"),
+    "set_beside": ("a node joins though a neighbour has",
         "if turn != self.merged or self.is_beside:", "if turn != self.merged:"),
-    "set_forgets": Mistake(
-        "it forgets that a neighbour has joined", "self.is_beside or bool(inbox)", "bool(inbox)"),
-    "set_channel": Mistake(
-        "it joins in the turn of its channel, and not of its colour",
+    "set_forgets": ("it forgets that a neighbour has joined", "self.is_beside or bool(inbox)", "bool(inbox)"),
+    "set_channel": ("it joins in the turn of its channel, and not of its colour",
         "if turn != self.merged or", "if turn != self.merged + 1 or"),
-    "anew_least": Mistake(
-        "the least channel chooses first",
+    "anew_least": ("the least channel chooses first",
         "if turn != self.width - 1 - self.merged:", "if turn != self.merged:"),
-    "anew_bars": Mistake(
-        "barred channels are forgotten in the second choice",
+    "anew_bars": ("barred channels are forgotten in the second choice",
         "self.anew = self.least_free(self.heard)", "self.anew = min(set(range(self.width)) - self.heard)"),
-    "anew_last": Mistake(
-        "only what came last counts", "self.heard |= {colour", "self.heard = {colour"),
-    "anew_old": Mistake(
-        "it sends its old colour", 'return {port: ("anew", self.anew)', 'return {port: ("anew", self.merged)'),
+    "anew_last": ("only what came last counts", "self.heard |= {colour", "self.heard = {colour"),
+    "anew_old": ("it sends its old colour", 'return {port: ("anew", self.anew)', 'return {port: ("anew", self.merged)'),
 }
 
 FILES = {"colouring.py": COLOURING, "alpha_node.py": ALPHA, "programs.py": OTHERS}
@@ -215,13 +153,13 @@ def write(folder, names=MISTAKES):
     """A folder for each of these mistakes, with all files of the right nodes, one of which has the mistake."""
     for name in names:
         file = next(file for file, mistakes in FILES.items() if name in mistakes)
-        to, mistake = os.path.join(folder, name), MISTAKES[name]
+        to, (_, right, wrong) = os.path.join(folder, name), MISTAKES[name]
         shutil.copytree(RIGHT, to, dirs_exist_ok=True, ignore=shutil.ignore_patterns("__pycache__"))
         with open(os.path.join(to, file), encoding="utf-8") as text:
-            right = text.read()
-        assert right.count(mistake.right) == 1, (name, right.count(mistake.right))
+            node = text.read()
+        assert node.count(right) == 1, (name, node.count(right))
         with open(os.path.join(to, file), "w", encoding="utf-8") as text:
-            text.write(right.replace(mistake.right, mistake.wrong))
+            text.write(node.replace(right, wrong))
 
 
 if __name__ == "__main__":
