@@ -2,8 +2,9 @@
 written from docs/claim/FORMATS.md (slow_reader.py).
 
 Besides the random texts: each byte at each place of a small text, byte order marks and other bytes before each place,
-numbers around powers of two, lines of a megabyte, about as many bars of a vertex as the limit. It needs a C compiler,
-`cc`. TESTS_TEXTS and TESTS_SEED are for long runs by hand."""
+numbers around powers of two, lines of a megabyte. It needs a C compiler, `cc`. TESTS_TEXTS and TESTS_SEED are for long
+runs by hand."""
+import re
 import tempfile
 from itertools import chain, islice, product
 
@@ -57,11 +58,6 @@ def each_number(data):
             yield b"\n".join(b" ".join(row) for row in changed)
 
 
-def without_20_000_nodes(texts):
-    """The definitions of some commands are slow where each of 20,000 vertices has a node."""
-    return (data for data in texts if b" 20000 " not in data and b" 19999 " not in data)
-
-
 def long_lines(data, length=2**20):
     """A line of a megabyte before the text, in the middle of it and after it; and many blank lines."""
     same = [letter * length for letter in (b"c", b" ", b"\t", b"q", b"e", b"1", b"\0", b"\xff", b"\r")]
@@ -76,17 +72,6 @@ def long_lines(data, length=2**20):
     for blank in (b"\n", b"\r\n", b" \n"):
         yield blank * (length // 4) + data
         yield data + blank * (length // 4)
-
-
-def crowds_of_bars(data):
-    """About as many bars of a vertex as the limit, each once or some again, before the text's own lines and after
-    them."""
-    middle = data.index(b"\n") + 1
-    for count, again in product((1023, 1024, 1025, 1026), (0, 3)):
-        lines = b"".join(b"b 1 %d\n" % channel
-                         for channel in [*range(1, again + 1), *range(2049 - count, 2049), *range(2046, 2046 + again)])
-        yield data[:middle] + lines + data[middle:]
-        yield data + lines
 
 
 class Hostile(Case):
@@ -114,16 +99,13 @@ class Hostile(Case):
         for command, whole, odd, is_reader in [(it.name, it.data, it.odd, it.is_reader) for it in COMMANDS]:
             data = text(odd)
             wholes = chain.from_iterable(beginnings(text(it)) for it in WHOLE.get(command, [whole, odd]))
-            numbers = each_number(data)
-            kinds = {
-                "each beginning": wholes,
-                "each mark at each place": each_mark(data),
-                "numbers around powers of two":
-                    numbers if command in ("forests", "check") else without_20_000_nodes(numbers),
-            }
+            # The definitions of other commands are slow where each of 20,000 vertices has a node.
+            numbers = (it for it in each_number(data) if command in ("forests", "check") or not re.search(
+                b" (20000|19999) ", it))
+            kinds = {"each beginning": wholes, "each mark at each place": each_mark(data),
+                     "numbers around powers of two": numbers}
             if is_reader:
-                kinds |= {"each byte at each place": each_byte(data), "lines of a megabyte": long_lines(data),
-                          "bars about the limit": crowds_of_bars(data)}
+                kinds |= {"each byte at each place": each_byte(data), "lines of a megabyte": long_lines(data)}
             count += sum(self.row(kind, command, texts)[0] for kind, texts in kinds.items())
         print(f"{count} texts that aren't random")
 
