@@ -15,8 +15,7 @@ from lab.pictures.rounds_picture import draw_heads
 from lab.pictures.schedules_picture import wrapped
 from lab.pictures.schedules_space import broken_rounds, left_out_words
 from lab.pictures.svg import Svg, text_width
-from lab.schedules.ruled_rounds import RuledRounds
-from lab.schedules.ruled_sequels import RuledSequel
+from lab.schedules.ruled_rounds import RuledRounds, RuledSequel
 from lab.schedules.rules import OF_FORESTS
 from lab.words import counted, in_words
 from lab.wrong import at_most

@@ -1,11 +1,11 @@
 """All states of a tiny network and the steps between them, as lab/schedules/space.py finds them, for the kinds that
-draw every schedule; and the rounds without a rule, as ruled_sequels.py there has them. What is too large for a picture
+draw every schedule; and the rounds without a rule, as ruled_rounds.py there has them. What is too large for a picture
 is refused here, in a sentence."""
 import re
 
 from lab.definitions.nodes import Colouring
 from lab.schedules.reading import network_of
-from lab.schedules.ruled_sequels import ruled, smallest_wrong
+from lab.schedules.ruled_rounds import ruled, smallest_wrong
 from lab.schedules.rules import ALL
 from lab.schedules.space import Space, TooMany
 from lab.wrong import Wrong

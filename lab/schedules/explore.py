@@ -9,7 +9,7 @@ from typing import NamedTuple
 from lab.definitions.own_program import AGAIN, check_repeats
 from lab.definitions.programs import add_program, check_root, note_ignored_bars, program_at
 from lab.schedules.reading import network_at
-from lab.schedules.ruled_sequels import ruled, smallest_wrong
+from lab.schedules.ruled_rounds import ruled, smallest_wrong
 from lab.schedules.rules import ALL, OF_SCHEDULES, program_of, table, unknown_to
 from lab.schedules.space import Space, TooMany
 from lab.words import add_output, count, counted, parser_of, write

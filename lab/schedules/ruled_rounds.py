@@ -1,48 +1,31 @@
-"""The rounds of the colouring with rules left out, as lists over the vertices, by the definitions; and the smallest
-network on which they go wrong. rules.OF_ROUNDS has the rules.
+"""The rounds with rules left out (rules.OF_PROGRAMS), and the smallest network on which they go wrong. Those of the
+colouring are lists over the vertices, by the definitions. Programs that go on where it ends are played as nodes, whose
+rules are `without`; what isn't right at their end is looked for of the theorems (docs/claim/DEFINITIONS.md) that these
+rules break, so not that an edge may be added, or a channel lowered.
 
-They go wrong if a node has its parent's colour in a forest after a pulse, or if neighbours in the forests merged so far
-have one merged colour after a merge. What a forest's colours are depends, at each node, on its ancestors there alone,
-whose identifiers ascend. So if any network of N nodes goes wrong in a forest, then some row of ascending identifiers of
-1 to N does, and rows are enough to try; the merging may need any network."""
+Rounds of the colouring go wrong if a node has its parent's colour in a forest after a pulse, or if neighbours in the
+forests merged so far have one merged colour after a merge. What a forest's colours are depends, at each node, on its
+ancestors there alone, whose identifiers ascend. So if any network of N nodes goes wrong in a forest, then some row of
+ascending identifiers of 1 to N does, and rows are enough to try; the merging may need any network."""
 import copy
+import functools
 import itertools
 from collections import namedtuple
+from typing import NamedTuple
 
-from lab.definitions.colours import Network, at_parent, bit, drop, first_colours, merged, other_than, shift
+from lab.definitions.colours import Network, at_parent, bit, first_colours, merged, other_than, shift
+from lab.definitions.independent_set import IndependentSet
+from lab.definitions.matching import Matching
+from lab.definitions.nodes import Colouring, ports_of, synchronous_run
+from lab.definitions.programs import base_of
+from lab.definitions.recolouring import Recolouring
 from lab.schedules.rules import OF_FORESTS
 
+# Rows of so many nodes are tried, or networks.
+MOST_ROW, MOST_MERGED = 12, 5
 # Nodes v and w have one colour in a forest after a pulse, w being v's parent; or after the merge of it, if `pulse` is
 # None.
 Clash = namedtuple("Clash", "pulse forest v w colour")
-
-
-def bit_of(net, f, c, without):
-    """Twice the place, plus the digit there."""
-    return {v: colour - colour % 2 if "digit" in without else colour for v, colour in bit(net, f, c).items()}
-
-
-def shift_of(net, f, c, without):
-    if "shift" in without:
-        return dict(c)
-    shifted = shift(net, f, c)
-    return {v: c[v] if "root" in without and net.parent(f, v) is None else shifted[v] for v in c}
-
-
-def drop_of(x, net, f, c, before, without):
-    if not {"children", "parent"} & set(without):
-        return drop(x, net, f, c, before)
-    return {v: other_than(*[] if "children" in without else [before[v]],
-                          *[] if "parent" in without else [at_parent(net, f, c, v)]) if c[v] == x else c[v] for v in c}
-
-
-def merge_of(net, f, old, three, without):
-    if "pair" in without:
-        old = dict.fromkeys(old, 0)
-    if "earlier" in without:
-        net = copy.copy(net)
-        net.neighbours = {v: {w for w in ws if net.number[frozenset((v, w))] == f} for v, ws in net.neighbours.items()}
-    return merged(net, f, old, three)
 
 
 class RuledRounds:
@@ -54,23 +37,39 @@ class RuledRounds:
         self.colours = [[net.identifiers] for _ in range(net.forest_count)]
         self.merged, self.plan, self.clash = [first_colours(net)], None, None
         for pulse in range(3, 13):
-            for f in range(net.forest_count):
-                self.colours[f].append(self.next_colours(pulse, f))
+            for f, lists in enumerate(self.colours):
+                lists.append(self.next_colours(pulse, f))
             self.clash = self.clash or next(self.forest_clashes(pulse), None)
             if self.clash and pulse < 12:
                 return
         for f in range(net.forest_count):
-            self.merged.append(merge_of(net, f, self.merged[-1], self.colours[f][-1], self.without))
+            self.merged.append(self.next_merged(f))
             self.clash = self.clash or next(self.merge_clashes(f), None)
         self.plan = self.merged[-1]
 
     def next_colours(self, pulse, f):
-        c = self.colours[f][-1]
+        """A bit step, twice the place and the digit there; a shift; or a drop of 5, 4 or 3."""
+        net, without, c = self.net, self.without, self.colours[f][-1]
         if pulse <= 6:
-            return bit_of(self.net, f, c, self.without)
+            return {v: colour - colour % 2 if "digit" in without else colour for v, colour in bit(net, f, c).items()}
         if pulse % 2 == 1:
-            return shift_of(self.net, f, c, self.without)
-        return drop_of({8: 5, 10: 4, 12: 3}[pulse], self.net, f, c, self.colours[f][-2], self.without)
+            def is_kept(v):
+                return "shift" in without or "root" in without and net.parent(f, v) is None
+            return {v: c[v] if is_kept(v) else colour for v, colour in shift(net, f, c).items()}
+        before = self.colours[f][-2]
+        taken = {v: [before[v]] * ("children" not in without) + [at_parent(net, f, c, v)] * ("parent" not in without)
+                 for v in c}
+        return {v: other_than(*taken[v]) if c[v] == {8: 5, 10: 4, 12: 3}[pulse] else c[v] for v in c}
+
+    def next_merged(self, f):
+        net, old = self.net, self.merged[-1]
+        if "pair" in self.without:
+            old = dict.fromkeys(old, 0)
+        if "earlier" in self.without:
+            net = copy.copy(net)
+            net.neighbours = {v: {w for w in ws if net.number[frozenset((v, w))] == f}
+                              for v, ws in net.neighbours.items()}
+        return merged(net, f, old, self.colours[f][-1])
 
     def forest_clashes(self, pulse):
         for f, lists in enumerate(self.colours):
@@ -99,6 +98,90 @@ class RuledRounds:
         return said + "".join(f"\nthe plan gives {a} and {b} channel {self.plan[a] + 1}" for a, b in same[:1])
 
 
+class Fault(NamedTuple):
+    """What isn't right at one node, or at two that are neighbours."""
+    nodes: tuple[int, ...]
+    words: str
+
+
+class RuledMatching(Matching):
+    @classmethod
+    def last_pulse(cls, net):
+        return Matching.last_pulse(net) - ("last" in cls.without)
+
+    def take(self, forest, colour, came):
+        partner = self.partner
+        if "partner" in self.without:
+            self.partner = None
+        sent = super().take(forest, colour, came)
+        self.partner = self.partner if partner is None else partner
+        return sent
+
+    @staticmethod
+    def faults(net, nodes):
+        partner = {v: None if node.partner is None else ports_of(net, v)[node.partner] for v, node in nodes.items()}
+        return (Fault((v, w), f"the partner of node {v} is {w}, and that of node {w} is {partner[w] or 'none'}")
+                for v, w in partner.items() if w and partner[w] != v)
+
+
+class RuledSet(IndependentSet):
+    def go_on(self, pulse, inbox):
+        self.is_beside = (self.is_beside or any(inbox)) and "beside" not in self.without
+        joins = any if "class" in self.without else all
+        if not joins((self.first.merged == pulse, not self.is_beside)):
+            return [None] * self.degree
+        self.is_in = True
+        return [("Joined", self.first.merged) if pulse < self.span else None] * self.degree
+
+    @staticmethod
+    def faults(net, nodes):
+        return (Fault((v, w), f"the neighbours {v} and {w} are both in") for v, w in edges_of(net)
+                if nodes[v].is_in and nodes[w].is_in)
+
+
+class RuledRecolouring(Recolouring):
+    def go_on(self, pulse, inbox):
+        if "bars" in self.without:
+            # The colouring has ended, so nothing else looks at them.
+            self.first.barred = frozenset()
+        sent = super().go_on(pulse, inbox)
+        return [slot and ("Anew", self.first.merged) for slot in sent] if "anew" in self.without else sent
+
+    @staticmethod
+    def faults(net, nodes):
+        colour = {v: node.present() for v, node in nodes.items()}
+        yield from (Fault((v, w), f"the neighbours {v} and {w} both have channel {colour[v] + 1}")
+                    for v, w in edges_of(net) if colour[v] == colour[w])
+        yield from (Fault((v,), f"node {v} has channel {c + 1}, which is barred at it") for v, c in colour.items()
+                    if c in net.barred[v])
+
+
+RULED = {Matching: RuledMatching, IndependentSet: RuledSet, Recolouring: RuledRecolouring}
+
+
+def edges_of(net):
+    return sorted(map(sorted, net.number))
+
+
+class RuledSequel:
+    """`faults` are what isn't right at the end, and `clash` is the first of them, or None."""
+
+    def __init__(self, net, without, program):
+        base = RULED[base_of(program)]
+        self.net, self.program = net, type(program.__name__, (base, program), {"without": frozenset(without)})
+        self.nodes = synchronous_run(net, self.program)
+        self.faults = list(base.faults(net, self.nodes))
+        self.clash = self.faults[0] if self.faults else None
+
+    def words(self):
+        return f"after pulse {self.program.last_pulse(self.net)} {self.clash.words}"
+
+
+def ruled(program):
+    """What makes the rounds of a program on a network without rules."""
+    return RuledRounds if program is Colouring else functools.partial(RuledSequel, program=program)
+
+
 def networks(nodes, without):
     """The networks of a number of nodes that are enough to try, with fewer edges first: (edges)."""
     if set(without) <= set(OF_FORESTS):
@@ -112,14 +195,16 @@ def networks(nodes, without):
             yield from map(list, itertools.combinations(pairs, count))
 
 
-def smallest(without, most_nodes, ruled=RuledRounds):
-    """(rounds, how many networks were tried) of the first network that goes wrong, or (None, how many). Channel 1 is
-    barred at node 1 if the bars are left out; `ruled` makes the rounds, as RuledRounds does."""
+def smallest_wrong(without, program=Colouring):
+    """(rounds, how many networks were tried, what these are called, of how many nodes at most) of a smallest network
+    on which the rounds of a program go wrong; the rounds are None if there is none. Channel 1 is barred at node 1 if
+    the bars are left out."""
+    most, what = (MOST_ROW, "rows") if set(without) <= set(OF_FORESTS) else (MOST_MERGED, "networks")
     tried, bars = 0, {1: {0}} if "bars" in without else {}
-    for nodes in range(2, most_nodes + 1):
+    for nodes in range(2, most + 1):
         for edges in networks(nodes, without):
             tried += 1
-            rounds = ruled(Network({v: v for v in range(1, nodes + 1)}, set(edges), bars), without)
+            rounds = ruled(program)(Network({v: v for v in range(1, nodes + 1)}, set(edges), bars), without)
             if rounds.clash:
-                return rounds, tried
-    return None, tried
+                return rounds, tried, what, most
+    return None, tried, what, most

@@ -76,10 +76,10 @@ class Stepwise(Player):
         own = [one for one in self.steps.get(v, ()) if (one.kind, one.neighbour) == (kind, w)]
         if self.is_over or not own or place and not ("fifo" in self.without and place < len(self.words_on(w, v))):
             return False
-        self.step(own[0], "-".join(map(str, [v, *[w] * bool(w), *[place] * bool(place)])), place)
+        self.step(own[0], place)
         return True
 
-    def step(self, step: Step, word: str, place: int = 0):
+    def step(self, step: Step, place: int = 0):
         """One step, and the puts that it makes possible."""
         v, w, node = step.node, step.neighbour, self.state.nodes[step.node]
         fault = None
@@ -91,7 +91,7 @@ class Stepwise(Player):
             self.said = f"node {v} makes pulse {node.pulse_number + 1}"
             if self.rounds:
                 fault, self.is_over = node.fault_of_pulse(v, self.rounds)
-        self.made.append(word)
+        self.made.append("-".join(map(str, [v, *[w] * bool(w), *[place] * bool(place)])))
         self.lines.append(f"take {v} {self.state.port_to[v, w]}" + f" {place}" * bool(place) if w else f"pulse {v}")
         self.fault = self.fault or fault
         if not self.is_over:
@@ -113,7 +113,7 @@ class Stepwise(Player):
             steps = self.free(held)
             if self.is_over or not steps:
                 return
-            self.step_on(steps[int(source.random() * len(steps))])
+            self.step(steps[int(source.random() * len(steps))])
 
     def in_step(self, held):
         """All nodes make one pulse: what can come comes first, and then those that are behind make theirs."""
@@ -125,10 +125,7 @@ class Stepwise(Player):
                       and self.state.nodes[step.node].pulse_number < goal]
             if not takes and not behind:
                 return
-            self.step_on((takes or behind)[0])
+            self.step((takes or behind)[0])
 
     def lowest(self):
         return min(node.pulse_number for node in self.state.nodes.values())
-
-    def step_on(self, step):
-        self.step(step, f"{step.node}-{step.neighbour}" if step.neighbour else str(step.node))

@@ -13,7 +13,7 @@ from lab.pictures.player_page import film_of
 from lab.pictures.program_rounds import ProgramRounds
 from lab.pictures.sizes import last_pulse
 from lab.schedules.reading import network_of
-from lab.schedules.ruled_sequels import ruled, smallest_wrong
+from lab.schedules.ruled_rounds import ruled, smallest_wrong
 from lab.schedules.rules import OF_PROGRAMS
 from lab.studio.asked import MOST_ROUNDS, network_asked, program_asked, rules_asked
 from lab.studio.judges import plan_of, rounds_of, verdict_on

@@ -263,7 +263,7 @@ class Schedules(Case):
 
     def test_rounds(self):
         for rule in rules.OF_ROUNDS:
-            rounds, _ = ruled_rounds.smallest([rule], max(SMALLEST[rule])[1])
+            rounds = ruled_rounds.smallest_wrong([rule])[0]
             self.same(f"the smallest network without {rule}", sorted(map(tuple, map(sorted, rounds.net.number))),
                       SMALLEST[rule])
             self.same(f"the first clash without {rule}", rounds.clash, CLASHES.get(rule, rounds.clash))
