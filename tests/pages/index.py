@@ -43,7 +43,7 @@ SAID_OF_LIMITS = {
     "lab/networks/network_text.py": tuple(f"{name} = {{{name}}} " for name in
                                           ("MAX_NODES", "MAX_EDGES", "MAX_DEGREE", "MAX_CHANNEL", "MAX_BARS")),
     "lab/definitions/programs.py": ("PASSES = {ALL_PASSES} ",),
-    "lab/python/forestplan.py": (" <= number <= {MAX_CHANNEL} + ",),
+    "lab/python/forestplan.py": ("whole(channel, what, 1, {MAX_CHANNEL})",),
     "lab/studio/page/draw.js": (" > {MAX_CHANNEL})", "numbers from 1 to {MAX_CHANNEL:,},"),
     "lab/studio/page/page.html": ('id="workers" type="number" min="1" max="{MAX_WORKERS}"',
                                   'id="capacity" type="number" min="1" max="{MAX_CAPACITY}"'),
