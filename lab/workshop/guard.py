@@ -39,6 +39,7 @@ NAMES = ("HOME", "LANG", "PATH", "TMPDIR")
 # Numbers of Linux, the same on all machines.
 PDEATHSIG, DUMPABLE, DROP_CAPABILITY, SUBREAPER, IS_SUBREAPER, NO_NEW_PRIVS = 1, 4, 24, 36, 37, 38
 CAPABILITIES = 64           # more than there are
+OWN_MESSAGES = 0x08000000   # a namespace for memory that is shared, semaphores and queues
 CREATE_RULESET, ADD_RULE, RESTRICT_SELF = 444, 445, 446
 EXECUTE, WRITE, READ, LIST, MAKE_BLOCK, TRUNCATE = (1 << bit for bit in (0, 1, 2, 3, 11, 14))
 OF_FILES, LOOKS = EXECUTE | WRITE | READ | TRUNCATE, EXECUTE | READ | LIST
@@ -79,7 +80,10 @@ def limit(limits: Limits, tasks: int) -> None:
 
 def shut() -> None:
     """Nobody reads this process, it gets what its programs leave behind, and it may open as many files as the system
-    allows: three for each program."""
+    allows: three for each program. As root it and its programs have memory and queues of System V of their own, which
+    end with them."""
+    if os.geteuid() == 0:
+        SYSTEM.unshare(OWN_MESSAGES)
     control(DUMPABLE, 0)
     control(SUBREAPER, 1)
     most = resource.getrlimit(resource.RLIMIT_NOFILE)[1]
