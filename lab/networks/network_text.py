@@ -195,9 +195,16 @@ def reading_of(text, path):
 
 def network_of_reading(read, path):
     network = Network(stem(path), read.nodes, read.edges, read.places, read.names, read.identifiers, read.bars)
+    return checked(network, path)
+
+
+def checked(network, path):
+    """A network that is within the limits of nodes, and whose identifiers differ."""
     for v in network.vertices:
         if len(network.neighbours[v]) > MAX_DEGREE:
-            raise Wrong(f"{path}: vertex {v} has {len(network.neighbours[v])} neighbours, more than {MAX_DEGREE} (N1)")
+            name = f" ({shown(network.names[v])})" if v in network.names else ""
+            raise Wrong(f"{path}: vertex {v}{name} has {len(network.neighbours[v])} neighbours, more than {MAX_DEGREE} "
+                        "(N1)")
     same = two_alike(network.identifiers)
     if same:
         raise Wrong(f"{path}: vertices {same[0]} and {same[1]} have one identifier (N2)")

@@ -2,8 +2,7 @@
 left out."""
 from lab.networks.edge_list import NO_END, decoded, twin_of, with_clean_names
 from lab.networks.forms import listed
-from lab.networks.network_text import (
-    MAX_DEGREE, MAX_EDGES, MAX_NODES, Network, read_network, shown, stem, two_alike, whole)
+from lab.networks.network_text import MAX_EDGES, MAX_NODES, Network, checked, read_network, shown, stem, whole
 from lab.networks.texts import text_of
 from lab.words import counted
 from lab.wrong import Wrong
@@ -74,11 +73,12 @@ def made_of(found, name):
         found.notes.append(f"two nodes are named {shown(twin_of(names))}")
     if len(order) > MAX_NODES:
         raise Wrong(f"{name}: {len(order)} nodes, and a network has at most {MAX_NODES}")
-    made = Network(stem(name), len(order), edges,
-                   {v: place for v, place in places.items() if all(abs(part) < FARTHEST for part in place)}, names,
-                   given(found.identifiers, number, name, "an identifier"),
-                   given(found.bars, number, name, "a barred channel"))
-    check(made, name)
+    made = checked(Network(stem(name), len(order), edges,
+                           {v: place for v, place in places.items() if all(abs(part) < FARTHEST for part in place)},
+                           names, given(found.identifiers, number, name, "an identifier"),
+                           given(found.bars, number, name, "a barred channel")), name)
+    if len(made.edges) > MAX_EDGES:
+        raise Wrong(f"{name}: {len(made.edges)} edges, and a network has at most {MAX_EDGES}")
     return made, [summary(made, found, by)] + found.notes, found.left_out + left_out
 
 
@@ -122,26 +122,13 @@ def kept(found, number):
             edges.add((v, w))
     notes = []
     if loops:
-        notes.append(
-            f"{counted(len(loops), 'edge')} from a node to itself left out, first at line {loops[0][0]}: {loops[0][1]}"
-        )
+        notes.append(f"{counted(len(loops), 'edge')} from a node to itself left out, first at line {loops[0][0]}: "
+                     f"{loops[0][1]}")
     if both:
         found.notes.append(f"{counted(both, 'edge')} there in both directions, counted once")
     if again:
         notes.append(f"{counted(again, 'line')} with an edge that was there before, counted once")
     return edges, notes
-
-
-def check(made, name):
-    """Refuses what the programs would refuse."""
-    if len(made.edges) > MAX_EDGES:
-        raise Wrong(f"{name}: {len(made.edges)} edges, and a network has at most {MAX_EDGES}")
-    if made.degree > MAX_DEGREE:
-        v = next(v for v in made.vertices if len(made.neighbours[v]) == made.degree)
-        raise Wrong(f"{name}: node {made.names.get(v, v)} has {made.degree} neighbours, and may have {MAX_DEGREE}")
-    same = two_alike(made.identifiers)
-    if same:
-        raise Wrong(f"{name}: nodes {same[0]} and {same[1]} have one identifier")
 
 
 def summary(made, found, by):

@@ -207,7 +207,7 @@ REFUSED = [
     ("DIMACS with two heads", "p edge 2 1\np edge 2 1\n", "line 2: a second `p` line"),
     ("DIMACS without numbers", "p edge x\ne 1 2\n", "line 1: no number of nodes"),
     ("DIMACS of many nodes", "p edge 20001 0\n", "at most 20000"),
-    ("many neighbours", "".join(f"1 {v}\n" for v in range(2, 1026)), "node 1 has 1024 neighbours, and may have 1023"),
+    ("many neighbours", "".join(f"1 {v}\n" for v in range(2, 1026)), "vertex 1 has 1024 neighbours, more than 1023"),
     ("many nodes", "".join(f"{v} {v + 1}\n" for v in range(1, 20001)), "20001 nodes, and a network has at most 20000"),
     ("Matrix Market of a table", "%%MatrixMarket matrix array real general\n1 1\n1\n", "`matrix array real general`"),
     ("Matrix Market that is no square", "%%MatrixMarket matrix coordinate real general\n2 3 1\n1 1 1\n",

@@ -35,7 +35,7 @@ REFUSED = [
         ("line 2: no place", "id,x,y\na,1,\n"), ("line 2: no place", "id,x,y\na,1,east\n"),
         ("line 2: no latitude and longitude", "id,lat,lon\na,91,0\n"),
         ("line 2: no identifier below 2^128", "id,x,y,identifier\na,1,2,me\n"),
-        ("nodes 1 and 2 have one identifier", "id,x,y,identifier\na,1,2,9\nb,1,2,9\n"),
+        ("vertices 1 and 2 have one identifier", "id,x,y,identifier\na,1,2,9\nb,1,2,9\n"),
         ("edges within 5 km", "id,x,y\n" + "".join(f"s{at},0,0\n" for at in range(1100))),
         ("no table", "a b c\nd e f\n"))),
 ]
