@@ -40,48 +40,50 @@ class Refused(ValueError):
         super().__init__(f"{fault}{named}\n{self.words}")
 
 
-class Plan(dict):
-    """{node: channel}. `network` and `text` are what the program read and wrote, in which nodes have numbers and
-    channels count from 1."""
+class _Answer:
+    """What a program wrote (`text`) of what it read (`network`), in which nodes have numbers and channels count from 1.
+    A notebook shows its picture: the first of `kinds`, or the second if the network has more than `most` lines."""
 
     network = text = ""
 
     def _repr_svg_(self):
-        return _picture("plan" if len(self) <= 400 else "matrix", self.network, "--plan", self.text)
+        with tempfile.NamedTemporaryFile("w", suffix=".txt") as file:
+            file.write(self.text)
+            file.flush()
+            kind = self.kinds[self.network.count("\n") > self.most]
+            return _lab(["picture", kind, "-", self.option, file.name, "--title", "graph"], self.network) or None
 
 
-class Rounds(list):
+class Plan(_Answer, dict):
+    """{node: channel}."""
+
+    option, kinds, most = "--plan", ("plan", "matrix"), 1200
+
+
+class Rounds(_Answer, list):
     """A `Pulse` for each pulse: `messages` has a `Message` each, and `states` (node, words) of what a node came to, its
     colours counted from 0."""
 
-    network = text = ""
-
-    def _repr_svg_(self):
-        return _picture("rounds", self.network, "--rounds", self.text)
+    option, kinds, most = "--rounds", ("rounds", "rounds"), 0
 
 
-class Transcript(list):
+class Transcript(_Answer, list):
     """An `Entry` for each event of a run: `kind` is pulse, put or take; `wire` has the words of what was put or taken,
     and `other` is the neighbour, or for a pulse its number."""
 
-    network = text = ""
-
-    def _repr_svg_(self):
-        return _picture("run" if len(self.network) < 2000 else "overview", self.network, "--transcript", self.text)
+    option, kinds, most = "--transcript", ("run", "overview"), 150
 
 
-def plan(G, bars=None, licence=None, workers=None, identifiers=None, places=None):
+def plan(G, bars=None, licence=None, workers=None):
     """A plan, in which neighbours have different channels. `bars` has the channels barred at a node, `licence` the
     channels that all may use, in order of preference; without it channels count from 1. With `workers` it is found by
     that many threads without a clock, else on one thread: the plan is the same."""
-    network, order = text_of(G, bars, licence, identifiers, places)
     words = ["plain"] if workers is None else ["plan", "--workers", str(workers)]
-    text = _called("forestplan", words, network, order)
-    numbers = [int(line.split()[1]) for line in text.splitlines()[1:]]
+    found, lines, order = _asked(Plan(), "forestplan", words, G, bars, licence)
+    numbers = [int(line.split()[1]) for line in lines]
     if licence is not None and max(numbers, default=0) > len(licence):
         raise ValueError(f"the plan takes {max(numbers)} channels, and the licence has {len(licence)}")
-    found = Plan(zip(order, numbers if licence is None else (licence[k - 1] for k in numbers)))
-    found.network, found.text = network, text
+    found.update(zip(order, numbers if licence is None else (licence[k - 1] for k in numbers)))
     return found
 
 
@@ -102,12 +104,10 @@ def check(G, plan, bars=None, licence=None):
     return int(_called("forestplan", ["check"], f"{network}plan\n{''.join(rows)}", order).split()[1])
 
 
-def rounds(G, bars=None, identifiers=None):
+def rounds(G, bars=None):
     """The rounds of the algorithm, all nodes at once. Of a large graph they are a long list."""
-    network, order = text_of(G, bars, None, identifiers)
-    found = Rounds()
-    found.network, found.text = network, _called("forestplay", ["rounds"], network, order)
-    for line in found.text.splitlines()[1:]:
+    found, lines, order = _asked(Rounds(), "forestplay", ["rounds"], G, bars)
+    for line in lines:
         fields = line.split()
         if fields[0] == "pulse":
             found.append(Pulse(int(fields[1]), " ".join(fields[2:]), [], []))
@@ -119,36 +119,40 @@ def rounds(G, bars=None, identifiers=None):
     return found
 
 
-def transcript(G, bars=None, workers=2, identifiers=None):
+def transcript(G, bars=None, workers=2):
     """A run without a clock, by worker threads: all events, in an order in which they were possible. Two calls differ,
     as runs do, unless there is one worker."""
-    network, order = text_of(G, bars, None, identifiers)
-    found = Transcript()
-    found.network = network
-    found.text = _called("forestplan", ["transcript", "--workers", str(workers)], network, order)
-    for line in found.text.splitlines()[1:]:
+    found, lines, order = _asked(Transcript(), "forestplan", ["transcript", "--workers", str(workers)], G, bars)
+    for line in lines:
         stamp, v, kind, other, *wire = line.split()
         beside = order[int(other) - 1] if kind != "pulse" else int(other)
         found.append(Entry(int(stamp), order[int(v) - 1], kind, beside, " ".join(wire)))
     return found
 
 
-def text_of(G, bars=None, licence=None, identifiers=None, places=None):
+def _asked(found, name, words, G, bars=None, licence=None):
+    """The same with what a program read and wrote of a graph; the lines but the first, and the nodes in the order of
+    their numbers."""
+    found.network, order = text_of(G, bars, licence)
+    found.text = _called(name, words, found.network, order)
+    return found, found.text.splitlines()[1:], order
+
+
+def text_of(G, bars=None, licence=None):
     """The graph as the programs read it, and its nodes in the order of their numbers."""
     pairs, counted = _pairs(G), _counted(licence)
     order = list(dict.fromkeys([*G, *(node for pair in pairs for node in pair)]))
     number = {node: v for v, node in enumerate(order, 1)}
-    strange = [node for said in (bars, identifiers, places) for node in said or () if node not in number]
-    if strange:
-        raise ValueError(f"{strange[0]!r} is no node of the graph")
-    barred = {(number[node], counted(channel, f"a bar of {node!r}")) for node, own in (bars or {}).items()
-              for channel in _items(own, f"bars of {node!r}")}
+    barred = set()
+    for node, own in (bars or {}).items():
+        if node not in number:
+            raise ValueError(f"{node!r} is no node of the graph")
+        channels = [counted(channel, f"a bar of {node!r}") for channel in _items(own, f"bars of {node!r}")]
+        barred |= {(number[node], channel) for channel in channels if channel is not None}
     edges = {tuple(sorted((number[one], number[other]))) for one, other in pairs if one != other}
-    lines = [f"c at {number[node]} {x:.3f} {y:.3f}" for node, (x, y) in (places or {}).items()]
-    lines += [f"c name {v} {' '.join(str(node).split())}" for v, node in enumerate(order, 1)]
+    lines = [f"c name {v} {' '.join(str(node).split())}" for v, node in enumerate(order, 1)]
     lines.append(f"p edge {len(order)} {len(edges)}")
-    lines += [f"i {number[node]} {own}" for node, own in (identifiers or {}).items()]
-    lines += [f"b {v} {channel}" for v, channel in sorted(barred, key=str) if channel is not None]
+    lines += [f"b {v} {channel}" for v, channel in sorted(barred)]
     lines += [f"e {v} {w}" for v, w in sorted(edges)]
     return "\n".join(lines) + "\n", order
 
@@ -242,10 +246,3 @@ def _lab(words, text=""):
     done = subprocess.run([sys.executable, "-S", os.path.join(home(), "lab"), *words],
                           input=text.encode("utf-8", "replace"), capture_output=True)
     return "" if done.returncode else done.stdout.decode()
-
-
-def _picture(kind, network, option, text):
-    with tempfile.NamedTemporaryFile("w", suffix=".txt") as file:
-        file.write(text)
-        file.flush()
-        return _lab(["picture", kind, "-", option, file.name, "--title", "graph"], network) or None

@@ -60,19 +60,11 @@ class InPython(Case):
             self.note(f"check {count}", forestplan.check(graph, got, bars=bars) == max(wanted))
 
     def test_licence(self):
-        plain = forestplan.plan(SQUARE)
         triangle = forestplan.plan({"Ulm": ["Aue", "Hof"], "Aue": ["Hof"]})
         self.note("a triangle, by hand", triangle == {"Ulm": 2, "Aue": 3, "Hof": 1}, triangle)
         got = forestplan.plan(SQUARE, bars={"Ulm": {36, 99}}, licence=[36, 40, 44, 48])
         self.note("real channels", set(got.values()) <= {36, 40, 44, 48} and got["Ulm"] != 36, got)
         self.note("they are judged", forestplan.check(SQUARE, got, {"Ulm": {36}}, [36, 40, 44, 48]) <= 4)
-        for name, call in (("a short licence", lambda: forestplan.plan(SQUARE, licence=[36])),
-                           ("a licence with a channel twice", lambda: forestplan.plan(SQUARE, licence=[36, 36])),
-                           ("a bar of no node", lambda: forestplan.plan(SQUARE, bars={"Prag": {1}})),
-                           ("a plan of another node", lambda: forestplan.check(SQUARE, plain | {"Prag": 1})),
-                           ("a channel outside", lambda: forestplan.check(SQUARE, plain, licence=[7, 8, 9]))):
-            with self.subTest(name):
-                self.assertNotIsInstance(self.refused(ValueError, call), forestplan.Refused)
 
     def test_kinds(self):
         """What is no graph, no list and no whole number is refused, and says where it is; it isn't taken letter by
@@ -106,6 +98,11 @@ class InPython(Case):
             (ValueError, "a channel of the licence is -1", lambda: forestplan.plan(SQUARE, licence=[0, -1])),
             (TypeError, "the channel of 'Ulm' is 2.0", lambda: forestplan.check(SQUARE, {"Ulm": 2.0})),
             (ValueError, "the channel of 'Ulm' is 0", lambda: forestplan.check(SQUARE, {"Ulm": 0})),
+            (ValueError, "the licence has 1", lambda: forestplan.plan(SQUARE, licence=[36])),
+            (ValueError, "names a channel twice", lambda: forestplan.plan(SQUARE, licence=[36, 36])),
+            (ValueError, "'Prag' is no node", lambda: forestplan.plan(SQUARE, bars={"Prag": {1}})),
+            (ValueError, "the plan has 'Prag'", lambda: forestplan.check(SQUARE, {"Prag": 1})),
+            (ValueError, "isn't in the licence", lambda: forestplan.check(SQUARE, {"Ulm": 1}, licence=[7, 8, 9])),
             (TypeError, "a list is no plan", lambda: forestplan.check(SQUARE, [1, 2])),
             (TypeError, "a dict_items is no graph", lambda: forestplan.plan(SQUARE.items())),
         ):
