@@ -9,7 +9,7 @@ import re
 from lab.definitions.colours import network_of
 from lab.definitions.nodes import last_pulse
 from lab.networks import network
-from lab.networks.costs import Run, most_payloads
+from lab.networks.costs import most_payloads
 from lab.networks.network_text import read_network
 from lab.networks.reading import read_any
 from lab.wrong import Wrong
@@ -152,10 +152,9 @@ class OwnNetworks(Case):
             degrees = [len(ws) for ws in net.neighbours.values()]
             head = f"p edge {nodes} {edges}\n".encode()
             self.same(f"{words}: nodes and edges", (len(degrees), len(pairs), head in text), (nodes, edges, True))
-            self.note(f"{words} has its numbers of neighbours",
-                      least in (None, min(degrees)) and most in (None, max(degrees)), (min(degrees), max(degrees)))
-            self.note(f"{words} says how it was made", text.startswith(f"c Made by forestlab network {words}".encode()),
-                      text[:80])
+            good = least in (None, min(degrees)) and most in (None, max(degrees))
+            self.note(f"{words} has its numbers of neighbours, and says how it was made",
+                      good and text.startswith(f"c Made by forestlab network {words}".encode()), text[:80])
             if words.split()[0] not in ("tree", "random"):
                 self.same(f"{words}: places", sorted(comments(text, "at")), list(range(1, nodes + 1)))
         for name, words in (("queen5_5", ("queen", 5, 5)), ("star", ("star", 9))):
@@ -274,8 +273,7 @@ class OwnNetworks(Case):
         for words, wanted in (([], b"Ulm 1\nAue, west 2\nJena 1\n"),
                               (["--csv"], b'name,channel\nUlm,1\n"Aue, west",2\nJena,1\n')):
             self.same(f"names on a plan {words}", call("names", path, *words, data=plan), (0, wanted, b""))
-        for plan, code in ((b"", b"C6"), (b"plan\n1 1\n", b"C1"), (b"plan\n1 9\n", b"C5")):
-            self.refusal(f"names on the plan {plan}", call("names", path, data=plan), 1, b"(%s)" % code)
+        self.refusal("names on no plan", call("names", path), 1, b"no line `plan` (C6)")
 
     def told_of(self, data, *words):
         """{name: what} of the lines of `network tell`."""
@@ -306,10 +304,9 @@ class OwnNetworks(Case):
     def test_tell(self):
         """Beside the definitions: the rounds' payloads, and the lines and bytes of a run's transcript."""
         networks = {name: example(name) for name in ("triangle", "petersen", "star", "four_cycle", "chain6")}
-        networks |= {"a ring of 12": self.written("ring", 12), "a grid": self.written("grid", 3, 4),
-                     "one": self.written("path", 1)}
-        networks["long names"] = LONG_NAMES
-        networks["bars"] = BARRED
+        networks |= {words: self.written(*words.split()) for words in (
+            "ring 12", "grid 3 4", "path 1", "complete 8", "random 30 80", "tree 12")}
+        networks |= {"long names": LONG_NAMES, "bars": BARRED}
         for name, data in networks.items():
             net = network_of(data)
             told, warned = self.told_of(data)
@@ -330,8 +327,10 @@ class OwnNetworks(Case):
             }
             got["transcript"] = got["transcript"][:1]
             self.note(f"tell of {name}", {key: got.get(key) for key in wanted} == wanted, (told, wanted))
-            self.note(f"tell of {name}: no warning", warned == b"", warned)
-            self.note(f"tell of {name}: the time", told["time"] == "less than a second", told)
+            self.note(f"tell of {name}: no warning", warned == b"" and told["time"] == "less than a second", told)
+            # What is said of a network that is too large to be worked out.
+            most = most_payloads(read_network(data.decode(), name))
+            self.note(f"the most payloads of {name}", payloads <= most <= 2 * payloads, (payloads, most))
         for data, said in ((b"p edge 3 99\ne 1 2\n", b"the `p` line says 99 edges, and the text has 1: is it cut?"),
                            (b"p edge 2 1\ne 1 2\nc at 3 0 0\n", b"a place is given for vertex 3"),
                            (b"p edge 2 1\ne 1 2\nc name 9 X\n", b"a name is given for vertex 9")):
@@ -347,14 +346,6 @@ class OwnNetworks(Case):
             told = float(count) * {"bytes": 1, "kB": 1e3, "MB": 1e6}[unit]
             there = len(called(PLAN, "transcript", "--edition", "1", data=data)[1])
             self.note(f"the bytes of a transcript of {len(data)}", 0.9 < told / there < 1.1, (told, there))
-
-    def test_bounds(self):
-        """What `network tell` says without the program of a network that is too large to be worked out: of a smaller
-        one these bounds are above the counts."""
-        for words in ("complete 8", "random 30 80", "grid 5 5", "star 7", "tree 12", "disk 20 --seed 3"):
-            net = read_network(call(*words.split())[1].decode(), "net")
-            payloads, most = Run(net).payloads, most_payloads(net)
-            self.note(f"the most payloads of {words}", payloads <= most <= 2 * payloads, (payloads, most))
 
     def test_faults(self):
         """The fault that the program reports (codes.py), in words; and whether there is another way in."""
