@@ -138,20 +138,30 @@ def climbing(count, nodes):
     return networks
 
 
+# Networks, identifiers of their own, and barred channels.
 FAMILIES = [
-    ("all on up to 4 nodes", all_small),
-    ("random on up to 12 nodes", random_of(160, 0, 12)),
-    ("random on 20 to 40 nodes", random_of(46, 20, 40)),
-    ("shapes on up to 40 nodes", shapes),
-    ("climbing on 40 nodes", climbing(45, 40)),
-    ("climbing on 1,000 nodes", climbing(22, 1000)),
-    ("climbing on 20,000 nodes", climbing(3, 20_000)),
+    ("all on up to 4 nodes", all_small, nothing, nothing),
+    ("random on up to 12 nodes", random_of(160, 0, 12), nothing, nothing),
+    ("random on 20 to 40 nodes", random_of(46, 20, 40), nothing, nothing),
+    ("shapes on up to 40 nodes", shapes, nothing, nothing),
+    ("climbing on 40 nodes", climbing(45, 40), nothing, nothing),
+    ("climbing on 1,000 nodes", climbing(22, 1000), nothing, nothing),
+    ("climbing on 20,000 nodes", climbing(3, 20_000), nothing, nothing),
+    ("bars on up to 12 nodes", random_of(80, 1, 12), nothing, some_bars),
+    ("bars on 20 to 40 nodes", random_of(20, 20, 40), nothing, some_bars),
+    ("names on up to 12 nodes", random_of(150, 0, 12), long_names, nothing),
+    ("names on 20 to 40 nodes", random_of(50, 20, 40), long_names, nothing),
+    ("names and bars on up to 12 nodes", random_of(80, 1, 12), long_names, some_bars),
+    ("names and bars on 20 to 40 nodes", random_of(20, 20, 40), long_names, some_bars),
 ]
-# With identifiers of their own, with barred channels, and with both.
-NAMED = [("names on up to 12 nodes", random_of(150, 0, 12)), ("names on 20 to 40 nodes", random_of(50, 20, 40))]
-BARRED = [("bars on up to 12 nodes", random_of(80, 1, 12)), ("bars on 20 to 40 nodes", random_of(20, 20, 40))]
-NAMED_AND_BARRED = [("names and bars on up to 12 nodes", random_of(80, 1, 12)),
-                    ("names and bars on 20 to 40 nodes", random_of(20, 20, 40))]
+
+
+def texts_of(family):
+    title, networks, names_of, bars_of = family
+    source = random.Random(f"{SEED} {title}")
+    for nodes, edges in networks(source):
+        bars = bars_of(source, nodes)
+        yield text_of(source, nodes, edges, names_of(source, nodes), bars)
 
 
 class PlainNetworks(Case):
@@ -174,16 +184,11 @@ class PlainNetworks(Case):
             self.same(f"the definition: {name}", got, wanted)
 
     def test_families(self):
-        for families, names_of, bars_of in ((FAMILIES, nothing, nothing), (NAMED, long_names, nothing),
-                                            (BARRED, nothing, some_bars), (NAMED_AND_BARRED, long_names, some_bars)):
-            for title, networks in families:
-                source = random.Random(f"{SEED} {title}")
-                different, count = [], 0
-                for count, (nodes, edges) in enumerate(networks(source), 1):
-                    bars = bars_of(source, nodes)
-                    network = text_of(source, nodes, edges, names_of(source, nodes), bars)
-                    done = called(PLAN, "plain", data=network)
-                    if done != (0, plan_text(network), b""):
-                        different.append((count, network, done))
-                self.note(f"plain by the definition, {count} networks, {title}", count > 0 and not different,
-                          f"{len(different)} differ, the first is {different[:1]}")
+        for family in FAMILIES:
+            different, count = [], 0
+            for count, network in enumerate(texts_of(family), 1):
+                done = called(PLAN, "plain", data=network)
+                if done != (0, plan_text(network), b""):
+                    different.append((count, network, done))
+            self.note(f"plain by the definition, {count} networks, {family[0]}", count > 0 and not different,
+                      f"{len(different)} differ, the first is {different[:1]}")

@@ -3,14 +3,13 @@ that stop. No time decides a result, but that a run of more than a minute has fa
 
 That the bytes are the right ones is shown of `plain`, by plain_networks.py."""
 import itertools
-import random
 
 from lab.definitions.colours import network_of, plan_text
 from lab.definitions.nodes import wire_words
 from tests.cases import Case, called, text
 from tests.commands import TRIANGLE as THREE
 from tests.programs.made_transcripts import Run
-from tests.programs.plain_networks import BARRED, FAMILIES, SEED, some_bars, text_of
+from tests.programs.plain_networks import FAMILIES, nothing, texts_of
 from tests.settings import PLAN
 
 LIMIT = 60
@@ -59,14 +58,6 @@ def of_one(data, capacity, turns, command="plan"):
     return answer_of(command, *words, data=data)
 
 
-def texts_of(family):
-    """The texts of the networks of a family, as plain_networks.py has them."""
-    title, networks = family
-    source = random.Random(f"{SEED} {title}")
-    for nodes, edges in networks(source):
-        yield text_of(source, nodes, edges, bars=some_bars(source, nodes) if family in BARRED else {})
-
-
 def of_node(v, lines):
     return [line for line in lines if line.startswith(v + " ")]
 
@@ -80,7 +71,7 @@ class Plans(Case):
         """Each network of a family once, or the first ones of a long family, the pairs of workers and capacity by turns
         over all families."""
         pairs = itertools.cycle(PAIRS)
-        for family in FAMILIES + BARRED:
+        for family in (family for family in FAMILIES if family[2] is nothing):
             different, count = [], 0
             for count, network in enumerate(itertools.islice(texts_of(family), LONG.get(family[0])), 1):
                 workers, capacity = next(pairs)
