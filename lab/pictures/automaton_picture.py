@@ -33,35 +33,29 @@ def usual(network, last):
 
 def draw(run, pulses=None):
     first, last = run.window(pulses, usual)
-    nodes, ports = steps_of(run, first, last)
-    svg = Svg(1120, 670, f"Synchroniser of {run.name}")
+    svg, steps = Svg(1120, 670, f"Synchroniser of {run.name}"), steps_of(run, first, last)
     said, others = "the run", ""
     if (first, last) != (0, run.last):
         said, others = f"pulses {first} to {last} of the run", "" if pulses else " Count others with --pulses A..B."
     svg.heading("How a node knows that a round is over: the synchroniser",
                 f"How often each step is made in {said} of {run.name} ({counted(run.network.nodes, 'node')}, "
                 f"{counted(run.last, 'pulse')}); the wider, the oftener.{others}")
-    most = max([1, *nodes.values(), *ports.values()])
-    draw_node(Automaton(svg, nodes, most))
-    draw_port(Automaton(svg, ports, most))
-    closes = sum(count for (_, cause, _), count in ports.items() if cause == "close")
-    pulses = sum(count for (_, cause, _), count in nodes.items() if cause == "pulse")
-    svg.text(
-        20,
-        652,
-        f"A wire that no arrow takes is refused. After R safes a port takes close: {counted(closes, 'time')}. In all "
-        f"{counted(pulses, 'pulse')}, and none begins before every port has passed “safe p”.",
-        11.5,
-        SOFT,
-    )
+    automaton = Automaton(svg, steps)
+    draw_node(automaton)
+    draw_port(automaton)
+    closes = sum(count for (_, cause, _), count in steps.items() if cause == "close")
+    made = sum(count for (stage, cause, _), count in steps.items() if cause == "pulse" and stage in STAGES)
+    svg.text(20, 652, f"A wire that no arrow takes is refused. After R safes a port takes close: "
+             f"{counted(closes, 'time')}. In all {counted(made, 'pulse')}, and none begins before every port has "
+             "passed “safe p”.", 11.5, SOFT)
     return svg.document()
 
 
 class Automaton:
     """Arrows whose width says how often they are gone: 1.2 + 5·√(count/greatest)."""
 
-    def __init__(self, svg, counts, most):
-        self.svg, self.counts, self.most = svg, counts, most
+    def __init__(self, svg, counts):
+        self.svg, self.counts, self.most = svg, counts, max([1, *counts.values()])
 
     def box(self, x, y, width, height, name, under=None, fill=PAPER):
         self.svg.rect(x - width / 2, y - height / 2, width, height, fill, INK, 1.6, 12, mark="state")

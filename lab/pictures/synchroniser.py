@@ -1,9 +1,13 @@
 """How often each step of the synchroniser is made in a run, and what one node knew after each of its entries: the run
 is played once more by the definitions (lab/definitions/nodes.py)."""
-from collections import Counter
+from collections import Counter, namedtuple
 
 from lab.definitions.nodes import NetState
 from lab.pictures.transcripts import place_of
+
+# A node after one of its entries: its pulse, whether it has said safe, how many acknowledgements it awaits, and by
+# neighbour the height of each port's lane: its safes above the node's pulse, and a half for a payload.
+Moment = namedtuple("Moment", "entry pulse said awaits heights")
 
 
 def played(run):
@@ -32,32 +36,22 @@ def stage_of(node):
 
 
 def steps_of(run, first, last):
-    """Counts of the node's steps (stage, cause, stage) and of its ports' (level, cause, level), from a node's beginning
-    of pulse `first` until it begins the one after `last`; a level is (safes, paid)."""
-    nodes, ports = Counter(), Counter()
+    """How often nodes make each step (stage, cause, stage), and their ports (level, cause, level), from a node's
+    beginning of pulse `first` until it begins the one after `last`."""
+    steps = Counter()
     for entry, stage, levels, node, after in played(run):
-        if not first <= node.pulse_number <= last:
+        if entry.kind == "put" or not first <= node.pulse_number <= last:
             continue
         cause = "pulse" if entry.kind == "pulse" else entry.wire[0]
-        if entry.kind == "pulse" or entry.kind == "take" and stage_of(node) != stage:
-            nodes[stage, cause, stage_of(node)] += 1
-        if entry.kind == "pulse":
-            ports.update((levels[w], cause, after[w]) for w in levels)
-        elif entry.kind == "take" and cause != "ack":
-            ports[levels[entry.neighbour], cause, after[entry.neighbour]] += 1
-    return nodes, ports
-
-
-class Moment:
-    """A node after one of its entries: its pulse, whether it has said safe, how many acknowledgements it awaits, and
-    the height of each port's lane: its safes above the node's pulse, and a half for a payload."""
-
-    def __init__(self, node, levels, entry):
-        self.entry, self.pulse, self.said = entry, node.pulse_number, node.said
-        self.awaits = sum(port.waits for port in node.ports)
-        self.heights = {w: safes + (0.5 if paid else 0) for w, (safes, paid) in levels.items()}
+        moved = {entry.neighbour: after[entry.neighbour]} if entry.kind == "take" else after
+        steps.update((levels[w], cause, level) for w, level in moved.items() if cause != "ack")
+        if entry.kind == "pulse" or stage_of(node) != stage:
+            steps[stage, cause, stage_of(node)] += 1
+    return steps
 
 
 def moments_of(run, v):
     """What v knew, entry by entry."""
-    return [Moment(node, levels, entry) for entry, _, _, node, levels in played(run) if entry.vertex == v]
+    return [Moment(entry, node.pulse_number, node.said, sum(port.waits for port in node.ports),
+                   {w: safes + (0.5 if paid else 0) for w, (safes, paid) in levels.items()})
+            for entry, _, _, node, levels in played(run) if entry.vertex == v]

@@ -34,11 +34,15 @@ def draw(run, vertex, pulses=None):
     svg = Svg(width, TOP + 58 + len(neighbours) * LANE + 26, f"Node {vertex} of {run.name}")
     svg.heading(f"{run.name}, node {vertex}: pulses {first} to {last} as it lived them", said)
     legend(svg)
-    timing = Timing(svg, moments, step)
-    timing.pulses(svg.height - 22)
-    timing.own_lanes()
-    for number, neighbour in enumerate(neighbours):
-        timing.port(neighbour, TOP + 58 + (number + 1) * LANE - 20)
+    # The middle of each entry's column, where what it changes begins, and the end of the last one.
+    xs = [LEFT + (at + 0.5) * step for at in range(len(moments))] + [LEFT + len(moments) * step]
+    for x, moment in zip(xs, moments):
+        if moment.entry.kind == "pulse":
+            svg.line(x, 98, x, svg.height - 22, INK, 1.6, mark="tick")
+            svg.text(x, 94, f"pulse {moment.pulse}", 10.5, INK, "middle", bold=True)
+    draw_own(svg, moments, xs)
+    for at, neighbour in enumerate(neighbours, 1):
+        draw_port(svg, moments, xs, neighbour, TOP + 38 + at * LANE)
     return svg.document()
 
 
@@ -53,62 +57,37 @@ def legend(svg):
         x += 56
 
 
-class Timing:
-    def __init__(self, svg, moments, step):
-        self.svg, self.moments, self.step = svg, moments, step
-        self.end = LEFT + len(moments) * step
+def draw_own(svg, moments, xs):
+    """How many acknowledgements it awaits, and whether it has said safe."""
+    svg.text(LEFT - 12, TOP + 2, "awaits ack", 11, SOFT, "end")
+    svg.text(LEFT - 12, TOP + 27, "said safe", 11, SOFT, "end")
+    for (_, awaits), first, end in stretches((moment.pulse, moment.awaits) for moment in moments):
+        if awaits:
+            high = min(4.5, 24 / len(moments[0].heights)) * awaits
+            svg.rect(xs[first], TOP - 2 - high, xs[end] - xs[first], high + 4, "#BDBDBD", mark="awaits")
+    for (_, said), first, end in stretches((moment.pulse, moment.said) for moment in moments):
+        if said:
+            begin = xs[first] + (2.5 if moments[first].entry.kind == "pulse" else 0)
+            svg.rect(begin, TOP + 16, xs[end] - begin, 12, WIRES["safe"], mark="said")
 
-    def x(self, index):
-        """The middle of an entry's column, where what it changes begins."""
-        return LEFT + (index + 0.5) * self.step
 
-    def to_next(self, index):
-        return min(self.x(index) + self.step, self.end)
-
-    def pulses(self, bottom):
-        for index, moment in enumerate(self.moments):
-            if moment.entry.kind == "pulse":
-                self.svg.line(self.x(index), 98, self.x(index), bottom, INK, 1.6, mark="tick")
-                self.svg.text(self.x(index), 94, f"pulse {moment.pulse}", 10.5, INK, "middle", bold=True)
-
-    def own_lanes(self):
-        """How many acknowledgements it awaits, and whether it has said safe."""
-        svg = self.svg
-        svg.text(LEFT - 12, TOP + 2, "awaits ack", 11, SOFT, "end")
-        svg.text(LEFT - 12, TOP + 27, "said safe", 11, SOFT, "end")
-        for (_, awaits), first, end in stretches((moment.pulse, moment.awaits) for moment in self.moments):
-            if awaits:
-                high = min(4.5, 24 / len(self.moments[0].heights)) * awaits
-                svg.rect(self.x(first), TOP - 2 - high, self.x(end) - self.x(first), high + 4, "#BDBDBD", mark="awaits")
-        for (_, said), first, end in stretches((moment.pulse, moment.said) for moment in self.moments):
-            if said:
-                begin = self.x(first) + (2.5 if self.moments[first].entry.kind == "pulse" else 0)
-                svg.rect(begin, TOP + 16, min(self.x(end), self.end) - begin, 12, WIRES["safe"], mark="said")
-
-    def port(self, neighbour, base):
-        """The staircase of a port, and its wires under it."""
-        svg, steps, before = self.svg, [], None
-        svg.text(LEFT - 12, base - 6, f"port to {neighbour}", 12, INK, "end", bold=True)
-        for line in range(3):
-            svg.line(LEFT, base - line * UNIT, self.end, base - line * UNIT, "#E2E2E2", 1)
-        for index, moment in enumerate(self.moments):
-            high = moment.heights[neighbour]
-            if high:
-                svg.rect(self.x(index), base - high * UNIT, self.to_next(index) - self.x(index) + 0.3, high * UNIT,
-                         "#FBEFE4")
-            if before is None:
-                steps += ["M", self.x(index), base - high * UNIT]
-            elif high != before:
-                steps += ["V", base - high * UNIT]
-            steps += ["H", self.to_next(index)]
-            before = high
-        svg.path(steps, INK, 1.5, mark="lane")
-        for index, moment in enumerate(self.moments):
-            entry = moment.entry
-            if entry.neighbour == neighbour:
-                colour = WIRES[entry.wire[0]]
-                with svg.group(entry.kind, f"{entry.kind} {entry.wire[0]}"):
-                    if entry.kind == "take":
-                        svg.circle(self.x(index), base + 9, 3.8, colour)
-                    else:
-                        svg.circle(self.x(index), base + 9, 3, PAPER, colour, 1.6)
+def draw_port(svg, moments, xs, neighbour, base):
+    """The staircase of a port, and its wires under it."""
+    svg.text(LEFT - 12, base - 6, f"port to {neighbour}", 12, INK, "end", bold=True)
+    for y in (base, base - UNIT, base - 2 * UNIT):
+        svg.line(LEFT, y, xs[-1], y, "#E2E2E2", 1)
+    steps = []
+    for high, first, end in stretches(moment.heights[neighbour] for moment in moments):
+        y = base - high * UNIT
+        if high:
+            svg.rect(xs[first], y, xs[end] - xs[first], high * UNIT, "#FBEFE4")
+        steps += [*(["V"] if steps else ["M", xs[first]]), y, "H", xs[end]]
+    svg.path(steps, INK, 1.5, mark="lane")
+    for x, (entry, *_) in zip(xs, moments):
+        if entry.neighbour == neighbour:
+            colour = WIRES[entry.wire[0]]
+            with svg.group(entry.kind, f"{entry.kind} {entry.wire[0]}"):
+                if entry.kind == "take":
+                    svg.circle(x, base + 9, 3.8, colour)
+                else:
+                    svg.circle(x, base + 9, 3, PAPER, colour, 1.6)

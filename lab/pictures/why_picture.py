@@ -7,7 +7,7 @@ free follows from nobody's having taken it before; and who is whose parent follo
 from lab.definitions.pulses import DROPPED, LAST_COLOUR, SEED
 from lab.pictures.layout import distances
 from lab.pictures.rounds_picture import MOST_ROWS, draw_strips
-from lab.words import in_words
+from lab.words import counted, in_words
 from lab.wrong import Wrong, at_most
 
 
@@ -105,18 +105,14 @@ class Cone:
 
 def summary(cone):
     """How many messages decided it, and on whose identifiers it depends."""
-    names, nodes = cone.identifiers(), cone.network.nodes
+    names = cone.identifiers()
     if not names:
         return "It has no neighbour that is heard: the least channel that isn't barred."
     sent = sum(len(pulse.puts) for pulse in cone.rounds.pulses)
-    counts = f"{len(cone.messages)} of {sent} messages decided it, and the identifiers of "
     most, who = cone.farthest()
-    if not most:
-        return f"{counts}1 of {nodes} nodes: its own."
-    edges = f"{most} edge{'s' * (most != 1)} away"
-    farthest = (f"The farthest of them is node {who[0]}, {edges}" if len(who) == 1
-                else f"The farthest of them are the nodes {in_words(who)}, each {edges}")
-    return f"{counts}{len(names)} of {nodes} nodes. {farthest} by the shortest way."
+    return (f"{len(cone.messages)} of {sent} messages decided it, and the identifiers of {len(names)} of "
+            f"{counted(cone.network.nodes, 'node')}. The farthest, {counted(most, 'edge')} away by the shortest way: "
+            f"{in_words(who)}.")
 
 
 def channel_of(cone):
@@ -138,7 +134,7 @@ def text(cone):
         lines.append("the messages that decided it, pulse by pulse:")
         lines += [message_words(cone, *message) for message in sorted(cone.messages)]
     if names := cone.identifiers():
-        lines.append(f"the identifiers that decided it: of node{'s' * (len(names) > 1)} {in_words(names)}")
+        lines.append(f"the identifiers that decided it: {in_words(names)}")
     lines.append(NOT_FOLLOWED)
     return "".join(line + "\n" for line in lines)
 

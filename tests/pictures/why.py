@@ -18,14 +18,14 @@ from tests.programs.plain_networks import reached
 
 HAND = [
     "why node 2 of net has channel 3",
-    "8 of 49 messages decided it, and the identifiers of 2 of 3 nodes. The farthest of them is node 3, 1 edge away by "
-    "the shortest way.",
+    "8 of 49 messages decided it, and the identifiers of 2 of 3 nodes. The farthest, 1 edge away by the shortest way: "
+    "3.",
     "pulse 26, merge of forest 1: the turn of node 2, with colour 1 in the forest and 1 so far; it chooses colour 2, "
     "channel 3",
     "  channel 1 is taken: node 3 told it so in pulse 22",
     "  channel 2 is taken: node 1 told it so in pulse 25",
     # Of node 1 no colour from before pulse 11 matters, when it took its parent's.
-    "the identifiers that decided it: of nodes 2 and 3",
+    "the identifiers that decided it: 2 and 3",
     # Node 2 is a root in forest 1: no parent sent it a colour, and its own identifier is one of the two.
     "forest 1, node 2, a root, pulses 2 to 12: 2 0 0 0 0 1 1 0 0 1 1",
 ]
@@ -60,8 +60,7 @@ class Why(PictureCase):
                          if f"{v} put {w} payload {pulse} {kind} {number}" not in text
                          or bool(merge) != (kind == "chosen") or not merge and net.parent(int(f), int(w)) != int(v)]
                 choices = re.findall(r"it chooses colour (\d+), .*\n((?:  .*\n)*)", said)
-                farthest = re.search(r"The farthest of them .* nodes? (.*), .*?(\d+) edges?", said)
-                names, far = numbers(re.search(r"decided it: of (.*)", said)[1]), reached(net, vertex)
+                names, far = numbers(re.search(r"decided it: (.*)", said)[1]), reached(net, vertex)
                 most = max(far[v] for v in names)
                 taken = [[int(k) for k in re.findall(r"  channel (\d+)", lower)] for _, lower in choices]
                 pulses = [int(row[4]) for row in rows]
@@ -70,8 +69,8 @@ class Why(PictureCase):
                     "as many as are counted": (len(rows), numbers(said)[2]),
                     "by pulse": (pulses, sorted(pulses)),
                     "lower channels": (taken, [[*range(1, int(colour) + 1)] for colour, _ in choices]),
-                    "the farthest": (farthest and (numbers(farthest[1]), int(farthest[2])),
-                                     ([v for v in names if far[v] == most], most) if most else None),
+                    "the farthest": (numbers(re.search("The farthest, .*", said)[0]),
+                                     [most, *(v for v in names if far[v] == most)]),
                 })
 
     def test_other_identifiers(self):
