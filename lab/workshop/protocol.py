@@ -75,15 +75,11 @@ def port_of(line: str, number: str, degree: int) -> int:
 
 
 def result_of(program: str, fields: list[str]) -> str | None:
-    """The words of a result, without zeros before its numbers; None if the fields are none of the program."""
-    match program, fields:
-        case ("colouring" | "recolouring", ["channel", number]) | ("leader", ["leader", number]) \
-                | ("layers", ["layer", number]) | ("matching", ["partner", number]) if is_number(number):
-            return f"{fields[0]} {int(number)}"
-        case "layers", ["layer", number, "by", port] if is_number(number) and is_number(port):
-            return f"layer {int(number)} by {int(port)}"
-        case ("layers", ["layer", "none"]) | ("matching", ["partner", "none"]) | ("independent-set", ["in"] | ["out"]):
-            return " ".join(fields)
+    """The words of a result, without zeros before its numbers; None if they have no form of the program."""
+    for words in (form.strip("`").split() for form in FORMS[program]):
+        if len(words) == len(fields) and all(field == word if word.islower() else is_number(field)
+                                             for word, field in zip(words, fields)):
+            return " ".join(str(int(field)) if is_number(field) else field for field in fields)
     return None
 
 

@@ -237,7 +237,7 @@ class Lines(Played):
             ("layers", "alpha", f"put 0 payload 0 hops {1 << 32}", f"`{1 << 32}` is no number of a hops, which is"),
             ("matching", "rounds", "channel 1",
              "which are `put PORT WORD NUMBER`, `partner PORT`, `partner none` and "),
-            ("matching", "rounds", "partner", "`partner` is no line of an answer"),
+            ("matching", "rounds", "partner PORT", "`partner PORT` is no line of an answer"),
             ("independent-set", "rounds", "in 1", "`in 1` is no line of an answer"),
             ("recolouring", "rounds", "colour 0 1", "`colour 0 1` is no line of an answer"),
             ("matching", "alpha", "put 0 payload 0 joined 1",
