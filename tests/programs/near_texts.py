@@ -91,15 +91,6 @@ def of_all(writer, mark, there, other, key="weight"):
     return text
 
 
-def of_default(kind, default, word):
-    """All pairs in GraphML, those of the network with a word of a key and the others with its default."""
-    return lambda nodes, pairs, source: (
-        f'<graphml><key id="k" for="edge" attr.name="weight" {kind}><default>{default}</default></key><graph>'
-        + "".join(f'<node id="{node}"/>' for node in nodes)
-        + "".join(f'<edge source="{a}" target="{b}">' + f'<data key="k">{word}</data>' * is_there + "</edge>"
-                  for (a, b), is_there in all_pairs(nodes, pairs)) + "</graph></graphml>")
-
-
 def commented(nodes, pairs, source):
     """The first line's names come again, so that its comment can be seen to be one."""
     mark, text = source.choice(",;\t"), source.choice((" # planned", " // near", " % x", " -- old", "  # see Hof"))
@@ -133,28 +124,6 @@ def squares(head, one="1"):
             rows = [row[:at + 1] for at, row in enumerate(rows)]
         return (mark.join(nodes) + "\n") * head + "".join(mark.join(row) + "\n" for row in rows)
     return text
-
-
-def as_cnf(nodes, pairs, source):
-    number = {node: at for at, node in enumerate(nodes, 1)}
-    return f"p cnf {len(nodes)} {len(pairs)}\n" + "".join(f"{number[a]} {number[b]} 0\n" for a, b in pairs)
-
-
-def ports(nodes, pairs, source):
-    """Pairs of ports, each of which a device has once."""
-    count, text = dict.fromkeys(nodes, 0), "source,target\n"
-    for pair in pairs:
-        for node in pair:
-            count[node] += 1
-        text += ",".join(f"{node}:{count[node]}" for node in pair) + "\n"
-    return text
-
-
-def merged(nodes, pairs, source):
-    """Pairs in the order of their second ends, each of which is written once, but for the last two."""
-    rows = sorted(pairs, key=lambda pair: pair[1])
-    ends = [b if not at or rows[at - 1][1] != b or at == len(rows) - 1 else "" for at, (_, b) in enumerate(rows)]
-    return lines([(a, end) for (a, _), end in zip(rows, ends)], ",")
 
 
 def plain(writer, *changes):
@@ -209,9 +178,6 @@ NEAR = (
         [("0", "1"), *pairs], source.choice(marks))) for marks, names in ((",;\t", ALL), (" ", (*BARE, GAPS, ONES)))),
     ("comments after a name", WORDS, commented),
     ("a second heading", ALL, second_heading),
-    ("times before the ends", ALL, lambda nodes, pairs, source: as_csv(
-        [("start", "end", "transmitter", "receiver"), *(("2026-01-01", f"2026-01-{at:02}", *pair)
-                                                        for at, pair in enumerate(pairs, 2))])),
     ("two encodings", (TOWNS, BLANKS), lambda nodes, pairs, source: b"".join(
         f"{a},{b}\n".encode(source.choice(("utf-8", "cp1252"))) for a, b in pairs)),
     ("letters that are lost", (TOWNS, BLANKS),
@@ -235,13 +201,8 @@ NEAR = (
         f"{at},{end}\n" for at, pair in enumerate(pairs, 10) for end in pair)),
     ("lists in quotes in both columns", (TOWNS, BLANKS), each('"{a}, {b}","{b}, {a}"')),
     *((f"a mark between names with blanks {mark!r}", (BLANKS,), each("{a}" + mark + "{b}")) for mark in ":@"),
-    ("dates of nodes", BARE, lambda nodes, pairs, source: "".join(f"{node},2026-11-30\n" for node in nodes)),
-    ("dates", (TOWNS,), lambda nodes, pairs, source: "".join(
-        f"0{source.randint(1, 9)}.03.2026,1{source.randint(1, 9)}.04.2026\n" for _ in pairs) + "01.03.2026,12.04.2026\n"
-        "01.03.2026,13.04.2026\n"),
     ("numbers of nodes after the pairs", BARE, lambda nodes, pairs, source: lines(pairs, " ") + "".join(
         f"{at} {node}\n" for at, node in enumerate(nodes))),
-    ("cells that are merged", BARE, merged),
     ("a matrix", PLAIN, squares(False)), ("a matrix below names", PLAIN, squares(True)),
     ("a matrix of weights below numbers", NUMBERS, squares(True, "2.7")),
     *((f"all pairs {word!r} {other!r} {heading!r}", ALL, beside_others(word, other, heading))
@@ -258,18 +219,10 @@ NEAR = (
             (("K\u00f6ln", "M\u00f6rs", "Bonn", "Ulm", "H\u00f6xter"), lambda text: text.replace("\u00f6", "oe")),
             *((("A1", "O2", "B1", "B2"), lambda text, letters=letters: text.translate(str.maketrans("AO", letters)))
               for letters in ("\u0410\u041e", "A0")))),
-    ("a formula", NUMBERS, as_cnf),
-    ("DIMACS of sets", (ONES,), lambda nodes, pairs, source: f"p hs 8 {len(pairs)}\n" + "".join(
-        f"{a} {b} {source.choice(nodes)}\n" for a, b in pairs)),
-    ("LGF", (ONES, TOWNS), lambda nodes, pairs, source: "@nodes\nlabel\n" + "\n".join(nodes) + "\n@arcs\n" + lines(
-        pairs, " ")),
     ("METIS with twice the edges", (ONES,), lambda nodes, pairs, source: as_metis(nodes, pairs).replace(
         f" {len(pairs)}\n", f" {2 * len(pairs)}\n", 1)),
-    ("ports of devices", (("s1", "s2", "s3", "s4", "s5"),), ports),
     ("GML with another key", WORDS, plain(as_gml, ("  edge [", "  link [", 1))),
     ("GraphML with another element", WORDS + (MARKS,), plain(as_graphml, ("<edge", "<Edge"), ("</edge", "</Edge"))),
-    ("GraphML with a default of zero", WORDS, of_default('attr.type="double"', "0", "2.5")),
-    ("GraphML with a default of no", WORDS, of_default('attr.type="boolean"', "false", "true")),
     ("DOT of two graphs", WORDS + (MARKS,), lambda nodes, pairs, source: as_dot(nodes, pairs[:2])
      + as_dot(nodes, pairs[2:])),
     ("DOT of nodes with commas", WORDS, lambda nodes, pairs, source: "graph {\n" + each('"{a}", "{b}";')(
@@ -333,6 +286,13 @@ REFUSED = (
     "source,target\nfw1 (1),sw2 (8)\nsw2 (8),ap3 (1)\nap3 (2),fw1 (2)\n", "source,target\nfw1:a,sw2:b\nsw2:a,fw1:b\n",
     "source,target\nUlm,Aue\nAue,Hof\nid,label\n1,Ulm\n",
     "Ulm Aue\nAue Hof\nHof Ulm\nremoved Ulm Aue\n", "% bip unweighted\n1 2\n2 1\n2 3\n",
+    "p cnf 3 2\n1 2 0\n2 3 0\n", "p hs 3 2\n1 2 3\n2 3 1\n", "@nodes\nlabel\n1\n2\n@arcs\n1 2\n",
+    "source,target\ns1:1,s2:1\ns2:2,s3:1\ns3:2,s1:2\n", "Ulm,2026-11-30\nAue,2026-11-30\n",
+    "start,end,transmitter,receiver\n2026-01-01,2026-01-02,Ulm,Aue\n2026-01-01,2026-01-03,Aue,Hof\n",
+    "01.03.2026,12.04.2026\n01.03.2026,13.04.2026\n02.03.2026,12.04.2026\n", "Ulm,Aue\nHof,\nBonn,Kiel\nGera,Kiel\n",
+    '<graphml><key id="k" for="edge" attr.name="on"><default>false</default></key><graph><node id="A"/><node id="B"/>'
+    '<node id="C"/><edge source="A" target="B"><data key="k">true</data></edge><edge source="B" target="C"/></graph>'
+    "</graphml>",
     "source,target\nUlm,Aue\nAue,10 km\n", "| source | target |\n|---|---|\n| Ulm | Aue |\n")
 # Texts of which something is counted, which may be another network.
 COUNTED = (
@@ -345,6 +305,9 @@ COUNTED = (
     "source,target,weight\nUlm,Aue,1\nAue,Hof,2\n",
     "%%MatrixMarket matrix coordinate pattern general\n3 3 1\n1 2\n",
     "graph { node [style=invis]; A -- B; B -- C }\n",
+    '<graphml><key id="k" for="edge" attr.name="weight"><default>0</default></key><graph><node id="A"/><node id="B"/>'
+    '<node id="C"/><edge source="A" target="B"><data key="k">2.5</data></edge><edge source="B" target="C"/></graph>'
+    "</graphml>",
     "source;target\nUlm;Aue\nAue;Hof\nHof;Bonn Ulm\n", "sw1 sw2\nsw2 sw1.example.net\n",
     '{"nodes": [{"id": "A"}, {"id": "B"}], "links": [{"source": "A", "target": "B", "key": "removed"}]}',
     '<graphml><key id="d" for="edge" yfiles.type="edgegraphics"/><graph><node id="A"/><node id="B"/><edge source="A" '
@@ -420,8 +383,7 @@ UNITS = (
     ("degrees by hand", "site;x;y\nUlm;10,05;48,06\nAue;10,09;48,05\nHof;10,12;48,0\n"),
 )
 # Kinds of which a column or a key that isn't read, and is counted, may say which edges count.
-UNREAD = ("JSON with ", "JSON of the first page", "all pairs 'active'", "GML with styles",
-          "GraphML with a default of zero", "numbers and a weight")
+UNREAD = ("JSON with ", "JSON of the first page", "all pairs 'active'", "numbers and a weight")
 
 
 def judge(case, kinds):
