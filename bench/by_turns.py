@@ -120,7 +120,7 @@ def row(runs, first, is_same):
         return "failed, or took too long"
     least, used, memory = (figures(runs) for figures in FIGURES)
     median = statistics.median(run.seconds for run in runs)
-    ratios = ("" if None in first else f"{own / max(other(first), 0.01):6.2f}"
+    ratios = ("" if None in first else f"{own / (other(first) or 1e-3):6.2f}"
               for own, other in zip((least, used, memory), FIGURES))
     return (f"{runs[0].lines:8d} {least * 1e3:9.2f} {median * 1e3:9.2f} {used:8.3f} {memory:8.1f} {' '.join(ratios)}"
             f"{'' if is_same else '  WRITES SOMETHING ELSE'}")
