@@ -113,7 +113,7 @@ def code_of(words):
         for names, (what, do) in codes.items():
             if found[1] in names.split():
                 name, *numbers = names.split()
-                number = f" ({', '.join(numbers)})" * bool(numbers)
+                number = f" ({', '.join(numbers)})" if numbers else ""
                 at = found[2] and f"{found[2]} {' and '.join(found[3].split())}"
                 return Told(name, number, of, re.sub("{(.*?)}", lambda to: at or to[1], what), do, found[4] or "")
     return None
@@ -121,5 +121,5 @@ def code_of(words):
 
 def tell_code(told):
     """What it means, and what to do, a line each."""
-    return [f"{told.name}{told.number}, a fault of {told.of}: {told.what}", *[f"here: {told.more}"] * bool(told.more),
-            f"what to do: {told.do}"]
+    here = [f"here: {told.more}"] if told.more else []
+    return [f"{told.name}{told.number}, a fault of {told.of}: {told.what}", *here, f"what to do: {told.do}"]

@@ -82,8 +82,10 @@ A line has a node's name and its channel; a node without a name has its number.
 With --channels the channels are real numbers: see `forestlab channels --help`.""",
               "forestplan plain < sites.col | forestlab network names sites.col --channels '1 6 11'"),
 }
-# How many words FILE may be, where it isn't one.
+# How many words FILE may be, where it isn't one; and what it may be besides.
 FILES = {"read": "?", "tell": "+"}
+FURTHER = {"read": "", "number": ", or a name, as path5", "tell": ", or a name, as path5; or a code, as C8",
+           "names": ", or a name, as path5"}
 
 
 def kilometres(word):
@@ -124,14 +126,14 @@ def command_line():
     words = parser_of("network", "COMMAND WORDS.. [options]", HELP.format(kinds=kinds), MORE_HELP)
     commands = words.add_subparsers(dest="command", metavar="COMMAND", required=True, help="one of those above")
     of_kinds = {name: (f"{titles[name].partition(' ')[2]} [options]", f"{kind.does.capitalize()}.", kind.more,
-                       kind.example) for name, kind in KINDS.items()}
+                       f"forestlab network {name} {'10 ' * len(kind.sizes)}> net.col") for name, kind in KINDS.items()}
     for name, does in (of_kinds | COMMANDS).items():
         command = add_command(commands, f"network {name}", *does)
         for size in KINDS[name].sizes if name in KINDS else ():
             command.add_argument(size, type=int, metavar=size.upper(), help=f"how many {size}")
         if name in COMMANDS:
             command.add_argument("file", metavar="FILE", nargs=FILES.get(name), help="a file, or - for standard input"
-                                 + ", or a name, as path5" * (name != "read") + "; or a code, as C8" * (name == "tell"))
+                                 + FURTHER[name])
         if name == "number" or name in KINDS and KINDS[name].is_by_chance:
             add_seed(command, "the same one chooses the same again")
         add_options(command, name, OPTIONS)

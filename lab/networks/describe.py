@@ -25,8 +25,8 @@ def facts(reading, network, is_counted):
     return [
         ("nodes", f"{network.nodes:,}{alone}"),
         ("edges", f"{edges:,}{more}; the `p` line says {reading.promised:,}"),
-        ("neighbours", f"{min(degrees, default=0):,} to {network.degree:,} of a node" + enough * (not bars)),
-        *[("barred", barred)] * bool(bars),
+        ("neighbours", f"{min(degrees, default=0):,} to {network.degree:,} of a node" + ("" if bars else enough)),
+        *([("barred", barred)] if bars else []),
         ("forests",
          f"{run.forests:,}, so the last pulse is 12 + 3 * {run.forests:,} * {network.channels:,} = {run.last:,}"),
         ("payloads", f"{most}{run.payloads:,}; {run.how}"),

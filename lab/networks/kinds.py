@@ -139,11 +139,10 @@ def any_edges(nodes, edges, seed, connected=False, neighbours=None, forests=None
 
 
 class Kind(NamedTuple):
-    """What makes networks of a kind, what they are, more of it, and an example."""
+    """What makes networks of a kind, what they are, and more of it."""
 
     make: Callable[..., Network]
     does: str
-    example: str
     more: str = ""
 
     @property
@@ -162,25 +161,18 @@ class Kind(NamedTuple):
 
 
 KINDS = {
-    "path": Kind(path, "a row", "forestlab network path 20 | forestplan plain"),
-    "ring": Kind(ring, "a row whose ends are joined", "forestlab network ring 12 | forestplan plain"),
+    "path": Kind(path, "a row"),
+    "ring": Kind(ring, "a row whose ends are joined"),
     "star": Kind(star, "one centre, which is the last node; the others are its leaves",
-                 "forestlab network star 9 | forestplan forests",
                  "So there is one forest; `number --by degree --reverse` gives the centre the number 1."),
-    "complete": Kind(complete, "each node is joined to each other", "forestlab network complete 8 | forestplan plan"),
-    "grid": Kind(grid, "squares of a board that share a side, numbered row by row",
-                 "forestlab network grid 10 10 > grid.col"),
-    "queen": Kind(queen, "squares of a board that a queen joins in one move",
-                  "forestlab network queen 5 5 | forestplan plain", "They are numbered row by row."),
-    "tree": Kind(tree, "each node but the first is joined to one before it, by chance",
-                 "forestlab network tree 30 --seed 7 > tree.col"),
+    "complete": Kind(complete, "each node is joined to each other"),
+    "grid": Kind(grid, "squares of a board that share a side, numbered row by row"),
+    "queen": Kind(queen, "squares of a board that a queen joins in one move", "They are numbered row by row."),
+    "tree": Kind(tree, "each node but the first is joined to one before it, by chance"),
     "disk": Kind(disk, "places by chance in a square, joined if they are near",
-                 "forestlab network disk 30 --radius 0.26 --seed 5 > masts.col",
                  "So transmitters interfere that are near each other (a unit-disk graph)."),
     "random": Kind(any_edges, "that many edges, by chance",
-                   "forestlab network random 50 120 --seed 3 > net.col\n"
-                   "  forestlab network random 8 9 --connected --neighbours 3 --forests 2 --seed 7 > sheet.col",
-                   "Each choice of edges is as likely as any other. With wishes it isn't, but the networks of all\n"
-                   "seeds are equally hard: with --neighbours D and --forests U the last pulse of each is\n"
-                   "12 + 3·U·(D + 1)."),
+                   "Each choice of edges is as likely as any other. With wishes, as --connected --neighbours 3\n"
+                   "--forests 2, it isn't, but the networks of all seeds are equally hard: with --neighbours D\n"
+                   "and --forests U the last pulse of each is 12 + 3·U·(D + 1)."),
 }
