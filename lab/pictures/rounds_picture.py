@@ -136,7 +136,7 @@ class Strip:
                 alone_chip(self.svg, x, y, COLUMN / 2 - 6, colour)
             else:
                 colour_square(self.svg, x, y, COLUMN / 2 - 2.5, colour, is_name=number == 2)
-            if self.cone and not self.cone.has_colour(v, self.forest, number):
+            if self.cone and ("colour", v, self.forest, number) not in self.cone.facts:
                 self.fade(x, y, COLUMN, short(colour))
 
     def fade(self, x, y, side, number):
@@ -188,7 +188,7 @@ class Strip:
         svg.line(x0, y, end + 12, y, channel_hue(channel + 1), 3, opacity="0.35")
         for x, pulse in chosen:
             channel_circle(svg, x, y, min(self.column, ROW) / 2 - 1, pulse.chosen[v] + 1, mark="choice")
-            if self.cone and not self.cone.has_choice(v, self.forest):
+            if self.cone and ("merged", v, self.forest) not in self.cone.facts:
                 self.fade(x, y, self.column, pulse.chosen[v] + 1)
         channel_circle(svg, end + 24, y, 11, channel + 1, mark="after")
         bar_row(svg, end + 44, y, self.rounds.network.barred(v), BAR)

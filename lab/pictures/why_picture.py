@@ -24,25 +24,20 @@ class Cone:
             raise Wrong(f"{self.network.name} has no vertex {vertex}")
         self.choices = {(v, pulse.step[0]): (pulse.number, colour)
                         for pulse in rounds.pulses for v, colour in pulse.chosen.items()}
-        self.facts, self.messages, self.taken = [], set(), {}
-        self.follow([("merged", vertex, rounds.forests - 1)] if rounds.forests else [])
-        self.known = set(self.facts)
+        self.messages, self.taken = set(), {}
+        self.facts = self.behind(("merged", vertex, rounds.forests - 1)) if rounds.forests else set()
 
-    def follow(self, left):
-        seen = set(left)
+    def behind(self, fact):
+        """A fact and all those on which it depends."""
+        found, left = {fact}, [fact]
         while left:
-            fact = left.pop(0)
-            self.facts.append(fact)
-            for cause in self.causes(fact):
-                if cause not in seen:
-                    seen.add(cause)
-                    left.append(cause)
-
-    def causes(self, fact):
-        if fact[0] == "merged":
-            yield from self.causes_of_choice(*fact[1:])
-        elif fact[0] == "colour":
-            yield from self.causes_of_colour(*fact[1:])
+            kind, *of = left.pop()
+            causes = (self.causes_of_choice(*of) if kind == "merged" else
+                      self.causes_of_colour(*of) if kind == "colour" else ())
+            new = set(causes) - found
+            found |= new
+            left += new
+        return found
 
     def causes_of_choice(self, v, f):
         """Its pair, which is its turn; and, for each lower colour, who had taken it first, if it isn't barred."""
@@ -82,25 +77,11 @@ class Cone:
         self.messages.add((p - 1, parent, v, f"colour {self.rounds.pulses[p - 1].colours[parent, f]}"))
         return "colour", parent, f, p - 1
 
-    # What is read off.
-
     def identifiers(self):
         return sorted(fact[1] for fact in self.facts if fact[0] == "identifier")
 
-    def farthest(self):
-        """(how many edges away the farthest identifier is that mattered, the vertices that are so far)."""
-        far = distances(self.network.neighbours, self.vertex)
-        most = max((far[v] for v in self.identifiers()), default=0)
-        return most, [v for v in self.identifiers() if far[v] == most]
-
     def forests(self):
         return sorted({fact[2] for fact in self.facts if fact[0] != "identifier"})
-
-    def has_colour(self, v, f, p):
-        return ("colour", v, f, p) in self.known
-
-    def has_choice(self, v, f):
-        return ("merged", v, f) in self.known
 
 
 def summary(cone):
@@ -109,10 +90,11 @@ def summary(cone):
     if not names:
         return "It has no neighbour that is heard: the least channel that isn't barred."
     sent = sum(len(pulse.puts) for pulse in cone.rounds.pulses)
-    most, who = cone.farthest()
+    far = distances(cone.network.neighbours, cone.vertex)
+    most = max(far[v] for v in names)
     return (f"{len(cone.messages)} of {sent} messages decided it, and the identifiers of {len(names)} of "
             f"{counted(cone.network.nodes, 'node')}. The farthest, {counted(most, 'edge')} away by the shortest way: "
-            f"{in_words(who)}.")
+            f"{in_words([v for v in names if far[v] == most])}.")
 
 
 def channel_of(cone):
@@ -129,7 +111,7 @@ def text(cone):
                      key=lambda fact: (-cone.choices[fact[1:]][0], fact[1]))
     lines += [line for _, v, f in choices for line in choice_lines(cone, v, f)]
     lines += [colour_line(cone, v, f) for f in cone.forests() for v in cone.network.vertices
-              if any(cone.has_colour(v, f, p) for p in range(SEED, LAST_COLOUR + 1))]
+              if any(("colour", v, f, p) in cone.facts for p in range(SEED, LAST_COLOUR + 1))]
     if cone.messages:
         lines.append("the messages that decided it, pulse by pulse:")
         lines += [message_words(cone, *message) for message in sorted(cone.messages)]
@@ -159,7 +141,7 @@ def choice_lines(cone, v, f):
 def colour_line(cone, v, f):
     """The colours of a node in a forest that mattered, by pulse; a point stands for one that didn't."""
     parent = cone.rounds.parents.get((v, f))
-    said = " ".join(str(cone.rounds.pulses[p].colours[v, f]) if cone.has_colour(v, f, p) else "."
+    said = " ".join(str(cone.rounds.pulses[p].colours[v, f]) if ("colour", v, f, p) in cone.facts else "."
                     for p in range(SEED, LAST_COLOUR + 1))
     return f"forest {f}, node {v}, {f'parent {parent}' if parent else 'a root'}, pulses 2 to 12: {said}"
 

@@ -87,10 +87,8 @@ class Why(PictureCase):
             net = Network(identifiers, edges)
             rounds = Rounds(Read("case", nodes, edges, {}, None, identifiers), identifiers)
             for v, f in ((v, f) for v in vertices for f in range(net.forest_count)):
-                cone = Cone(rounds, v)
-                cone.facts = []
-                cone.follow([("colour", v, f, 12)])
-                others = [w for w in vertices if w not in cone.identifiers()]
+                facts = Cone(rounds, v).behind(("colour", v, f, 12))
+                others = [w for w in vertices if ("identifier", w) not in facts]
                 # One more is free, since all are even: so the order stays.
                 changed = identifiers | {w: identifiers[w] + 1 for w in others}
                 tried += bool(others)
