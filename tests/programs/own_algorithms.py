@@ -39,6 +39,7 @@ def next(me, pulse, inbox):
 def result(me):
     return f"best {me.best}"
 """
+DRAWS = FLOOD.replace("me.best = me.id", "me.best = me.random.randrange(1000)").replace("me.id)", "me.best)")
 SHARED = FLOOD.replace("def greet", "best = 0\ndef greet").replace("    heard =", "    global best\n    heard =")
 SHARED = SHARED.replace("me.best = heard", "me.best = best = max(best, heard)").replace('"best", heard', '"best", best')
 TREE = """\
@@ -78,8 +79,9 @@ WRONG = [
 ]
 
 
-def script(name, *words, data=b""):
-    return forestlab(*name.split(), *words, data=data)
+def keeping(what):
+    """The flood, whose nodes keep something besides."""
+    return FLOOD.replace("me.best = me.id", f"me.kept = {what}\n    me.best = me.id")
 
 
 def some_networks():
@@ -116,8 +118,8 @@ class OwnAlgorithms(Case):
             nodes = synchronous_run(network_at("two")[1], program_at(program))
             end = "one end: " + ", ".join(f"{v} {node.result()}" for v, node in nodes.items())
             self.same(f"every order of {program}", (status, text.splitlines()[-1:], fault), (0, [end], ""))
-            _, run, _ = script("simulate", "chain6", "--program", program, "--seed", "3")
-            done, wrong = (script("transcript check", "chain6", "-", "--program", program, data=data)
+            _, run, _ = forestlab("simulate", "chain6", "--program", program, "--seed", "3")
+            done, wrong = (forestlab("transcript", "check", "chain6", "-", "--program", program, data=data)
                            for data in (run, run.replace(b" safe 0", b" safe 1", 1)))
             good = done[::2] == (0, b"") and done[1].startswith(b"whole run of 6 nodes, ")
             self.note(f"a run of {program}", good, done)
@@ -139,44 +141,45 @@ class OwnAlgorithms(Case):
         do. By hand: of two nodes the greater identifier is the leader, in every order."""
         plain = self.told(FLOOD)
         self.note("a number", plain[0] == 0 and "\none end: 1 best 2, 2 best 2\n" in plain[1], plain)
-        for name, lines in (("an object", ("me.best = ", "me.table = Table()\n    me.table.best = ")),
-                            ("unused chance", ("me.best = ", "me.chance = random.Random(1)\n    me.best = ")),
-                            ("an iterator", ("me.best = ", "me.turns = iter([1, 2, 3])\n    me.best = ")),
-                            ("a list in itself", ("me.best = ", "me.x = []\n    me.x.append(me.x)\n    me.best = "))):
-            text = "import random\nclass Table:\n    pass\n" + FLOOD.replace(*lines)
-            text = text.replace("me.best", "me.table.best") if "Table()" in lines[1] else text
-            text = text.replace("me.table.table.best", "me.table.best")
-            self.same(name, self.told(text), plain)
-        for what, named in (("(n for n in [1])", "generator"), ("open(__file__)", "TextIOWrapper"),
-                            ("{1: [lambda: 0, (n for n in [1])]}", "generator")):
-            got = self.told(FLOOD.replace("me.best = ", f"me.kept = {what}\n    me.best = "))
-            self.note(f"refused: {what}", got[0] == 1 and "`me.kept` can't be copied and compared" in got[2]
-                      and named in got[2] and got[2].count("\n") == 1, got)
+        in_object = FLOOD.replace("me.best", "me.table.best").replace(
+            "def greet(me):\n", "class Table:\n    pass\ndef greet(me):\n    me.table = Table()\n")
+        self.same("an object", self.told(in_object), plain)
+        for kept in ("__import__('random').Random(1)", "iter([1, 2, 3])", "[]\n    me.kept.append(me.kept)"):
+            self.same(f"kept: {kept}", self.told(keeping(kept)), plain)
 
     def test_chance(self):
-        """Chance by the seed is the same in the rounds and in each order; other chance and shared variables are
-        named."""
-        draws = FLOOD.replace("me.best = me.id", "me.best = me.random.randrange(1000)").replace("me.id)", "me.best)")
-        first, again, other = self.told(draws), self.told(draws), self.told(draws, "--lots", "other")
+        """Chance by the seed is the same in the rounds and in each order, and the seed is named."""
+        first, again, other = self.told(DRAWS), self.told(DRAWS), self.told(DRAWS, "--lots", "other")
         good = first == again and first[0] == other[0] == 0 and first[1] != other[1] and "one end" in other[1]
         self.note("me.random", good, (first, again, other))
         says = [f"of the draws of --lots {seed} alone\n" in text[1] for seed, text in (("1", first), ("other", other))]
         self.note("whose draws", says == [True, True] and "draws" not in self.told(FLOOD)[1], (first, other))
-        for name, text, where in (
-            ("chance", "import random\n" + draws.replace("me.random", "random"), "`greet` at pulse 0 of the node of "),
-            ("a variable", SHARED, "`next` at pulse 1 of the node of identifier 1 "),
+
+    def test_refused(self):
+        """What can't be copied or isn't the same the second time, in one line; other chance and shared variables are
+        named."""
+        twice = "does something else the second time: does it use chance other than `me.random`, or a variable"
+        chance, late = "import random\n" + DRAWS.replace("me.random", "random"), "CALLS = []\n" + FLOOD.replace(
+            "    if heard", "    CALLS.append(pulse)\n    if heard")
+        for name, text, *said in (
+            *((what, keeping(what), "`me.kept` can't be copied and compared", named) for what, named in (
+                ("(n for n in [1])", "generator"), ("open(__file__)", "TextIOWrapper"),
+                ("{1: [lambda: 0, (n for n in [1])]}", "generator"))),
+            ("a place for each node in one variable", "KEPT = {}\n" + FLOOD.replace("me.best", "KEPT[me.id]"), twice),
+            # The rounds, twice, have 12 calls, so they can't show this one.
+            ("a late one", late.replace('("best", heard)', '("best", heard + (len(CALLS) > 12))'),
+             "does something else in another order of events: "),
+            *((f"right returns {returned}", FLOOD + f"def right(results, neighbours):\n    return {returned}\n",
+               "it must be True, False, or what isn't right in words") for returned in ("None", "7", "''")),
+            ("exit", FLOOD.replace("me.best = me.id", "__import__('sys').exit(0)"), " line 2: SystemExit: 0"),
         ):
+            got = self.told(text)
+            good = got[:2] == (1, "") and got[2].count("\n") == 1 and all(part in got[2] for part in said)
+            self.note(name, good, got)
+        for text, where in ((chance, "`greet` at pulse 0 of the node of "), (SHARED, "`next` at pulse 1 of the node ")):
             for command, network in (("explore", "path"), ("simulate", "chain6")):
                 got = self.told(text, command=command, network=network)
-                said = "does something else the second time: does it use chance other than `me.random`, or a variable"
-                self.note(f"{name} in {command}", got[0] == 1 and where in got[2] and said in got[2], got)
-        got = self.told(FLOOD.replace("def greet", "KEPT = {}\ndef greet").replace("me.best", "KEPT[me.id]"))
-        self.note("a place for each node in one variable", got[0] == 1 and "the second time" in got[2], got)
-        # The rounds, twice, have 12 calls, so they can't show this one.
-        late = FLOOD.replace("def greet", "CALLS = []\ndef greet")
-        late = late.replace("    if heard", "    CALLS.append(pulse)\n    if heard")
-        got = self.told(late.replace('("best", heard)', '("best", heard + (len(CALLS) > 12))'))
-        self.note("a late one", got[0] == 1 and "does something else in another order of events: " in got[2], got)
+                self.note(f"{where} in {command}", got[0] == 1 and where in got[2] and twice in got[2], got)
 
     def test_what_has_to_hold(self):
         """`right` is asked at the end and `always` in each state; the list is as short as there is one. By hand: node 1
@@ -198,10 +201,6 @@ class OwnAlgorithms(Case):
             got = self.told(text.replace(*change))
             good = got[0] == first.startswith("broken") and got[1].startswith(first)
             self.note(f"the function of the page, {change}", good, got)
-        for returned in ("None", "7", "''"):
-            got = self.told(FLOOD + f"def right(results, neighbours):\n    return {returned}\n")
-            said = "it must be True, False, or what isn't right in words"
-            self.note(f"right returns {returned}", got[0] == 1 and said in got[2], got)
 
     def test_what_it_prints(self):
         """It goes to standard error, and leaves what the command writes as it was."""
@@ -211,8 +210,6 @@ class OwnAlgorithms(Case):
                              command=name, network=words[0])
             good = loud[:2] == plain[:2] and "HERE\n" in loud[2] and "THERE\n" in loud[2]
             self.note(f"{name} with prints", good, (plain, loud))
-        got = self.told(FLOOD.replace("me.best = me.id", "me.best = __import__('sys').exit(0)"))
-        self.note("exit", (got[0], got[1]) == (1, "") and " line 2: SystemExit: 0" in got[2], got)
 
     def told(self, text, *words, command="explore", network="two"):
         """Status, output and errors of a command with a file of this text."""
@@ -221,10 +218,10 @@ class OwnAlgorithms(Case):
     def test_pictures(self):
         for kind, name in (("rounds", "petersen"), ("run", "chain6"), ("overview", "chain6"), ("node", "path"),
                            ("tally", "path"), ("schedules", "two"), ("player", "petersen")):
-            status, text, fault = script("picture", kind, name, "--program", SET)
+            status, text, fault = forestlab("picture", kind, name, "--program", SET)
             good = (status, fault) == (0, b"") and text.startswith((b"<svg", b"<!doctype"))
             self.note(f"picture {kind}", good, fault)
-        _, text, _ = script("picture", "rounds", "path", "--program", SET)
+        _, text, _ = forestlab("picture", "rounds", "path", "--program", SET)
         # Node 3 is in at pulse 1, 2 out at 2, and 1 in at 3.
         self.note("what is found", text.count(b'class="found"') == 6, text)
 
@@ -233,18 +230,18 @@ class OwnAlgorithms(Case):
         drawn, all nodes have their colours, and only what is too long to be read below a node is shortened."""
         for right, said in (("True", False), ("'no tree'", True)):
             path = self.file("tree.py", TREE.replace("RIGHT", right))
-            _, page, fault = script("picture", "player", "chain6", "--program", path)
+            _, page, fault = forestlab("picture", "player", "chain6", "--program", path)
             last = data_of(page.decode())["film"]["pulses"][-1]
             wanted = {"1": [None, None]} | {str(v): [v - 2, v - 1] for v in range(2, 7)}
             self.same(f"a tree, {right}", (last["drawn"], fault), (wanted, b""))
             self.same(f"words of it, {right}", last["results"][5], "layer 5 by the port 0")
-            _, picture, _ = script("picture", "rounds", "chain6", "--program", path)
+            _, picture, _ = forestlab("picture", "rounds", "chain6", "--program", path)
             for text in (page, picture):
                 is_said = b"right: no tree" in text or b"the end: no tree" in text
                 self.note(f"what isn't right, {right}", is_said == said, text)
         for returned, why in (("1", "a pair"), ("(9, None)", "a colour below 8"), ("(1, 5)", "a port")):
             text = TREE.replace("return (me.layer - 1 if me.layer else None), me.by", f"return {returned}")
-            done = script("picture", "player", "chain6", "--program", self.file("tree.py", text))
+            done = forestlab("picture", "player", "chain6", "--program", self.file("tree.py", text))
             self.refusal(f"drawn returns {returned}", done, 1, why.encode())
 
     def test_wrong_files(self):
@@ -252,8 +249,8 @@ class OwnAlgorithms(Case):
             path = self.file("mine.py", lines)
             # A run by seed has no need of what is found.
             for name in ("explore",) if "`result`" in said else ("simulate", "explore"):
-                done = script(name, "two", "--program", path)
+                done = forestlab(name, "two", "--program", path)
                 self.same(f"{name}{said}", done, (1, b"", f"{name}: {path}{said}\n".encode()))
         for name, said in (("tree", b"simulate: there is no program tree: there are "),
                            ("nowhere.py", b"simulate: nowhere.py: No such file or directory\n")):
-            self.refusal(f"no program {name}", script("simulate", "two", "--program", name), 1, said)
+            self.refusal(f"no program {name}", forestlab("simulate", "two", "--program", name), 1, said)
