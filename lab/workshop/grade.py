@@ -222,13 +222,13 @@ def compiled(command: list[str], copy: str, guard: Guard) -> list[str]:
 
 def programs_at_home(closed: list[str]) -> list[str]:
     """What programs on the PATH may need: the folders beside theirs, as far as none that is closed is there."""
-    home = os.path.realpath(os.path.expanduser("~"))
-    found = []
-    for path in {os.path.realpath(path) for path in os.environ.get("PATH", "").split(":") if path}:
-        if path.startswith(home + "/") and not any((path + "/").startswith(other + "/") for other in closed):
-            wide = os.path.dirname(path)
-            is_wide = wide != home and not any((other + "/").startswith(wide + "/") for other in closed)
-            found.append(wide if is_wide else path)
+    found, home = set(), os.path.realpath(os.path.expanduser("~"))
+    for path in filter(None, os.environ.get("PATH", "").split(":")):
+        for place in (os.path.dirname(os.path.realpath(path)), os.path.realpath(path)):
+            meets = [other for other in closed if os.path.commonpath([place, other]) in (place, other)]
+            if place.startswith(home + "/") and not meets:
+                found.add(place)
+                break
     return sorted(found)
 
 
