@@ -83,49 +83,26 @@ def rule_of(at: Standing, words: str, says_lacks: bool = True) -> str:
 def rule_of_put(at: Standing, link: int, wire: list[str]) -> str:
     """Of a wire that isn't the one that is due on its link."""
     kind, right = wire[0], at.puts.get(link, "")
-    if right.startswith("ack"):
+    due = right.split(" ")[0]
+    if due == "ack":
         return f"{DUE['ack']}, before anything else is put on that link"
     if kind == "payload":
-        return rule_of_payload(at, link, int(wire[1]))
-    if right.startswith("payload"):
+        return at.why_payload(link) if int(wire[1]) == at.pulse else (
+            f"the node is at pulse {at.pulse}, and a payload of pulse P is put after pulse P is made")
+    if due == "payload":
         return at.owes(at.named(right, link))
-    if kind == "ack" and right.startswith("safe"):
-        return rule_of_safe(right)
     if kind == "ack":
-        return "each payload is acknowledged once, with the payload's own pulse"
-    return rule_of_end(at, link, wire, right)
-
-
-def rule_of_safe(right: str) -> str:
-    """Of a wire before a safe that is due on its link."""
-    return f"this link has to get {right} before: {DUE['safe']}"
-
-
-def rule_of_payload(at: Standing, link: int, pulse: int) -> str:
-    """Of a payload of another pulse than the node's, or of another one than the right one."""
-    if pulse != at.pulse:
-        return f"the node is at pulse {at.pulse}, and a payload of pulse P is put after pulse P is made"
-    return at.why_payload(link)
-
-
-def rule_of_end(at: Standing, link: int, wire: list[str], right: str) -> str:
-    """Of a safe or a close."""
-    if wire[0] == "close" and at.pulse != at.last:
-        return f"close is the last wire of a link, put as the node makes its last pulse, {at.last}; " \
-               f"it is at pulse {at.pulse}"
-    if wire[0] == "safe" and int(wire[1]) != at.pulse:
+        return f"this link has to get {right} before: {DUE['safe']}" if due == "safe" else (
+            "each payload is acknowledged once, with the payload's own pulse")
+    if kind == "close":
+        return "close is put once on each link" if at.pulse == at.last else (
+            f"close is the last wire of a link, put as the node makes its last pulse, {at.last}; it is at pulse "
+            f"{at.pulse}")
+    if int(wire[1]) != at.pulse:
         return f"the node is at pulse {at.pulse}, and safe P is said in pulse P"
-    owed = [at.named(due, link) for link, due in at.puts.items() if due.startswith("payload")]
-    if owed:
-        return at.owes(" and ".join(owed))
-    if right.startswith("safe"):
-        return rule_of_safe(right)
-    if wire[0] == "close":
-        return "close is put once on each link"
-    if at.pulse == at.last:
-        return f"{SAFE}; its pulse, {at.pulse}, is the last"
-    said = at.named(" ".join(wire), link)
-    return f"{SAFE}; {at.why_not_safe() or f'it has put {said} already'}"
+    done = f"its pulse, {at.pulse}, is the last" if at.pulse == at.last else (
+        f"it has put {at.named(' '.join(wire), link)} already")
+    return f"{SAFE}; {at.why_not_safe() or done}"
 
 
 def stuck_words(owing: list[tuple[int, Standing]]) -> str:
