@@ -124,26 +124,22 @@ class Found(NamedTuple):
 
 def rounds_found(given):
     """What the rounds of the network do without the rules, or a smallest network on which they go wrong."""
-    program = program_at(given.program, given.lots, given.root, given.passes)
+    program, refused = program_at(given.program, given.lots, given.root, given.passes), refused_words(given.without)
     if given.network is not None:
         name, net = network_at(given.network)
         note_ignored_bars("explore", net.barred, program)
         rounds = ruled(program)(net, given.without)
-        return said_of_rounds(given, rounds if rounds.clash else None, f"on {name}", f"the rounds of {name}")
+        if not rounds.clash:
+            return Found(False, f"not broken: the rounds of {name} go right\n{refused}")
+        return Found(True, f"broken on {name}\n{rounds.words()}\n{refused}")
     rounds, tried, what, most = smallest_wrong(given.without, program)
     if rounds is None:
         return Found(False, f"not broken: {tried:,} {what} of up to {most} nodes go right\n")
     edges = ", ".join(f"{v}-{w}" for v, w in sorted(map(sorted, rounds.net.number)))
-    where = f"on {len(rounds.net.neighbours)} nodes with the edges {edges}"
-    where += ", channel 1 barred at node 1" if rounds.net.greatest_bars else ""
+    bar = ", channel 1 barred at node 1" if rounds.net.greatest_bars else ""
     smaller = f"; {tried - 1} smaller {what} go right" if tried > 1 else ""
-    return said_of_rounds(given, rounds, f"{where}{smaller}", "")
-
-
-def said_of_rounds(given, rounds, where, what):
-    if rounds is None:
-        return Found(False, f"not broken: {what} go right\n{refused_words(given.without)}")
-    return Found(True, f"broken {where}\n{rounds.words()}\n{refused_words(given.without)}")
+    return Found(True, f"broken on {len(rounds.net.neighbours)} nodes with the edges {edges}{bar}{smaller}\n"
+                       f"{rounds.words()}\n{refused}")
 
 
 def refused_words(without):

@@ -253,6 +253,8 @@ class Schedules(Case):
             good = not space.faults and len(space.ends) == 1 and space.count == states
             self.note(f"two without acks, puts apart: {puts}", good, (space.count, space.faults))
         beyond = Space(net_of("two"), without=("safes",), beyond=True, limit=MOST)
+        # As many as a search found that compared nodes field by field.
+        self.same("states beyond it", (beyond.count, len(beyond.target)), (1631, 4113))
         plans = [{v: node.colour for v, node in beyond.nodes(s).items()} for s in beyond.ends]
         wrong = [plan for s, plan in zip(beyond.ends, plans) if plan != colours(beyond.net)]
         self.note("beyond the first fault, two without safes: neighbours far apart", beyond.farthest > 1,
@@ -299,37 +301,3 @@ class Schedules(Case):
         self.note("explore --help", all(f"  {word} " in said for word in rules.ALL), said)
         with self.subTest("more states than the limit"), self.assertRaises(TooMany):
             Space(net_of("two"), limit=280)
-
-    def test_fields_of_a_program(self):
-        """A node may count by port in a dictionary: in a row of three each payload is counted once, in every
-        schedule."""
-        space = Space(network_of(b"p edge 3 2\ne 1 2\ne 2 3\n"), program=Counting)
-        found = [{v: node.result for v, node in space.nodes(end).items()} for end in space.ends]
-        self.note("counts", found == [{1: "{0: 2}", 2: "{0: 2, 1: 2}", 3: "{0: 2}"}] and not space.faults, found)
-
-
-class Counting:
-    """A program whose nodes send something in the pulses 0 and 1, and count by port what comes."""
-    name = "counting"
-
-    def __init__(self, net, v):
-        self.count, self.degree = {}, len(net.neighbours[v])
-
-    @staticmethod
-    def last_pulse(_net):
-        return 2
-
-    def greet(self):
-        return [("Tick", 1)] * self.degree
-
-    def next(self, pulse, inbox):
-        for port, slot in enumerate(inbox):
-            if slot:
-                self.count[port] = self.count.get(port, 0) + 1
-        return self.greet() if pulse < 2 else [None] * self.degree
-
-    def refuses(self, _pulse, _inbox):
-        return False
-
-    def result(self):
-        return str(self.count)
