@@ -4,6 +4,7 @@ waits for, what it keeps, and its channel. One run, or two of one network side b
 The page has no algorithm in it: what a node is after each entry is worked out here, by the slow definitions
 (lab/definitions/nodes.py), and written into the page as rows. page/watch.js draws it."""
 import json
+from collections import deque
 
 from lab.definitions.nodes import Colouring, NetState, make, wire_words
 from lab.pictures.pages import net_of, page
@@ -14,23 +15,6 @@ from lab.wrong import Wrong
 MOST_ENTRIES = 20_000
 ORDER = ("The order is one of those that are possible, not that of real time: a stamp is Lamport’s clock, "
          "and it only says that a node’s own steps, and a take after its put, come one after the other.")
-
-
-class Moment:
-    """An entry of the part that is shown: its stamp, its node, the node's state after it, its words, and the pulse
-    during which it was made; `kind` is pulse, put or take."""
-
-    def __init__(self, entry, state, during):
-        self.stamp, self.vertex, self.state, self.during = entry.stamp, entry.vertex, state, during
-        self.kind, self.words = entry.kind.lower(), words(entry).split(" ", 2)[2]
-
-
-class Flight:
-    """A wire: between which entries it is on its link, None if before or after those that are shown."""
-
-    def __init__(self, entry, at):
-        self.start, self.end, self.wire = entry.vertex, entry.neighbour, entry.what
-        self.put_at, self.put_stamp, self.take_at, self.take_stamp = at, entry.stamp, None, None
 
 
 def look_of(state, v):
@@ -100,69 +84,52 @@ def steps_of_text(name, network, text, pulses=None, program=Colouring):
         steps.add(entry)
         if entry.kind == "Pulse":
             made[entry.vertex] = entry.what
-        if not pulses and len(steps.every) > MOST_ENTRIES + 1 or pulses and min(made.values()) > pulses[1]:
+        if not pulses and len(steps.every) > MOST_ENTRIES or pulses and min(made.values()) > pulses[1]:
             break
     return steps
 
 
 class Run:
-    """The entries of a run that are shown, the wires among them, and the nodes before the first one. `steps` are those
-    of a text, or of a `Player` by stamp."""
+    """The entries of a run that are shown, `moments`, the wires among them, and the nodes before the first one. `steps`
+    are those of a text, or of a `Player` by stamp."""
 
     def __init__(self, name, network, steps, pulses=None):
-        self.name, self.network, self.start = name, network, dict(steps.start)
-        self.moments, self.flights = [], []
-        nodes = steps.state.nodes
-        self.last = nodes[1].last
-        self.is_whole = all(node.drained() for node in nodes.values())
-        every = list(steps.every) if pulses else steps.every[:MOST_ENTRIES + 2]
+        self.name, self.network, nodes = name, network, steps.state.nodes
+        self.last, self.is_whole = nodes[1].last, all(node.drained() for node in nodes.values())
+        every = steps.every if pulses else steps.every[:MOST_ENTRIES + 1]
         self.at_pulse = {v: {0: 0} for v in network.vertices}
         for entry, *_ in every:
             if entry.kind == "Pulse":
                 self.at_pulse[entry.vertex][entry.what] = entry.stamp
-        self.cut(every, pulses)
+        first, end = self.window(every, pulses)
+        self.moments = every[first:end]
+        self.start = steps.start | {entry.vertex: look for entry, _, look in every[:first]}
+        self.wires = wires_of(every[:end], first)
+        self.sent = {}
+        for v, w, wire, *_ in self.wires:
+            if wire[0] == "Payload":
+                self.sent.setdefault(wire[1], []).append((v, w, payload_words(wire[2])))
+        self.stamps = (self.moments[0][0].stamp - 1, self.moments[-1][0].stamp) if self.moments else (0, 0)
 
-    def cut(self, every, pulses):
-        """Keeps the entries from where a first node begins the first pulse to where the last one ends the last."""
-        reached = min(max(during) for during in self.at_pulse.values())
-        if pulses and pulses[1] > min(self.last, reached):
-            raise Wrong(f"{self.name}: pulses {pulses[0]} to {pulses[1]} are not among 0 to {min(self.last, reached)}")
+    def window(self, every, pulses):
+        """Which entries are shown: from where a first node begins the first pulse to where the last one ends the
+        last."""
+        reached = [max(during) for during in self.at_pulse.values()]
+        if pulses and pulses[1] > min(self.last, *reached):
+            raise Wrong(f"{self.name}: pulses {pulses[0]} to {pulses[1]} are not among 0 to {min(self.last, *reached)}")
         self.is_too_long = not pulses and len(every) > MOST_ENTRIES
         if self.is_too_long:
-            every.pop()
-            pulses = 0, reached - 1
-            if reached == 0:
+            pulses = 0, min(reached) - 1
+            if min(reached) == 0:
                 raise Wrong(f"{self.name}: not one pulse fits into {MOST_ENTRIES:,} entries")
-        self.pulses = pulses or (0, min(self.last, max(max(during) for during in self.at_pulse.values())))
+        self.pulses = pulses or (0, min(self.last, max(reached)))
         self.is_cut = pulses is not None and pulses != (0, self.last)
-        shown_ = [at for at, (_, during, _) in enumerate(every) if self.pulses[0] <= during <= self.pulses[1]]
-        first, end = (shown_[0], shown_[-1] + 1) if shown_ else (0, 0)
+        shown = [at for at, (_, during, _) in enumerate(every) if self.pulses[0] <= during <= self.pulses[1]]
+        first, end = (shown[0], shown[-1] + 1) if shown else (0, 0)
         if end - first > MOST_ENTRIES:
             raise Wrong(f"{self.name}: pulses {self.pulses[0]} to {self.pulses[1]} have {end - first:,} entries, and a "
                         f"page shows at most {MOST_ENTRIES:,}: name fewer with --pulses")
-        flying = {}
-        for at, (entry, during, look) in enumerate(every[:end]):
-            if entry.kind == "Put":
-                flight = Flight(entry, at - first)
-                self.flights.append(flight)
-                flying.setdefault((entry.vertex, entry.neighbour), []).append(flight)
-            elif entry.kind == "Take":
-                flight = flying[entry.neighbour, entry.vertex].pop(0)
-                flight.take_at, flight.take_stamp = at - first, entry.stamp
-            if at < first:
-                self.start[entry.vertex] = look
-            else:
-                self.moments.append(Moment(entry, look, during))
-        # How many entries are made when a pulse is made for the last time.
-        self.made_at = {moment.during: at for at, moment in enumerate(self.moments, 1) if moment.kind == "pulse"}
-        self.flights = [flight for flight in self.flights if flight.take_at is None or flight.take_at >= 0]
-        self.sent = {}
-        for flight in self.flights:
-            if flight.wire[0] == "Payload":
-                said = payload_words(flight.wire[2])
-                self.sent.setdefault(flight.wire[1], []).append((flight.start, flight.end, said))
-        self.first_stamp = self.moments[0].stamp - 1 if self.moments else 0
-        self.last_stamp = self.moments[-1].stamp if self.moments else 0
+        return first, end
 
     def payloads(self, pulse):
         """What was put in a pulse, in words, in one order for all runs."""
@@ -171,40 +138,55 @@ class Run:
     def table(self):
         """The rows that the page follows; what comes again and again has a number."""
         looks, texts = {}, {}
-        rows = [[moment.stamp, moment.vertex, looks.setdefault(json.dumps(moment.state), len(looks)),
-                 texts.setdefault(moment.words, len(texts))] for moment in self.moments]
-        wires = [[flight.start, flight.end, texts.setdefault(wire_words(flight.wire), len(texts)), flight.put_at,
-                  flight.put_stamp, flight.take_at, flight.take_stamp] for flight in self.flights]
+
+        def text(said):
+            return texts.setdefault(said, len(texts))
         return {
             "name": self.name,
             "start": [self.start[v] for v in self.network.vertices],
+            "rows": [[entry.stamp, entry.vertex, looks.setdefault(json.dumps(look), len(looks)),
+                      text(words(entry).split(" ", 2)[2])] for entry, _, look in self.moments],
+            "wires": [[v, w, text(wire_words(wire)), *flight] for v, w, wire, *flight in self.wires],
             "looks": [json.loads(look) for look in looks],
             "texts": list(texts),
-            "rows": rows,
-            "wires": wires,
-            "stamps": [self.first_stamp, self.last_stamp],
-            "all": [self.all_at(pulse) for pulse in range(self.pulses[0], self.pulses[1] + 1)],
+            "stamps": self.stamps,
+            "all": list(self.all_at()),
         }
 
-    def all_at(self, pulse):
-        """When the last node makes a pulse, as far as it is shown: the stamp, and how many entries are made then."""
-        stamps = [reached.get(pulse) for reached in self.at_pulse.values()]
-        if None in stamps:
-            return self.last_stamp, len(self.moments)
-        return min(max([*stamps, self.first_stamp]), self.last_stamp), self.made_at.get(pulse, 0)
+    def all_at(self):
+        """When the last node makes each pulse, as far as it is shown: the stamp, and how many entries are made then."""
+        made = {entry.what: at for at, (entry, *_) in enumerate(self.moments, 1) if entry.kind == "Pulse"}
+        for pulse in range(self.pulses[0], self.pulses[1] + 1):
+            stamps = [reached.get(pulse) for reached in self.at_pulse.values()]
+            if None in stamps:
+                yield self.stamps[1], len(self.moments)
+            else:
+                yield min(max(*stamps, self.stamps[0]), self.stamps[1]), made.get(pulse, 0)
 
 
-def draw(runs, title=None):
+def wires_of(every, first):
+    """[from, to, wire, number and stamp of its put, and of its take] of the wires that are on their links at or after
+    the first entry shown; an entry before it has a negative number, and one after those shown none."""
+    flying, found = {}, []
+    for at, (entry, *_) in enumerate(every, -first):
+        if entry.kind == "Put":
+            found.append([entry.vertex, entry.neighbour, entry.what, at, entry.stamp, None, None])
+            flying.setdefault((entry.vertex, entry.neighbour), deque()).append(found[-1])
+        elif entry.kind == "Take":
+            flying[entry.neighbour, entry.vertex].popleft()[5:] = at, entry.stamp
+    return [wire for wire in found if wire[5] is None or wire[5] >= 0]
+
+
+def draw(runs):
     """The page of one run, or of two of one network."""
     network, first = runs[0].network, runs[0]
     pulses = max(run.pulses[0] for run in runs), min(run.pulses[1] for run in runs)
-    title = title or (f"{network.name}: a run without a clock" if len(runs) == 1
-                      else f"{network.name}: two orders of events, the same rounds")
+    title = "a run without a clock" if len(runs) == 1 else "two orders of events, the same rounds"
     each = range(pulses[0], pulses[1] + 1) if len(runs) == 2 else ()
     data = {"net": net_of(network), "last": first.last, "pulses": pulses, "runs": [run.table() for run in runs],
             "same": [all(run.payloads(p) == first.payloads(p) for run in runs) for p in each],
             "sent": [[[v, w, said] for v, w, said in first.payloads(p)] for p in each]}
-    return page("alone.html", "watch", data, title=title, about=f"{about(runs, pulses)} {ORDER}")
+    return page("alone.html", "watch", data, title=f"{network.name}: {title}", about=f"{about(runs, pulses)} {ORDER}")
 
 
 def about(runs, pulses):
