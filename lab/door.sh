@@ -7,8 +7,6 @@ begin() {
   [[ -e /dev/stdin && ! -d /dev/stdin ]] || exec 0>/dev/null
   [[ -e /dev/stdout ]] || exec 1</dev/null
   [[ -e /dev/stderr && ! /dev/stderr -ef $0 ]] || exec 2>/dev/null
-  # Help that can't be written is noticed at the end of a buffer.
-  unset PYTHONUNBUFFERED
   exec python3 -S -X utf8 "$lab/../$1" "${@:2}"
 }
 

@@ -11,10 +11,14 @@ from lab.wrong import Wrong
 
 
 class Parser(argparse.ArgumentParser):
-    """A parser that refuses in one short line, whatever word it repeats."""
+    """A parser that refuses in one short line, whatever word it repeats, and passes over no help that can't be
+    written."""
 
     def error(self, message):
         super().error(re.sub(r"\S{200,}", lambda word: f"{word[0][:80]}..", one_line(message)))
+
+    def _print_message(self, message, file=None):
+        (file or sys.stderr).write(message)
 
 
 def one_line(words: str) -> str:
