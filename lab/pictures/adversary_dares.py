@@ -10,16 +10,16 @@ from lab.pictures.schedules_space import fault_words
 
 
 def dares_of(space):
-    seen, dares = Seen(space), []
-    if space.links:
-        dares = [wrong_dare(seen), apart_dare(seen)]
+    """The dares of a space; those of links only if there is one."""
+    seen, ways = Seen(space), {v: distances(space.ports, v) for v in space.vertices}
+    pairs = [link for link in space.links if link[0] < link[1]]
+    # The first two nodes that are farthest apart.
+    v, w = ends = max(((v, w) for v in ways for w in sorted(ways[v])), key=lambda pair: ways[pair[0]][pair[1]])
+    dares = [wrong_dare(seen), apart_dare(seen, pairs)] if pairs else []
     dares.append(plan_dare(seen))
-    ends, distance = far_ends(space)
-    if distance > 1:
-        dares.append(ends_dare(seen, ends, distance))
-    if space.links:
-        dares.append(few_dare(seen, space.vertices[1]))
-    return dares
+    if ways[v][w] > 1:
+        dares.append(ends_dare(seen, ends, ways[v][w]))
+    return dares + ([few_dare(seen, space.vertices[1])] if pairs else [])
 
 
 class Seen:
@@ -27,11 +27,10 @@ class Seen:
 
     def __init__(self, space):
         self.space, self.is_all = space, space.expanded == space.count
-        self.pulses = [[value.pulse_number for value in values] for values in space.locals]
-        self.place = {v: a for a, v in enumerate(space.vertices)}
+        self.pulses = {v: [value.pulse_number for value in values] for v, values in zip(space.vertices, space.locals)}
 
     def pulse(self, state, v):
-        return self.pulses[self.place[v]][state[self.place[v]]]
+        return self.pulses[v][state[self.space.vertices.index(v)]]
 
     def apart(self, state, pairs):
         return max(abs(self.pulse(state, v) - self.pulse(state, w)) for v, w in pairs)
@@ -61,8 +60,7 @@ def wrong_dare(seen):
             "answer": answer}
 
 
-def apart_dare(seen):
-    pairs = [link for link in seen.space.links if link[0] < link[1]]
+def apart_dare(seen, pairs):
     fewest = seen.fewest(lambda state: seen.apart(state, pairs) >= 2)
     answer = seen.none("are neighbours more than one pulse apart") if fewest is None else f"Yes, with {events(fewest)}."
     return {"kind": "apart", "pairs": pairs, "least": 2, "words": "Bring two neighbours two pulses apart.",
@@ -71,14 +69,12 @@ def apart_dare(seen):
 
 def plan_in(space):
     """What the nodes find in the rounds: their channels, or the words of another program."""
-    if space.program is Colouring:
-        return [space.rounds.colours[v] + 1 for v in space.vertices]
-    return [space.rounds.results[v] for v in space.vertices]
+    return [space.rounds.colours[v] + 1 if space.program is Colouring else space.rounds.results[v]
+            for v in space.vertices]
 
 
 def plan_dare(seen):
-    space = seen.space
-    plan = plan_in(space)
+    space, plan = seen.space, plan_in(seen.space)
     other = [space.depth[s] for s in space.ends if space.is_whole(space.states[s])
              and [found(node) for node in space.nodes(s).values()] != plan]
     what = "channels" if space.program is Colouring else "results"
@@ -100,14 +96,3 @@ def few_dare(seen, v):
     return {"kind": "few", "node": v, "best": best,
             "words": f"Use as few takes and pulses as you can until node {v} has made pulse 1.",
             "answer": f"{events(best).capitalize()}; puts make themselves."}
-
-
-def far_ends(space):
-    """(the first pair of nodes that are farthest apart, how many links that is)."""
-    best = None, 0
-    for v in space.vertices:
-        ways = distances(space.ports, v)
-        far = max(ways.values())
-        if far > best[1]:
-            best = (v, min(w for w in ways if ways[w] == far)), far
-    return best

@@ -5,8 +5,9 @@ Every answer is worked out by the slow definitions (lab/definitions) and from no
 import random
 from functools import partial
 
-from lab.definitions.colours import Network, at_parent, colours, drop, first_colours, merge, shift, three
+from lab.definitions.colours import Network, at_parent, colours, drop, shift
 from lab.definitions.nodes import NetState, last_pulse
+from lab.definitions.pulses import LAST_COLOUR
 from lab.definitions.rounds import Facts
 from lab.networks.network_text import Network as Drawn
 from lab.networks.random_networks import alike_edges
@@ -124,23 +125,19 @@ class Sheet:
         return row
 
     def lesson_4(self):
-        rows, old = [], first_colours(self.net)
-        for f in range(FORESTS):
-            rows.append((f"colour in forest {f}", [three(self.net, f)[v] for v in self.vertices], True))
-            before, old = old, merge(self.net, f, old)
-            rows.append(("after its merge", [old[v] for v in self.vertices], False))
+        rows = [(name, [colours[v] for v in self.vertices], is_given) for f in range(FORESTS)
+                for name, colours, is_given in ((f"colour in forest {f}", self.facts.colours[f][LAST_COLOUR], True),
+                                                ("after its merge", self.facts.merged[f + 1], False))]
         yield "<p>Merge the two forests; all begin with colour 0.</p>" + self.table("node", rows)
-        v = self.any_of(self.vertices)
-        f, width = FORESTS - 1, self.net.span + 1
-        pulse = 13 + f * 3 * width + three(self.net, f)[v] * width + before[v]
-        yield (f"<p>At which pulse does node {v} choose in the merge of forest {f}? {self.filled(pulse)} "
-               f"Which pulse is the last? {self.filled(last_pulse(self.net))}</p>")
+        v, f = self.any_of(self.vertices), FORESTS - 1
+        yield (f"<p>At which pulse does node {v} choose in the merge of forest {f}? "
+               f"{self.filled(self.facts.turn(f, v))} Which pulse is the last? {self.filled(last_pulse(self.net))}</p>")
 
     def lesson_5(self):
-        payloads = sum(1 for p in range(last_pulse(self.net) + 1) for v in self.vertices
-                       for _ in self.facts.sent(p, v))
-        wires = 2 * payloads + 2 * len(self.edges) * (last_pulse(self.net) + 1)
-        yield (f"<p>A whole run without a clock has {payloads} payloads. How many wires? {self.filled(wires)}</p>")
+        pulses = range(last_pulse(self.net) + 1)
+        payloads = sum(len(list(self.facts.sent(p, v))) for p in pulses for v in self.vertices)
+        wires = 2 * payloads + 2 * len(self.edges) * len(pulses)
+        yield f"<p>A whole run without a clock has {payloads} payloads. How many wires? {self.filled(wires)}</p>"
         edge = self.any_of(self.edges)
         rows = [("pulse", list(farthest(self.net, edge).values()), False)]
         yield (f"<p>Nothing goes over the edge {edge[0]}–{edge[1]}, in either direction, and all else goes on as far "
