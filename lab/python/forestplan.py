@@ -11,7 +11,6 @@ is read of the answer, is not proved."""
 import collections
 import collections.abc
 import os
-import shutil
 import site
 import subprocess
 import sys
@@ -215,15 +214,12 @@ def _counted(licence):
 
 
 def home():
-    """The folder with the programs: FORESTPLAN_HOME, the one of this file, what pip installed, or the PATH's."""
-    on_path = shutil.which("forestplan")
+    """The folder with the programs: the one of this file, or what pip installed beside it."""
     here = os.path.dirname(os.path.dirname(os.path.dirname(os.path.realpath(__file__))))
-    for folder in (os.environ.get("FORESTPLAN_HOME"), here, os.path.join(sys.prefix, "share", "forestplan"),
-                   os.path.join(site.getuserbase(), "share", "forestplan"),
-                   on_path and os.path.dirname(os.path.dirname(os.path.realpath(on_path)))):
-        if folder and os.path.isfile(os.path.join(folder, "lab", "programs.py")):
+    for folder in (here, *(os.path.join(base, "share", "forestplan") for base in (sys.prefix, site.getuserbase()))):
+        if os.path.isfile(os.path.join(folder, "lab", "programs.py")):
             return folder
-    raise FileNotFoundError("no folder of forestplan: FORESTPLAN_HOME has to name one that is installed or built")
+    raise FileNotFoundError("there is no folder of forestplan that is installed or built")
 
 
 def _program(name):
