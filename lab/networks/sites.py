@@ -163,11 +163,9 @@ def join_near(found: Listed, sites: Table, places: Places | None, reach: float) 
             found.edges.append((sites.rows[other][0], names[one], names[other]))
     if (*places.titles, places.unit) in BARE:
         refuse_units(sites, places, met, reach)
-    if 0 < 100 * across_of(places.points) < reach:
-        found.left_out.append("the reach is more than a hundred times as wide as all sites: is it in kilometres?")
-    if not met and len(names) - len(lost) > 1:
-        found.left_out.append("no site is within the reach of one elsewhere: are the places in the units that their "
-                              "columns say?")
+    if 0 < 100 * across_of(places.points) < reach or not met and len(names) - len(lost) > 1:
+        found.left_out.append("no site is within the reach of one elsewhere, or it is a hundred times as wide as all "
+                              "sites: is it in kilometres, and are the places in the units that their columns say?")
 
 
 def with_bars(found: Listed, data: bytes, name: str, licence: list[int] | None) -> None:
