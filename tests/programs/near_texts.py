@@ -288,7 +288,14 @@ REFUSED = (
     "Ulm Aue\nAue Hof\nHof Ulm\nremoved Ulm Aue\n", "% bip unweighted\n1 2\n2 1\n2 3\n",
     "p cnf 3 2\n1 2 0\n2 3 0\n", "p hs 3 2\n1 2 3\n2 3 1\n", "@nodes\nlabel\n1\n2\n@arcs\n1 2\n",
     "source,target\ns1:1,s2:1\ns2:2,s3:1\ns3:2,s1:2\n", "Ulm,2026-11-30\nAue,2026-11-30\n",
-    "start,end,transmitter,receiver\n2026-01-01,2026-01-02,Ulm,Aue\n2026-01-01,2026-01-03,Aue,Hof\n",
+    "start,end,transmitter,receiver\n1,2,Ulm,Aue\n1,3,Aue,Hof\n", "Ulm,south\nAue,north\nHof,south\n",
+    "14,20\nUlm,Aue\nAue,Hof\nHof,Ulm\n", "1\t4\n2\t1\n1\t5\n2\t0\t2\n3\t5\n", "4,3,2\n1,4,2\n",
+    "Hof region\nHof Ulm\nUlm Aue\nAue Hof\n", "node,a\nnode,b\n", "Ulm Aue\nAue Hof\nHof #planned\n",
+    "1,2\n2,03\n3,1\n", "A\tB 1\nB\tC 2\nC\tA 1\n", "#x.py\n# GMT x\n# \nUlm Aue\nAue Hof\n",
+    "Ulm,Aue,3\nAue,Hof,4\nBonn,,5\n", "1,x\n1,2\n2,3\n", "source,target\nsource,Ulm\nUlm,Aue\n",
+    "1 2\n%%MatrixMarket\n2 3\n", '"Ulm,Aue\nAue,Hof\n', "\u00abUlm,Aue\nAue,Hof\n", "1\x0b2 3\n", "c a\nc b\n",
+    '{"nodes": [{"id": "A"}, {"id": "A"}], "links": []}', "graph [ node [ id 1 ] edge [ source 1 ] ]",
+    '<graphml><graph><node id="A"/><node id="A "/></graph></graphml>', 'graph { "K\u00c3\u00b6ln" -- Ulm }',
     "01.03.2026,12.04.2026\n01.03.2026,13.04.2026\n02.03.2026,12.04.2026\n", "Ulm,Aue\nHof,\nBonn,Kiel\nGera,Kiel\n",
     '<graphml><key id="k" for="edge" attr.name="on"><default>false</default></key><graph><node id="A"/><node id="B"/>'
     '<node id="C"/><edge source="A" target="B"><data key="k">true</data></edge><edge source="B" target="C"/></graph>'
@@ -345,6 +352,7 @@ TABLES = (
     ("metres in x and y", b"site,X,Y\nA,453000,5600000\nB,453900,5600000\n"),
     ("JSON", b'{"type": "FeatureCollection", "features": []}'),
     ("two encodings", "site\nKöln\n".encode() + "Mörs\n".encode("cp1252")),
+    ("letters of DOS", "site\nKöln\n".encode("cp850")),
     *((f"a row {row!r}", f"site,x,y\nUlm,0,0\nAue,1,1\n{row}\n".encode()) for row in (
         "Summe,5,5", "Average,5,5", "Hof,-9999,-9999", "Hof,1e20,1e20", "#Hof,1,1", "//Hof,1,1", "NA,0,0", "#N/A,0,0",
         "====,0,0", "Ulm*,1,1", "- Hof,1,1", "!Hof,1,1", "(Hof),1,1",
