@@ -48,15 +48,11 @@ def program_file(name):
     return path
 
 
-def environment():
-    """What a program is called with."""
-    return {"GLIBC_TUNABLES": TUNABLES, **os.environ}
-
-
 def called(name, words, data):
     """What a program did with a text: its status, and the bytes of both outputs."""
     try:
-        return subprocess.run([program_file(name), *words], input=data, capture_output=True, env=environment())
+        return subprocess.run([program_file(name), *words], input=data, capture_output=True,
+                              env={"GLIBC_TUNABLES": TUNABLES, **os.environ})
     except OSError as why:
         raise Wrong(f"{name} can't be run: {why.strerror}") from None
 

@@ -1,10 +1,8 @@
 """What a run on a network comes to: its payloads and wires, and about how long the commands take."""
-import contextlib
-import subprocess
 import time
 
 from lab.networks.texts import plain_text
-from lab.programs import built, called, environment, program_file
+from lab.programs import built, called
 from lab.words import counted
 from lab.wrong import Wrong
 
@@ -29,7 +27,8 @@ class Run:
             self.payloads = sum(len(pulse.puts) for pulse in rounds.pulses)
             self.how = "counted by the definition of the rounds"
         elif is_counted:
-            self.payloads, self.how = payloads_by_program(network), "counted by `forestplay rounds`"
+            self.payloads = written_by("forestplay", "rounds", network).count(b" put ")
+            self.how = "counted by `forestplay rounds`"
         else:
             self.payloads, self.how, self.is_bound = most_payloads(network), "--payloads counts them", True
         self.wires = 2 * self.payloads + 2 * len(network.edges) * (self.last + 1)
@@ -40,7 +39,7 @@ class Run:
 
 def digits(most):
     """How many digits the numbers from 0 to the greatest have on average."""
-    return len("".join(map(str, range(most + 1)))) / (most + 1)
+    return 1 + sum(1 - 10 ** length / (most + 1) for length in range(1, len(str(most))))
 
 
 def rounds_here(network):
@@ -52,22 +51,12 @@ def rounds_here(network):
     return Rounds(network, network.identifiers)
 
 
-def payloads_by_program(network):
-    """The lines of the rounds that put a payload, counted as they are written."""
-    with subprocess.Popen([program_file("forestplay"), "rounds"], stdin=subprocess.PIPE, stdout=subprocess.PIPE,
-                          env=environment()) as started:
-        # One that ends before it has read all has its status below.
-        with contextlib.suppress(BrokenPipeError):
-            started.stdin.write(plain_text(network).encode())
-            started.stdin.close()
-        found = sum(b" put " in line for line in started.stdout)
-    see_ended(started, "forestplay rounds")
-    return found
-
-
-def see_ended(process, name):
-    if process.returncode:
-        raise Wrong(f"{name} ended with status {process.returncode}; is there too little memory?")
+def written_by(program, command, network):
+    """What a program writes of a network."""
+    done = called(program, [command], plain_text(network).encode())
+    if done.returncode:
+        raise Wrong(f"{program} {command} ended with status {done.returncode}; is there too little memory?")
+    return done.stdout
 
 
 def most_payloads(network):
@@ -89,7 +78,7 @@ def times(run):
     longer = ", ".join(f"{command} {in_words(processor_seconds(run, command))}" for command in WIRES_A_SECOND)
     if built("forestplan"):
         start = time.monotonic()
-        see_ended(called("forestplan", ["plain"], plain_text(run.network).encode()), "forestplan plain")
+        written_by("forestplan", "plain", run.network)
         longer = f"plain {in_words(time.monotonic() - start)}, the same plan; {longer}"
     return f"{longer}, of all processors together"
 
