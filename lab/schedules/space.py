@@ -1,18 +1,16 @@
 """Every schedule of a tiny network: all states that lists of events lead to, and the steps between them.
 
-    from space import Space, TooMany
     space = Space(net, without=("safes",), limit=200_000)
 
-`net` is a network of the definitions (definitions.network_of makes one of what the pictures read), and `program` what
-its nodes run. A put is made as
-soon as it can be, so that a state has no wires that wait to be put; `puts=True` counts puts apart, as events of their
-own. `without` has rules of rules.OF_SCHEDULES. With a rule left out the search ends at the first event that goes wrong,
-which a shortest list of events leads to; `beyond=True` goes on, from wherever the program doesn't refuse. More than
-`limit` states raise `TooMany`.
+`net` is a network of the definitions, and `program` what its nodes run. A put is made as soon as it can be, so that a
+state has no wires that wait to be put; `puts=True` counts puts apart, as events of their own. `without` has rules of
+rules.OF_SCHEDULES. With a rule left out the search ends at the first event that goes wrong, which a shortest list of
+events leads to; `beyond=True` goes on, from wherever the program doesn't refuse. More than `limit` states raise
+`TooMany`.
 
 With `reduce`, a safe or a close that comes next on its link is taken at once and alone, which leaves most states out
-(see `cut`). What each pulse finds, what is refused, and the ends stay; the number of schedules, shortest lists, how far
-neighbours are apart and how much a link holds don't.
+(see `alone`). What each pulse finds, what is refused, and the ends stay; the number of schedules, shortest lists, how
+far neighbours are apart and how much a link holds don't.
 
     space.vertices        [1, 2, 3]; space.ports[v] are v's neighbours, ascending (port 0 first)
     space.links           [(v, w), ..]: what v puts for w
@@ -20,7 +18,7 @@ neighbours are apart and how much a link holds don't.
     space.count           how many states there are; they are numbered from 0, the start, by width
     space.depth[s]        the least number of events that lead to state s
     space.steps(s)        [(event, target)], the events possible in state s; target is None if the event is refused
-    space.event(e)        an Event: kind (take, pulse, put), v, port, w (the neighbour there), wire (in words), place
+    space.events[e]       an Event: kind (take, pulse, put), v, port, w (the neighbour there), wire (in words), place
                           (how many wires of the link it overtakes); str(event) is its line for `forestplay events`
     space.nodes(s)        {v: Node}: pulse, stage (asks, safe, ready, last, whole), waits (what it waits for, as (wire,
                           w)), wrong (it has made a pulse with another inbox than the round's), colour (merged so far)
