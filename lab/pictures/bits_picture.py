@@ -22,7 +22,7 @@ def draw(rounds, forest=0, vertex=None):
     parent = rounds.parents[vertex, forest]
     pairs = [(rounds.pulses[p].colours[vertex, forest], rounds.pulses[p].colours[parent, forest])
              for p in range(FIRST, LAST + 1)]
-    most = max(digits(number) for number in pairs[0])
+    most = max(digits(number) for pair in pairs for number in pair)
     cell = 7 if most > LONGER else 11 if most > LONG else 18 if most > 8 else 26
     lengths = ", ".join(str(max(map(digits, pair))) for pair in pairs)
     is_short = all(rounds.identifiers[v] == v for v in network.vertices)

@@ -19,7 +19,7 @@ NETWORKS = examples() | {"one": ONE, "edge": EDGE, "names": NAMED, "a crowd": CR
 OF_ROUNDS = {"map": 40, "plan": 100, "results": 40, "matrix": 100, "forests": 40, "rounds": 25}
 OF_RUNS = dict.fromkeys(("run", "overview", "node", "tally"), 10)
 OTHERS = (("node", "petersen", "--vertex", 4), ("schedules", "two"), ("schedules", "path", "--columns", "0..20"),
-          ("schedules", "two", "--without", "safes"), ("bits", "petersen"), ("bits", "long_names"),
+          ("schedules", "two", "--without", "safes"), *(("bits", name) for name in examples()),
           ("rounds", "petersen", "--program", "matching"), ("results", "petersen", "--program", "leader"),
           ("results", "drops", "--program", "recolouring"),
           ("broken", "petersen", "--without", "pair"), ("broken", "drops", "--without", "parent"),
