@@ -6,7 +6,7 @@ A pale bar goes from where a payload is taken to the tick at which it is read, a
 from lab.pictures.marks import dash_of, short_name, wire_arrow
 from lab.pictures.palette import BAND, BORDER, INK, PAPER, PULSE, SOFT, WIRES, WRONG
 from lab.pictures.svg import Svg, text_width
-from lab.pictures.wrong_run import draw_stop, draw_untaken, draw_wrong, pulses_around, set_in_time
+from lab.pictures.wrong_run import draw_wrong, placed
 from lab.words import counted
 from lab.wrong import Wrong, at_most
 
@@ -75,8 +75,8 @@ def usual(network, last):
 def draw(run, pulses=None, kinds=None, wrong=None):
     """The picture; with `wrong`, of a run up to an entry that isn't possible."""
     if wrong and wrong.entry:
-        set_in_time(run, wrong)
-        pulses = pulses or pulses_around(wrong, run.last)
+        around = placed(run, wrong.entry)
+        pulses = pulses or around
     kinds = kinds or (KINDS if run.network.nodes <= MOST_NODES_OF_ALL_KINDS else ("payload",))
     nodes = run.network.nodes
     row, lower_row = 88 if nodes <= 3 else 74 if nodes <= 5 else 50, 46 if nodes <= 5 else 30
@@ -97,11 +97,7 @@ def draw(run, pulses=None, kinds=None, wrong=None):
         draw_wires(svg, window, kinds)
         draw_ticks(svg, window)
         if wrong:
-            draw_untaken(svg, window, kinds)
-        if wrong and wrong.entry:
-            draw_wrong(svg, window, wrong.entry)
-        if wrong and wrong.stopped:
-            draw_stop(svg, window, wrong.stopped)
+            draw_wrong(svg, window, kinds, wrong)
     words_y = window.bottom + window.over + 20
     svg.text(20, words_y, early_words(window, kinds), 11.5, SOFT)
     if wrong:
@@ -236,14 +232,10 @@ def early_words(window, kinds):
     if not seen:
         return "No clock is shared, and nothing is put in these pulses."
     named = "payload" if list(kinds) == ["payload"] else "wire"
-    of_them = ("" if named == "payload" or not early
-               else f" ({payloads} of them {'a payload' if payloads == 1 else 'payloads'})")
-    come = "none comes" if not early else "1 comes" if len(early) == 1 else f"{len(early):,} come"
-    before = "their" if len(early) > 1 else "its"
-    kept = "They are kept: a" if len(early) > 1 else "It is kept: a" if early else "A"
+    of_them = "" if named == "payload" or not early else f" (payloads: {payloads:,})"
     return (
-        f"No clock is shared: of {counted(len(seen), named)} put here {come} early, before {before} pulse has begun at "
-        f"the taker{of_them}. {kept} payload of pulse p is read when pulse p + 1 begins, never before."
+        f"No clock is shared: of {counted(len(seen), named)} put here {len(early) or 'none'} came early, before its "
+        f"pulse had begun at the taker{of_them}. A payload of pulse p is read when pulse p + 1 begins, never before."
     )
 
 

@@ -2,6 +2,7 @@
 place in time for each, which is its stamp. lab/transcripts reads it, finds an order and judges it, here for all
 pictures."""
 from collections import deque
+from dataclasses import dataclass
 
 from lab.definitions.nodes import Colouring
 from lab.pictures.program_rounds import rounds_of
@@ -15,16 +16,20 @@ from lab.wrong import Wrong, wrong_line
 LONG_TEXT, AHEAD = 100_000, 8
 
 
+@dataclass(slots=True, eq=False)
 class Entry:
     """What a node did: `kind` is `pulse`, `put` or `take`; `wire` is (kind, pulse, payload) of a put or take; `mate` is
     the put of a take, and back; `stamp` the length of the longest chain of entries that ends here; `during` the node's
     pulse."""
-
-    __slots__ = ("line", "vertex", "kind", "neighbour", "wire", "pulse", "mate", "stamp", "during")
-
-    def __init__(self, line, vertex, kind, neighbour, wire, pulse, stamp=None):
-        self.line, self.vertex, self.kind, self.neighbour = line, vertex, kind, neighbour
-        self.wire, self.pulse, self.mate, self.stamp, self.during = wire, pulse, None, stamp, 0
+    line: int
+    vertex: int
+    kind: str
+    neighbour: int | None
+    wire: tuple | None
+    pulse: int | None
+    stamp: int
+    mate: object = None
+    during: int = 0
 
     def title(self):
         """An arrow's title: from whom to whom, and the transcript's words of the wire."""

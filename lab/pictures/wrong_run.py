@@ -1,6 +1,6 @@
 """The run of a transcript up to its first entry that isn't possible, that entry in red, with what the judge says of
 it."""
-from dataclasses import dataclass
+from typing import NamedTuple
 
 from lab.definitions.programs import program_words
 from lab.networks.network_text import fields_of
@@ -8,7 +8,7 @@ from lab.networks.texts import plain_text
 from lab.pictures.palette import WIRES, WRONG
 from lab.pictures.program_rounds import is_own
 from lab.pictures.transcripts import Entry, entry_of
-from lab.transcripts.proved_judge import Verdict, verdict_of
+from lab.transcripts.proved_judge import verdict_of
 from lab.transcripts.reading import entry_of as read_entry
 from lab.wrong import Wrong
 
@@ -16,17 +16,12 @@ from lab.wrong import Wrong
 PART_OF_ROW, STEPS = 0.55, 2.2
 
 
-@dataclass
-class WrongEntry:
+class WrongEntry(NamedTuple):
     """`words` says which line is wrong and why; `entry` is None if each entry is possible and the run isn't whole, and
     then `stopped` is the vertex at which it stopped, if that is known."""
     words: str
     entry: Entry | None = None
     stopped: int | None = None
-
-    @property
-    def vertex(self) -> int:
-        return self.entry.vertex
 
 
 def cut(text: str, name: str, network, program: type, stopped: int | None) -> tuple[str, WrongEntry | None]:
@@ -54,63 +49,51 @@ def cut(text: str, name: str, network, program: type, stopped: int | None) -> tu
         raise Wrong(f"{name} line {line}: `{' '.join(fields)[:60]}` is no entry of a run of {network.name} "
                     f"({verdict.name})")
     entry = entry_of(read_entry(line, [field.encode() for field in fields], program.name, is_stamped=True))
-    return "\n".join(lines[:line - 1]) + "\n", WrongEntry(words_on(line, fields, verdict), entry)
-
-
-def words_on(line: int, fields: list[str], verdict: Verdict) -> str:
     why = f": {verdict.words}" if verdict.words else ""
-    return f"Red: line {line}, `{' '.join(fields[1:])}`, isn't possible there. The judge: {verdict.name}{why}."
+    words = f"Red: line {line}, `{' '.join(fields[1:])}`, isn't possible there. The judge: {verdict.name}{why}."
+    return "\n".join(lines[:line - 1]) + "\n", WrongEntry(words, entry)
 
 
-def set_in_time(run, wrong: WrongEntry) -> None:
-    """Gives the wrong entry the place after all that its node did before; a stamp may be what is wrong with it."""
-    own = run.entries[wrong.vertex]
-    wrong.entry.stamp = (own[-1].stamp if own else 0) + 1
-    wrong.entry.during = own[-1].during if own else 0
+def reached(run, v: int) -> tuple[int, int]:
+    """The stamp and the pulse of a node's last entry."""
+    return (run.entries[v][-1].stamp, run.entries[v][-1].during) if run.entries[v] else (0, 0)
 
 
-def pulses_around(wrong: WrongEntry | None, last: int) -> tuple[int, int] | None:
-    """The pulse of the wrong entry, and the one before."""
-    if wrong is None or wrong.entry is None:
-        return None
-    pulse = min(wrong.entry.during, last)
+def placed(run, entry: Entry) -> tuple[int, int]:
+    """Gives the wrong entry the place after all that its node did before, since a stamp may be what is wrong with it;
+    its pulse, after the one before."""
+    stamp, entry.during = reached(run, entry.vertex)
+    entry.stamp = stamp + 1
+    pulse = min(entry.during, run.last)
     return max(0, pulse - 1), pulse
 
 
-def draw_untaken(svg, window, kinds) -> None:
-    """A short arrow for each wire that was put and that nobody took."""
+def draw_wrong(svg, window, kinds, wrong: WrongEntry) -> None:
+    """A short arrow for each wire that nobody took; in red the wrong entry, a tick or the beginning or the end of an
+    arrow, or a disc behind the last entry of the vertex at which the run stopped."""
     for kind in kinds:
         for put in window.run.puts(kind):
             if put.mate is None and window.start <= put.stamp <= window.stop:
                 with svg.group("untaken", f"{put.title()}, not taken"):
-                    draw_stub(svg, window, put, WIRES[kind], "2 3")
+                    draw_stub(svg, window, put, WIRES[kind], 1.4, "2 3")
+    if wrong.entry:
+        x, y = window.x(wrong.entry.stamp), window.y(wrong.entry.vertex)
+        with svg.group("wrong", f"line {wrong.entry.line}, not possible"):
+            if wrong.entry.kind == "pulse":
+                svg.line(x, y - 14, x, y + 14, WRONG, 5)
+            else:
+                draw_stub(svg, window, wrong.entry, WRONG, 2.4)
+            svg.circle(x, y, 4, WRONG)
+    if wrong.stopped:
+        with svg.group("wrong", f"node {wrong.stopped}, where the run stops"):
+            svg.circle(window.x(reached(window.run, wrong.stopped)[0] + 0.5), window.y(wrong.stopped), 6, WRONG)
 
 
-def draw_wrong(svg, window, entry: Entry) -> None:
-    """The wrong entry, in red: a tick, or the beginning or the end of an arrow."""
+def draw_stub(svg, window, entry: Entry, colour: str, width: float, dash: str | None = None) -> None:
+    """A part of the arrow of a put or take, at its node."""
     x, y = window.x(entry.stamp), window.y(entry.vertex)
-    with svg.group("wrong", f"line {entry.line}, not possible"):
-        if entry.kind == "pulse":
-            svg.line(x, y - 14, x, y + 14, WRONG, 5)
-        elif entry.kind == "put":
-            draw_stub(svg, window, entry, WRONG, None, 2.4)
-        else:
-            before = window.y(entry.neighbour)
-            svg.line(x - STEPS * window.scale, y + (before - y) * PART_OF_ROW, x, y, WRONG, 2.4)
-            svg.head(x, y, STEPS * window.scale, (y - before) * PART_OF_ROW, 9, WRONG)
-        svg.circle(x, y, 4, WRONG)
-
-
-def draw_stop(svg, window, v: int) -> None:
-    """A red disc behind the last entry of the vertex at which the run stopped."""
-    own = window.run.entries[v]
-    with svg.group("wrong", f"node {v}, where the run stops"):
-        svg.circle(window.x((own[-1].stamp if own else 0) + 0.5), window.y(v), 6, WRONG)
-
-
-def draw_stub(svg, window, put: Entry, colour: str, dash: str | None, width: float = 1.4) -> None:
-    x, y = window.x(put.stamp), window.y(put.vertex)
-    way = 1 if put.neighbour > put.vertex else -1
-    dx, dy = STEPS * window.scale, way * window.row * PART_OF_ROW
-    svg.line(x, y, x + dx, y + dy, colour, width, dash)
-    svg.head(x + dx, y + dy, dx, dy, 7, colour, hollow=True)
+    dx, dy = STEPS * window.scale, window.row * PART_OF_ROW * (1 if entry.neighbour > entry.vertex else -1)
+    if entry.kind == "put":
+        svg.arrow(x, y, x + dx, y + dy, colour, width, 7, dash, hollow=True)
+    else:
+        svg.arrow(x - dx, y + dy, x, y, colour, width, 9)
