@@ -8,8 +8,7 @@ from tests.cases import Case, example, in_process
 from tests.programs.made_transcripts import made_transcript, merged_text
 
 SEED = 2026
-ONE, EDGE, APART = b"p edge 1 0\n", b"p edge 2 1\ne 1 2\n", b"p edge 5 3\ne 1 2\ne 2 3\ne 1 3\n"
-ROW, TRIANGLE = b"p edge 3 2\ne 1 2\ne 2 3\n", b"p edge 3 3\ne 1 2\ne 1 3\ne 2 3\n"
+APART = b"p edge 5 3\ne 1 2\ne 2 3\ne 1 3\n"
 # Barred channels of ten vertices: one, four, five, and fourteen at a vertex, of one to four digits.
 BARRED = example("petersen") + b"b 1 2\n" + b"".join(
     b"b %d %d\n" % (v, channel) for v, bars in ((3, (1, 2048, 77, 500)), (7, (4, 3, 2, 1, 1024)), (10, range(1, 15)))
@@ -21,11 +20,6 @@ FORM = dict.fromkeys(("plan", "matrix"), "plan") | dict.fromkeys(("run", "overvi
 def painter(*words, data=b""):
     """What `picture` makes of these words and this standard input; in this process, since there are many."""
     return in_process("picture", picture.main, *words, data=data)
-
-
-def circle_of(nodes):
-    return (f"p edge {nodes} {nodes}\n" + "".join(f"e {v} {v % nodes + 1}\n" for v in range(1, nodes + 1))
-            + "".join(f"c at {v} {v} {v * v % 7}\n" for v in range(1, nodes + 1))).encode()
 
 
 def transcript(network, seed, capacity=4):

@@ -6,7 +6,7 @@ from itertools import combinations
 from lab.definitions.colours import network_of
 from lab.schedules import rules
 from tests.cases import examples
-from tests.pictures.base import BARRED, EDGE, ONE, PictureCase, transcript
+from tests.pictures.base import BARRED, PictureCase, transcript
 from tests.pictures.marks import SVG, centre, data_of, depth, gap, marks, parsed, shapes, title, words
 
 NAMED = ("c name 1 Ulm\nc name 2 Frankfurt am Main\nc name 3 Köln & <Bonn>\nc name 5 a\x1bb\nc name 9 nobody\n"
@@ -14,7 +14,8 @@ NAMED = ("c name 1 Ulm\nc name 2 Frankfurt am Main\nc name 3 Köln & <Bonn>\nc n
 # Eight vertices with a place for two or three of them.
 CROWD = b"p edge 8 4\ne 1 2\ne 2 3\ne 1 3\ne 5 6\n" + b"".join(b"c at %d %d %d\n" % (v, v // 3, v // 5)
                                                                for v in range(1, 9))
-NETWORKS = examples() | {"one": ONE, "edge": EDGE, "names": NAMED, "a crowd": CROWD, "barred petersen": BARRED}
+NETWORKS = examples() | {"one": b"p edge 1 0\n", "edge": b"p edge 2 1\ne 1 2\n", "names": NAMED, "a crowd": CROWD,
+                         "barred petersen": BARRED}
 # The kinds, each with the number of nodes up to which it is drawn here.
 OF_ROUNDS = {"map": 40, "plan": 100, "results": 40, "matrix": 100, "forests": 40, "rounds": 25}
 OF_RUNS = dict.fromkeys(("run", "overview", "node", "tally"), 10)

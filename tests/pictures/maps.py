@@ -5,8 +5,9 @@ from collections import Counter
 from lab.definitions.colours import bit, colours, network_of
 from lab.definitions.nodes import last_pulse
 from lab.definitions.rounds import FIRST_MERGE, Facts, merge_step
+from lab.networks.named import network_bytes
 from tests.cases import example, examples
-from tests.pictures.base import APART, BARRED, EDGE, ONE, PictureCase, circle_of
+from tests.pictures.base import APART, BARRED, PictureCase
 from tests.pictures.marks import (centre, data_of, ends, gap, marks, nearest, number, numbered, pairs_joined, parsed,
                                   shapes, texts, title, titles, words)
 
@@ -15,9 +16,7 @@ COLOURS = ["#004488", "#997700", "#994455", "#6699CC", "#EECC66", "#EE99AA"]
 HEADS = ["start", "bit steps", "shift", "drop 5", "shift", "drop 4", "shift", "drop 3"]
 INK, ALONE = "#1B1B1B", "#DDDDDD"
 
-ALL_JOINED = b"p edge 8 28\n" + b"".join(
-    b"e %d %d\nc at %d %d %d\n" % (v, w, v, v, v * v) for v in range(1, 9) for w in range(1, 9) if v != w)
-NETWORKS = examples() | {"two": EDGE, "one apart": APART, "barred petersen": BARRED}
+NETWORKS = examples() | {"path2": network_bytes("path2"), "one apart": APART, "barred petersen": BARRED}
 QUEEN = example("queen5_5")
 
 
@@ -95,7 +94,7 @@ class Maps(PictureCase):
         for name, network in NETWORKS.items():
             self.matrix_rows(name, network, {v: c + 1 for v, c in colours(network_of(network)).items()})
         self.matrix_rows("all on channel 1", example("petersen"), dict.fromkeys(range(1, 11), 1))
-        self.matrix_rows("a ring of 2000", circle_of(2000), {v: 3 if v == 2000 else 1 + v % 2 for v in range(1, 2001)})
+        self.matrix_rows("ring2000", network_bytes("ring2000"), {v: 1 + v % 2 for v in range(1, 2000)} | {2000: 3})
 
     def matrix_rows(self, name, network, plan):
         net = network_of(network)
@@ -231,7 +230,7 @@ class Maps(PictureCase):
 
     def test_players(self):
         networks = {name: NETWORKS[name] for name in ("triangle", "petersen", "barred", "two")} | {
-            "one": ONE, "all joined": ALL_JOINED, "three": b"p edge 3 0\n",
+            "one": b"p edge 1 0\n", "all joined": network_bytes("complete8"), "three": b"p edge 3 0\n",
             "three with bars": b"p edge 3 0\nb 1 1\nb 1 2\nb 3 2\n"}
         turn = r"colour (\d+) in forest (\d+), colour (\d+) \(channel (\d+)\) so far"
         for name, network in networks.items():

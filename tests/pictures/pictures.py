@@ -10,32 +10,28 @@ from lab.definitions.colours import network_of, plan_text
 from lab.definitions.rounds import rounds_text
 from tests import FORESTLAB, TOP
 from tests.cases import called, contents, example, examples, text_in
-from tests.pictures.base import APART, FORM, ONE, ROW, SEED, TRIANGLE, PictureCase, circle_of, painter, transcript
+from tests.pictures.base import APART, FORM, SEED, PictureCase, painter, transcript
 from tests.pictures.marks import gap
 from tests.programs.made_transcripts import made_transcript, merged_text, transcript_text
-from tests.programs.schedules import text_of
 from tests.settings import PLAN, PLAY
 
 OF_RUNS = [kind for kind, form in FORM.items() if form == "transcript"]
 PLAN_OF_PETERSEN = plan_text(example("petersen"))
 RUN_OF_APART, RUN_OF_PETERSEN = transcript(APART, "refused"), transcript(example("petersen"), "refused")
-RUN_OF_TRIANGLE = transcript(TRIANGLE, "refused")
-LONG_STAR = b"p edge 64 63\n" + b"".join(b"e %d 64\n" % v for v in range(1, 64))
+RUN_OF_TRIANGLE = transcript(example("triangle"), "refused")
 # What rows name: networks and texts by the names of their files.
 FILES = {
-    "net": APART, "row": ROW, "one": ONE, "none": b"p edge 0 0\n", "wrong": b"p edge 2 1\ne 1 1\n", "empty": b"",
-    "star": LONG_STAR, "three": text_of("star of four").encode(), "all": text_of("all of four").encode(),
-    "five": b"p edge 5 1\ne 1 2\n", "run": RUN_OF_APART, "plan": PLAN_OF_PETERSEN, "short1": b"transcript 2 1\n",
-    **{f"ring{nodes}": circle_of(nodes) for nodes in (13, 41, 101, 401, 2001)},
+    "net": APART, "none": b"p edge 0 0\n", "wrong": b"p edge 2 1\ne 1 1\n", "empty": b"", "one": b"p edge 1 0\n",
+    "run": RUN_OF_APART, "plan": PLAN_OF_PETERSEN, "short1": b"transcript 2 1\n",
     **{f"short{nodes}": f"transcript 1 {nodes}\n".encode() for nodes in (13, 64, 101)},
 }
 # Words of a call, the text on standard input, and what is in the picture.
 SAID = [
     ("--help", b"", "forestlab picture plan - <"),
     ("plan - --plan {plan}", example("petersen"), "Channel plan of this network"),
-    ("overview {star} --transcript {short64}", b"", "the first 40 pulses of 205"),
-    ("overview {star} --transcript {short64} --pulses 0..99", b"", "neighbours are never more than one pulse apart"),
-    ("overview {star} --transcript {short64} --pulses 0..100", b"", "101 pulses, too many"),
+    ("overview star64 --transcript {short64}", b"", "the first 40 pulses of 205"),
+    ("overview star64 --transcript {short64} --pulses 0..99", b"", "neighbours are never more than one pulse apart"),
+    ("overview star64 --transcript {short64} --pulses 0..100", b"", "101 pulses, too many"),
     ("results drops --program recolouring", b"", "2 channels; before there were 3."),
     ("why barred --vertex 1 --text", b"", "\n  channel 1 is barred at it\n"),
     ("why petersen --vertex 6 --text", b"", "\n4 told 3 colour 0 in pulse 10, in forest 0\n"),
@@ -68,24 +64,24 @@ REFUSED = [
     ("broken disk100 --without pair", b"", 1, "at most 40 nodes of a merge"),
     ("plan nowhere.col", b"", 1, "nowhere.col"), ("plan {wrong}", b"", 1, "(F6)"), ("plan {empty}", b"", 1, "(F1)"),
     ("plan {none}", b"", 1, "no node"), ("results {none}", b"", 1, "no node"),
-    ("results {row} --program nothing", b"", 1, "no program nothing"),
-    ("results {ring401}", b"", 1, "at most 400 nodes"), ("plan {ring401}", b"", 1, "use matrix"),
-    ("matrix {ring2001}", b"", 1, "check"), ("forests {ring401}", b"", 1, "use matrix"),
-    ("rounds {ring101}", b"", 1, "use forests"), ("player {ring41}", b"", 1, "use rounds"),
-    ("watch {ring41}", b"", 1, "watch draws at most 40 nodes"), ("schedules {five}", b"", 1, "at most 4 nodes"),
-    ("run {ring13} --transcript {short13}", b"", 1, "use overview"),
-    ("overview {ring101} --transcript {short101}", b"", 1, "use tally"), ("adversary {five}", b"", 1, "4 nodes"),
-    ("schedules {all}", b"", 1, "at most 200,000 states"), ("schedules two --columns 0..105", b"", 1, "0 to 104"),
+    ("results path --program nothing", b"", 1, "no program nothing"),
+    ("results ring401", b"", 1, "at most 400 nodes"), ("plan ring401", b"", 1, "use matrix"),
+    ("matrix ring2001", b"", 1, "check"), ("forests ring401", b"", 1, "use matrix"),
+    ("rounds ring101", b"", 1, "use forests"), ("player ring41", b"", 1, "use rounds"),
+    ("watch ring41", b"", 1, "watch draws at most 40 nodes"), ("schedules path5", b"", 1, "at most 4 nodes"),
+    ("run ring13 --transcript {short13}", b"", 1, "use overview"),
+    ("overview ring101 --transcript {short101}", b"", 1, "use tally"), ("adversary path5", b"", 1, "4 nodes"),
+    ("schedules complete4", b"", 1, "at most 200,000 states"), ("schedules two --columns 0..105", b"", 1, "0 to 104"),
     ("schedules two --columns 3..2", b"", 1, "0 to 104"),
-    ("schedules {three} --columns 0..109", b"", 1, "at most 108 events"),
-    ("schedules {three} --columns 0..108", b"", 1, "draw fewer events"),
+    ("schedules star4 --columns 0..109", b"", 1, "at most 108 events"),
+    ("schedules star4 --columns 0..108", b"", 1, "draw fewer events"),
     ("schedules two --events -", b"c a run\nput 1 0\ntake 2 0\ntake 2 0\n", 1, "line 4: `take 2 0` isn't possible"),
     ("schedules two --events -", b"put 9 0\n", 1, "line 1: `put 9 0` isn't possible there"),
     *((f"{kind} {{one}}", b"", 1, "has no edge") for kind in ("forests", "rounds", "bits")),
     ("why {one} --vertex 1", b"", 1, "no message decided"), ("why triangle --vertex 4", b"", 1, "has no vertex 4"),
     *((f"forests queen5_5 --forest {asked}", b"", 1, said) for asked, said in (
         ("0..6", "at most 6 forests side by side"), ("3..12", "forests 0 to 11"), ("12..12", "forests 0 to 11"))),
-    ("overview {star} --transcript - --pulses 1..2", FILES["short64"], 1, "no node"),
+    ("overview star64 --transcript - --pulses 1..2", FILES["short64"], 1, "no node"),
     ("plan - --plan -", b"", 1, "standard input has one text"), ("watch - -", b"", 1, "standard input has one text"),
     ("watch {net} a b c", b"", 1, "a page has room for two runs"),
     ("watch {net} {run} --pulses 3..99", b"", 1, "pulses 3 to 99 are not among 0"),

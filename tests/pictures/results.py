@@ -1,7 +1,9 @@
 """Pictures of what nodes have found, read off their marks; each result is worked by hand."""
-from tests.pictures.base import ROW, TRIANGLE, PictureCase
+from tests.cases import example
+from tests.pictures.base import PictureCase
 from tests.pictures.marks import SVG, centre, data_of, marks, pairs_joined, parsed, texts, titles, words
 
+ROW, TRIANGLE = example("path"), example("triangle")
 POINTING = "greet = next = lambda me, *_: None\ndef result(me):\n    return 'points'\n" \
            "def drawn(me):\n    return 2, me.degree - 1\n"
 # By program and network: what the titles say of the nodes, what is beside them, which edges are chosen, how many of

@@ -2,15 +2,16 @@
 lab/definitions/nodes.py."""
 import re
 from collections import Counter
+from itertools import product
 
 from lab.definitions.colours import network_of
 from lab.definitions.nodes import last_pulse
 from lab.definitions.rounds import rounds_text
-from lab.networks.named import network_text
+from lab.networks.named import network_bytes, network_text
 from lab.networks.network_text import read_network
 from lab.pictures.automaton_picture import usual as usual_of_node
 from tests.cases import called, example
-from tests.pictures.base import EDGE, TRIANGLE, PictureCase, circle_of, transcript
+from tests.pictures.base import PictureCase, transcript
 from tests.pictures.counted import fields_of, played
 from tests.pictures.marks import SVG, centre, ends, marks, number, parsed, texts, title, titles, words
 from tests.programs.made_transcripts import entries_of, transcript_text
@@ -52,13 +53,11 @@ class Runs(PictureCase):
     needs_programs = True
 
     def test_whole_runs(self):
-        chain = example("chain6")
-        for name, network in (("two", EDGE), ("path", example("path")), ("chain6", chain)):
-            for seed in (1, 2):
-                self.whole_run_rows(f"{name}, made {seed}", network, transcript(network, seed, seed))
-        self.whole_run_rows("chain6_slow", chain, example("chain6_slow.transcript"))
+        for name, seed in product(("two", "path", "chain6"), (1, 2)):
+            self.whole_run_rows(f"{name}, made {seed}", example(name), transcript(example(name), seed, seed))
+        self.whole_run_rows("chain6_slow", example("chain6"), example("chain6_slow.transcript"))
         for seed in range(4):
-            root = parsed(self.drawn("run", TRIANGLE, text=transcript(TRIANGLE, seed)))
+            root = parsed(self.drawn("run", example("triangle"), text=transcript(example("triangle"), seed)))
             self.note(f"payloads of a triangle's run {seed} have their words", len(words(root, "words")) > 5)
 
     def whole_run_rows(self, name, network, text):
@@ -90,20 +89,20 @@ class Runs(PictureCase):
         })
 
     def test_runs(self):
-        for name, network, v in (("triangle", TRIANGLE, 1), ("petersen", example("petersen"), 4),
-                                 ("a ring", circle_of(14), 3)):
+        for name, v in (("triangle", 1), ("petersen", 4), ("ring14", 3)):
+            network = network_bytes(name)
             texts_of = {f"made {seed}": transcript(network, seed, seed) for seed in (1, 4)} | {
                 f"{workers} workers": transcript_by(network, workers) for workers in "24"}
             last, lower = last_pulse(network_of(network)), set()
             for (which, text), some in zip(texts_of.items(), 2 * [(3, 7), (last - 3, last)]):
                 label = f"{name}, {which}"
-                if name != "a ring":
+                if name != "ring14":
                     lower.add(self.window_rows(label, network, text, 0, 3))
                 for window in (None, some):
                     self.overview_rows(label, network, text, window)
                     self.tally_rows(label, network, text, window)
                 self.node_rows(label, network, text, v, some)
-            self.note(f"the lower half of {name} is the same for each run", len(lower) == (name != "a ring"))
+            self.note(f"the lower half of {name} is the same for each run", len(lower) == (name != "ring14"))
 
     def window_rows(self, name, network, text, first, last):
         """A few pulses: below, each payload that is put in them goes from its putter's row and pulse to its taker's row

@@ -13,11 +13,10 @@ from lab.definitions.nodes import NetState
 from lab.schedules.space import Space
 from lab.words import in_words
 from tests.cases import example
-from tests.pictures.base import SEED, TRIANGLE, PictureCase
+from tests.pictures.base import SEED, PictureCase
 from tests.pictures.marks import SVG, centre, data_of, ends, marks, parsed, texts, title, titles
-from tests.programs.schedules import text_of
 
-NETWORKS = {"two": text_of("two").encode(), "path": example("path"), "triangle": TRIANGLE}
+NETWORKS = {name: example(name) for name in ("two", "path", "triangle")}
 
 
 @functools.cache

@@ -2,7 +2,6 @@
 
 What is read here is the page's table. It is compared with the transcript's own lines, counted: a node waits for the
 acknowledgements of the payloads that it put and hasn't had, and so on. Nothing comes from lab/pictures."""
-import os
 from itertools import islice, product
 from unittest import mock
 
@@ -13,7 +12,6 @@ from lab.pictures import watch_page
 from lab.pictures.watch_page import Run, Steps, steps_of_text
 from lab.schedules.policies import Policy
 from lab.schedules.simulate import Player, edges_of, text_of_rows
-from tests import TOP
 from tests.cases import example
 from tests.pictures.base import PictureCase, transcript
 from tests.pictures.counted import fields_of, played
@@ -55,11 +53,6 @@ class Watch(PictureCase):
                              {v: (colour, True) for v, colour in colours(net).items()}),
             })
             self.assertNotRegex(page, r"(src|href)=|https?://(?!www\.w3\.org/2000/svg)|@[A-Z]+@")
-
-    def test_edition_1_is_put_in_an_order(self):
-        path = os.path.join(TOP, "examples", "chain6_slow.transcript")
-        rows = data_of(self.drawn("watch", example("chain6"), path))["runs"][0]["rows"]
-        self.assertEqual((len(rows), rows), (866, sorted(rows, key=lambda row: row[:2])))
 
     def test_pulses(self):
         text = transcript(example("petersen"), "pulses")

@@ -2,8 +2,8 @@
 import os
 import re
 
-from tests.cases import called, example, said_by, text_in
-from tests.settings import PLAN
+from tests.cases import example, text_in
+from tests.pictures.base import painter, transcript
 from tests.workshop.base import Played, call, python
 
 GREETED = """\
@@ -24,56 +24,51 @@ ROWS = (
     ("5 2 take 1 safe 0\n", "`2 take 1 safe 0`", "LinkEmpty: link from 1 to 2"),
     ("9 2 put 1 safe 0\n", "`2 put 1 safe 0`", "WrongStamp"),
 )
+NOT_POSSIBLE = ["line 9, not possible"]
+# The options, what comes after GREETED, what the picture says, and the titles of what is red.
+DRAWN = (
+    *(("--wrong", more, f"Red: line 9, {entry}, isn't possible there. The judge: {said}.", NOT_POSSIBLE)
+      for more, entry, said in ROWS),
+    # A run that is only cut is drawn as far as it goes, and the vertex at which it stopped is marked.
+    ("", "", "2 payloads: those that are put in these pulses as far as this text goes.", []),
+    ("--wrong", "", "the run doesn't reach its end (NotWhole)", []),
+    *((f"--wrong --stopped {v}", "", f"(NotWhole): it stops at node {v}.", [f"node {v}, where the run stops"])
+      for v in (1, 2)),
+    # An entry that isn't possible says more than where the run ended.
+    ("--wrong --stopped 1", ROWS[0][0], "The judge: NotReady", NOT_POSSIBLE),
+)
+# The kind and options, the text, the status, and what is said.
+REFUSED = (
+    *((kind, GREETED + more, 1, " line 9: ") for kind in ("run", "overview", "node", "tally") for more, _, _ in ROWS),
+    *((f"run --wrong --stopped {v}", GREETED, 1, f"two has no vertex {v}") for v in (0, 3)),
+    ("run --stopped 1", GREETED, 2, "--stopped is for --wrong"),
+    ("run --wrong", "transcript 1 2\n1 pulse 1\n", 1, "--wrong needs a transcript of edition 2"),
+)
+
+
+def picture(words, text):
+    kind, *options = words.split()
+    status, drawn, fault = painter(kind, "two", "--transcript", "-", *options, data=text.encode())
+    return status, drawn.decode(), fault.decode()
 
 
 class Pictures(Played):
-    def picture(self, kind, more, *options, begin=GREETED):
-        return said_by("picture", kind, "two", "--transcript", self.file("run", begin + more), *options)
+    def test_drawn(self):
+        for options, more, said, red in DRAWN:
+            _, drawn, _ = picture(f"run {options}", GREETED + more)
+            self.same(f"{options} {more!r}: red", re.findall('<g class="wrong"><title>([^<]*)<', drawn), red)
+            # What is said, and the acknowledgement that node 2 put last, and nothing else that isn't taken.
+            self.note(f"{options} {more!r}: {said}", said in drawn and "all that are put in these pulses" not in drawn
+                      and ("it stops at" in drawn) == ("it stops at" in said), drawn)
+            self.same(f"{options} {more!r}: not taken", re.findall("<title>([^<]*), not taken</title>", drawn),
+                      ["2 to 1: ack 0"] * bool(options))
+        run = transcript(example("two"), "right").decode()
+        plain, wrong = (picture(f"run {options}", run)[1] for options in ("", "--wrong"))
+        self.note("a right run is drawn as always", plain == wrong and "all that are put in these" in plain, plain)
 
-    def test_what_isn_t_possible_is_refused(self):
-        for kind in ("run", "overview", "node", "tally"):
-            for more, _, _ in ROWS:
-                self.refusal(f"{kind} with {more!r}", self.picture(kind, more), 1, " line 9: ")
-
-    def test_it_is_drawn_up_to_there(self):
-        for more, entry, words in ROWS:
-            with self.subTest(more):
-                _, drawn, _ = self.picture("run", more, "--wrong")
-                self.assertIn(f"Red: line 9, {entry}, isn't possible there. The judge: {words}.", drawn)
-                self.assertEqual(len(re.findall('<g class="wrong"', drawn)), 1)
-                # The acknowledgement that node 2 put last, and nothing else.
-                self.assertEqual(re.findall(r"<title>([^<]*), not taken</title>", drawn), ["2 to 1: ack 0"])
-
-    def test_a_run_that_is_only_cut_is_drawn_as_far_as_it_goes(self):
-        drawn, wrong = (self.picture("run", "", *words)[1] for words in ([], ["--wrong"]))
-        self.assertNotIn("all that are put in these pulses", drawn)
-        self.assertIn("2 payloads: those that are put in these pulses as far as this text goes.", drawn)
-        self.assertIn("the run doesn't reach its end (NotWhole)", wrong)
-        self.assertNotIn('class="wrong"', wrong)
-
-    def test_the_vertex_at_which_it_stopped_is_marked(self):
-        for v in (1, 2):
-            _, drawn, _ = self.picture("run", "", "--wrong", "--stopped", v)
-            found = re.findall('<g class="wrong"><title>([^<]*)<', drawn), f"(NotWhole): it stops at node {v}." in drawn
-            self.same(f"it stopped at {v}", found, ([f"node {v}, where the run stops"], True))
-        for v in (0, 3):
-            done = self.picture("run", "", "--wrong", "--stopped", v)
-            self.refusal(f"it stopped at {v}", done, 1, f"two has no vertex {v}")
-        self.refusal("without --wrong", self.picture("run", "", "--stopped", 1), 2, "--stopped is for --wrong")
-        # An entry that isn't possible says more than where the run ended.
-        _, drawn, _ = self.picture("run", ROWS[0][0], "--wrong", "--stopped", 1)
-        self.assertIn("The judge: NotReady", drawn)
-        self.assertNotIn("it stops at", drawn)
-
-    def test_a_right_run_is_drawn_as_always(self):
-        run = called(PLAN, "transcript", "--workers", 1, data=example("two"))[1].decode()
-        plain, wrong = (self.picture("run", "", *words, begin=run)[1] for words in ([], ["--wrong"]))
-        self.assertIn("all that are put in these pulses", plain)
-        self.assertEqual(plain, wrong)
-
-    def test_of_edition_1_there_is_no_first_wrong_line(self):
-        done = self.picture("run", "1 pulse 1\n", "--wrong", begin="transcript 1 2\n")
-        self.refusal("edition 1", done, 1, "--wrong needs a transcript of edition 2")
+    def test_refused(self):
+        for words, text, status, said in REFUSED:
+            self.refusal(f"{words} of {text[-30:]!r}", picture(words, text), status, said)
 
     def test_the_workshop_draws_what_is_wrong(self):
         """A skeleton that acknowledges nothing is stuck, and its two greetings are drawn."""
