@@ -4,7 +4,7 @@ from math import sqrt
 
 from lab.pictures.overview_picture import USUAL
 from lab.pictures.palette import HAIRLINE, INK, PAPER, SOFT, WIRES
-from lab.pictures.sizes import MANY_WIRES
+from lab.pictures.program_rounds import MANY_WIRES
 from lab.pictures.svg import Svg
 from lab.pictures.synchroniser import steps_of
 from lab.words import counted

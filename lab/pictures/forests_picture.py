@@ -21,7 +21,7 @@ class Panel(Map):
         self.height = box_height(places, PANEL, margin, 100)
         super().__init__(network, places, PANEL, self.height, margin, radius, least, OF_SQUARES)
         if not self.is_large:
-            self.label(self.radius * 1.25 + 8)
+            self.label(self.radius * 1.25 + 8, {v: (text_width(v, 8.5) / 2, 4) for v in network.vertices})
 
     def colours(self, svg, left, top, parents, colours):
         """A forest's edges as arrows to the parents, and colours in it; a pale chip where a vertex has no edge."""

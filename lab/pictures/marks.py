@@ -86,7 +86,7 @@ class Map:
         self.network, self.places, self.labels = network, moved(places, left, top), {}
         self.bend = {} if network.nodes > LARGE else bends(self.places, network.edges, self.radius + 1)
 
-    def label(self, distance, boxes=None):
+    def label(self, distance, boxes):
         self.labels = label_places(self.places, self.network.edges, self.bend, distance, boxes, self.radius + 2)
 
     def at(self, left, top):

@@ -21,8 +21,8 @@ from lab.pictures import (adversary_page, automaton_picture, bits_picture, broke
                           rounds_picture, run_picture, schedules_picture, schedules_space, tally_picture,
                           timing_picture, watch_page, why_picture, wrong_run)
 from lab.pictures.places import unused_places
-from lab.pictures.program_rounds import ProgramRounds, is_own, read_rounds, rounds_of
-from lab.pictures.sizes import MANY_WIRES, check_run, last_pulse, least_wires
+from lab.pictures.program_rounds import (MANY_WIRES, ProgramRounds, is_own, last_pulse, least_wires, read_rounds,
+                                         rounds_of)
 from lab.pictures.transcripts import read_transcript
 from lab.pictures.watch_page import steps_of_text
 from lab.schedules.reading import network_of
@@ -31,6 +31,10 @@ from lab.schedules.rules import (OF_ANY_ROUNDS, OF_PROGRAMS as RULES_OF_PROGRAMS
 from lab.schedules.simulate import played, text_of_rows
 from lab.words import add_command, add_options, add_output, called, parser_of, text_at, write
 from lab.wrong import Wrong, at_most
+
+
+# A run of more wires has too long a text to be asked for.
+MOST_WIRES = 4_000_000
 
 
 class Text(NamedTuple):
@@ -446,8 +450,11 @@ def plan_text(network_text):
 
 def run_text(given, network, network_text, program):
     """The transcript of a run: by threads of a proved program, by seed of one from a file."""
-    if check_run(given.kind, network, program):
-        wires = least_wires(network, program)
+    wires = least_wires(network, program)
+    if wires > MOST_WIRES:
+        raise Wrong(f"{given.kind} draws a run of at most {MOST_WIRES:,} wires, and one of {network.name} has more "
+                    f"than {wires:,}: use tally, which counts them by the rounds")
+    if wires > MANY_WIRES:
         note(f"a run of {network.name} has more than {wires:,} wires, so its text takes a while")
     if is_own(program):
         return text_of_rows(network.nodes, played(network_of(network), program=program), program)

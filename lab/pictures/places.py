@@ -152,15 +152,15 @@ def points_along(places, bend, a, b, count=12):
                (1 - t) * (1 - t) * y1 + 2 * t * (1 - t) * my + t * t * y2)
 
 
-def label_places(places, edges, bend, distance, boxes=None, radius=0):
-    """Where each vertex's number is written: of 16 directions the one with most room, upper ones first. `boxes[v]` is
-    half the width and half the height of what is written: then a direction in which it covers less of circles of
-    `radius` and of other texts is better, and only among those alike the one with more room."""
+def label_places(places, edges, bend, distance, boxes, radius):
+    """Where each vertex's number is written: of 16 directions the one in which it covers least of circles of `radius`
+    and of other texts, and among those alike the one with most room, upper ones first. `boxes[v]` is half the width and
+    half the height of what is written."""
     drawn = {e: list(points_along(places, bend, *e)) for e in edges}
     taken, found = [], {}
     near = 5 * distance
     for v, (x, y) in sorted(places.items()):
-        half_wide, half_high = boxes[v] if boxes else (0, 0)
+        half_wide, half_high = boxes[v]
         aside = half_wide - SHORT if half_wide > SHORT + LITTLE else 0
         reach = near + half_wide
         others = [p for w, p in places.items() if w != v and abs(p[0] - x) < reach and abs(p[1] - y) < reach]
@@ -172,11 +172,11 @@ def label_places(places, edges, bend, distance, boxes=None, radius=0):
             room = min([gap(spot, p) for p in points]
                        + [gap(spot, p) - 0.45 * distance for p in others + [at for at, _ in taken]] + [near])
             circles = [*others, (x, y)] if aside else others
-            covered = covers((spot, (half_wide, half_high)), circles, radius, taken) if boxes else 0
+            covered = covers((spot, boxes[v]), circles, radius, taken)
             if best is None or covered < best[0] - 0.5 or covered <= best[0] + 0.5 and room > best[1] + 1:
                 best = covered, room, spot
         found[v] = best[2]
-        taken.append((best[2], (half_wide, half_high)))
+        taken.append((best[2], boxes[v]))
     return found
 
 

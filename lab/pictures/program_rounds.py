@@ -14,6 +14,8 @@ from lab.wrong import Wrong, wrong_line
 GREETING = re.compile(r"([0-9]+) (?:put [^ ]* payload 0 hello|colour 0) ([0-9]+)")
 # Rounds of more steps of nodes than this take minutes to work out.
 MOST_STEPS = 2_000_000
+# A run of more wires is said to take a while.
+MANY_WIRES = 50_000
 
 
 class ProgramPulse:
@@ -67,6 +69,17 @@ def rounds_of(network, identifiers, program):
     if program is Colouring:
         return Rounds(network, identifiers)
     return ProgramRounds(network, identifiers, program)
+
+
+def last_pulse(network, program=Colouring):
+    """The last pulse of a program on a network."""
+    return program.last_pulse(network_of(network))
+
+
+def least_wires(network, program=Colouring):
+    """The wires of a whole run without the two for each payload: a safe for each pulse but the last, each edge and each
+    end, and a close for each edge and each end."""
+    return 2 * len(network.edges) * (last_pulse(network, program) + 1)
 
 
 def is_own(program):

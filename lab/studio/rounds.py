@@ -10,8 +10,7 @@ from lab.definitions.pulses import Rounds
 from lab.pictures.pages import net_of
 from lab.pictures.picture import OF_PLAN, OF_RUN, Asked, Text, drawing
 from lab.pictures.player_page import film_of
-from lab.pictures.program_rounds import ProgramRounds
-from lab.pictures.sizes import last_pulse
+from lab.pictures.program_rounds import ProgramRounds, last_pulse
 from lab.schedules.reading import network_of
 from lab.schedules.ruled_rounds import ruled, smallest_wrong
 from lab.schedules.rules import OF_PROGRAMS

@@ -2,8 +2,7 @@
 made step by step."""
 from lab.definitions.nodes import Colouring
 from lab.definitions.programs import program_words
-from lab.pictures.program_rounds import ProgramRounds, is_own, rounds_of
-from lab.pictures.sizes import last_pulse, least_wires
+from lab.pictures.program_rounds import ProgramRounds, is_own, last_pulse, least_wires, rounds_of
 from lab.pictures.watch_page import MOST_ENTRIES, Run, Steps, look_of, steps_of_text
 from lab.schedules.policies import POLICIES, Policy
 from lab.schedules.reading import network_of
