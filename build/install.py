@@ -1,7 +1,7 @@
 """Copies the built programs and the scripts into a folder, from where they run without this tree and its toolchain.
 
-All is made in a folder inside the target and moved file by file, so that a full disk leaves nothing half; SHA256SUMS
-says what may be removed later."""
+All is made in a folder of its own and moved file by file, so that a full disk leaves nothing half; SHA256SUMS says what
+may be removed later."""
 import os
 import re
 import shutil
@@ -105,8 +105,8 @@ def make(room):
 
 
 def put(room, folder):
-    """Moves all from a folder inside into place, each file in place of what was there, even if that is being run or is
-    a link; and removes what an earlier install put there and this one doesn't."""
+    """Moves all into place, each file in place of what was there, even if that is being run or is a link; and removes
+    what an earlier install put there and this one doesn't."""
     before, now = checksums.read(folder), checksums.read(room)
     for path in [*now, checksums.NAME]:
         os.makedirs(os.path.dirname(os.path.join(folder, path)), exist_ok=True)
@@ -117,23 +117,15 @@ def put(room, folder):
 
 
 def install(folder):
-    is_new = not os.path.isdir(folder)
-    os.makedirs(folder, exist_ok=True)
-    for name in os.listdir(folder):
-        # What an install left that had no time to end.
-        if name.startswith(".install-"):
-            shutil.rmtree(os.path.join(folder, name), ignore_errors=True)
-    try:
-        # A signal between the folder's making and its being known would leave it.
-        with held():
-            kept = tempfile.TemporaryDirectory(prefix=".install-", dir=folder)
-        with kept as room:
-            make(room)
-            put(room, folder)
-    except BaseException:
-        if is_new:
-            shutil.rmtree(folder, ignore_errors=True)
-        raise
+    """Makes all beside the folder, or inside if it is there, so that what is moved stays on one disk."""
+    at = folder if os.path.isdir(folder) else os.path.dirname(folder)
+    os.makedirs(at, exist_ok=True)
+    # A signal between the making of the room and its being known would leave it.
+    with held():
+        kept = tempfile.TemporaryDirectory(prefix=".install-", dir=at)
+    with kept as room:
+        make(room)
+        put(room, folder)
 
 
 def main():

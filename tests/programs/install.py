@@ -180,14 +180,12 @@ class Install(Case):
         for path, said in ((old, b"x"), (changed, b"y")):
             line = f"{hashlib.sha256(said).hexdigest()}  {os.path.relpath(path, self.target)}\n"
             self.file(os.path.join(self.target, "SHA256SUMS"), line, "ab")
-        os.mkdir(os.path.join(self.target, ".install-before"))
         with subprocess.Popen([os.path.join(self.target, "bin", "forestplan"), "forests"], stdin=subprocess.PIPE,
                               stdout=subprocess.PIPE) as running:
             got = run([*self.script, self.target])
             out, _ = running.communicate(b"p edge 2 1\ne 1 2\n", timeout=LIMIT)
         self.note("install once more", got[:2] == (0, b"") and out == b"forests 2 1\n0 1 2\n", (got, out))
         self.same("what is there", [os.path.exists(path) for path in (own, changed, old)], [True, True, False])
-        self.note("nothing of an install that didn't end", ".install-before" not in os.listdir(self.target))
 
     def test_refused(self):
         for words in ([], [self.folder, self.folder], ["--all"], [TOP], [os.path.join(TOP, "docs", "new")]):
@@ -205,11 +203,13 @@ class Install(Case):
             self.note(f"no room in {folder}", got[:2] == (1, b"") and got[2].count(b"\n") == 1, got)
             self.same("what is left", os.path.exists(folder) and os.listdir(folder), left or False)
             with subprocess.Popen([*self.script, folder], stderr=subprocess.DEVNULL) as started:
-                wait_until(lambda: started.poll() is not None or os.path.isdir(folder) and any(
-                    name.startswith(".install-") for name in os.listdir(folder)), LIMIT, 0.001)
+                at = folder if left else self.folder
+                wait_until(lambda: started.poll() is not None or any(
+                    name.startswith(".install-") for name in os.listdir(at)), LIMIT, 0.001)
                 started.terminate()
                 self.same("the status", started.wait(LIMIT), 128 + signal.SIGTERM)
             self.same("what a signal leaves", os.path.exists(folder) and os.listdir(folder), left or False)
+            self.note("nothing beside it", not any(name.startswith(".install-") for name in os.listdir(at)))
 
     def test_limit(self):
         """Where a file may not grow, the output can't be written: that is a fault of the stream, and no death."""
