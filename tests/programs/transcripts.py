@@ -19,7 +19,7 @@ from lab.transcripts.check import Wrong, find_order, in_order, whole_run
 from lab.transcripts.reading import read
 from tests import FORESTLAB
 from tests.cases import Case, called, forestlab, text, text_in
-from tests.programs.made_transcripts import KINDS, Run, made_transcript, merged_text, spoiled, transcript_text
+from tests.programs.made_transcripts import KINDS, Run, merged_text, spoiled, transcript_text
 from tests.programs.node_programs import SEQUELS
 from tests.programs.plain_networks import (all_small, cycle, path, random_of, shaped, some_bars, star, text_of, tree,
                                            two_sided)
@@ -221,21 +221,11 @@ def is_counted(net, data, said):
     return said == f"whole run of {nodes} nodes, {nodes * last + 2 * wires} entries, {payloads} payloads, {wires} wires"
 
 
-def mistaken(count):
-    """(the kind of mistake, the network's text, the network, the transcript), as many of each kind."""
-    source, small = random.Random(SEED), [row for row in small_networks() if row[1].number]
-    for i in range(count):
-        data, net = source.choice(small)
-        whole = transcript_text(len(net.neighbours), made_transcript(source, net, CAPACITIES[i % 3]))
-        for kind in KINDS[1:]:
-            yield kind, data, net, spoiled(source, kind, whole)[0]
-
-
-def ordered(net, data):
+def ordered(net, data, program):
     """The transcript in the order found, and then the entry that is refused first; and what the program has to say: the
     definition's code at that entry, and nothing of a run that isn't whole."""
-    _, entries = read(data)
-    found = find_order(net, entries)
+    _, entries = read(data, program.name)
+    found = find_order(net, entries, program)
     first = found.first_refused()
     lines = [entry.line for entry in found.made] + ([first.line] if first else [])
     said = first and f"line {len(lines) + 1}: {found.refusals[first.vertex]}"
@@ -289,29 +279,6 @@ class Transcripts(Case):
         for at in range(len(lines) - 1):
             got = said_of(edge, b"\n".join(lines[:at] + lines[at + 1 :]))
             self.note(f"a run of an edge without line {at + 1}", not got[0].startswith("whole"), got)
-
-    def test_mistakes(self):
-        """Each refused transcript is refused at the entry that the search names, each accepted one is a run in the
-        order found."""
-        wrong, accepted, codes = [], dict.fromkeys(KINDS[1:], 0), set()
-        for mistake, network, net, data in mistaken(60):
-            said, words = said_of(net, data)
-            code = said.rpartition(": ")[2] if words else None
-            accepted[mistake] += code is None
-            codes.add(code)
-            if code == "X1":
-                continue
-            text_in_order, wanted = ordered(net, data)
-            got = said_by(network, text_in_order)
-            # The program plays what isn't whole, too.
-            if got != wanted or code not in ((None, "NotWhole") if wanted is None else (wanted.rpartition(": ")[2],)):
-                wrong.append((mistake, network, data, said, wanted, got))
-        self.note("420 transcripts with a mistake, beside a replay", not wrong, f"{len(wrong)}: {wrong[:1]}")
-        swapped = accepted.pop("two lines swapped")
-        self.note("all but swapped entries are refused", not any(accepted.values()), accepted)
-        self.note("swapped entries are refused or not", 0 < swapped < 60, swapped)
-        self.same("refusals of each kind", codes, {
-            None, "X1", "NoSuch", "NotReady", "NothingToPut", "LinkEmpty", "WrongWire", "NotWhole"})
 
     def test_checker(self):
         """The checker as a command: from a file, from standard input, in the order found, and refused."""
@@ -406,9 +373,11 @@ class Transcripts(Case):
                   f"{len(wrong)}: {wrong[:1]}")
 
     def test_spoiled(self):
-        """Runs of four programs: each is refused, and by the program at the same line with the same code."""
+        """Runs of four programs: each is refused, and by the program at the same line with the same code. Of edition 1
+        the program is given the order that is found, and after it the entry that is refused; swapped lines may be a
+        run."""
         count = int(setting("spoiled"))
-        source, wrong, codes = random.Random(SEED), [], set()
+        source, wrong, codes, accepted = random.Random(SEED), [], set(), dict.fromkeys(KINDS, 0)
         small = [(data, net) for data, net in small_networks() if net.number]
         for i in range(count):
             kind, run = KINDS[i % len(KINDS)], i // len(KINDS)
@@ -416,14 +385,28 @@ class Transcripts(Case):
                 (network, net), program = source.choice(small), PROGRAMS[("colouring", *SEQUELS)[run % 4]]
                 rows = played(net, seed=str(run), program=program)
                 merged = text_of_rows(len(net.neighbours), rows, program).encode()
+                plain = transcript_text(len(net.neighbours), {v: [line for _, u, line in rows if u == v]
+                                                              for v in net.neighbours})
             data, least = spoiled(source, kind, merged)
-            said = said_of(net, data, program)[0]
-            got = said_by(network, data, "--program", program.name)
-            is_refused = said.startswith("line ")
+            said, got = said_of(net, data, program)[0], said_by(network, data, "--program", program.name)
             codes.add(said.rpartition(": ")[2])
-            if not is_refused or got != said or int(said[5:].partition(":")[0]) < least:
+            if not said.startswith("line ") or got != said or int(said[5:].partition(":")[0]) < least:
                 wrong.append((kind, program.name, network, data, said, got, least))
-        self.note(f"{count} spoiled merged texts are refused", not wrong, f"{len(wrong)}: {wrong[:1]}")
+            if kind == KINDS[0] or run // 4 % 4:
+                continue
+            data = spoiled(source, kind, plain)[0]
+            said = said_of(net, data, program)[0]
+            accepted[kind] += said.startswith("whole")
+            if not said.endswith("X1"):
+                data, wanted = ordered(net, data, program)
+                got, code = said_by(network, data, "--program", program.name), said.rpartition(": ")[2]
+                # The program plays what isn't whole, too.
+                is_same = wanted.endswith(f": {code}") if wanted else said.startswith("whole") or code == "NotWhole"
+                if got != wanted or not is_same:
+                    wrong.append((kind, program.name, network, data, said, got, wanted))
+        self.note(f"{count} spoiled texts", not wrong, f"{len(wrong)}: {wrong[:1]}")
+        self.note("swapped lines of edition 1 alone may be a run",
+                  {kind for kind, many in accepted.items() if many} == {"two lines swapped"}, accepted)
         wanted = {"X1", "NoSuch", "NotReady", "NothingToPut", "LinkEmpty", "WrongWire", "WrongStamp", "NotWhole"}
         self.note("refusals of each kind", wanted <= codes, codes)
 
