@@ -96,10 +96,13 @@ def refuse_units(found, places, met: set[int], reach: float) -> None:
 
 
 def may_be_degrees(points: list[Point]) -> bool:
-    """Whether numbers, not all of them whole, are in the range of longitudes and latitudes, and in one direction near
-    each other but far from zero, as those of a country are."""
+    """Whether numbers in the range of longitudes and latitudes have four digits after the point, or are all far from
+    zero and near each other, as those of a country are."""
     columns = list(zip(*points))[:2]
-    farthest = [max(map(abs, column)) for column in columns]
-    return (min(farthest) <= 90 and max(farthest) <= 180 and any(part % 1 for column in columns for part in column)
-            and any((min(column) > 0 or max(column) < 0) and 0 < 4 * (max(column) - min(column)) < most
-                    for column, most in zip(columns, farthest)))
+    parts, farthest = sum(columns, ()), [max(map(abs, column)) for column in columns]
+    if len(points) < 2 or min(farthest) > 90 or max(farthest) > 180:
+        return False
+    are_long = 2 * sum(round(part, 3) != part for part in parts) > len(parts)
+    are_apart = all(min(column) > 0 or max(column) < 0 for column in columns) and any(
+        4 * (max(column) - min(column)) < most for column, most in zip(columns, farthest))
+    return are_long or len(points) > 2 and any(part % 1 for part in parts) and are_apart
