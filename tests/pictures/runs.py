@@ -34,16 +34,6 @@ def usual(last):
     return (0, last) if last <= 100 else (0, 39)
 
 
-def parts(values):
-    """Where each of some numbers is between the least and the greatest, in thousandths."""
-    low, high = min(values), max(values)
-    return [1000 * (value - low) / (high - low) for value in values]
-
-
-def are_near(one, other, most):
-    return len(one) == len(other) and all(abs(a - b) < most for a, b in zip(one, other))
-
-
 def begins_and_tip(group):
     """Where an arrow begins, and where its tip is."""
     return ends(group)[0], ends(group.find(f"{SVG}path"))[0]
@@ -132,12 +122,10 @@ class Runs(PictureCase):
         wanted = sorted((v, times[v, p]) for v, p in times if first <= p <= final + 1)
         ticks = [ends(mark)[0] for mark in marks(root, "tick")]
         rows = {y: v for v, y in enumerate(sorted({y for _, y in ticks}), 1)}
-        shown = sorted((rows[y], x) for x, y in ticks)
-        low, high = (of(time for _, time in wanted) for of in (min, max))
+        left, right, low, high = (of(row)[0] for row in (ticks, [(time, v) for v, time in wanted]) for of in (min, max))
         self.facts(f"overview of {name}, pulses {first} to {final}", {
-            "ticks": ([v for v, _ in shown], [v for v, _ in wanted]),
-            "as far apart as their times": (
-                are_near(*(parts([x for _, x in row]) for row in (shown, wanted)), 0.3), True),
+            "ticks at their times": (sorted(
+                (rows[y], low + round((x - left) / (right - left) * (high - low))) for x, y in ticks), wanted),
             "grey ticks": (len(marks(root, "outside")), sum(
                 not first <= p <= final + 1 and low <= time <= high for (_, p), time in times.items())),
             "bands": (len(marks(root, "band")), final - first + 1),
@@ -203,7 +191,8 @@ class Runs(PictureCase):
         self.facts(f"tally of {name}, pulses {first} to {final}", {
             "a bar for each kind and pulse": ({(kind, int(pulse)): int(count) for pulse, kind, count in shown}, {
                 (kind, pulse): count for (kind, pulse), count in counts.items() if first <= pulse <= final}),
-            "as high as their counts": (are_near(heights, [unit * int(count) for *_, count in shown], 0.2), True),
+            "as high as their counts": ([count for height, (*_, count) in zip(heights, shown)
+                                         if abs(height - unit * int(count)) > 0.2], []),
             "bars that overlap, or narrow ones with a gap": (
                 [off for off, wide in gaps if off < -0.2 or wide < 2 and off > 0.2], []),
             "its title": (texts(root)[0], said),
