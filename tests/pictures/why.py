@@ -5,6 +5,7 @@ that is named is one of the rounds by the definitions; and a colour stays the sa
 not to depend change."""
 import random
 import re
+from itertools import pairwise
 
 from lab.definitions.colours import Network, network_of, three
 from lab.definitions.pulses import Rounds
@@ -29,6 +30,10 @@ HAND = [
     # Node 2 is a root in forest 1: no parent sent it a colour, and its own identifier is one of the two.
     "forest 1, node 2, a root, pulses 2 to 12: 2 0 0 0 0 1 1 0 0 1 1",
 ]
+
+
+# In these pulses a colour is dropped by who has it; in all others after the first a child needs its parent's.
+DROPS = (8, 10, 12)
 
 
 def numbers(text):
@@ -64,8 +69,13 @@ class Why(PictureCase):
                 most = max(far[v] for v in names)
                 taken = [[int(k) for k in re.findall(r"  channel (\d+)", lower)] for _, lower in choices]
                 pulses = [int(row[4]) for row in rows]
+                heard = {(w, int(pulse), f) for _, w, kind, _, pulse, _, f in rows if kind == "colour"}
+                children = re.findall("forest (.*), node (.*), parent .*, pulses .*: (.*)", said)
+                missing = [(v, p) for f, v, row in children
+                           for p, (old, new) in enumerate(pairwise(row.split(" ")), 3)
+                           if new != "." and (p not in DROPS or new != old) and (v, p - 1, f) not in heard]
                 self.facts(f"{name}, node {vertex}", {
-                    "those that are none": (wrong, []),
+                    "those that are none, and those that are missing": (wrong + missing, []),
                     "as many as are counted": (len(rows), numbers(said)[2]),
                     "by pulse": (pulses, sorted(pulses)),
                     "lower channels": (taken, [[*range(1, int(colour) + 1)] for colour, _ in choices]),
