@@ -5,19 +5,22 @@ Besides the random texts: each byte at each place of a small text, byte order ma
 numbers around powers of two, lines of a megabyte. It needs a C compiler, `cc`. TESTS_TEXTS and TESTS_SEED are for long
 runs by hand."""
 import re
+import struct
+import subprocess
 import tempfile
 from itertools import chain, islice, product
 
 from tests.cases import Case, text
 from tests.commands import COMMANDS, PROGRAM_OF
 from tests.faults.refused_memory import build_front
-from tests.faults.run_each import Running
 from tests.programs.events import EDGE, TRIANGLE
 from tests.programs.hostile_texts import NUMBERS, texts_of
 from tests.programs.slow_reader import answer_to
 from tests.settings import PATHS, setting
 
 BATCH = 5_000
+# Of an answer of run_each.c: the status, and how many bytes there are of standard output and of errors.
+HEAD = struct.Struct("=iII")
 
 # Texts of which each beginning is a text besides.
 WHOLE = {
@@ -74,19 +77,36 @@ def long_lines(data, length=2**20):
         yield data + blank * (length // 4)
 
 
+def compared(front, command, texts):
+    """Each text with the slow reader's answer and the program's: status (or minus the signal that ended it), standard
+    output and errors. The program is loaded once, and forked before its main for each text (run_each.c); the slow
+    reader reads them meanwhile."""
+    with tempfile.TemporaryFile() as given, tempfile.TemporaryFile() as made:
+        given.writelines(struct.pack("=I", len(data)) + data for data in texts)
+        given.flush()
+        files = given.fileno(), made.fileno()
+        words = [PATHS[PROGRAM_OF[command]], *WORDS[command]]
+        with subprocess.Popen(words, pass_fds=files, stdin=subprocess.DEVNULL, env={
+                "LD_PRELOAD": front, "TEXTS": str(files[0]), "ANSWERS": str(files[1])}) as process:
+            wanted = [answer_to(command, data) for data in texts]
+        if process.returncode:
+            raise subprocess.CalledProcessError(process.returncode, words)
+        made.seek(0)
+        for data, answer in zip(texts, wanted):
+            status, output, errors = HEAD.unpack(made.read(HEAD.size))
+            yield data, answer, (status, made.read(output), made.read(errors))
+
+
 class Hostile(Case):
     @classmethod
     def setUpClass(cls):
         cls.front = build_front(cls.enterClassContext(tempfile.TemporaryDirectory()), "run_each")
 
     def row(self, name, command, texts):
-        """How many texts there were, and how many had no fault. The slow reader reads a batch while the program
-        does."""
+        """How many texts there were, and how many had no fault."""
         count, good, different, rest = 0, 0, None, iter(texts)
         while different is None and (batch := list(islice(rest, BATCH))):
-            running = Running(self.front, [PATHS[PROGRAM_OF[command]]] + WORDS[command], batch)
-            answers = [answer_to(command, data) for data in batch]
-            for data, wanted, got in zip(batch, answers, running.answers()):
+            for data, wanted, got in compared(self.front, command, batch):
                 if got != wanted and different is None:
                     different = data[:3000], len(data), wanted, got
                 count, good = count + 1, good + (wanted[0] != 1)
