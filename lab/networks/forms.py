@@ -2,7 +2,7 @@
 reader returns `Listed`: the edges by names, as they are in the text, and what was guessed."""
 import re
 
-from lab.networks import dimacs, dot, gml, graphml, matrix_market, node_link, rows, small_forms
+from lab.networks import by_networkx, dimacs, dot, gml, graphml, matrix_market, node_link, rows, small_forms
 from lab.networks.edge_list import Listed
 from lab.wrong import Wrong
 
@@ -24,8 +24,6 @@ READERS = {
     "graph6": (at_start(">>graph6<<"), small_forms.read_graph6),
     "sparse6": (at_start(r">>sparse6<<|:[?-~]+$"), small_forms.read_sparse6),
 }
-# Before these lines of comment may be.
-COMMENTED = ("gexf", "pajek", "leda", "graph6", "sparse6")
 FORMS = (*rows.FORMS, *READERS)
 # How texts begin that aren't read, and what they are.
 UNREAD = (
@@ -40,11 +38,13 @@ UNREAD = (
 def listed(text: str, name: str, form: str | None, heading: bool | None) -> Listed:
     """The network of a text in a form, or in the one that it can have alone; `heading` says whether the first row of
     pairs is a heading."""
+    # Before the forms that networkx reads lines of comment may be.
     bare = re.sub(r"\A(\s*[%#][^\n]*\n)+", "", text).lstrip()
     form = form or next((known for known, (begins, _) in READERS.items()
-                         if begins(bare if known in COMMENTED else text)), None)
+                         if begins(bare if known in by_networkx.READERS else text)), None)
     if form in READERS:
-        return READERS[form][1](text, name)
+        found = READERS[form][1](text, name)
+        return by_networkx.compared(found, text, name, form) if form in by_networkx.READERS else found
     what = next((what for head, what in UNREAD if at_start(head)(bare)), None)
     if form is None and what:
         raise Wrong(f"{name}: it looks like {what}, which isn't read; with networkx, nx.write_graphml(G, FILE) writes "

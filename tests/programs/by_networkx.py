@@ -4,7 +4,9 @@ import io
 import json
 import random
 import unittest
+from unittest import mock
 
+from lab.networks import by_networkx
 from lab.networks.reading import listed_of, made_of
 from lab.wrong import Wrong
 from tests.cases import Case
@@ -65,6 +67,20 @@ def forms(nx):
          {"form": "graph6"}, False),
         ("sparse6", lambda graph: nx.to_sparse6_bytes(numbered(graph)).decode(), {}, False),
     )
+
+
+class Missing(Case):
+    needs_programs = False
+
+    def test_refused(self):
+        """Where networkx isn't installed, the refusal of a right text says so."""
+        for form, text in (("Pajek", '*vertices 2\n1 "Ulm"\n2 "Aue"\n*edges\n1 2\n'), ("sparse6", ":An\n"),
+                           ("LEDA", LEDA.format(nodes="1\n|{Ulm}|", edges="0")), ("graph6", ">>graph6<<A_\n"),
+                           ("GEXF", '<gexf><graph><nodes><node id="a"/></nodes><edges/></graph></gexf>')):
+            with mock.patch.object(by_networkx, "networkx", return_value=None), self.assertRaises(Wrong) as caught:
+                listed_of(text.encode(), "net")
+            words = f"net: it looks like {form}, which isn't read here; it is read where networkx is installed"
+            self.note(form, str(caught.exception).startswith(words), caught.exception)
 
 
 @unittest.skipUnless(importlib.util.find_spec("networkx"), "networkx isn't installed")
