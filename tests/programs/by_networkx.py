@@ -7,15 +7,14 @@ import unittest
 from unittest import mock
 
 from lab.networks import by_networkx
-from lab.networks.reading import listed_of, made_of
+from lab.networks.reading import listed_of
 from lab.wrong import Wrong
 from tests.cases import Case
-from tests.programs.foreign_texts import found_in, named, spoilt
+from tests.programs.foreign_texts import found_in, spoilt
 
 GRAPHS, MUTATED, SEED = 60, 1500, 20261129
 NAMES = (range(8), range(1, 9), ("Ulm", "Aue", "Hof", "Köln", "g.h", "e-f", "B{2}", "n"),
          ("Bad Tölz", "a b", "x,y", "#1", "say", "z;1", "node", "graph"))
-LEDA = "LEDA.GRAPH\nstring\nint\n-2\n{nodes}\n{edges}\n"
 
 
 def graphs(networkx, source, kinds=NAMES):
@@ -42,30 +41,41 @@ def written(write):
     return text
 
 
+LEDA = "LEDA.GRAPH\nstring\nint\n-2\n{}\n"
+
+
 def leda(graph):
     number = {node: at for at, node in enumerate(graph, 1)}
     nodes = "".join(f"|{{{node}}}|\n" for node in graph)
     edges = "".join(f"{number[a]} {number[b]} 0 |{{1}}|\n" for a, b in graph.edges())
-    return f"LEDA.GRAPH\nstring\nint\n-2\n{len(graph)}\n{nodes}{graph.number_of_edges()}\n{edges}"
+    return LEDA.format(f"{len(graph)}\n{nodes}{graph.number_of_edges()}\n{edges}")
 
 
 def forms(nx):
-    """(the form, its writer, words for `read`, whether it has names of nodes)."""
+    """(the form, its writer, the reader of networkx, words for `read`, whether it has names of nodes)."""
     def numbered(graph):
         plain = nx.Graph(nx.convert_node_labels_to_integers(graph))
         plain.remove_edges_from(list(nx.selfloop_edges(plain)))
         return plain
+
+    def from_graph6(text):
+        return nx.from_graph6_bytes(text.strip().encode())
     return (
-        ("GraphML", written(nx.write_graphml_xml), {}, True),
-        ("GML", lambda graph: "\n".join(nx.generate_gml(graph, str)), {}, True),
-        ("JSON", lambda graph: json.dumps(nx.node_link_data(graph, edges="links")), {}, True),
-        ("GEXF", written(nx.write_gexf), {}, True),
-        ("Pajek", lambda graph: "\n".join(nx.generate_pajek(graph)), {}, True),
-        ("LEDA", leda, {}, True),
-        ("graph6", lambda graph: nx.to_graph6_bytes(numbered(graph)).decode(), {}, False),
-        ("graph6 without a head", lambda graph: nx.to_graph6_bytes(numbered(graph), header=False).decode(),
+        ("GraphML", written(nx.write_graphml_xml), lambda text: nx.parse_graphml(text, force_multigraph=True), {},
+         True),
+        ("GML", lambda graph: "\n".join(nx.generate_gml(graph, str)), lambda text: nx.parse_gml(text, label="id"), {},
+         True),
+        ("JSON", lambda graph: json.dumps(nx.node_link_data(graph, edges="links")),
+         lambda text: nx.node_link_graph(json.loads(text), edges="links"), {}, True),
+        ("GEXF", written(nx.write_gexf), lambda text: nx.read_gexf(io.BytesIO(text.encode())), {}, True),
+        ("Pajek", lambda graph: "\n".join(nx.generate_pajek(graph)), lambda text: nx.parse_pajek(text.split("\n")), {},
+         True),
+        ("LEDA", leda, lambda text: nx.parse_leda(text.split("\n")), {}, True),
+        ("graph6", lambda graph: nx.to_graph6_bytes(numbered(graph)).decode(), from_graph6, {}, False),
+        ("graph6 without a head", lambda graph: nx.to_graph6_bytes(numbered(graph), header=False).decode(), from_graph6,
          {"form": "graph6"}, False),
-        ("sparse6", lambda graph: nx.to_sparse6_bytes(numbered(graph)).decode(), {}, False),
+        ("sparse6", lambda graph: nx.to_sparse6_bytes(numbered(graph)).decode(),
+         lambda text: nx.from_sparse6_bytes(text.strip().encode()), {}, False),
     )
 
 
@@ -75,7 +85,7 @@ class Missing(Case):
     def test_refused(self):
         """Where networkx isn't installed, the refusal of a right text says so."""
         for form, text in (("Pajek", '*vertices 2\n1 "Ulm"\n2 "Aue"\n*edges\n1 2\n'), ("sparse6", ":An\n"),
-                           ("LEDA", LEDA.format(nodes="1\n|{Ulm}|", edges="0")), ("graph6", ">>graph6<<A_\n"),
+                           ("LEDA", LEDA.format("1\n|{Ulm}|\n0")), ("graph6", ">>graph6<<A_\n"),
                            ("GEXF", '<gexf><graph><nodes><node id="a"/></nodes><edges/></graph></gexf>')):
             with mock.patch.object(by_networkx, "networkx", return_value=None), self.assertRaises(Wrong) as caught:
                 listed_of(text.encode(), "net")
@@ -89,7 +99,7 @@ class ByNetworkx(Case):
 
     def test_written(self):
         import networkx
-        for form, writer, words, has_names in forms(networkx):
+        for form, writer, _, words, has_names in forms(networkx):
             wrong = []
             # Names of LEDA can't have braces.
             for graph in graphs(networkx, random.Random(SEED), NAMES[:2] if form == "LEDA" else NAMES):
@@ -103,24 +113,14 @@ class ByNetworkx(Case):
     def test_mutated(self):
         """A text with a mistake that both read is the same network to both, in the forms that tell nodes exactly."""
         import networkx as nx
-        source = random.Random(SEED)
-        readers = {"GraphML": lambda text: nx.parse_graphml(text, force_multigraph=True),
-                   "GML": lambda text: nx.parse_gml(text, label="id"),
-                   "JSON": lambda text: nx.node_link_graph(json.loads(text), edges="links"),
-                   "GEXF": lambda text: nx.read_gexf(io.BytesIO(text.encode())),
-                   "Pajek": lambda text: nx.parse_pajek(text.split("\n")),
-                   "LEDA": lambda text: nx.parse_leda(text.split("\n")),
-                   "graph6": lambda text: nx.from_graph6_bytes(text.strip().encode()),
-                   "sparse6": lambda text: nx.from_sparse6_bytes(text.strip().encode())}
-        chosen = [row for row in forms(nx) if row[0] in readers]
-        wrong, both = [], 0
+        source, wrong, both = random.Random(SEED), [], 0
         while both < MUTATED // 5:
-            form, writer, words, _ = source.choice(chosen)
+            form, writer, reader, words, _ = source.choice(forms(nx))
             graph = source.choice(list(graphs(nx, random.Random(source.randrange(10)))))
             text = spoilt(source, writer(nx.convert_node_labels_to_integers(graph)), "")
             got = found_in(text.encode(), **words)[0]
             try:
-                theirs = wanted(readers[form](text)) if got is not None else None
+                theirs = wanted(reader(text)) if got is not None else None
             except Exception:
                 theirs = None
             both += theirs is not None
@@ -128,44 +128,23 @@ class ByNetworkx(Case):
                 wrong.append((form, text, got, theirs))
         self.note("the same network to both", not wrong, (len(wrong), wrong[:1]))
 
-    def test_dropped(self):
-        """A node or an edge that networkx would drop is a refusal."""
-        for form, text in (
-            ("pajek", '*vertices 2\n1 "Ulm"\n*edges\n1 1\n'),
-            ("pajek", '*vertices 2\n1 "Ulm"\n2 "Aue"\n*arcslist\n1 2\n'),
-            ("pajek", '*vertices 3\n0 "Ulm"\n1 "Aue"\n2 "Hof"\n*edges\n1 2\n'),
-            ("gexf", '<gexf><graph><nodes><node id="a"/><node id="a"/></nodes><edges/></graph></gexf>'),
-            ("sparse6", ":An\n:An\n"),
-            ("sparse6", ":~~?A????_\n"),
-        ):
-            self.same(f"{form}: {text!r}", found_in(text.encode(), form=form), (None, []))
-
-    def test_twice(self):
-        """An edge of LEDA that comes twice is counted, and so are weights, labels of edges, and edges that may count
-        from 0."""
+    def test_counted(self):
+        """An edge that comes twice, weights, labels of edges, and edges that may count from 0."""
         for text, wanted in (
-            (LEDA.format(nodes="2\n|{Ulm}|\n|{Aue}|", edges="2\n1 2 0 |{}|\n1 2 0 |{}|"),
-             "1 line with an edge that was there before, counted once"),
-            (LEDA.format(nodes="2\n|{Ulm}|\n|{Aue}|", edges="1\n1 2 0 |{3}|"), "1 key of edges not read: label"),
-            (LEDA.format(nodes="3\n|{Ulm}|\n|{Aue}|\n|{Hof}|", edges="1\n1 2 0 |{}|"),
-             "the last node has no edge: do "),
+            (LEDA.format("2\n|{Ulm}|\n|{Aue}|\n2\n1 2 0 |{}|\n1 2 0 |{}|"), "1 line with an edge that was"),
+            (LEDA.format("2\n|{Ulm}|\n|{Aue}|\n1\n1 2 0 |{3}|"), "1 key of edges not read: label"),
+            (LEDA.format("3\n|{Ulm}|\n|{Aue}|\n|{Hof}|\n1\n1 2 0 |{}|"), "the last node has no edge: do "),
             ('*vertices 3\n1 "Ulm"\n2 "Aue"\n3 "Hof"\n*edges\n1 2\n', "the last node has no edge: do "),
             ('*vertices 2\n1 "Ulm"\n2 "Aue"\n*edges\n1 2 3.5\n', "1 key of edges not read: weight"),
         ):
-            made, said, left_out = made_of(listed_of(text.encode(), "net"), "net")
-            good = len(left_out) == 1 and left_out[0].startswith(wanted) and len(made.edges) == 1
-            self.note(f"counted: {wanted}", good, (said, left_out))
+            (edges, _), left_out = found_in(text.encode())
+            self.note(wanted, len(edges) == len(left_out) == 1 and left_out[0].startswith(wanted), left_out)
 
     def test_encodings(self):
-        """The encoding that XML declares is obeyed, and one that it hasn't is refused."""
+        """The encoding that XML declares is obeyed."""
         import networkx
         graph = networkx.Graph([("Köln", "Łódź"), ("Łódź", "Praha")])
         for encoding in ("iso-8859-2", "cp1250", "utf-8"):
             file = io.BytesIO()
             networkx.write_graphml_xml(graph, file, encoding=encoding)
-            found = named(made_of(listed_of(file.getvalue(), "net"), "net")[0])
-            self.note(encoding, found == wanted(graph), found)
-        for declared, really in (("iso-8859-2", "utf-8"), ("nothing-8", "latin-1"), ("ascii", "latin-1")):
-            text = f"<?xml version='1.0' encoding='{declared}'?><graphml><graph><node id='Köln'/></graph></graphml>"
-            with self.subTest(declared), self.assertRaises(Wrong):
-                listed_of(text.encode(really), "net")
+            self.same(encoding, found_in(file.getvalue())[0], wanted(graph))

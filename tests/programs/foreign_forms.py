@@ -218,6 +218,17 @@ REFUSED = [
      "has a mark that separates fields", "--as", "adjacency"),
     ("a label of Graphviz that is cut", DOT[:40], "is the text cut?"),
     ("Matrix Market that is cut", "%%MatrixMarket matrix coordinate real general\n3 3 2\n1 2 1\n", "is it cut?"),
+    ("Pajek that is cut", '*vertices 2\n1 "Ulm"\n*edges\n1 1\n', "is it cut?"),
+    ("Pajek with lists", '*vertices 2\n1 "Ulm"\n2 "Aue"\n*arcslist\n1 2\n', "line 4: `*arcslist` isn't read"),
+    ("Pajek from 0", '*vertices 3\n0 "Ulm"\n1 "Aue"\n2 "Hof"\n*edges\n1 2\n', "line 2: no vertex of 1 to 3"),
+    ("GEXF with a node twice", '<gexf><graph><nodes><node id="a"/><node id="a"/></nodes><edges/></graph></gexf>',
+     "element 4: a second node a"),
+    ("sparse6 of two graphs", ":An\n:An\n", "sparse6 is one line"),
+    ("sparse6 of many nodes", ":~~?A????_\n", "more than 20000 nodes"),
+    *((f"XML that says {said}", f"<?xml version='1.0' encoding='{said}'?><graphml><graph><node id='{name}'/></graph>"
+       "</graphml>", what) for said, name, what in (
+           ("iso-8859-2", "K\u00c3\u00b6ln", "and it is UTF-8"), ("nothing-8", "K\u00f6ln", "can't be read so"),
+           ("ascii", "K\u00f6ln", "can't be read so"))),
 ]
 
 

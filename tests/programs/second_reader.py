@@ -34,13 +34,15 @@ def network(pairs, nodes=()):
     return edges, frozenset(nodes - set().union(*edges))
 
 
-def by_ids(pairs, nodes, labels=None):
-    """A network whose form lists its nodes, each once; they have their labels as names, if each has one of its own."""
+def by_ids(pairs, nodes, *kinds):
+    """A network whose form lists its nodes, each once. Its names are the first kind of labels, {node: label}, of which
+    each node has one of its own."""
     want(len({spelt(node) for node in nodes}) == len(nodes), "two nodes of one name")
     want({end for pair in pairs for end in pair} <= set(nodes), "an edge of no node")
-    names = {node: spelt((labels or {}).get(node, "")) for node in nodes}
-    if nodes and len(set(names.values()) - {""}) == len(nodes):
-        return network([(names[one], names[other]) for one, other in pairs], names.values())
+    for labels in kinds:
+        names = {node: spelt(labels.get(node, "")) for node in nodes}
+        if nodes and len(set(names.values()) - {""}) == len(nodes):
+            return network([(names[one], names[other]) for one, other in pairs], names.values())
     return network(pairs, nodes)
 
 
@@ -175,23 +177,19 @@ def graphml(text):
         raise Unreadable(str(why)) from None
     graphs = [child for child in root.childNodes if child.nodeName == "graph"]
     want(root.tagName == "graphml" and len(graphs) == 1, "not one graph")
-    for word in ("node", "edge"):
-        there = [element for element in root.getElementsByTagName(word)]
-        want(all(element.parentNode is graphs[0] for element in there), "a part elsewhere")
+    nodes, edges = map(root.getElementsByTagName, ("node", "edge"))
+    want(all(element.parentNode is graphs[0] for element in nodes + edges), "a part elsewhere")
     want(not root.getElementsByTagName("hyperedge"), "a hyperedge")
-    nodes = [element.getAttribute("id") for element in graphs[0].getElementsByTagName("node")]
-    found = [(element.getAttribute("source"), element.getAttribute("target"))
-             for element in graphs[0].getElementsByTagName("edge")]
-    want(all(nodes) and all(map(all, found)), "no id")
+    ids = [element.getAttribute("id") for element in nodes]
+    found = [(element.getAttribute("source"), element.getAttribute("target")) for element in edges]
+    want(all(ids) and all(map(all, found)), "no id")
+    kinds = []
     for word in ("label", "name"):
         keys = {key.getAttribute("id") for key in root.getElementsByTagName("key")
                 if key.getAttribute("attr.name").lower() == word}
-        labels = {element.getAttribute("id"): "".join(part.data for part in data.childNodes)
-                  for element in graphs[0].getElementsByTagName("node")
-                  for data in element.getElementsByTagName("data") if data.getAttribute("key") in keys}
-        if len({spelt(label) for label in labels.values()} - {""}) == len(nodes) > 0:
-            return by_ids(found, nodes, labels)
-    return by_ids(found, nodes)
+        kinds.append({element.getAttribute("id"): "".join(part.data for part in data.childNodes) for element in nodes
+                      for data in element.getElementsByTagName("data") if data.getAttribute("key") in keys})
+    return by_ids(found, ids, *kinds)
 
 
 def gml_list(tokens):
@@ -226,16 +224,14 @@ def gml(text):
     want(len(inner) == len(there), "a node or an edge elsewhere")
     for key, value in there:
         wanted = ["id"] if key == "node" else ["source", "target"]
-        want(sorted(name for name, _ in value if name in wanted) == wanted, "not one id")
-        want(all(isinstance(part, str) for name, part in value if name in ("id", "source", "target")), "no id")
+        ends = [(name, part) for name, part in value if name in ("id", "source", "target")]
+        want(sorted(name for name, _ in ends if name in wanted) == wanted, "not one id")
+        want(all(isinstance(part, str) for _, part in ends), "no id")
     nodes, edges = ([dict(value) for key, value in there if key == kind] for kind in ("node", "edge"))
-    labels = [{node["id"]: node[word] for node in nodes if isinstance(node.get(word), str)}
-              for word in ("label", "name")]
     ids = [node["id"] for node in nodes]
-    chosen = next((one for one in labels if ids and len({spelt(label) for label in one.values()} - {""}) == len(ids)),
-                  None)
     want(len(set(ids)) == len(ids), "an id twice")
-    return by_ids([(edge["source"], edge["target"]) for edge in edges], ids, chosen)
+    return by_ids([(edge["source"], edge["target"]) for edge in edges], ids, *(
+        {node["id"]: node[word] for node in nodes if isinstance(node.get(word), str)} for word in ("label", "name")))
 
 
 def node_link(text):
@@ -265,46 +261,43 @@ def node_link(text):
         raise Unreadable(str(why)) from None
 
 
-class Dot:
-    """The grammar of Graphviz, letter by letter."""
+# Blanks or a comment, a line that begins with `#` too; a mark; a text in quotes; a name; or none of these.
+TOKEN = re.compile(r"[ \t\n\r\f\v\ufeff]+|//[^\n]*|/\*.*?\*/|(?:\A|(?<=\n))#[^\n]*|(?P<mark>--|->|[][{};,:=])"
+                   r'|"(?P<text>(?:[^"\\]|\\.)*)"|(?P<name>[^\W\d]\w*|-?(?:\.\d+|\d+(?:\.\d*)?)(?![\w.]))|(?P<no>.)',
+                   re.S)
 
-    # A comment, a line that begins with `#`, a mark, a text in quotes, or a name.
-    TOKEN = re.compile(r"//[^\n]*|/\*.*?\*/|(?:\A|(?<=\n))#[^\n]*|(?P<mark>--|->|[][{};,:=])"
-                       r'|"(?P<text>(?:[^"\\]|\\.)*)"|(?P<name>[^\W\d]\w*|-?(?:\.\d+|\d+(?:\.\d*)?)(?![\w.]))', re.S)
-    WORDS = ("graph", "digraph", "subgraph", "node", "edge", "strict")
+
+class Dot:
+    """The grammar of Graphviz, token by token. A token is a mark or a word of the language, or a name behind a blank;
+    the next one is the last of the list."""
 
     def __init__(self, text):
-        self.pairs, self.nodes, self.tokens, at = [], [], [], 0
-        while at < len(text):
-            if text[at] in " \t\n\r\f\v\ufeff":
-                at += 1
-                continue
-            token = self.TOKEN.match(text, at)
-            want(token, "no token")
-            mark, said, name = token.group("mark", "text", "name")
-            if said is not None:
-                self.tokens.append((None, said.replace("\\\n", "").replace('\\"', '"')))
-            elif mark or name:
-                self.tokens.append((mark or (name.lower() if name.lower() in self.WORDS else None), name))
-            at = token.end()
+        self.pairs, self.nodes, self.tokens = [], [], []
+        for token in TOKEN.finditer(text):
+            mark, said, name, other = token.group("mark", "text", "name", "no")
+            want(not other, "no token")
+            if name and name.lower() in ("graph", "digraph", "subgraph", "node", "edge", "strict"):
+                mark = name.lower()
+            elif name or said is not None:
+                mark = " " + (name or said.replace("\\\n", "").replace('\\"', '"'))
+            self.tokens += [mark] if mark else []
         self.tokens.reverse()
 
-    def next(self):
+    def is_next(self, *marks):
         want(self.tokens, "the end")
-        return self.tokens[-1][0]
+        return self.tokens[-1] in marks or " " in marks and self.tokens[-1][0] == " "
 
     def pass_by(self, *marks):
-        return bool(self.tokens) and self.tokens[-1][0] in marks and bool(self.tokens.pop())
+        return bool(self.tokens) and self.is_next(*marks) and bool(self.tokens.pop())
 
     def name(self):
-        want(self.next() is None, "no name")
-        return self.tokens.pop()[1]
+        want(self.is_next(" "), "no name")
+        return self.tokens.pop()[1:]
 
     def graph(self):
         self.pass_by("strict")
         want(self.pass_by("graph", "digraph"), "no graph")
-        if self.next() is None:
-            self.name()
+        self.pass_by(" ")
         want(self.pass_by("{"), "no brace")
         self.list()
         want(not self.tokens and self.nodes, "more than a graph")
@@ -318,15 +311,12 @@ class Dot:
         return names
 
     def statement(self):
-        if self.next() in ("graph", "node", "edge"):
-            self.tokens.pop()
-            want(self.next() == "[", "no attributes")
+        if self.pass_by("graph", "node", "edge"):
+            want(self.is_next("["), "no attributes")
             self.attributes()
             return []
-        if len(self.tokens) > 1 and self.tokens[-2][0] == "=":
-            self.name()
-            self.tokens.pop()
-            self.name()
+        if self.tokens[-2:-1] == ["="]:
+            self.setting()
             return []
         names = left = self.end()
         while self.pass_by("--", "->"):
@@ -336,19 +326,21 @@ class Dot:
         self.attributes()
         return names
 
+    def setting(self):
+        self.name()
+        if self.pass_by("="):
+            self.name()
+
     def attributes(self):
         while self.pass_by("["):
             while not self.pass_by("]"):
                 if not self.pass_by(",", ";"):
-                    self.name()
-                    if self.pass_by("="):
-                        self.name()
+                    self.setting()
 
     def end(self):
         if self.pass_by("subgraph"):
-            if self.next() is None:
-                self.name()
-            want(self.next() == "{", "no body")
+            self.pass_by(" ")
+            want(self.is_next("{"), "no body")
         if self.pass_by("{"):
             return self.list()
         names = []
