@@ -94,7 +94,7 @@ class Space:
         # The parts of a state, each kept once and known by its number.
         self.locals, self.contents, self.events = [Numbered() for _ in self.vertices], Numbered(), Numbered()
         self.contents.number(())
-        self.moves = [{} for _ in self.vertices]
+        self.moves, self.made = [{} for _ in self.vertices], {}
         self.faults, self.ends, self.broken, self.said = {}, [], set(), {}
         self.first, self.event_of, self.target = array("I", [0]), array("I"), array("I")
         self.search(progress)
@@ -130,18 +130,24 @@ class Space:
             return None, (), f"node {v} refuses `{wire_words(wire)}` from {self.ports[v][port]}"
         return *self.after(a, node), None
 
+    def once(self, made, *key):
+        """What a pulse, a take or a put makes, worked out once; the keys of the three differ in form."""
+        if key not in self.made:
+            self.made[key] = made(*key)
+        return self.made[key]
+
     def moves_of(self, a, i, arriving):
         """The moves of a node with this value and these contents of the links to it."""
         v, node, moves = self.vertices[a], self.locals[a][i], []
         if node.can_pulse():
-            j, gone, fault = self.pulse(a, i)
+            j, gone, fault = self.once(self.pulse, a, i)
             moves.append(Move(self.events.number(Event("pulse", v, None, None, None, 0)), j, None, 0, gone, fault))
         for p, (w, c) in enumerate(zip(self.ports[v], arriving)):
             if node.ports[p].out:
                 moves.append(self.put_move(a, i, p))
             wires = self.contents[c]
             for place in range(len(wires) if "fifo" in self.without else min(1, len(wires))):
-                j, gone, fault = self.take(a, i, p, wires[place])
+                j, gone, fault = self.once(self.take, a, i, p, wires[place])
                 e = self.events.number(Event("take", v, p, w, wire_words(wires[place]), place))
                 rest = self.contents.number(wires[:place] + wires[place + 1:])
                 moves.append(Move(e, j, self.slot[w, v], rest, gone, fault))
@@ -177,8 +183,12 @@ class Space:
     def with_all(self, state, gone):
         """The state with these wires on its links."""
         for slot, wires in gone:
-            state[slot] = self.contents.number(self.contents[state[slot]] + wires)
+            state[slot] = self.once(self.with_wires, state[slot], wires)
         return tuple(state)
+
+    def with_wires(self, c, wires):
+        """The number of what a link holds once these wires are put on it, too."""
+        return self.contents.number(self.contents[c] + wires)
 
     def search(self, progress):
         start = self.start()
