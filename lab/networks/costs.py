@@ -1,8 +1,10 @@
 """What a run on a network comes to: its payloads and wires, and about how long the commands take."""
+import subprocess
+import tempfile
 import time
 
 from lab.networks.texts import plain_text
-from lab.programs import built, called
+from lab.programs import built, called, program_file
 from lab.words import counted
 from lab.wrong import Wrong
 
@@ -27,8 +29,7 @@ class Run:
             self.payloads = sum(len(pulse.puts) for pulse in rounds.pulses)
             self.how = "counted by the definition of the rounds"
         elif is_counted:
-            self.payloads = written_by("forestplay", "rounds", network).count(b" put ")
-            self.how = "counted by `forestplay rounds`"
+            self.payloads, self.how = payloads_by_program(network), "counted by `forestplay rounds`"
         else:
             self.payloads, self.how, self.is_bound = most_payloads(network), "--payloads counts them", True
         self.wires = 2 * self.payloads + 2 * len(network.edges) * (self.last + 1)
@@ -51,12 +52,20 @@ def rounds_here(network):
     return Rounds(network, network.identifiers)
 
 
-def written_by(program, command, network):
-    """What a program writes of a network."""
-    done = called(program, [command], plain_text(network).encode())
-    if done.returncode:
-        raise Wrong(f"{program} {command} ended with status {done.returncode}; is there too little memory?")
-    return done.stdout
+def payloads_by_program(network):
+    """The payloads of the rounds, counted line by line: the whole text may have a gigabyte."""
+    with tempfile.TemporaryFile() as file:
+        file.write(plain_text(network).encode())
+        file.seek(0)
+        with subprocess.Popen([program_file("forestplay"), "rounds"], stdin=file, stdout=subprocess.PIPE) as started:
+            found = sum(b" put " in line for line in started.stdout)
+    see_ended(started, "forestplay rounds")
+    return found
+
+
+def see_ended(process, name):
+    if process.returncode:
+        raise Wrong(f"{name} ended with status {process.returncode}; is there too little memory?")
 
 
 def most_payloads(network):
@@ -78,7 +87,7 @@ def times(run):
     longer = ", ".join(f"{command} {in_words(processor_seconds(run, command))}" for command in WIRES_A_SECOND)
     if built("forestplan"):
         start = time.monotonic()
-        written_by("forestplan", "plain", run.network)
+        see_ended(called("forestplan", ["plain"], plain_text(run.network).encode()), "forestplan plain")
         longer = f"plain {in_words(time.monotonic() - start)}, the same plan; {longer}"
     return f"{longer}, of all processors together"
 
