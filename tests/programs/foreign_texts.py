@@ -82,12 +82,6 @@ def as_adjacency(nodes, pairs, is_both=True):
     return "".join(" ".join([node, *others]) + "\n" for node, others in beside(nodes, pairs, is_both).items())
 
 
-def as_metis(nodes, pairs):
-    number = {node: str(at) for at, node in enumerate(nodes, 1)}
-    rows = beside(nodes, pairs, True).values()
-    return f"{len(nodes)} {len(pairs)}\n" + "".join(" ".join(number[one] for one in row) + "\n" for row in rows)
-
-
 # (what it is, the names that it can have, its writer, its second reader).
 FORMS = (
     ("CSV with a heading", QUOTED,
