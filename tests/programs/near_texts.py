@@ -168,7 +168,7 @@ REFUSED = (
     '<graphml><key id="k" for="edge" attr.name="on"><default>false</default></key><graph><node id="A"/><node id="B"/>'
     '<node id="C"/><edge source="A" target="B"><data key="k">true</data></edge><edge source="B" target="C"/></graph>'
     "</graphml>",
-    "source,target\nUlm,Aue\nAue,10 km\n")
+    "source,target\nUlm,Aue\nAue,10 km\n", "node,a\nnode,b\n")
 # Texts of which something is counted, which may be another network.
 COUNTED = (
     *(f"source,target\nUlm,Aue\nAue,Hof\nHof,{word}\n" for word in ("removed", "x", "5km", "Kanal 6", "prepared by")),
@@ -224,6 +224,7 @@ TABLES = (
     ("names after numbers", b"site,x,y\n1. Ulm,0,0\n2. Aue,1,1\n"),
     ("points of the compass", b"site,lat,N/S,lon,E/W\nA,48.1,N,0.2,W\nB,48.1,N,0.2,E\n"),
     ("zones in front", b"site,easting,northing\nA,32500000,5300000\nB,33100000,5300000\n"),
+    ("strips in front", b"name;rechtswert;hochwert\nA;3500000;5300000\nB;4500000;5300000\n"),
     ("two zones", b"site,zone,easting,northing\nA,32U,500000,5300000\nB,33U,500100,5300000\n"),
     ("two channels or a fraction", b"site;x;y\nUlm;0;0\n", b"site;channel\nUlm;6,5\n"),
     ("two sites a row", b"site,x,y,site 2,x 2,y 2\nUlm,0,0,Aue,1,1\n"),
