@@ -1,6 +1,6 @@
 """Compares how many channels a plan takes, and how many after choosing anew, with what greedy colourings take.
 
-  python3 -m bench.quality [NAME ..]        default: every network of the table
+  python3 -S -m bench.quality [NAME ..]     default: every network of the table
 
 DSATUR (D. Brelaz, New methods to color the vertices of a graph, 1979) and smallest last (D. W. Matula and L. L. Beck,
 Smallest-last ordering and clustering and graph coloring algorithms, 1983) look at the whole network, one node after the

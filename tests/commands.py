@@ -1,4 +1,4 @@
-"""The one table of all commands: those of the programs, of forestlab, and of `python3 build`.
+"""The one table of all commands: those of the programs and of forestlab.
 
 Each has a small input and the answer to it, worked by hand. What tests every command reads it from here, and
 tests/programs/commands.py fails if a command is missing. In the texts '|' is a line feed."""

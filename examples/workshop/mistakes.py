@@ -1,5 +1,5 @@
-"""Typical mistakes, each as a change of the right nodes in python/: what the mistake is, the file, the right text
-and the wrong one. For a class: hand out a wrong node, or only what it says, and ask which line is missing.
+"""Typical mistakes, each as a change of the right nodes in python/: what the mistake is, the right text and the
+wrong one. For a class: hand out a wrong node, or only what it says, and ask which line is missing.
 
 python3 examples/workshop/mistakes.py DIR [NAME ..]      writes a folder DIR/NAME with a wrong node for each
 (default: all)"""

@@ -1,4 +1,4 @@
-"""A network as a text lists it, before its nodes have numbers: what each reader of a form returns."""
+"""Bytes as a text, and the network that it lists by names: what each reader of a form returns."""
 import codecs
 import io
 import re

@@ -1,5 +1,5 @@
-"""Feeds the built programs texts that nobody would write, and compares each answer with a slow reader's, which is
-written from docs/claim/FORMATS.md (slow_reader.py).
+"""Feeds the built programs texts that nobody would write, and compares each answer with that of slow_reader.py, over
+the readers of lab/.
 
 Besides the random texts: each byte at each place of a small text, byte order marks and other bytes before each place,
 numbers around powers of two, lines of a megabyte. It needs a C compiler, `cc`. TESTS_TEXTS and TESTS_SEED are for long
