@@ -5,12 +5,7 @@
 - Each crate of crates.txt lists each crate that its own files name, and no other. A crate that the head of a `lib.rt`
   names as a caller ("`answers` calls ..") lists the crate. No file passes a name of another crate on: no `pub use` of a
   lower crate in src/, specs/ or proofs/, and no import by way of one (`below`).
-- A lemma stands once: no statement of a crate's proofs is one of another file. Two are the same if they are equal once
-  their variables are named in the order in which they come, and the types of type variables are left out. Only lemmas
-  at the head of a line are compared, not those in a module or `where`, and none that names a goal, whose type each
-  function has for itself. LEFT has the doubles that stay, and why.
 """
-import collections
 import glob
 import os
 import re
@@ -22,18 +17,6 @@ from tests.cases import Case, text_in
 GHOST, CODE = r"\bRattle\.(\w+)\.", r"(?<![\w:.])([a-z_]\w*)::"
 CALLERS = r"((?:`\w+`(?:, and |, | and )?)+) " \
           r"(?:calls?|cites?|uses?|reads?|writes?|prints?|plays?|checks?|keeps?|numbers|builds)\b"
-LEFT = {
-    # its two crates share no crate that is about lists, results or widths
-    "take_front", "take-at", "none_at", "ok-maps", "ok_says", "err-maps", "err_says", "on_refusal", "if_err",
-    "same-vertex", "same_forest", "fits_wider", "fits_index", "place_fits", "map-twice", "range-more", "range_more",
-    "Contains-range", "range_has",
-    # one text, but words of other crates: `is_vertex` by two tests, `run_rules`, and variants of two enums
-    "vertex-from", "vertex_from", "vertex-is", "vertex_is", "run_expected", "memory-isnt_full", "memory_isnt_stamp",
-}
-LEMMA = re.compile(r"^(?:pub )?([^\s(){}:]+) : (.*(?:\n +.*)*)", re.M)
-# What a goal of one function has.
-OWN = re.compile(r"\bgoal\.|\bc\.(?:args|self)\b")
-BINDER = re.compile(r"[({]((?:[^\s(){}:]+ )+): ")
 
 
 def unfound(path):
@@ -59,32 +42,6 @@ def files_of(crate):
     for part in ("src", "specs", "proofs"):
         for path in sorted(glob.glob(os.path.join(TOP, "crates", crate, part, "**", "*.*t"), recursive=True)):
             yield os.path.relpath(path, TOP), re.sub(r"^\s*(//|-- ).*$", "", text_in(path), flags=re.M)
-
-
-def plain(statement):
-    """A statement with its variables named in order."""
-    statement = re.sub(r"\s+", " ", re.sub(r"^\s*-- .*$", "", statement, flags=re.M))
-    bound = {name for names in BINDER.findall(statement) for name in names.split()}
-    bound |= {name for names in re.findall(r"λ ([^.]*)\.", statement) for name in names.split()}
-    words, named = [], {}
-    for word in re.sub(r"([(){},])", r" \1 ", statement).split():
-        head, dot, rest = (word, "", "") if word in bound else word.partition(".")
-        words.append(named.setdefault(head, f"v{len(named)}") + dot + rest if head in bound else word)
-    text = " ".join(words)
-    text = re.sub(r"([({]) ((?:v\d+ )+): ([^(){}]*?) ([)}])", lambda m: " ".join(
-        f"{m[1]} {name} : {m[3]} {m[4]}" for name in m[2].split()), text)
-    text = re.sub(r"\{ v\d+ : (?:Type \w+|Level) \} (?:→ )?", "", re.sub(r"([)}]) → (?=[({] v\d+ :)", r"\1 ", text))
-    text = text.replace("ltb ", "nat_lt ").replace("leb ", "nat_le ")
-    order = {}
-    return re.sub(r"\bv\d+\b", lambda m: order.setdefault(m[0], f"w{len(order)}"), text)
-
-
-def lemmas():
-    """Each lemma at the head of a line in proofs/: its name, its file, and its plain statement."""
-    for path in sorted(glob.glob(os.path.join(TOP, "crates", "*", "proofs", "**", "*.antt"), recursive=True)):
-        for name, statement in LEMMA.findall(text_in(path)):
-            if not OWN.search(statement):
-                yield name, os.path.relpath(path, TOP), plain(statement)
 
 
 class Crates(Case):
@@ -114,13 +71,3 @@ class Crates(Case):
             self.note(f"head of {crate}", not wrong, f"not listed by {wrong}")
         self.note("callers in heads", count > 30, count)
         self.note("names passed on", not passed, passed[:5])
-
-    def test_doubles(self):
-        """No statement stands twice."""
-        found = collections.defaultdict(list)
-        for name, path, statement in lemmas():
-            found[statement].append((name, path))
-        twice = [places for places in found.values()
-                 if len({path for _, path in places}) > 1 and not {name for name, _ in places} <= LEFT]
-        self.note("statements of proofs/ that stand twice", len(found) > 1000 and not twice,
-                  f"{len(found)} are found, twice: {twice[:4]}")
