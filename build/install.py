@@ -3,6 +3,7 @@
 All is made in a folder of its own and moved file by file, so that a full disk leaves nothing half; SHA256SUMS says what
 may be removed later."""
 import os
+import pathlib
 import re
 import shutil
 import subprocess
@@ -16,8 +17,7 @@ from build.vendor import reason
 from lab import checksums, version
 from lab.door import held
 from lab.words import parser_of
-from lab.workshop import class_files
-from lab.workshop.class_files import write
+from lab.workshop.class_files import write, write_scripts
 
 # What is copied, each at the path that it has here.
 FOLDERS = ("examples", "docs", "lab")
@@ -37,9 +37,6 @@ VERSION says what it was made from, and SHA256SUMS has a sum of each file: sha25
 SHA256SUMS. The programs need the C library alone, the scripts bash and Python 3. One such
 folder serves every machine of the same kind: copy it with cp -r, or `python3 build pack`
 makes one archive of it. After `pip install DIR` Python can import forestplan.
-
-With --class it is what `forestlab workshop class DIR` makes: the folder of a class that
-writes the nodes itself.
 
 Programs that aren't built from these sources are proved and built first. That takes
 the minutes that README.md says, and needs the toolchain's command rt.
@@ -90,7 +87,7 @@ def make(room):
     for folder in FOLDERS:
         shutil.copytree(os.path.join(TOP, folder), os.path.join(room, folder),
                         ignore=shutil.ignore_patterns("__pycache__"))
-    class_files.write_scripts(room)
+    write_scripts(room)
     for path in FILES:
         shutil.copy(os.path.join(TOP, path), os.path.join(room, path))
     os.rename(os.path.join(room, PYPROJECT), os.path.join(room, "pyproject.toml"))
@@ -108,6 +105,10 @@ def put(room, folder):
     """Moves all into place, each file in place of what was there, even if that is being run or is a link; and removes
     what an earlier install put there and this one doesn't."""
     before, now = checksums.read(folder), checksums.read(room)
+    for path in now:
+        if os.path.isdir(os.path.join(folder, path)) or any(
+                os.path.isfile(os.path.join(folder, above)) for above in pathlib.PurePath(path).parents):
+            raise OSError(f"{path} would be a file in the place of a folder, or a folder in that of a file")
     for path in [*now, checksums.NAME]:
         os.makedirs(os.path.dirname(os.path.join(folder, path)), exist_ok=True)
         os.replace(os.path.join(room, path), os.path.join(folder, path))
@@ -129,17 +130,15 @@ def install(folder):
 
 
 def main():
-    words = parser_of("install", "[--class] DIR", HELP, MORE_HELP, "python3 build")
+    words = parser_of("install", "DIR", HELP, MORE_HELP, "python3 build")
     words.add_argument("dir", metavar="DIR", help="a folder; it is made if it isn't there")
-    words.add_argument("--class", dest="is_class", action="store_true", help="what students may see, and nothing else")
-    given = words.parse_args()
-    folder = os.path.abspath(given.dir)
+    folder = os.path.abspath(words.parse_args().dir)
     inside = os.path.relpath(os.path.realpath(folder), os.path.realpath(TOP))
     if inside == "." or inside.split(os.sep)[0] in FOLDERS:
         words.error("the folder has to be another one than this tree, and not inside of what is copied")
     status = program.built(PROGRAMS)
-    if status or given.is_class:
-        return status or class_files.main([folder])
+    if status:
+        return status
     try:
         install(folder)
     except (OSError, shutil.Error, subprocess.CalledProcessError) as failed:

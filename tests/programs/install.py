@@ -190,9 +190,11 @@ class Install(Case):
     def test_refused(self):
         for words in ([], [self.folder, self.folder], ["--all"], [TOP], [os.path.join(TOP, "docs", "new")]):
             self.refusal(f"install {words}", run([*self.script, *words]), 2, b"install: error: ")
-        file = self.file(os.path.join(self.folder, "a file"), b"")
-        got = run([*self.script, os.path.join(file, "below")])
-        self.note("install below a file", got[:2] == (1, b"") and re.fullmatch(rb"install: [^\n]+\n", got[2]), got)
+        file = self.file(os.path.join(self.folder, "clash", "lib"), b"")
+        for folder in (os.path.join(file, "below"), os.path.dirname(file)):
+            got = run([*self.script, folder])
+            self.note(f"install to {folder}", got[:2] == (1, b"") and re.fullmatch(rb"install: [^\n]+\n", got[2]), got)
+        self.same("what was there", os.listdir(os.path.dirname(file)), ["lib"])
 
     def test_nothing_half(self):
         """A full disk and a signal leave a folder as it was, and a new one isn't left."""
