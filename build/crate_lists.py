@@ -1,5 +1,6 @@
-"""What crates.txt says: which crates each crate names, and so which are below it."""
+"""What crates.txt says: which crates each crate names, and so which are below it; and a repository of some of them."""
 import os
+import shutil
 
 TOP = os.path.dirname(os.path.dirname(os.path.abspath(__file__)))
 # The crates that are programs.
@@ -33,3 +34,15 @@ def with_below(crates, below):
     for crate in crates:
         visit(crate)
     return list(found)
+
+
+def copy(crates, to, left_out):
+    """Makes a repository of these crates alone, in a folder that isn't there; of each crate's own folder something may
+    be left out."""
+    os.makedirs(to)
+    shutil.copy(os.path.join(TOP, "HANDLES"), to)
+    with open(os.path.join(to, "crates.txt"), "w", encoding="utf-8") as text:
+        text.writelines(f"{lines_of()[crate]}\n" for crate in crates)
+    for crate in crates:
+        here, there = (os.path.join(top, "crates", crate) for top in (TOP, to))
+        shutil.copytree(here, there, symlinks=True, ignore=lambda at, _, here=here: left_out if at == here else ())

@@ -16,7 +16,7 @@ import sys
 import time
 
 from build import kit
-from build.crate_lists import TOP, lines_of, listed, with_below
+from build.crate_lists import TOP, copy, listed, with_below
 from lab.progress import exactly
 
 # What `rt ci` isn't given of a crate: what was built of it, and edits.
@@ -50,21 +50,6 @@ def new_room(name):
             yield room, lock
         finally:
             shutil.rmtree(room, ignore_errors=True)
-
-
-def copy(crates, room, edits):
-    """Makes a repository of these crates alone. The given edits of each are its must-fail edits there."""
-    os.makedirs(os.path.join(room, ".git"))
-    shutil.copy(os.path.join(TOP, "HANDLES"), room)
-    lines = lines_of()
-    with open(os.path.join(room, "crates.txt"), "w", encoding="utf-8") as text:
-        text.writelines(f"{lines[crate]}\n" for crate in crates)
-    for crate in crates:
-        here, there = (os.path.join(top, "crates", crate) for top in (TOP, room))
-        shutil.copytree(here, there, symlinks=True, ignore=lambda at, _, here=here: LEFT_OUT if at == here else ())
-        for edit in edits.get(crate, ()):
-            os.makedirs(os.path.join(there, "must-fail"), exist_ok=True)
-            shutil.copy(edit, os.path.join(there, "must-fail"))
 
 
 def followed(name, rt, log, total, start):
@@ -109,7 +94,12 @@ def run(name, crates, edits=None, take=None):
     os.makedirs(os.path.dirname(log), exist_ok=True)
     try:
         with new_room(name) as (room, lock):
-            copy(wanted, room, edits)
+            copy(wanted, room, LEFT_OUT)
+            os.mkdir(os.path.join(room, ".git"))
+            for crate, paths in edits.items():
+                os.mkdir(os.path.join(room, "crates", crate, "must-fail"))
+                for path in paths:
+                    shutil.copy(path, os.path.join(room, "crates", crate, "must-fail"))
             # If this process is killed, `rt` goes on, and the lock with it.
             with open(log, "wb") as to, subprocess.Popen(
                     [kit.command(), "ci"], cwd=room, stdin=subprocess.DEVNULL, stdout=to, stderr=subprocess.STDOUT,

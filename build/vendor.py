@@ -1,24 +1,24 @@
 """Copies crates, and all below them, into another repository, so that a program there can use them."""
-import filecmp
 import os
 import shutil
 import sys
 import tempfile
 
 from build import kit
-from build.crate_lists import TOP, lines_of, listed, with_below
-from lab.words import parser_of
+from build.crate_lists import TOP, copy, lines_of, listed, with_below
+from lab.words import parser_of, write_apart
 
-# What of a crate is copied: what it is proved from, and what shows that its contracts refuse wrong bodies.
-PARTS = (*kit.PARTS, "must-fail")
+# What of a crate isn't copied.
+LEFT_OUT = ("out", "wrong-bodies")
 
 HELP = """\
 Copies crates of this tree, and all below them, into another repository.
 
 A crate goes to crates/NAME there, and its line into crates.txt, which is made if it
 isn't there. A crate that is there already stays if it says the same; if it says anything
-else, nothing is copied, unless --replace is given. Then write a line of your own, as
-mine: node_api interference sync_rounds
+else, nothing is copied, or with --replace its folder is replaced. Then write a line of
+your own, as mine: node_api interference sync_rounds
+(HANDLES, which is copied if there is none, has to allow as much as here)
 and `rt try`, `rt check` and `rt ci` work there; `rt ci mine` takes what ./forestplan has
 proved here. Copies know nothing of later changes: call it again with --replace.
 If it can't be copied to the end, as on a full disk, the repository stays as it was.
@@ -34,39 +34,24 @@ Examples:
 """
 
 
-def differs(crate, top, there):
-    """Whether another repository, with the lines `there`, has a crate of this name that says something else."""
-    folders = [os.path.join(at, "crates", crate) for at in (TOP, top)]
-    return there.get(crate, lines_of()[crate]) != lines_of()[crate] or os.path.isdir(folders[1]) and (
-        kit.sum_of_texts(folders[0]) != kit.sum_of_texts(folders[1]))
+def is_same(crate, top, there):
+    """Whether another repository, with the lines `there`, has this crate as it is here."""
+    here, other = (os.path.join(at, "crates", crate) for at in (TOP, top))
+    return there.get(crate) == lines_of()[crate] and kit.sum_of_texts(here) == kit.sum_of_texts(other)
 
 
-def copy(crates, room, there):
-    """Makes all that is copied in an empty folder: the crates, the lines of crates.txt, and HANDLES."""
-    for crate in crates:
-        for part in os.listdir(os.path.join(TOP, "crates", crate)):
-            if part in PARTS:
-                shutil.copytree(*(os.path.join(top, "crates", crate, part) for top in (TOP, room)))
-    lines = [lines_of()[crate] for crate in crates] + [line for name, line in there.items() if name not in crates]
-    with open(os.path.join(room, "crates.txt"), "w", encoding="utf-8") as file:
-        file.write("# one line a crate, lowest layer first:  NAME: DEP DEP ..\n")
-        file.writelines(f"{line}\n" for line in lines)
-    shutil.copy(os.path.join(TOP, "HANDLES"), room)
-
-
-def put(room, top, crates):
-    """Moves it into place. A crate that is there loses its old parts; a file HANDLES that is there stays."""
-    os.makedirs(os.path.join(top, "crates"), exist_ok=True)
-    for crate in crates:
-        os.makedirs(os.path.join(top, "crates", crate), exist_ok=True)
-        for part in PARTS:
-            new, old = (os.path.join(at, "crates", crate, part) for at in (room, top))
-            shutil.rmtree(old, ignore_errors=True)
-            if os.path.isdir(new):
-                os.replace(new, old)
-    for name in ("crates.txt", "HANDLES"):
-        if name != "HANDLES" or not os.path.exists(os.path.join(top, name)):
-            os.replace(os.path.join(room, name), os.path.join(top, name))
+def put(crates, top):
+    """Copies crates that are new or changed, and HANDLES if there is none: all beside them first, so that a full disk
+    changes nothing."""
+    with tempfile.TemporaryDirectory(prefix=".vendor-", dir=top) as folder:
+        room = os.path.join(folder, "made")
+        copy(crates, room, LEFT_OUT)
+        os.makedirs(os.path.join(top, "crates"), exist_ok=True)
+        for crate in crates:
+            shutil.rmtree(os.path.join(top, "crates", crate), ignore_errors=True)
+            os.replace(os.path.join(room, "crates", crate), os.path.join(top, "crates", crate))
+        if not os.path.exists(os.path.join(top, "HANDLES")):
+            os.replace(os.path.join(room, "HANDLES"), os.path.join(top, "HANDLES"))
 
 
 def reason(failed):
@@ -86,19 +71,18 @@ def main():
     top = os.path.abspath(asked.dir)
     if not os.path.isdir(top) or os.path.realpath(top) == os.path.realpath(TOP):
         words.error("DIR has to be a folder that is there, and not this tree")
-    crates = with_below(asked.crates, listed())
+    lines = {crate: lines_of()[crate] for crate in with_below(asked.crates, listed())}
     try:
         there = lines_of(top) if os.path.exists(os.path.join(top, "crates.txt")) else {}
-        changed = [crate for crate in crates if differs(crate, top, there)]
+        new = [crate for crate in lines if not is_same(crate, top, there)]
+        changed = [crate for crate in new if crate in there or os.path.isdir(os.path.join(top, "crates", crate))]
         if changed and not asked.replace:
             raise OSError(f"{top} has another crate {changed[0]}, or another line of it: --replace replaces it")
-        with tempfile.TemporaryDirectory(prefix=".vendor-", dir=top) as room:
-            copy(crates, room, there)
-            put(room, top, crates)
+        put(new, top)
+        text = "\n".join(["# one line a crate, lowest layer first:  NAME: DEP DEP ..", *(lines | there | lines).values()])
+        write_apart(os.path.join(top, "crates.txt"), f"{text}\n".encode())
     except OSError as failed:
         print(f"vendor: {reason(failed)}", file=sys.stderr)
         return 1
-    print(f"vendor: {len(crates)} crates are in {top}/crates: {' '.join(crates)}", file=sys.stderr)
-    if not filecmp.cmp(*(os.path.join(at, "HANDLES") for at in (TOP, top)), shallow=False):
-        print("vendor: HANDLES there isn't what it is here; it has to allow as much", file=sys.stderr)
+    print(f"vendor: {len(lines)} crates are in {top}/crates: {' '.join(lines)}", file=sys.stderr)
     return 0
