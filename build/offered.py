@@ -26,7 +26,7 @@ def share(room: str) -> None:
         rt, known = command_as_module(), {}
         for name in listed(room):
             crate = rt.Crate(os.path.join(room, "crates", name), room, known)
-            if os.path.isdir(made_of(crate)):
+            if os.path.isdir(crate.rlib):
                 offer(rt, crate)
     except (Exception, SystemExit) as why:
         print(f"the libraries aren't offered to rt check: {why}", file=sys.stderr)
@@ -41,36 +41,13 @@ def command_as_module():
     return rt
 
 
-def made_of(crate) -> str:
-    return os.path.join(crate.folder, "out", "rlib", f"{crate.name}.rlib")
-
-
 def offer(rt, crate) -> None:
     """Offers a library under its place in the cache. A stamp is written last, and holds for the library beside it."""
     shadow, stamp = copy.copy(crate), crate.stamp()
     shadow.folder, shadow.stamp = kit.in_cache(os.path.join("checkout", "crates", crate.name)), lambda: stamp
-    to = os.path.dirname(made_of(shadow))
-    if not is_same(made_of(crate), made_of(shadow), stamp):
-        shutil.rmtree(to, ignore_errors=True)
-        os.makedirs(to)
-        shutil.copytree(made_of(crate), made_of(shadow), copy_function=link_or_copy)
-        with open(os.path.join(to, "stamp"), "w", encoding="utf-8") as file:
-            file.write(stamp)
+    to = os.path.join(shadow.folder, "out", "rlib")
+    shutil.rmtree(to, ignore_errors=True)
+    shutil.copytree(crate.rlib, os.path.join(to, os.path.basename(crate.rlib)), copy_function=rt.link_or_copy)
+    with open(os.path.join(to, "stamp"), "w", encoding="utf-8") as file:
+        file.write(stamp)
     rt.offer(shadow, stamp)
-
-
-def is_same(made: str, there: str, stamp: str) -> bool:
-    """Whether this library is there already: its format holds a sum of all its files."""
-    try:
-        with open(os.path.join(os.path.dirname(there), "stamp"), encoding="utf-8") as file, \
-                open(os.path.join(made, "format"), "rb") as one, open(os.path.join(there, "format"), "rb") as other:
-            return file.read() == stamp and one.read() == other.read()
-    except OSError:
-        return False
-
-
-def link_or_copy(one: str, other: str) -> None:
-    try:
-        os.link(one, other)
-    except OSError:
-        shutil.copy(one, other)

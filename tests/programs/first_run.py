@@ -35,10 +35,14 @@ KEPT = os.path.join(os.environ["XDG_CACHE_HOME"], "kept")
 class Crate:
     def __init__(self, folder, root, known):
         self.folder, self.name = folder, os.path.basename(folder)
+        self.rlib = f"{folder}/out/rlib/{self.name}.rlib"
 
     def stamp(self):
         with open(f"{self.folder}/src/lib.rt") as text:
             return text.read()
+
+
+link_or_copy = os.link
 
 
 def offer(crate, stamp):
