@@ -10,6 +10,7 @@ from lab.words import parser_of, write_apart
 
 # What of a crate isn't copied.
 LEFT_OUT = ("out", "wrong-bodies")
+HEADING = "# one line a crate, lowest layer first:  NAME: DEP DEP .."
 
 HELP = """\
 Copies crates of this tree, and all below them, into another repository.
@@ -79,8 +80,8 @@ def main():
         if changed and not asked.replace:
             raise OSError(f"{top} has another crate {changed[0]}, or another line of it: --replace replaces it")
         put(new, top)
-        text = "\n".join(["# one line a crate, lowest layer first:  NAME: DEP DEP ..", *(lines | there | lines).values()])
-        write_apart(os.path.join(top, "crates.txt"), f"{text}\n".encode())
+        text = "\n".join([HEADING, *(lines | there | lines).values(), ""])
+        write_apart(os.path.join(top, "crates.txt"), text.encode())
     except OSError as failed:
         print(f"vendor: {reason(failed)}", file=sys.stderr)
         return 1

@@ -7,6 +7,7 @@ import shutil
 import subprocess
 import sys
 import tempfile
+import time
 import unittest
 
 from lab.wrong import Wrong as Fault
@@ -98,6 +99,16 @@ def called(path, *words, data=b"", limit=300, **streams):
     streams = {"stdout": subprocess.PIPE, "stderr": subprocess.PIPE} | streams
     done = subprocess.run([path, *words], timeout=limit, **given, **streams)
     return done.returncode, done.stdout, done.stderr
+
+
+def wait_until(what, limit, moment=0.02):
+    """Whether it comes true before the limit."""
+    end = time.monotonic() + limit
+    while not what():
+        if time.monotonic() > end:
+            return False
+        time.sleep(moment)
+    return True
 
 
 def forestlab(*words, **more):

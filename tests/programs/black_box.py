@@ -12,7 +12,6 @@ from tests.cases import Case, called, contents, example, examples, text
 from tests.commands import COMMANDS, EDGE, HELPS, PROGRAMS, TRIANGLE, commands_of
 from tests.programs.slow_reader import answer_to
 from tests.settings import PATHS, PLAN, SECOND_PLAN
-from tests.shell import run_line
 
 LIMIT = 300
 
@@ -230,7 +229,7 @@ class BlackBox(Case):
                         status, _, fault = called(path, *words, data=data, stdout=stream)
                         self.same(f"{words} to {where}", (status, fault), (4, line))
             for redirected in (f"<{TOP}", "<&-"):
-                done = run_line(f'"$0" "$@" {redirected}', path, *it.line, limit=LIMIT)
+                done = called("bash", "-c", f'"$0" "$@" {redirected}', path, *it.line, limit=LIMIT)
                 self.same(f"{it.line} {redirected}", done, (4, b"", line))
         with open("/dev/full", "wb") as full:
             self.same("a full device for errors changes no status", called(PLAN, "forests", stderr=full)[:2], (1, b""))

@@ -8,8 +8,7 @@ import sys
 
 from lab.__main__ import COMMANDS
 from tests import FORESTLAB, TOP
-from tests.cases import Case, text_in
-from tests.shell import run_line, wait_until
+from tests.cases import Case, called, text_in, wait_until
 
 LIMIT = 120
 TRIANGLE = os.path.join(TOP, "examples", "triangle.col")
@@ -24,7 +23,7 @@ CALLS = {
 
 def ended(line, *words, **given):
     """What a line of shell ends with: its status, its output, and what it says besides."""
-    return run_line(line, *words, limit=LIMIT, **given)
+    return called("bash", "-c", line, *words, limit=LIMIT, **given)
 
 
 class Endings(Case):

@@ -2,9 +2,8 @@
 build/gate.py.
 
 They run in a tree of three crates, over a command `rt` that proves nothing: it says what `rt ci` says, keeps what it
-has passed, and its program prints a line. And each script of tests/ and bench/ has to say with --help what it does."""
+has passed, and its program prints a line."""
 import contextlib
-import glob
 import os
 import re
 import signal
@@ -13,8 +12,8 @@ import sys
 import tempfile
 
 from tests import TOP
-from tests.cases import Case, copied, text_in
-from tests.shell import run_line, wait_until, without_rt
+from tests.cases import Case, called, copied, text_in, wait_until
+from tests.running import without_rt
 
 # Seconds; a busy machine is slow.
 LIMIT = 300
@@ -147,8 +146,7 @@ class Tree:
 
     def run(self, *words, given=""):
         """The status and both outputs of words that are called at the top."""
-        return run_line('exec "$0" "$@"', *words, limit=LIMIT, given=given, stdin=subprocess.PIPE, text=True,
-                        cwd=self.top, env=self.environment)
+        return called(*words, data=given, limit=LIMIT, text=True, cwd=self.top, env=self.environment)
 
     def call(self, *words, given=""):
         return self.run("./forestplan", *words, given=given)
@@ -195,12 +193,10 @@ class FirstRun(Case):
         tree = Tree(self.folder)
         self.run_unbuilt(tree)
         self.run_first(tree)
-        self.run_elsewhere(tree)
-        self.run_offered(tree)
         self.run_failures(tree)
         self.run_stopped(tree)
         self.run_wrong_bodies(tree)
-        self.run_versions(tree)
+        self.run_alone(tree)
         self.run_kits(tree)
 
     def run_unbuilt(self, tree):
@@ -231,6 +227,8 @@ class FirstRun(Case):
             r"forestplan: 3 crates proved in \d+ s\n\Z", err, re.M), err)
         self.note("the log", "== middle\nlogic=proved\nrt: middle proved\n" in tree.log(), tree.log())
         self.note("the gate's edits are left to the gate", "must-fail" not in tree.log(), tree.log())
+        self.same("both libraries are offered to rt check, each with the stamp of its text",
+                  sorted(text_in(tree.kept("offered")).splitlines()), ["lower True", "middle True"])
         for what, path, text in (("a second call", "crates/forestplan/out/old", ""),
                                  ("a crate of tests", "crates/some_checks/src/lib.rt", "tests"),
                                  ("another crate", "crates/aside/src/lib.rt", "changed"),
@@ -242,29 +240,10 @@ class FirstRun(Case):
         got = tree.call("plan")
         self.same("a changed source is proved, and what lies above it",
                   (*got[:2], re.findall("^== (.*)", tree.log(), re.M)), (0, "plan\n", ["middle", "forestplan"]))
-        tree.source("middle", "fine")
-        got = tree.call("plan")
-        self.note("the state before is still known", got[:2] == (0, "plan\n") and "== " not in tree.log(), tree.log())
         write(tree.program, "#!/bin/sh\necho another\n", 0o755)
         self.same("a program that nobody vouches for is built anew", tree.call("plan")[:2], (0, "plan\n"))
         self.same("no room is left", sorted(os.listdir(os.path.join(tree.cache, "forestplan"))),
                   ["checkout", "room.lock"])
-
-    def run_elsewhere(self, tree):
-        """Another checkout of the same user, with the same sources."""
-        other = Tree(os.path.join(self.folder, "other"))
-        other.environment = tree.environment
-        got = other.call("plan")
-        self.note("another checkout takes over what is proved",
-                  got[:2] == (0, "plan\n") and "== " not in other.log(), (got, other.log()))
-
-    def run_offered(self, tree):
-        """What is proved is offered to `rt check`: each library, with the stamp of its text."""
-        tree.source("middle", "to be offered")
-        os.remove(tree.kept("offered"))
-        self.same("a program to offer of", tree.call("plan")[:2], (0, "plan\n"))
-        self.same("both libraries are offered as they are", sorted(text_in(tree.kept("offered")).splitlines()),
-                  ["lower True", "middle True"])
 
     def run_failures(self, tree):
         for crate in ("middle", "forestplan"):
@@ -337,12 +316,8 @@ class FirstRun(Case):
                   and done[1].endswith("\n0 refused, 0 of them WEAK, 0 PROVED, 1 not run\n"), done)
         tree.source("lower", "fine")
 
-    def run_versions(self, tree):
-        """The version without a build, and a build without a run."""
-        for name in ("forestplan", "bin/forestlab"):
-            done = tree.run(os.path.join(TOP, name), "--version")
-            said = r"forestplan \d+\.\d+\.\d+\ncommit [^\n]+\nkit rattle-kit-[^\n]+\n"
-            self.note(f"{name} --version", done[0] == 0 and re.fullmatch(said, done[1]), done)
+    def run_alone(self, tree):
+        """A build without a run."""
         tree.source("middle", "built alone")
         before = os.stat(tree.program).st_ino
         for words, status, is_new in ((["--ask"], 1, False), ([], 0, True), (["--ask"], 0, True)):
@@ -368,16 +343,6 @@ class FirstRun(Case):
         status, out, err = tree.run(os.path.join(TOP, "try"), "plan")
         self.note("try without a command", (status, out) == (70, "") and KIT in err, err)
 
-    def test_helps(self):
-        """Each script of the tests and the benchmarks."""
-        found = [path for folder in ("tests", "bench")
-                 for path in glob.glob(os.path.join(TOP, folder, "**", "*.py"), recursive=True)
-                 if "\nif __name__ == " in text_in(path)]
-        self.note("scripts", len(found) > 6, found)
-        for name in (os.path.relpath(path, TOP).removesuffix(".py").replace("/", ".") for path in found):
-            done = run_line('exec "$0" -m "$1" --help', sys.executable, name, limit=LIMIT, cwd=TOP)
-            self.note(f"{name} --help", done[0] == 0 and len(done[1]) > 60 and not done[2], done)
-
     def test_watch(self):
         """A line of a run now and then, until it ends; of another process, or none, nothing."""
         script = ("import sys; from lab import progress; progress.MOMENTS = [0.1, 0.2, 60]; "
@@ -385,6 +350,7 @@ class FirstRun(Case):
         line = ('sleep "$3" <"$0" & "$1" -c "$2" $! forestplan plan 2>&1 | '
                 '{ read -r first; kill $!; echo "$first"; exec cat; }')
         network = os.path.join(TOP, "examples", "triangle.col")
-        done = run_line(line, network, sys.executable, script, str(LIMIT), limit=LIMIT, cwd=TOP, text=True)
+        done = called("bash", "-c", line, network, sys.executable, script, LIMIT, data="", limit=LIMIT, cwd=TOP,
+                      text=True)
         shape = r"(forestplan: \d+ s, 0 s of processor time(, of about 0 s for 284 wires)?\n)+"
         self.note("lines of a run", (done[0], done[2]) == (0, "") and re.fullmatch(shape, done[1]), done)

@@ -16,11 +16,10 @@ from build import completion
 from lab.__main__ import COMMANDS as OF_LAB
 from lab.definitions.colours import plan_text
 from tests import TOP
-from tests.cases import Case, called, contents, copied, example, text
+from tests.cases import Case, called, contents, copied, example, text, wait_until
 from tests.commands import APART, COMMANDS, HELPS, PROGRAMS
 from tests.commands import SCRIPTS as OF_BIN
 from tests.pages.pages import PAGES, lines_of
-from tests.shell import run_line, wait_until
 
 # Seconds; a busy machine takes long for the many calls of help that the manual pages are made of.
 LIMIT = 600
@@ -87,7 +86,7 @@ class Install(Case):
 
     def line(self, command):
         path = f"{os.path.join(self.target, 'bin')}:{ENVIRONMENT['PATH']}"
-        return run_line(command, limit=LIMIT, cwd=self.target, env=ENVIRONMENT | {"PATH": path})
+        return called("bash", "-c", command, limit=LIMIT, cwd=self.target, env=ENVIRONMENT | {"PATH": path})
 
     def test_pages(self):
         """Each command of the pages prints in the folder what is under it, in the same columns, or is refused so. Only

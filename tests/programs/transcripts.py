@@ -18,13 +18,12 @@ from lab.schedules.simulate import played, text_of_rows
 from lab.transcripts.check import Wrong, find_order, in_order, whole_run
 from lab.transcripts.reading import read
 from tests import FORESTLAB
-from tests.cases import Case, called, forestlab, text, text_in
+from tests.cases import Case, called, forestlab, text, text_in, wait_until
 from tests.programs.made_transcripts import KINDS, Run, merged_text, spoiled, transcript_text
 from tests.programs.node_programs import SEQUELS
 from tests.programs.plain_networks import (all_small, cycle, path, random_of, shaped, some_bars, star, text_of, tree,
                                            two_sided)
 from tests.settings import PLAN, PLAY, setting
-from tests.shell import wait_until
 
 LIMIT = 60
 SEED = 2026

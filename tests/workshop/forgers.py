@@ -11,7 +11,7 @@ import tempfile
 import unittest
 
 from lab.workshop.guard import USERS, Guard, give, kept_in
-from tests.shell import wait_until
+from tests.cases import wait_until
 from tests.workshop.base import DOOR, LIMIT, call, played
 from tests.workshop.misbehaving import MARK, left, left_at_last
 

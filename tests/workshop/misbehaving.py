@@ -7,8 +7,7 @@ import subprocess
 import sys
 import time
 
-from tests.cases import contents
-from tests.shell import wait_until
+from tests.cases import contents, wait_until
 from tests.workshop.base import ALPHA, DOOR, EXAMPLES, LIMIT, Played, played
 
 # A number of seconds that no other process sleeps: so a child that is left can be found.
