@@ -14,22 +14,20 @@
 
 `me` is the node: `me.id`, `me.degree` (how many ports it has, from 0), `me.barred` (the channels, from 1, that are
 barred at it, ascending), `me.nodes`, `me.greatest_degree`, `me.forests` (U), `me.greatest_bars` (B), `me.random`
-(chance by a seed: lab/definitions/lots.py), and whatever the file keeps there. A payload is a pair: a word of small
-letters, and a number from 0. What to send is one payload for all ports, a list with a payload or None for each, or
-None. At the last pulse nothing may be sent.
+(Python's `random.Random`, by a seed and the identifier), and whatever the file keeps there. A payload is a pair: a word
+of small letters, and a number from 0. What to send is one payload for all ports, a list with a payload or None for
+each, or None. At the last pulse nothing may be sent.
 
 The file is run as it is, with the rights of who calls the command; what it prints goes to standard error. Nothing is
 proved of it."""
 import contextlib
-import copy
 import os
+import random
 import sys
 import traceback
 from types import SimpleNamespace
 
-from lab.definitions.lots import Lots
 from lab.definitions.nodes import synchronous_pulses
-from lab.definitions.values import frozen
 from lab.wrong import Wrong, wrong_line
 
 NEEDED, MAY_BE = ("greet", "next", "result"), ("last_pulse", "right", "always", "drawn")
@@ -86,7 +84,7 @@ class Me(SimpleNamespace):
     def __getattr__(self, name):
         if name != "random":
             raise AttributeError(f"`me` has no `{name}`")
-        self.random = Lots(self._lots)
+        self.random = random.Random(self._lots)
         return self.random
 
 
@@ -157,25 +155,6 @@ class OwnNode:
             raise Wrong(f"{self.file}: `drawn` returns {pair!r} at the node of identifier {self.me.id}: it must be a "
                         f"pair, a colour below {COLOURS} or None, and a port or None")
         return pair
-
-    def copied(self):
-        node = copy.copy(self)
-        memo = {}
-        node.me = Me(**{name: self.held(name, copy.deepcopy, value, memo) for name, value in vars(self.me).items()})
-        return node
-
-    def key(self):
-        """Equal for equal nodes of one vertex."""
-        seen = {}
-        return tuple(self.held(name, frozen, value, seen) for name, value in sorted(vars(self.me).items()))
-
-    def held(self, name: str, function, value, memo):
-        """What copies or compares a value that the file keeps in `me`, if it can be copied and compared."""
-        try:
-            return function(value, memo)
-        except Exception as why:
-            raise Wrong(f"{self.file}: `me.{name}` can't be copied and compared, as each order of events needs it "
-                        f"({why}): keep plain values there") from None
 
 
 def no_payload(slot) -> str:

@@ -10,6 +10,7 @@ from lab.definitions.nodes import AlphaNode, Colouring, Refused, ports_of, synch
 from lab.definitions.own_program import OwnNode
 from lab.definitions.sequel import Sequel
 from lab.definitions.values import frozen
+from lab.wrong import Wrong
 
 
 class RuledNode(AlphaNode):
@@ -19,7 +20,7 @@ class RuledNode(AlphaNode):
     def __init__(self, net, v, without, program=Colouring):
         self.without, self.wrong = frozenset(without), False
         super().__init__(net, v, program)
-        self.key_of_program = key_of_program(self.program)
+        self.key_of_program = kept(frozen, self.program)
 
     def settle(self):
         if "acks" in self.without:
@@ -33,9 +34,9 @@ class RuledNode(AlphaNode):
         return super().can_pulse()
 
     def pulse(self):
-        self.program = self.program.copied() if isinstance(self.program, OwnNode) else copy.deepcopy(self.program)
+        self.program = kept(copy.deepcopy, self.program)
         super().pulse()
-        self.key_of_program = key_of_program(self.program)
+        self.key_of_program = kept(frozen, self.program)
 
     def on_wire(self, at, wire):
         kind, port = wire[0], self.ports[at]
@@ -87,9 +88,13 @@ class RuledNode(AlphaNode):
         )
 
 
-def key_of_program(program):
-    """Equal for equal nodes of one vertex."""
-    return program.key() if isinstance(program, OwnNode) else frozen(program)
+def kept(function, program):
+    """What copies or compares a node of a program, if all that it keeps can be copied and compared."""
+    try:
+        return function(program)
+    except Exception as why:
+        raise Wrong(f"{program.file}: what `me` keeps can't be copied and compared, as each order of events needs it "
+                    f"({why}): keep plain values there") from None
 
 
 class Rounds:

@@ -162,7 +162,7 @@ class OwnAlgorithms(Case):
         chance, late = "import random\n" + DRAWS.replace("me.random", "random"), "CALLS = []\n" + FLOOD.replace(
             "    if heard", "    CALLS.append(pulse)\n    if heard")
         for name, text, *said in (
-            *((what, keeping(what), "`me.kept` can't be copied and compared", named) for what, named in (
+            *((what, keeping(what), "what `me` keeps can't be copied and compared", named) for what, named in (
                 ("(n for n in [1])", "generator"), ("open(__file__)", "TextIOWrapper"),
                 ("{1: [lambda: 0, (n for n in [1])]}", "generator"))),
             ("a place for each node in one variable", "KEPT = {}\n" + FLOOD.replace("me.best", "KEPT[me.id]"), twice),
