@@ -7,28 +7,11 @@ from lab.definitions.nodes import Colouring
 from lab.schedules.reading import network_of
 from lab.schedules.ruled_rounds import ruled, smallest_wrong
 from lab.schedules.rules import ALL
-from lab.schedules.space import Space, TooMany
+from lab.schedules.space import Space
 from lab.wrong import Wrong
 
 MAX_STATES = 200_000
 BROKEN_STATES = 20_000, 60_000, MAX_STATES
-
-
-class CutSpace(Space):
-    """A search that ends at its limit: states beyond `expanded` have no steps, and `is_cut` says that there are
-    some."""
-
-    is_cut = False
-
-    def search(self, progress):
-        try:
-            super().search(progress)
-        except TooMany:
-            self.is_cut = True
-            self.expanded = len(self.first) - 1
-            del self.target[self.first[-1]:], self.event_of[self.first[-1]:]
-            for key in [key for key in self.faults if key[0] >= self.expanded]:
-                del self.faults[key]
 
 
 def space_of(network, kind, without=(), beyond=False, program=Colouring, progress=None):
@@ -37,16 +20,16 @@ def space_of(network, kind, without=(), beyond=False, program=Colouring, progres
     now and then how many states and events there are so far."""
     if without and beyond:
         for limit in BROKEN_STATES:
-            space = CutSpace(network_of(network), without, limit, beyond=True, progress=progress, program=program)
+            space = Space(network_of(network), without, limit, beyond=True, progress=progress, program=program)
             if space.faults or not space.is_cut:
                 break
         return space
-    try:
-        return Space(network_of(network), without, MAX_STATES + 1, progress=progress, program=program)
-    except TooMany:
+    space = Space(network_of(network), without, MAX_STATES, progress=progress, program=program)
+    if space.is_cut:
         raise Wrong(
             f"{kind} draws at most {MAX_STATES:,} states, and {network.name} has more: leave out an edge or a node"
-        ) from None
+        )
+    return space
 
 
 def broken_rounds(network, without, program=Colouring):

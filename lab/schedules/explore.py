@@ -11,7 +11,7 @@ from lab.definitions.programs import add_program, check_root, note_ignored_bars,
 from lab.schedules.reading import network_at
 from lab.schedules.ruled_rounds import ruled, smallest_wrong
 from lab.schedules.rules import ALL, OF_SCHEDULES, program_of, table, unknown_to
-from lab.schedules.space import Space, TooMany
+from lab.schedules.space import Space
 from lab.words import add_output, count, counted, parser_of, write
 from lab.wrong import Wrong
 
@@ -178,14 +178,15 @@ def searched(given, net):
     note_ignored_bars("explore", net.barred, program)
     check_repeats(net, program)
     try:
-        return Space(net, given.without, given.limit, given.puts, False, progress if show else None, given.reduce,
-                     program)
-    except TooMany:
-        raise Wrong(f"there are more than {given.limit:,} states: use --limit for more, "
-                    f"at some {BYTES_A_STATE} bytes each") from None
+        space = Space(net, given.without, given.limit, given.puts, False, progress if show else None, given.reduce,
+                      program)
     finally:
         if show:
             sys.stderr.write("\r\033[K")
+    if space.is_cut:
+        raise Wrong(f"there are more than {given.limit:,} states: use --limit for more, "
+                    f"at some {BYTES_A_STATE} bytes each")
+    return space
 
 
 def whole_text(given, name, space):

@@ -5,8 +5,8 @@
 `net` is a network of the definitions, and `program` what its nodes run. A put is made as soon as it can be, so that a
 state has no wires that wait to be put; `puts=True` counts puts apart, as events of their own. `without` has rules of
 rules.OF_SCHEDULES. With a rule left out the search ends at the first event that goes wrong, which a shortest list of
-events leads to; `beyond=True` goes on, from wherever the program doesn't refuse. More than `limit` states raise
-`TooMany`.
+events leads to; `beyond=True` goes on, from wherever the program doesn't refuse. If there are more than `limit` states
+it ends there, and `is_cut`: states from `expanded` on have no steps.
 
 With `reduce`, a safe or a close that comes next on its link is taken at once and alone, which leaves most states out
 (see `alone`). What each pulse finds, what is refused, and the ends stay; the number of schedules, shortest lists, how
@@ -75,10 +75,6 @@ class Numbered(list):
             self.places[key] = len(self)
             self.append(thing)
         return self.places[key]
-
-
-class TooMany(Exception):
-    """There are more states than the limit allows."""
 
 
 class Space:
@@ -195,7 +191,7 @@ class Space:
         self.states, self.number = [start], {start: 0}
         self.depth, self.from_state, self.from_event = array("I", [0]), array("I", [0]), array("I", [0])
         said, s = time.monotonic(), 0
-        while s < len(self.states):
+        while s < len(self.states) and not self.is_cut:
             if self.faults and not self.beyond and self.depth[s] > self.depth[next(iter(self.faults))[0]]:
                 break
             self.expand(s)
@@ -258,8 +254,6 @@ class Space:
         t = self.number.get(state)
         if t is None:
             t = self.number[state] = len(self.states)
-            if t >= self.limit:
-                raise TooMany(t)
             self.states.append(state)
             self.depth.append(self.depth[s] + 1)
             self.from_state.append(s)
@@ -271,6 +265,10 @@ class Space:
     @property
     def count(self):
         return len(self.states)
+
+    @property
+    def is_cut(self):
+        return self.count > self.limit
 
     def steps(self, s):
         return [(self.events[self.event_of[k]], None if self.target[k] == REFUSED else self.target[k])

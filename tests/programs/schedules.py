@@ -11,7 +11,7 @@ from lab.definitions.colours import colours, network_of
 from lab.definitions.nodes import NetState, last_pulse
 from lab.definitions.values import frozen
 from lab.schedules import ruled_rounds, rules
-from lab.schedules.space import Space, TooMany
+from lab.schedules.space import Space
 from tests import TOP
 from tests.cases import Case, called, said_by, text_in
 from tests.programs.events import answer_of
@@ -299,5 +299,5 @@ class Schedules(Case):
         self.note("explore at the limit", explored("examples/triangle.col", "--limit", "16473")[0] == 0)
         said = explored("--help")[1]
         self.note("explore --help", all(f"  {word} " in said for word in rules.ALL), said)
-        with self.subTest("more states than the limit"), self.assertRaises(TooMany):
-            Space(net_of("two"), limit=280)
+        cut = Space(net_of("two"), limit=280)
+        self.note("more states than the limit", cut.is_cut and cut.expanded < cut.count, cut.count)
