@@ -313,20 +313,19 @@ class NetState:
             raise Refused("NothingToPut" if kind == "Put" else "LinkEmpty")
         return wires[0]
 
-    def step(self, kind: str, v: int, port: int | None = None, what: int | Wire | None = None) -> Wire | None:
-        """Makes an event that is possible, and carries this if that is given; returns the wire that was put or
-        taken."""
-        wire = self.carried(kind, v, port)
-        if what not in (None, wire):
+    def step(self, kind: str, v: int, port: int | None = None, what: int | Wire | None = None) -> int | Wire:
+        """Makes an event that is possible, and carries this if that is given; returns what it carries."""
+        carried = self.carried(kind, v, port)
+        if what not in (None, carried):
             raise Refused("WrongWire")
         if kind == "Pulse":
-            return self.nodes[v].pulse()
-        if kind == "Put":
+            self.nodes[v].pulse()
+        elif kind == "Put":
             self.link[v, port].append(self.nodes[v].ports[port].out.pop(0))
         else:
-            self.nodes[v].on_wire(port, wire)
+            self.nodes[v].on_wire(port, carried)
             self.link_to(v, port).pop(0)
-        return wire
+        return carried
 
     def possible(self) -> Iterator[Event]:
         """All events that are possible now."""

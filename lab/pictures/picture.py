@@ -28,7 +28,7 @@ from lab.pictures.watch_page import steps_of_text
 from lab.schedules.reading import network_of
 from lab.schedules.rules import (OF_ANY_ROUNDS, OF_PROGRAMS as RULES_OF_PROGRAMS, OF_SCHEDULES, program_of,
                                  unknown_to)
-from lab.schedules.simulate import played, text_of_rows
+from lab.schedules.simulate import played, text_of_run
 from lab.words import add_command, add_options, add_output, called, parser_of, text_at, write
 from lab.wrong import Wrong, at_most
 
@@ -457,7 +457,7 @@ def run_text(given, network, network_text, program):
     if wires > MANY_WIRES:
         note(f"a run of {network.name} has more than {wires:,} wires, so its text takes a while")
     if is_own(program):
-        return text_of_rows(network.nodes, played(network_of(network), program=program), program)
+        return text_of_run(network.nodes, played(network_of(network), program=program), program)
     options = [f"--{name}={value}" for name in ("workers", "capacity") if (value := getattr(given, name, None))]
     if program is Colouring:
         return programs.text_of("forestplan", ["transcript", *options], network_text)

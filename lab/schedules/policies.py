@@ -53,19 +53,25 @@ WAITS = {"slow-link": lambda step, edge: tuple(sorted(step.link)) == edge,
 
 class Policy:
     """Chooses steps by one of the POLICIES. `vertices` and `edges` (pairs, the lower vertex first) are the network's;
-    `chosen` is the edge or the node that waits or comes first, or None."""
+    `chosen` is the edge or the node that waits or comes first, or None. Whatever the policy is, what goes over a `slow`
+    edge and what a `lazy` node does waits until no other step is possible."""
 
-    def __init__(self, name: str, vertices: Sequence[int], edges: Sequence[tuple[int, int]], seed: str):
+    def __init__(self, name: str, vertices: Sequence[int], edges: Sequence[tuple[int, int]], seed: str, slow=(),
+                 lazy=()):
         # Of a seed's generator only random() gives the same numbers in all versions of Python.
         self.name, self.source, self.last = name, random.Random(f"{seed} {name}"), ((0, 0), "")
         among = edges if name == "slow-link" else vertices if name.endswith("-node") else ()
         self.chosen = self.any_of(list(among)) if among else None
+        self.slow, self.lazy = {tuple(sorted(edge)) for edge in slow}, set(lazy)
 
     def any_of(self, things: Sequence):
         return things[int(self.source.random() * len(things))]
 
     def choose(self, steps: Sequence[Step]) -> Step:
         """One of the steps, of which there is at least one."""
+        if self.slow or self.lazy:
+            steps = [step for step in steps if not (step.node in self.lazy or tuple(sorted(step.link)) in self.slow)
+                     ] or steps
         if self.name == "newest":
             return max(steps, key=lambda step: step.latest)     # it pulls the older wires of its link with it
         if self.name == "oldest":

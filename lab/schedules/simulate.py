@@ -6,14 +6,15 @@ import re
 import sys
 from collections import deque
 
-from lab.definitions.nodes import Colouring, NetState, Refused, missing_words, wire_words
+from lab.definitions.nodes import Colouring, NetState, Refused, missing_words
 from lab.definitions.own_program import check_repeats
 from lab.definitions.programs import add_program, check_root, note_ignored_bars, program_at
 from lab.networks.fields import shown
 from lab.schedules.policies import POLICIES, Policy, Step
 from lab.schedules.reading import network_at
+from lab.schedules.ruled_node import RuledNode
 from lab.transcripts.fields import first_line
-from lab.transcripts.reading import Entry
+from lab.transcripts.reading import Entry, line_of
 from lab.transcripts.stamps import Clock, unfinished
 from lab.words import add_output, add_seed, called, parser_of, text_at, write
 from lab.wrong import Wrong, wrong_line
@@ -60,27 +61,17 @@ Examples:
 EVENT = re.compile(r"(pulse) ([0-9]{1,10})|(put(?! \S+ \S+ )|take) ([0-9]{1,10}) ([0-9]{1,10})(?: ([0-9]{1,10}))?")
 
 
-class Held:
-    """A policy, beside which the steps on slow edges and of lazy nodes wait until no other is possible."""
-
-    def __init__(self, policy, slow=(), lazy=()):
-        self.policy, self.slow, self.lazy = policy, {pair for v, w in slow for pair in ((v, w), (w, v))}, set(lazy)
-
-    def waits(self, step):
-        return step.node in self.lazy or (step.node, step.neighbour) in self.slow
-
-    def choose(self, steps):
-        return self.policy.choose([step for step in steps if not self.waits(step)] or steps)
-
-
 class Player:
-    """A run on its way. `steps[v]` are the steps that are possible at v; `since[kind, v, w]` has for each wire that can
-    be put or taken, and for a pulse, how many steps were made when it came there."""
+    """A run on its way, whose entries are `made`; the nodes may be `without` rules. `steps[v]` are the steps that are
+    possible at v; `since[kind, v, w]` has for each wire that can be put or taken, and for a pulse, how many entries
+    were made when it came there."""
 
-    def __init__(self, net, program=Colouring):
+    def __init__(self, net, program=Colouring, without=()):
         check_repeats(net, program)
-        self.state, self.now, self.rows = NetState(net, program), 0, []
-        self.clock, self.since, self.steps = Clock(net.neighbours), {}, {}
+        self.state, self.clock, self.made = NetState(net, program), Clock(net.neighbours), []
+        self.since, self.steps = {}, {}
+        if without:
+            self.state.nodes = {v: RuledNode(net, v, without, program) for v in net.neighbours}
         for v in sorted(self.state.nodes):
             self.look_at(v)
 
@@ -94,36 +85,26 @@ class Player:
             times = self.since.setdefault((kind, v, w), deque())
             if len(times) > len(wires):
                 times.popleft()
-            times.extend([self.now] * (len(wires) - len(times)))
+            times.extend([len(self.made)] * (len(wires) - len(times)))
             if wires:
                 latest = times[-1] if kind == "take" else times[0]
                 self.steps[v].append(Step(kind, v, w, wires[0][0].lower(), times[0], latest))
 
-    def make(self, step):
-        """One of the steps; adds its row (stamp, vertex, line), and returns its entry."""
-        self.now += 1
-        v, w, kind = step.node, step.neighbour, step.kind.title()
-        wire = self.state.step(kind, v, self.state.port_to[v, w] if w else None)
-        what = wire if w else self.state.nodes[v].pulse_number
-        words = f"{v} {step.kind} {w} {wire_words(wire)}" if w else f"{v} pulse {what}"
-        stamp = self.clock.next(kind, v, w)
-        self.rows.append((stamp, v, words))
+    def make(self, kind, v, port=None):
+        """Makes an event, and returns its entry; raises `Refused` if it isn't possible."""
+        what, w = self.state.step(kind.title(), v, port), None if port is None else self.state.neighbours[v][port]
+        entry = Entry(None, v, kind.title(), w, what, self.clock.next(kind.title(), v, w))
+        self.made.append(entry)
         self.look_at(v)
-        if step.kind == "put":
+        if kind == "put":
             self.look_at(w)
-        return Entry(None, v, kind, w or None, what, stamp)
-
-    def step_of(self, kind, v, port):
-        """The step of an event; raises `Refused` if it isn't possible."""
-        self.state.carried(kind.title(), v, port)
-        w = 0 if port is None else self.state.neighbours[v][port]
-        return next(step for step in self.steps[v] if (step.kind, step.neighbour) == (kind, w))
+        return entry
 
     def play_events(self, events, name):
         """The events of a list, as `events_of` has them."""
         for line, kind, v, port, _ in events:
             try:
-                self.make(self.step_of(kind, v, port))
+                self.make(kind, v, port)
             except Refused as refused:
                 words = f"{kind} {v}" + ("" if port is None else f" {port}")
                 missing = missing_words(self.state, kind.title(), v, port)
@@ -133,12 +114,8 @@ class Player:
         """The entries from here until nothing is possible, each as soon as it is made: so a caller can look at the
         state between them, report how far the run is, or stop."""
         while steps := [step for own in self.steps.values() for step in own]:
-            yield self.make(policy.choose(steps))
-
-    def play(self, policy):
-        """Goes on until nothing is possible."""
-        for _ in self.entries(policy):
-            pass
+            step = policy.choose(steps)
+            yield self.make(step.kind, step.node, self.state.port_to.get((step.node, step.neighbour)))
 
 
 def edges_of(net):
@@ -146,12 +123,12 @@ def edges_of(net):
 
 
 def played(net, policy="random", seed="1", slow=(), lazy=(), player=None, program=Colouring):
-    """The rows (stamp, vertex, line) of a run of a program on a network of the definitions, in the order in which they
-    were made; `player` may be on its way."""
+    """The entries of a run of a program on a network of the definitions, in the order in which they were made; `player`
+    may be on its way."""
     player = player or Player(net, program)
-    chooser = Policy(policy, sorted(net.neighbours), edges_of(net), seed)
-    player.play(Held(chooser, slow, lazy) if slow or lazy else chooser)
-    return player.rows
+    for _ in player.entries(Policy(policy, sorted(net.neighbours), edges_of(net), seed, slow, lazy)):
+        pass
+    return player.made
 
 
 def events_of(text, name, overtakes=False):
@@ -172,9 +149,9 @@ def events_of(text, name, overtakes=False):
         yield (line, pulse, int(node), None, 0) if pulse else (line, kind, int(v), int(port), int(place or 0))
 
 
-def text_of_rows(nodes, rows, program=Colouring):
+def text_of_run(nodes, entries, program=Colouring):
     """The transcript with stamps of a program: its lines by stamp, and lines of one stamp by node."""
-    lines = [f"{stamp} {line}" for stamp, _, line in sorted(rows, key=lambda row: row[:2])]
+    lines = [f"{entry.stamp} {line_of(entry)}" for entry in sorted(entries, key=lambda one: (one.stamp, one.vertex))]
     return "".join(line + "\n" for line in [first_line(nodes, program.name), *lines])
 
 
@@ -213,8 +190,8 @@ def check_names(name, net, given):
             raise Wrong(f"{name} has no node {v}: its nodes are 1 to {len(net.neighbours)}")
 
 
-def rows_asked(net, given, program):
-    """The rows of the run that the command line asks for; a list that ends early is said."""
+def run_asked(net, given, program):
+    """The entries of the run that the command line asks for; a list that ends early is said."""
     note_ignored_bars("simulate", net.barred, program)
     if not given.events:
         return played(net, given.policy, given.seed, given.slow, given.lazy, program=program)
@@ -224,7 +201,7 @@ def rows_asked(net, given, program):
         return played(net, given.policy, given.seed, given.slow, given.lazy, player)
     if left := next(unfinished(player.state), None):
         print(f"simulate: after the last event {left[1]}; --to-the-end plays the rest", file=sys.stderr)
-    return player.rows
+    return player.made
 
 
 def main(words):
@@ -238,6 +215,6 @@ def main(words):
     check_names(name, net, given)
     program = program_at(given.program, given.lots, given.root, given.passes)
     check_root(program, len(net.neighbours))
-    write(given, text_of_rows(len(net.neighbours), rows_asked(net, given, program), program))
+    write(given, text_of_run(len(net.neighbours), run_asked(net, given, program), program))
     return 0
 

@@ -8,30 +8,28 @@ import re
 
 from lab.definitions.nodes import Colouring, Refused, wire_words
 from lab.schedules.policies import Step
-from lab.schedules.ruled_node import Rounds, RuledNode
+from lab.schedules.ruled_node import Rounds
 from lab.schedules.simulate import Player, events_of
 from lab.wrong import Wrong, wrong_line
 
 
 class Stepwise(Player):
-    """`made` are the steps so far, `lines` the events as `forestplay events` reads them. `fault` says what went wrong
+    """`chosen` are the steps so far, `lines` the events as `forestplay events` reads them. `fault` says what went wrong
     first; after `is_over` nothing goes on, since a program has refused what came."""
 
     def __init__(self, net, program=Colouring, without=()):
-        super().__init__(net, program)
-        self.without, self.made, self.lines = without, [], []
+        super().__init__(net, program, without)
+        self.without, self.chosen, self.lines = without, [], []
         self.said, self.fault, self.is_over = "", None, False
         self.rounds = Rounds(net, program) if without else None
-        if without:
-            self.state.nodes = {v: RuledNode(net, v, without, program) for v in net.neighbours}
         for v in self.state.nodes:
             self.put_all(v)
 
     def put_all(self, v):
-        self.look_at(v)
-        while puts := [step for step in self.steps[v] if step.kind == "put"]:
-            self.lines.append(f"put {v} {self.state.port_to[v, puts[0].neighbour]}")
-            self.make(puts[0])
+        for port, other in enumerate(self.state.nodes[v].ports):
+            while other.out:
+                self.lines.append(f"put {v} {port}")
+                self.make("put", v, port)
 
     def words_on(self, v, w):
         """What the link from v to w holds, in words."""
@@ -82,44 +80,45 @@ class Stepwise(Player):
     def step(self, step: Step, place: int = 0):
         """One step, and the puts that it makes possible."""
         v, w, node = step.node, step.neighbour, self.state.nodes[step.node]
-        fault = None
+        port, fault = self.state.port_to.get((v, w)), None
         if w:
-            wires = self.state.link_to(v, self.state.port_to[v, w])
+            wires = self.state.link_to(v, port)
             wires.insert(0, wires.pop(place))
             self.said = f"node {v} takes {wire_words(wires[0])} from {w}"
         else:
             self.said = f"node {v} makes pulse {node.pulse_number + 1}"
             if self.rounds:
                 fault, self.is_over = node.fault_of_pulse(v, self.rounds)
-        self.made.append("-".join(map(str, [v, *[w] * bool(w), *[place] * bool(place)])))
-        self.lines.append(f"take {v} {self.state.port_to[v, w]}" + f" {place}" * bool(place) if w else f"pulse {v}")
+        self.chosen.append("-".join(map(str, [v, *[w] * bool(w), *[place] * bool(place)])))
+        self.lines.append(f"take {v} {port}" + f" {place}" * bool(place) if w else f"pulse {v}")
         self.fault = self.fault or fault
         if not self.is_over:
             try:
-                self.make(step)
+                self.make(step.kind, v, port)
                 self.put_all(v)
             except Refused:
                 self.is_over, self.fault = True, self.fault or f"node {v} can't take what came from {w}"
 
-    def free(self, held):
-        """The steps that can come next and that nothing holds: of a node that waits its pulse is held, and no more."""
+    def free(self, slow, lazy):
+        """The steps that can come next and that nothing holds: what goes over a slow edge, (v, w) with v < w, and the
+        pulse of a node that waits."""
         return [step for own in self.steps.values() for step in own if not (
-            step.node in held.lazy if step.kind == "pulse" else (step.node, step.neighbour) in held.slow)]
+            step.node in lazy if step.kind == "pulse" else tuple(sorted(step.link)) in slow)]
 
-    def by_chance(self, count, seed, held):
+    def by_chance(self, count, seed, slow, lazy):
         """As many steps more, each as likely as any other."""
-        source = random.Random(f"{seed} {len(self.made)}")
+        source = random.Random(f"{seed} {len(self.chosen)}")
         for _ in range(count):
-            steps = self.free(held)
+            steps = self.free(slow, lazy)
             if self.is_over or not steps:
                 return
             self.step(steps[int(source.random() * len(steps))])
 
-    def in_step(self, held):
+    def in_step(self, slow, lazy):
         """All nodes make one pulse: what can come comes first, and then those that are behind make theirs."""
         goal, last = 1 + self.lowest(), self.state.nodes[1].last
         while not self.is_over and not (goal <= last and self.lowest() >= goal):
-            steps = self.free(held)
+            steps = self.free(slow, lazy)
             takes = [step for step in steps if step.kind == "take"]
             behind = [step for step in steps if step.kind == "pulse"
                       and self.state.nodes[step.node].pulse_number < goal]

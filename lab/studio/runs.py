@@ -7,10 +7,11 @@ from lab.pictures.watch_page import MOST_ENTRIES, Run, Steps, look_of, steps_of_
 from lab.schedules.policies import POLICIES, Policy
 from lab.schedules.reading import network_of
 from lab.schedules.rules import OF_SCHEDULES
-from lab.schedules.simulate import Held, Player, edges_of, events_of, text_of_rows
+from lab.schedules.simulate import Player, edges_of, events_of, text_of_run
 from lab.schedules.stepwise import Stepwise
 from lab.studio.asked import MOST_DRAWN, MOST_RUN, OPENED, network_asked, pairs_asked, program_asked, rules_asked
 from lab.studio.judges import beginning_judged, by_definitions, judged, text_from
+from lab.transcripts.reading import line_of
 from lab.wrong import Wrong
 
 # More wires than this are played by threads alone: the slow definitions would take minutes.
@@ -37,21 +38,22 @@ def played(asked, network, program, tell):
         raise Wrong(f"a run has more than {most:,} wires: take the threads, since a seeded run is played slowly")
     if asked["policy"] not in POLICIES:
         raise Wrong(f"there is no policy {asked['policy']}")
-    chooser = Policy(asked["policy"], sorted(net.neighbours), edges_of(net), str(asked.get("seed", "1")))
-    policy, player = Held(chooser, *held_of(asked, net)), Player(net, program)
+    policy = Policy(asked["policy"], sorted(net.neighbours), edges_of(net), str(asked.get("seed", "1")),
+                    *held_of(asked, net))
+    player = Player(net, program)
     made = Steps(player.state)
     for step in first_steps(asked, net, program):
-        made.add(player.make(player.step_of(*step)))
+        made.add(player.make(*step))
     # About: twice a wire for each of its puts and takes, and as many again for the payloads and their acknowledgements.
     of, next_part = 2 * most + len(net.neighbours) * last_pulse(network, program), PART
     for entry in player.entries(policy):
         made.add(entry)
-        if not player.now % 200:
-            tell(min(player.now, of), of)
-        if player.now == next_part:
+        if not len(player.made) % 200:
+            tell(min(len(player.made), of), of)
+        if len(player.made) == next_part:
             next_part *= 2
             tell(part=shown(Run("the run", network, made.by_stamp())))
-    return text_of_rows(network.nodes, player.rows, program), Run("the run", network, made.by_stamp())
+    return text_of_run(network.nodes, player.made, program), Run("the run", network, made.by_stamp())
 
 
 def first_steps(asked, net, program):
@@ -105,7 +107,7 @@ def singled_out(asked, network):
     if asked.get("transcript") or asked.get("how") == "threads":
         return None
     policy = Policy(asked["policy"], network.vertices, network.edges, str(asked.get("seed", "1")))
-    of = getattr(policy, "slow", None) or getattr(policy, "fast", None)
+    of = policy.chosen
     return of and (f"node {of}" if isinstance(of, int) else "the link {}–{}".format(*of))
 
 
@@ -148,20 +150,20 @@ def steps(asked, _tell):
         player.follow_list(str(asked["list"]))
     else:
         player.follow(str(asked.get("steps") or "").split("_"))
-    if len(player.made) > MOST_STEPS:
+    if len(player.chosen) > MOST_STEPS:
         raise Wrong(f"at most {MOST_STEPS:,} steps are made by hand; No clock plays the rest")
-    held = Held(None, *held_of(asked, net))
+    held = held_of(asked, net)
     if asked.get("by"):
-        player.by_chance(min(int(asked["by"]), MOST_BY_CHANCE), str(asked.get("seed", "1")), held)
+        player.by_chance(min(int(asked["by"]), MOST_BY_CHANCE), str(asked.get("seed", "1")), *held)
     if asked.get("in_step"):
-        player.in_step(held)
+        player.in_step(*held)
     wires = [[v, w, player.words_on(v, w)] for v in network.vertices for w in network.neighbours[v]]
     told = {
-        "made": player.made, "steps": [] if player.is_over else player.possible(), "last": player.state.nodes[1].last,
+        "made": player.chosen, "steps": [] if player.is_over else player.possible(), "last": player.state.nodes[1].last,
         "looks": [look_of(player.state, v) for v in network.vertices], "wires": [row for row in wires if row[2]],
         "said": player.said, "fault": player.fault, "over": player.is_over, "list": player.lines,
-        "entries": len(player.rows)}
+        "entries": len(player.made)}
     if asked.get("without") or player.is_over:
         return told
-    rows = [line for _, _, line in player.rows]
-    return told | {"judge": beginning_judged(network, asked["network"], rows, program)}
+    lines = [line_of(entry) for entry in player.made]
+    return told | {"judge": beginning_judged(network, asked["network"], lines, program)}

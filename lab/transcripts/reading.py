@@ -115,6 +115,13 @@ def head_of(lines):
     raise Wrong(line, "X1", f"neither `transcript 1 N`, `transcript 2 N` nor `transcript 3 NAME N`{what}")
 
 
+def line_of(entry):
+    """An entry as a transcript has it, without its stamp."""
+    if entry.kind == "Pulse":
+        return f"{entry.vertex} pulse {entry.what}"
+    return f"{entry.vertex} {entry.kind.lower()} {entry.neighbour} {wire_words(entry.what)}"
+
+
 def words(entry):
     """An entry in words."""
     if entry.kind == "Pulse":

@@ -46,7 +46,7 @@ def played(net, rows):
         wires = []
         for kind, v, _, port in re.findall(r"(Pulse|Put|Take)\((\d+)(,(\d+))?\)", row[1]):
             wire = state.step(kind, int(v), int(port) if port else None)
-            wires += [f"`{text_of_wire(wire)}`"] if wire else []
+            wires += [f"`{text_of_wire(wire)}`"] if port else []
         pulses = ", ".join(str(node.pulse_number) for _, node in sorted(state.nodes.items()))
         wanted.append([row[1], " ".join(wires), pulses])
     return wanted

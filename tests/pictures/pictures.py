@@ -128,9 +128,9 @@ class Pictures(PictureCase):
     def test_stamped(self):
         """A transcript of edition 2 is drawn as the same entries without stamps are, but for what the caption says of
         time."""
-        lines = made_transcript(random.Random(SEED), network_of(APART), 4)
+        entries = made_transcript(random.Random(SEED), network_of(APART), 4)
         for kind in OF_RUNS:
-            wanted, got = (self.drawn(kind, APART, text=text_of(5, lines)).split("\n")
+            wanted, got = (self.drawn(kind, APART, text=text_of(5, entries)).split("\n")
                            for text_of in (transcript_text, merged_text))
             others = [one for one, other in zip(got, wanted) if one != other]
             good = len(wanted) == len(got) and len(others) == (kind in ("run", "overview"))

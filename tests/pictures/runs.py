@@ -14,7 +14,7 @@ from tests.cases import called, example
 from tests.pictures.base import PictureCase, transcript
 from tests.pictures.counted import fields_of, played
 from tests.pictures.marks import SVG, centre, ends, marks, number, parsed, texts, title, titles, words
-from tests.programs.made_transcripts import entries_of, transcript_text
+from tests.programs.made_transcripts import entries_of
 from tests.settings import PLAN
 
 WIRES = ("payload", "ack", "safe", "close")
@@ -209,7 +209,7 @@ class Runs(PictureCase):
         rows = [" ".join(row) for _, *row in fields_of(stamped)]
 
         def by_vertex(rows):
-            return transcript_text(10, {v: [row for row in rows if row.startswith(f"{v} ")] for v in net.neighbours})
+            return "\n".join(["transcript 1 10", *sorted(rows, key=lambda row: int(row.split()[0])), ""]).encode()
 
         text, short = by_vertex(rows), by_vertex(rows[:max(rows.index(f"{v} pulse 60") for v in net.neighbours)])
         self.note("a long text is long", len(rows) > 100_000, len(rows))

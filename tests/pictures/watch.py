@@ -11,7 +11,7 @@ from lab.networks.network_text import read_network
 from lab.pictures import watch_page
 from lab.pictures.watch_page import Run, Steps, steps_of_text
 from lab.schedules.policies import Policy
-from lab.schedules.simulate import Player, edges_of, text_of_rows
+from lab.schedules.simulate import Player, edges_of, text_of_run
 from tests.cases import example
 from tests.pictures.base import PictureCase, transcript
 from tests.pictures.counted import fields_of, played
@@ -87,7 +87,7 @@ class Watch(PictureCase):
             steps, policy = Steps(player.state), Policy("random", sorted(net.neighbours), edges_of(net), "watch")
             for entry in islice(player.entries(policy), most):
                 steps.add(entry)
-            text = text_of_rows(network.nodes, player.rows)
+            text = text_of_run(network.nodes, player.made)
             ours, wanted = (Run("run", network, found) for found in (
                 steps.by_stamp(), steps_of_text("run", network, text)))
             self.same(f"a player of {name} after {most} entries", (ours.table(), ours.pulses, ours.is_whole),

@@ -2,11 +2,11 @@
 import random
 
 from lab.definitions.colours import network_of, plan_text
-from lab.definitions.nodes import NetState
+from lab.schedules.simulate import Player
+from lab.transcripts.reading import line_of
 from tests.cases import text as text_of_lines
 from tests.commands import COMMANDS
 from tests.programs.events import random_events
-from tests.programs.made_transcripts import line_of
 from tests.programs.plain_networks import long_names, pairs_of, some_bars, text_of
 
 POWERS = [2**16, 2**31, 2**32, 2**63, 2**64, 2**127, 2**128, 2**129, 10**60, 1023, 1024, 2048, 20_000]
@@ -61,9 +61,10 @@ def behind(source, command, net, network):
     if command == "events":
         return [" ".join(str(word) for word in (kind.lower(), *at) if word is not None).encode()
                 for kind, *at in events]
-    state = NetState(net)
-    possible = events[:-1] if events else []
-    return [b"transcript 1 %d" % len(net.neighbours)] + [line_of(state, event).encode() for event in possible]
+    player = Player(net)
+    for kind, *at in events[:-1]:
+        player.make(kind.lower(), *at)
+    return [b"transcript 1 %d" % len(net.neighbours)] + [line_of(entry).encode() for entry in player.made]
 
 
 def plan_text_lines(source, network):

@@ -1,30 +1,29 @@
 """Transcripts made from the definitions (lab/definitions/nodes.py) under random schedules, and texts of them with one
 thing spoiled.
 
-A transcript is held as its entries' lines without line feeds, each node's in its own order."""
+A run is held as its entries (lab/transcripts/reading.py), in the order in which they were made."""
 import re
 from collections import deque
 
-from lab.definitions.nodes import NetState, wire_words
-from lab.transcripts.stamps import Clock
+from lab.schedules.simulate import Player, text_of_run
+from lab.transcripts.reading import line_of
 
 MOST_LOOKS, MOST_TAKES = 10_000_000, 4
 PAYLOADS = ("hello", "label", "colour", "chosen", "free", "take", "joined", "anew", "hops", "best", "Take")
 
 
 def made_transcript(source, net, capacity):
-    """The lines of each vertex in a whole run in which no link ever holds more wires than its capacity. Some nodes are
-    slow; a node that is looked at makes a turn as on a worker thread, or some of its events."""
-    state, lines = NetState(net), {v: [] for v in net.neighbours}
+    """The entries of a whole run in which no link ever holds more wires than its capacity. Some nodes are slow; a node
+    that is looked at makes a turn as on a worker thread, or some of its events."""
+    player = Player(net)
     look = source.choice((turn, some_events))
     at_work = [v for v in net.neighbours for _ in range(source.choice((1, 2, 8)))]
     for _ in range(MOST_LOOKS):
         if not at_work:
-            return lines
+            return player.made
         v = source.choice(at_work)
-        made = [line_of(state, event) for event in look(source, state, v, capacity)]
-        lines[v] += made
-        if made and state.nodes[v].drained():
+        made = [player.make(*event) for event in look(source, player.state, v, capacity)]
+        if made and player.state.nodes[v].drained():
             at_work = [w for w in at_work if w != v]
     raise AssertionError("the run doesn't end")
 
@@ -40,66 +39,37 @@ def turn(_, state, v, capacity):
                 break
             if taken and (other.closed or other.safe and not other.waits):
                 break
-            yield "Take", v, port
+            yield "take", v, port
     if node.can_pulse():
-        yield "Pulse", v, None
+        yield "pulse", v
     for port, other in enumerate(node.ports):
         while other.out and len(state.link[v, port]) < capacity:
-            yield "Put", v, port
+            yield "put", v, port
 
 
 def some_events(source, state, v, capacity):
     """Takes and puts at some of the ports, in any order, with a pulse before or after them if there can be one."""
     node, is_first = state.nodes[v], source.random() < 0.5
     if is_first and node.can_pulse():
-        yield "Pulse", v, None
+        yield "pulse", v
     for port in source.sample(range(len(node.ports)), source.randint(0, len(node.ports))):
         if state.link_to(v, port) and source.random() < 0.7:
-            yield "Take", v, port
+            yield "take", v, port
         if node.ports[port].out and len(state.link[v, port]) < capacity and source.random() < 0.7:
-            yield "Put", v, port
+            yield "put", v, port
     if not is_first and node.can_pulse():
-        yield "Pulse", v, None
+        yield "pulse", v
 
 
-def line_of(state, event):
-    """Makes the event; returns its entry's line."""
-    kind, v, port = event
-    wire = state.step(*event)
-    if kind == "Pulse":
-        return f"{v} pulse {state.nodes[v].pulse_number}"
-    return f"{v} {kind.lower()} {state.neighbours[v][port]} {wire_words(wire)}"
+def transcript_text(nodes, entries):
+    """As the program writes edition 1: the vertices ascend."""
+    lines = [line_of(entry) for entry in sorted(entries, key=lambda entry: entry.vertex)]
+    return "".join(line + "\n" for line in [f"transcript 1 {nodes}", *lines]).encode()
 
 
-def transcript_text(nodes, lines):
-    """As the program writes it: the vertices ascend."""
-    return "".join(line + "\n"
-                   for line in [f"transcript 1 {nodes}"] + [line for v in sorted(lines) for line in lines[v]]).encode()
-
-
-def stamped_rows(lines):
-    """(stamp, vertex, line) of each entry, in the order of edition 2. A node is looked at again once a neighbour has
-    put more."""
-    rows, at, clock, work = [], dict.fromkeys(lines, 0), Clock(lines), list(lines)
-    while work:
-        v = work.pop()
-        for line in lines[v][at[v]:]:
-            _, kind, *others = line.split(" ", 3)
-            w = None if kind == "pulse" else int(others[0])
-            if kind == "take" and not clock.links.get((w, v)):
-                break
-            at[v] += 1
-            rows.append((clock.next(kind.title(), v, w), v, line))
-            if kind == "put":
-                work.append(w)
-    assert len(rows) == sum(map(len, lines.values())), "no order of the entries"
-    return sorted(rows, key=lambda row: row[:2])
-
-
-def merged_text(nodes, lines):
+def merged_text(nodes, entries):
     """As the program writes edition 2."""
-    rows = [f"{stamp} {line}" for stamp, _, line in stamped_rows(lines)]
-    return "".join(line + "\n" for line in [f"transcript 2 {nodes}"] + rows).encode()
+    return text_of_run(nodes, entries).encode()
 
 
 def entries_of(text):
@@ -168,17 +138,17 @@ class Run:
     it takes."""
 
     def __init__(self, net, capacity, looks=None):
-        self.state, self.lines, self.looks = NetState(net), {v: [] for v in net.neighbours}, 0
-        pool = deque(sorted(net.neighbours))
+        self.player, self.nodes, self.looks = Player(net), len(net.neighbours), 0
+        state, pool = self.player.state, deque(sorted(net.neighbours))
         while pool and self.looks != looks:
             self.looks, v = self.looks + 1, pool.popleft()
-            for event in turn(None, self.state, v, capacity):
-                self.lines[v].append(line_of(self.state, event))
-            if not self.state.nodes[v].drained():
+            for event in turn(None, state, v, capacity):
+                self.player.make(*event)
+            if not state.nodes[v].drained():
                 pool.append(v)
 
     def text(self):
-        return transcript_text(len(self.lines), self.lines)
+        return transcript_text(self.nodes, self.player.made)
 
     def merged(self):
-        return merged_text(len(self.lines), self.lines)
+        return merged_text(self.nodes, self.player.made)

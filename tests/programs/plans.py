@@ -85,10 +85,10 @@ class Plans(Case):
         transcript begin so."""
         for capacity, looks, entries, held in FIRST_LOOKS:
             left = Run(network_of(TRIANGLE), capacity, looks)
-            links = {at: [wire_words(wire) for wire in wires] for at, wires in left.state.link.items() if wires}
+            links = {at: [wire_words(wire) for wire in wires] for at, wires in left.player.state.link.items() if wires}
             whole = of_one(TRIANGLE, capacity, 10**9, "transcript")[1].decode().splitlines()
             begun = [line for v in "123" for line in of_node(v, whole)[:len(of_node(v, entries))]]
-            got = [line for _, lines in sorted(left.lines.items()) for line in lines], links, begun
+            got = left.text().decode().splitlines()[1:], links, begun
             self.same(f"the first {looks} looks of one worker with capacity {capacity}", got, (entries, held, entries))
 
     def test_turns(self):

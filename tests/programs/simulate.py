@@ -9,9 +9,9 @@ import re
 import sys
 
 from lab.definitions.colours import colours, network_of
-from lab.definitions.nodes import NetState, last_pulse, wire_words
+from lab.definitions.nodes import NetState, last_pulse, make, wire_words
 from lab.schedules.policies import POLICIES, Policy
-from lab.schedules.simulate import Held, Player, played
+from lab.schedules.simulate import Player, played
 from lab.schedules.space import Space
 from lab.schedules.stepwise import Stepwise
 from lab.transcripts.check import whole_run
@@ -34,23 +34,22 @@ class Waits(Case):
     def test_what_waits(self):
         """What goes over a slow edge, and what a lazy node does, comes only if nothing else is possible."""
         net = network_of(example("chain6"))
-        player, held = Player(net), Held(Policy("bursts", [], [], "1"), slow=[(3, 2)], lazy=[5])
+        player, policy = Player(net), Policy("bursts", [], [], "1", slow=[(3, 2)], lazy=[5])
         while steps := [step for own in player.steps.values() for step in own]:
-            step = held.choose(steps)
+            step = policy.choose(steps)
             waiting = [one for one in steps if one.node == 5 or sorted((one.node, one.neighbour)) == [2, 3]]
             self.note(f"{step}", step not in waiting or len(waiting) == len(steps), steps)
-            player.make(step)
+            player.make(step.kind, step.node, player.state.port_to.get((step.node, step.neighbour)))
 
     def test_how_far_a_slow_edge_lets_others_run(self):
         """By hand: while nothing goes over 2-3 in six in a row, nodes 2 and 3 wait for each other's acknowledgement at
         pulse 0, so 1 and 4 wait for their safe; 5 makes one pulse by 4's safe, and 6 another by 5's."""
         net = network_of(example("chain6"))
         state = NetState(net)
-        for _, v, line in played(net, slow=[(2, 3)], seed="5"):
-            _, kind, w, *_ = (*line.split(" "), "")
-            if kind != "pulse" and {v, int(w)} == {2, 3}:
+        for entry in played(net, slow=[(2, 3)], seed="5"):
+            if {entry.vertex, entry.neighbour} == {2, 3}:
                 break
-            state.step(kind.title(), v, None if kind == "pulse" else state.port_to[v, int(w)])
+            make(state, entry)
         self.assertEqual([node.pulse_number for node in state.nodes.values()], [0, 0, 0, 0, 1, 2])
 
 
@@ -131,10 +130,10 @@ def walk(net, events, source):
     state, lines, entries = NetState(net), [], {v: [] for v in net.neighbours}
     while len(lines) < events and (possible := list(state.possible())):
         kind, v, port = source.choice(possible)
-        wire = state.step(kind, v, port)
+        what = state.step(kind, v, port)
         lines.append(" ".join(str(word) for word in (kind.lower(), v, port) if word is not None))
-        entry = f"{v} pulse {state.nodes[v].pulse_number}" if port is None else (
-            f"{v} {kind.lower()} {state.neighbours[v][port]} {wire_words(wire)}")
+        entry = f"{v} pulse {what}" if port is None else (
+            f"{v} {kind.lower()} {state.neighbours[v][port]} {wire_words(what)}")
         entries[v].append(entry.split())
     return lines, entries, state
 

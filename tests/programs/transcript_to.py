@@ -16,8 +16,7 @@ def call(*words, data=b""):
 
 def made(name):
     net = network_of(example(name))
-    lines = made_transcript(random.Random(f"to {name}"), net, 3)
-    return len(net.neighbours), lines
+    return len(net.neighbours), made_transcript(random.Random(f"to {name}"), net, 3)
 
 
 def line_of(row):
@@ -32,8 +31,8 @@ class Forms(Case):
     def test_json(self):
         """Each row, put together again, is its line; and a take names a put of the same wire to its node."""
         for name in ("two", "triangle", "star"):
-            nodes, lines = made(name)
-            text = merged_text(nodes, lines)
+            nodes, entries = made(name)
+            text = merged_text(nodes, entries)
             status, said, fault = call("json", data=text)
             first, *rows = map(json.loads, said.splitlines())
             self.same(f"{name}: head", (status, fault, first), (0, "", {"edition": 2, "nodes": nodes}))
@@ -72,12 +71,12 @@ class Forms(Case):
             self.same(f"{name}: clocks", (status, fault, found), (0, "", wanted))
 
     def test_refusals(self):
-        nodes, lines = made("two")
-        good = merged_text(nodes, lines)
+        nodes, entries = made("two")
+        good = merged_text(nodes, entries)
         takes = b"".join(line for line in good.splitlines(keepends=True) if b" put " not in line)
         for words, data, wanted, end in (
             (["json", "nowhere"], b"", 1, "transcript: nowhere: No such file or directory\n"),
-            (["json"], transcript_text(nodes, lines), 1, "edition 1 has no order of all entries"),
+            (["json"], transcript_text(nodes, entries), 1, "edition 1 has no order of all entries"),
             (["shiviz"], takes, 1, "LinkEmpty"),
             (["json"], b"plan\n1 1\n", 1, "X1"),
             (["xml"], good, 2, "invalid choice"),

@@ -14,7 +14,7 @@ import time
 from lab.definitions.colours import network_of
 from lab.definitions.nodes import Colouring, last_pulse
 from lab.definitions.programs import PROGRAMS
-from lab.schedules.simulate import played, text_of_rows
+from lab.schedules.simulate import played, text_of_run
 from lab.transcripts.check import Wrong, find_order, in_order, whole_run
 from lab.transcripts.reading import read
 from tests import FORESTLAB
@@ -62,7 +62,7 @@ def edge_lines(v, w):
 
 # 3 payloads of node 1 and 12 of node 2; an acknowledgement of each; 18 safes and a closing mark each: 68 wires, each
 # put and taken; and 18 pulses of each node.
-EDGE_LINES = {1: edge_lines(1, 2), 2: edge_lines(2, 1)}
+EDGE_RUN = "\n".join(["transcript 1 2", *edge_lines(1, 2), *edge_lines(2, 1), ""]).encode()
 EDGE_WHOLE = "whole run of 2 nodes, 172 entries, 15 payloads, 68 wires"
 HELLO_1, HELLO_2 = "payload 0 hello 1", "payload 0 hello 2"
 APART = "transcript 1 2|" + "".join(f"{v} pulse {p}|" for v in (1, 2) for p in range(1, 13))
@@ -269,19 +269,18 @@ class Transcripts(Case):
                 self.same(f"{said} by replay of {transcript!r}", said_by(text(network), text(transcript)),
                           None if said.startswith("whole") else said)
         edge = network_of(text(EDGE))
-        whole = transcript_text(2, EDGE_LINES)
-        self.note("a run of an edge worked by hand", said_of(edge, whole)[0] == EDGE_WHOLE, said_of(edge, whole))
-        merged = merged_text(2, EDGE_LINES)
-        self.same("with stamps", said_of(edge, merged)[0], EDGE_WHOLE)
+        self.same("a run of an edge worked by hand", said_of(edge, EDGE_RUN)[0], EDGE_WHOLE)
+        merged = merged_text(2, find_order(edge, read(EDGE_RUN)[1]).made)
+        self.same("with stamps", (said_of(edge, merged)[0], said_by(text(EDGE), merged)), (EDGE_WHOLE, None))
         self.note("it begins as both greet", merged.startswith(text(GREETED)), merged[:200])
-        lines = whole.split(b"\n")
+        lines = EDGE_RUN.split(b"\n")
         for at in range(len(lines) - 1):
             got = said_of(edge, b"\n".join(lines[:at] + lines[at + 1 :]))
             self.note(f"a run of an edge without line {at + 1}", not got[0].startswith("whole"), got)
 
     def test_checker(self):
         """The checker as a command: from a file, from standard input, in the order found, and refused."""
-        whole, wrong = transcript_text(2, EDGE_LINES), b"transcript 1 2\n1 take 2 close\n"
+        whole, wrong = EDGE_RUN, b"transcript 1 2\n1 take 2 close\n"
         network, transcript = self.file("edge.col", text(EDGE)), self.file("edge.transcript", whole)
         why = "node 1 takes close from 2, and 2 never puts it (is the text cut?)"
         nowhere = f"transcript: {transcript}x: No such file or directory\n".encode()
@@ -311,8 +310,7 @@ class Transcripts(Case):
 
     def test_cut(self):
         """Texts that end too early are refused, and the reader is asked whether the text is cut."""
-        edge, whole = network_of(text(EDGE)), transcript_text(2, EDGE_LINES)
-        lines = whole.split(b"\n")[:-1]
+        edge, lines = network_of(text(EDGE)), EDGE_RUN.split(b"\n")[:-1]
         pulse = lines.index(b"2 pulse %d" % EDGE_LAST)
         said = [said_of(edge, b"\n".join(lines[:count]) + b"\n") for count in range(2, pulse + 1)]
         unasked = [words for _, words in said if not words.endswith("(is the text cut?)")]
@@ -325,14 +323,14 @@ class Transcripts(Case):
         def replay(*words, data):
             return forestlab("transcript", "replay", *words, data=data)
 
-        whole, network = transcript_text(2, EDGE_LINES), self.file("edge.col", text(EDGE[:-1]))
+        whole, network = EDGE_RUN, self.file("edge.col", text(EDGE[:-1]))
         for words, status in (([], 2), ([network, "x", "y"], 2), (["--order", network], 2), ([network, "nowhere"], 1),
                               (["-"], 1)):
             done = replay(*words, data=whole)
             self.note(f"replay {words}", done[:2] == (status, b"") and re.search(
                 rb"^(forestlab )?transcript(: | replay: error: )", done[2], re.M), done)
         self.refusal("replay of a cut text", replay(network, data=whole[:100]), 1, b"cut")
-        taken = {v: sum(f" take {v} " in line for line in EDGE_LINES[3 - v]) for v in (1, 2)}
+        taken = {v: whole.count(b"\n%d take %d " % (3 - v, v)) for v in (1, 2)}
         wanted = "".join(f"node {v} pulse {EDGE_LAST} channel {v}\nlink {v} {3 - v} taken {taken[v]}\n" for v in (1, 2))
         self.same("replay of a run", replay(network, data=whole), (0, wanted.encode(), b""))
 
@@ -382,10 +380,9 @@ class Transcripts(Case):
             kind, run = KINDS[i % len(KINDS)], i // len(KINDS)
             if kind == KINDS[0]:
                 (network, net), program = source.choice(small), PROGRAMS[("colouring", *SEQUELS)[run % 4]]
-                rows = played(net, seed=str(run), program=program)
-                merged = text_of_rows(len(net.neighbours), rows, program).encode()
-                plain = transcript_text(len(net.neighbours), {v: [line for _, u, line in rows if u == v]
-                                                              for v in net.neighbours})
+                entries = played(net, seed=str(run), program=program)
+                merged = text_of_run(len(net.neighbours), entries, program).encode()
+                plain = transcript_text(len(net.neighbours), entries)
             data, least = spoiled(source, kind, merged)
             said, got = said_of(net, data, program)[0], said_by(network, data, "--program", program.name)
             codes.add(said.rpartition(": ")[2])
