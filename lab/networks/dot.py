@@ -186,7 +186,7 @@ def read(text: str, name: str) -> Listed:
         raise Wrong(f"{name}: DOT without an edge, in which commas list nodes: an edge is `a -- b`")
     graph = Graph("DOT", name, ("name",))
     for node, (line, said) in reader.nodes.items():
-        graph.node(line, node, said, [said.pop("name", "")])
+        graph.node(line, node, said)
     for edge in reader.edges:
         graph.edge(*edge)
     graph.keys |= reader.of_all["node"].keys() - {"name"}

@@ -1,11 +1,12 @@
 """A network in GML, as networkx, yEd, Gephi and igraph write it: lists of keys with a number, a string or a list."""
 import html
 import re
+from xml.etree.ElementTree import Element, SubElement
 
 from lab.networks.edge_list import Listed
 from lab.networks.fields import shown
 from lab.networks.graphs import Graph
-from lab.wrong import Wrong, wrong_line
+from lab.wrong import wrong_line
 
 BEGINS = r"\s*(#[^\n]*\n\s*)*((creator|version|comment|directed|label)\s+(\"[^\"]*\"|[0-9.]+)\s+)*graph\s*\["
 TOKEN = re.compile(r'(?P<space>\s+|#[^\n]*)|(?P<mark>[\[\]])|"(?P<string>[^"]*)"|(?P<word>[^\s\[\]"#]+(?=[\s\[\]"]|$))|'
@@ -26,78 +27,42 @@ def tokens_of(text: str):
         line += found.group().count("\n")
 
 
-def tree_of(text: str, name: str) -> list:
-    """Lists of (line, key, value), one inside the other; a value is a text or a list."""
-    inside, open_lists, key, line = [], [], None, 1
+def root_of(text: str, name: str) -> tuple[Element, list[int]]:
+    """The lists as elements, as XML has them, with the first text of each key as an attribute; and the line of each."""
+    inside, lines, key, line = [Element("")], [1], "", 1
     for line, kind, value in tokens_of(text):
-        mark = value if kind in ("mark", "strange") else None
-        if mark == "[" and key is not None:
-            open_lists.append(inside)
-            inside.append((*key, []))
-            inside, key = inside[-1][2], None
-        elif mark == "]" and key is None and open_lists:
-            inside = open_lists.pop()
-        elif mark or key is None and not re.fullmatch("[A-Za-z][0-9A-Za-z_]*", value):
+        mark = value if kind in ("mark", "strange") else ""
+        if mark == "[" and key:
+            inside.append(SubElement(inside[-1], key))
+            lines.append(line)
+        elif mark == "]" and not key and len(inside) > 1:
+            inside.pop()
+        elif mark or key in ("graph", "node", "edge") or not key and not re.fullmatch("[A-Za-z][0-9A-Za-z_]*", value):
             raise wrong_line(name, line, f"GML isn't read on from `{shown(value)}`")
-        elif key is None:
-            key = line, value.lower()
-        else:
-            inside.append((*key, value))
-            key = None
-    if open_lists or key:
-        raise wrong_line(name, line, "GML ends before its last bracket: is the text cut?")
-    return inside
-
-
-def texts_of(entries, name: str, line: int, once: tuple[str, ...]) -> dict:
-    """What the keys of a list say, the first value of each; a list says nothing. Some come at most once."""
-    said: dict[str, str] = {}
-    for _, key, value in entries if isinstance(entries, list) else ():
-        if key in said and key in once:
+        elif key in ("id", "source", "target") and key in inside[-1].attrib:
             raise wrong_line(name, line, f"two values of `{key}`")
-        said.setdefault(key, value if isinstance(value, str) else key)
-    return said
+        elif key:
+            inside[-1].attrib.setdefault(key, value)
+        key = "" if key or mark else value.lower()
+    if len(inside) > 1 or key:
+        raise wrong_line(name, line, "GML ends before its last bracket: is the text cut?")
+    return inside[0], lines
+
+
+def said_of(part: Element) -> dict[str, str]:
+    """What the keys of a node or an edge say, and where a node is drawn; a list says nothing but that it is there."""
+    said = {inner.tag: inner.tag for inner in part} | part.attrib
+    for inner in part.findall("graphics") if part.tag == "node" else ():
+        said |= {key: inner.get(key) for key in "xy"}
+    return {key: said[key] for key in said.keys() - {"graphics", "gid"}} if part.tag == "node" else said
 
 
 def read(text: str, name: str) -> Listed:
     """The nodes and edges of the one graph."""
-    tree = tree_of(text, name)
-    graphs = [value for _, key, value in tree if key == "graph" and isinstance(value, list)]
-    if len(graphs) != 1:
-        raise Wrong(f"{name}: it has {len(graphs)} graphs, and one is read")
-    refuse_others(tree, graphs[0], name)
-    graph, groups = Graph("GML", name), set()
-    for line, key, entries in graphs[0]:
-        if key == "node":
-            said = texts_of(entries, name, line, ("id",))
-            node = said.pop("id", None)
-            if said.pop("isgroup", "") == "1":
-                groups.add(node)
-            labels = [said.pop(word, "") for word in graph.words]
-            drawn = next((value for _, known, value in entries if known == "graphics"), [])
-            place = {known: value for _, known, value in drawn} if isinstance(drawn, list) else {}
-            graph.node(line, node, {known: said[known] for known in said.keys() - {"graphics", "gid"}}, labels,
-                       (place.get("x"), place.get("y")))
-        elif key == "edge":
-            said = texts_of(entries, name, line, ("source", "target"))
-            graph.edge(line, [said.pop(end, None) for end in ("source", "target")], said)
-    labels = {label for said in graph.labels.values() for label in said.values()}
+    graph, (root, lines) = Graph("GML", name), root_of(text, name)
+    graph.read(root, said_of, lines=lines)
+    labels = graph.all_labels
     for line, *ends in graph.found.edges:
         if named := next((end for end in ends if isinstance(end, Quoted) and end in labels), None):
             raise wrong_line(name, line, f"an edge names \"{shown(named)}\", which is a label, too: write ids")
-    graph.leave_groups(groups)
-    return graph.listed(any(part[1:] == ("directed", "1") for part in graphs[0]))
-
-
-def refuse_others(tree: list, graph: list, name: str) -> None:
-    """Refuses nodes and edges that are elsewhere than in the graph, where nobody reads them."""
-    below = [(tree, False)]
-    while below:
-        entries, is_graph = below.pop()
-        for line, key, value in entries:
-            if isinstance(value, list):
-                if key in ("node", "edge") and not is_graph:
-                    raise wrong_line(name, line, f"`{key} [` isn't inside `graph [`, or is inside another one")
-                if key != "edge" and {"source", "target"} <= {known for _, known, _ in value}:
-                    raise wrong_line(name, line, f"`{shown(key)} [` has source and target, and only an edge has")
-                below.append((value, value is graph))
+    return graph.listed(root.find("graph").get("directed") == "1")

@@ -25,79 +25,46 @@ def root_of(text: str, name: str) -> ElementTree.Element:
     return root
 
 
-def parts_of(root: ElementTree.Element, name: str) -> list[tuple[int, ElementTree.Element]]:
-    """The elements of the one graph, in their order, with their numbers; none else is a node or an edge."""
-    graphs = root.findall("graph")
-    if len(graphs) != 1:
-        raise Wrong(f"{name}: it has {len(graphs)} graphs, and one is read")
-    inside = list(enumerate(graphs[0].iter(), 1))
-    if sum(element.tag in ("node", "edge") for element in root.iter()) != sum(
-            element.tag in ("node", "edge") for _, element in inside):
-        raise Wrong(f"{name}: a node or an edge is outside of the graph")
-    for at, element in inside:
-        if element.tag == "hyperedge" or element.tag != "edge" and element.get("source") and element.get("target"):
-            raise Wrong(f"{name} element {at}: `{element.tag}` joins nodes, and only an edge of two ends is read")
-    return inside
-
-
-def ends_of(edge: ElementTree.Element) -> list[str | None]:
-    return [edge.get("source"), edge.get("target")]
-
-
 def read_graphml(text: str, name: str) -> Listed:
     """The nodes and edges of GraphML; those of graphs inside nodes too."""
-    root = root_of(text, name)
-    graph, groups, inside = Graph("GraphML", name, place="element"), set(), parts_of(root, name)
+    root, graph = root_of(text, name), Graph("GraphML", name, place="element")
     keys = root.findall(".//key")
     words = {key.get("id"): key.get("attr.name", "").lower() for key in keys}
     defaults = {words[key.get("id")]: (part.text or "").strip().lower() for key in keys if key.get("for") != "node"
                 for part in key.findall("default")}
-    for at, element in inside:
-        said = {words.get(data.get("key"), ""): (data.text or "").strip() for data in element.findall("data")}
-        if element.tag == "node":
-            see_drawing(element, said)
-            graph.node(at, element.get("id"), {key: said[key] for key in said.keys() - {"label", "name", "x", "y"}},
-                       [said.get(word) for word in graph.words], (said.get("x"), said.get("y")))
-            if element.find("graph") is not None:
-                groups.add(element.get("id"))
-        elif element.tag == "edge":
-            graph.edge(at, ends_of(element), said)
+
+    def said_of(part: ElementTree.Element) -> dict[str, str]:
+        said = {words.get(data.get("key"), ""): (data.text or "").strip() for data in part.findall("data")}
+        if part.tag == "edge":
+            return said | {key: part.get(key) for key in ("source", "target")}
+        return drawn(part) | said | {"id": part.get("id"), "isgroup": "1" * (part.find("graph") is not None)}
+    graph.read(root, said_of)
     if any((part.text or "").strip() for part in root.findall(".//edge//EdgeLabel")):
         graph.found.left_out.append(Unread(["labels"], "{names} of edges not read"))
-    graph.leave_groups(groups)
-    return graph.listed(any(part.get("edgedefault") == "directed" for _, part in inside), defaults)
+    return graph.listed(any(part.get("edgedefault") == "directed" for part in root.iter("graph")), defaults)
 
 
-def see_drawing(node: ElementTree.Element, said: dict[str, str]) -> None:
-    """What yEd draws of a node: its label and its place, unless there are others."""
-    for part in (part for data in node.findall("data") for part in data.iter()):
+def drawn(node: ElementTree.Element) -> dict[str, str]:
+    """What yEd draws of a node: its label and its place."""
+    said: dict[str, str] = {}
+    for part in node.iterfind("data//*"):
         if part.tag == "NodeLabel" and (part.text or "").strip():
             said.setdefault("label", part.text.strip())
         elif part.tag == "Geometry":
-            said.setdefault("x", part.get("x", ""))
-            said.setdefault("y", part.get("y", ""))
+            said = {"x": part.get("x", ""), "y": part.get("y", "")} | said
+    return said
 
 
 def read_gexf(text: str, name: str) -> Listed:
     """The nodes and edges of GEXF, all of one time."""
-    root = root_of(text, name)
-    graph, inside = Graph("GEXF", name, ("label",), "element"), parts_of(root, name)
+    root, graph = root_of(text, name), Graph("GEXF", name, ("label",), "element")
     titles = {part.get("id"): part.get("title", "").lower() for part in root.findall(".//attribute")}
-    parts = sum(element.tag in ("node", "edge") for _, element in inside)
-    if parts != len(root.findall(".//nodes/node") + root.findall(".//edges/edge")):
-        raise Wrong(f"{name}: a node or an edge is outside of `nodes` and `edges`")
-    for at, element in inside:
-        if element.tag not in ("node", "edge"):
-            continue
-        own = [part for part in element if part.tag not in ("nodes", "edges")]
-        said = dict(element.attrib) | {titles.get(part.get("for"), "value"): part.get("value", "")
-                                       for child in own for part in child.iter("attvalue")}
-        said |= {part.tag: part.tag for part in own if part.tag != "attvalues"}
-        if TIMES & said.keys():
-            raise Wrong(f"{name} element {at}: it comes and goes: write a graph of one time")
-        if element.tag == "node":
-            graph.node(at, element.get("id"), {key: said[key] for key in said.keys() - {"id", "label"}},
-                       [element.get("label")])
-        else:
-            graph.edge(at, ends_of(element), {key: said[key] for key in said.keys() - {"source", "target"}})
-    return graph.listed(any(part.get("defaultedgetype") == "directed" for _, part in inside))
+    if any(part.tag in TIMES or TIMES & part.attrib.keys() for part in root.iter()):
+        raise Wrong(f"{name}: nodes or edges come and go: write a graph of one time")
+
+    def said_of(part: ElementTree.Element) -> dict[str, str]:
+        values = part.findall("attvalues/attvalue")
+        return {titles.get(value.get("for"), "value"): value.get("value", "") for value in values} | {
+            inner.tag: inner.tag for inner in part if inner.tag not in ("nodes", "edges", "attvalues")} | part.attrib
+    graph.read(root, said_of, ("nodes", "edges"))
+    return graph.listed(any(part.get("defaultedgetype") == "directed" for part in root.iter("graph")))

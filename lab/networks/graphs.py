@@ -1,6 +1,8 @@
 """What the forms have in common that list nodes by an id and edges by two of them: what is refused of such a list, and
 what is counted since it isn't read."""
 import contextlib
+from collections.abc import Callable
+from xml.etree.ElementTree import Element
 
 from lab.networks.edge_list import FLAGS, NOT, Listed
 from lab.networks.fields import Unread, shown, value_of
@@ -29,14 +31,38 @@ class Graph:
         self.labels: dict[str, dict[str, str]] = {word: {} for word in words}
         self.nodes: dict[str, int] = {}
         self.keys: set[str] = set()
+        self.groups: set[str] = set()
         self.edges: list[dict[str, str]] = []
+
+    @property
+    def all_labels(self) -> set[str]:
+        return {label for labels in self.labels.values() for label in labels.values()}
 
     def wrong(self, at: int, what: str) -> Wrong:
         return Wrong(f"{self.name} {self.place} {at}: {what}")
 
-    def node(self, at: int, node: str | None, said: dict, labels=(), place=(None, None)) -> None:
-        """A node, what its keys say that aren't read, what it is called by each of the words, and where it is, if these
-        are two numbers."""
+    def read(self, root: Element, said_of: Callable[[Element], dict], parents: tuple[str, ...] = ("graph",),
+             lines: list[int] | None = None) -> None:
+        """The nodes and edges below the root of a text, by what is said of each; the `lines` of all elements, if these
+        have some. There is one graph, and no node or edge is elsewhere than in one of its parents."""
+        graphs = root.findall("graph")
+        if len(graphs) != 1:
+            raise Wrong(f"{self.name}: it has {len(graphs)} graphs, and one is read")
+        inside = {part for parent in graphs[0].iter() if parent.tag in parents for part in parent}
+        for number, part in enumerate(root.iter()):
+            at, said = lines[number] if lines else number, said_of(part) if part in inside else {}
+            if part.tag == "hyperedge" or part.tag != "edge" and part.get("source") and part.get("target") or (
+                    part.tag in ("node", "edge") and part not in inside):
+                raise self.wrong(at, f"`{shown(part.tag)}` joins nodes and is no edge of two ends, or isn't directly "
+                                     f"inside of {' or '.join(parents)}")
+            if part.tag == "node":
+                self.node(at, said.pop("id", None), said)
+            elif part.tag == "edge":
+                self.edge(at, [said.pop("source", None), said.pop("target", None)], said)
+
+    def node(self, at: int, node: str | None, said: dict) -> None:
+        """A node, and what its keys say: what it is called by each of the words, where it is, if `x` and `y` are
+        numbers, and whether it is a group."""
         if not node or node in self.nodes:
             raise self.wrong(at, f"a second node {shown(node)}" if node else "a node without an id")
         if len(self.nodes) == MAX_NODES:
@@ -44,12 +70,14 @@ class Graph:
         self.nodes[node] = at
         self.found.alone.append((at, node))
         self.refuse_hidden(at, said, "node")
-        self.keys |= said.keys()
-        for word, label in zip(self.words, labels):
-            if label:
+        for word in self.words:
+            if label := said.pop(word, None):
                 self.labels[word][node] = label
-        with contextlib.suppress(TypeError, ValueError):
-            self.found.places[node] = float(place[0]), float(place[1])
+        with contextlib.suppress(KeyError, TypeError, ValueError):
+            self.found.places[node] = float(said["x"]), float(said["y"])
+            del said["x"], said["y"]
+        self.groups |= {node} if said.pop("isgroup", "") == "1" else set()
+        self.keys |= {key for key, word in said.items() if word is not None}
 
     def edge(self, at: int, ends: list, said: dict) -> None:
         """An edge of two ids, and what its keys say."""
@@ -77,6 +105,7 @@ class Graph:
             for end in ends:
                 if end not in self.nodes:
                     raise self.wrong(at, f"an edge names {shown(end)}, which is no node")
+        self.leave_groups()
         self.see_keys(defaults or {})
         if from_one and found.edges and not any(found.alone[-1][1] in ends for _, *ends in found.edges):
             found.left_out.append("the last node has no edge: do the edges count from 0? The form counts from 1")
@@ -103,10 +132,10 @@ class Graph:
         if left := Unread(sorted(keys - {""}), f"{{count}} key{{s}} of {what} not read: {{names}}"):
             self.found.left_out.append(left)
 
-    def leave_groups(self, groups: set[str]) -> None:
+    def leave_groups(self) -> None:
         """Leaves out the nodes that only hold others, as the groups of yEd do, unless they have an edge of their
         own."""
-        groups = groups - {end for _, *ends in self.found.edges for end in ends}
+        groups = self.groups - {end for _, *ends in self.found.edges for end in ends}
         if groups:
             self.found.left_out.append(f"groups of nodes, without an edge of their own, are no nodes: {len(groups)}")
             self.found.alone = [(at, node) for at, node in self.found.alone if node not in groups]

@@ -9,14 +9,13 @@ from lab.wrong import Wrong
 LINKS = ("links", "edges")
 # How networkx and D3 name the ends of a link, and how vis.js does.
 ENDS = (("source", "target"), ("from", "to"))
-# Keys that are read, of the whole, and of its nodes.
+# Keys of the whole that are read.
 OF_GRAPHS = {"directed", "multigraph", "graph", "nodes", *LINKS}
-OF_NODES = {"id", "key", "label", "name", "x", "y", "index"}
 
 
-def word_of(value) -> str:
-    """A node's id as a name: a text stays, a number or a list is what JSON writes of it."""
-    return value if isinstance(value, str) else json.dumps(value)
+def word_of(value) -> str | None:
+    """A value as a word: a text stays, and of a number or a list it is what JSON writes."""
+    return value if value is None or isinstance(value, str) else json.dumps(value)
 
 
 def object_of(entries: list) -> dict:
@@ -65,44 +64,39 @@ def are_links(value) -> bool:
 def read(text: str, name: str) -> Listed:
     """The graph of an object with a list of nodes and a list of links."""
     whole, nodes, links = graph_of(text, name)
-    graph = Graph("JSON of nodes and links", name, ("label or name",), "element")
-    ids = [node.get("id", node.get("key")) for node in nodes]
+    graph = Graph("JSON of nodes and links", name, place="element")
     # Without ids the places in the list are what links name.
+    ids = [node.get("id", node.get("key")) for node in nodes]
     by_place = all(one is None for one in ids)
-    known = [str(at) if by_place else one if one is None else word_of(one) for at, one in enumerate(ids)]
-    for at, (node, one) in enumerate(zip(nodes, known), 1):
-        label = next((word_of(node[key]) for key in ("label", "name") if type(node.get(key)) in (str, int)), "")
-        place = [node[key] if isinstance(node.get(key), (int, float)) else None for key in "xy"]
-        graph.node(at, one, said_of(node, OF_NODES), [label], place)
+    for at, (node, one) in enumerate(zip(nodes, range(len(ids)) if by_place else ids), 1):
+        graph.node(at, word_of(one), said_of(node, {"id", "key", "index"}))
     for at, link in enumerate(links, 1 + len(nodes)):
         words = next((words for words in ENDS if words[0] in link), ENDS[0])
-        ends = [link.get(word) for word in words]
         # D3 puts the whole nodes into the links once it has laid them out.
-        ends = [end.get("id") if isinstance(end, dict) else end for end in ends]
-        graph.edge(at, [end if end is None else word_of(end) for end in ends], said_of(link, set(sum(ENDS, ()))))
+        ends = [end.get("id") if isinstance(end := link.get(word), dict) else end for word in words]
+        graph.edge(at, list(map(word_of, ends)), said_of(link, set(sum(ENDS, ()))))
     refuse_other_ends(graph, links, [] if by_place else ids, "multigraph" in whole)
     graph.leave_keys(set(whole) - OF_GRAPHS, "the graph")
     return graph.listed(whole.get("directed") is True)
 
 
-def said_of(part: dict, read_keys: set[str]) -> dict[str, str]:
-    """What the keys that aren't read say."""
-    return {key: json.dumps(value).strip('"') for key, value in part.items() if key not in read_keys}
+def said_of(part: dict, read_keys: set[str]) -> dict[str, str | None]:
+    """What the other keys say."""
+    return {key: word_of(value) for key, value in part.items() if key not in read_keys}
 
 
 def refuse_other_ends(graph: Graph, links: list, ids: list, by_networkx: bool) -> None:
     """Refuses links that may name nodes in another way: by place where there are ids, by place from 1, or by label.
     networkx names them by `id`."""
-    labels = graph.labels["label or name"]
     ends = [end for link in links for words in ENDS for word in words if type(end := link.get(word)) in (str, int)]
     if ends and not ids and not {0, "0"} & set(ends):
         raise Wrong(f"{graph.name}: no link names 0, the first node of the list: do they count from 1? Give each node "
                     "an `id`")
-    places = {end for end in ends if isinstance(end, int)}
+    places, labels = {end for end in ends if isinstance(end, int)}, {**graph.labels["name"], **graph.labels["label"]}
     names = list(map(word_of, ids)) or [labels.get(node) for node in graph.nodes]
     are_names = bool(ids) and all(isinstance(one, str) for one in ids) or set(map(str, places)) <= set(names)
     are_places = not by_networkx and are_names and all(0 <= place < len(names) for place in places)
-    if are_places and any(names[place] != str(place) for place in places) or any(
-            isinstance(end, str) and end not in ids and end in labels.values() for end in ends):
+    are_labels = graph.all_labels & set(ends) - {one for one in ids if isinstance(one, str)}
+    if are_labels or are_places and any(names[place] != str(place) for place in places):
         raise Wrong(f"{graph.name}: the links may name nodes by their ids, their labels or their places from 0: give "
                     "each node an `id` that is a name, and name it in the links")

@@ -39,7 +39,7 @@ def read_pajek(text: str, name: str) -> Listed:
             if not found or not 1 <= (whole(found[1]) or 0) <= (count or 0):
                 raise wrong_line(name, line, f"no vertex of 1 to {count} with a name, one word or words in double "
                                              f"quotes: `{shown(row)}`")
-            graph.node(line, str(whole(found[1])), {"place": found[3]} if found[3] else {}, [found[2].strip('"')])
+            graph.node(line, str(whole(found[1])), {"label": found[2].strip('"'), "place": found[3]})
         elif part in ("*edges", "*arcs"):
             weights.add(len(fields) > 2)
             if len(fields) > 3 and is_number(fields[3]) or len(weights) > 1 and fields[2:] and fields[2] in graph.nodes:
@@ -60,7 +60,7 @@ def read_leda(text: str, name: str) -> Listed:
     for at, (line, row) in enumerate(rows[5:5 + counts[0]], 1):
         if not re.fullmatch(r"\|\{[^{}|]*\}\|", row):
             raise wrong_line(name, line, f"no node as |{{Ulm}}|: `{shown(row)}`")
-        graph.node(line, str(at), {}, [row[2:-2]])
+        graph.node(line, str(at), {"label": row[2:-2]})
     for line, row in rows[6 + counts[0]:]:
         data = re.search(r"\|\{(.*)\}\|$", row)
         add_edge(graph, line, row.split()[:2], {"label": data[1]} if data and data[1] else {})

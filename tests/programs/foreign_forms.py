@@ -28,7 +28,7 @@ SITES = [
     ("GML of yEd", 'Creator "yFiles"\nVersion 2.17\n' + GML.replace('label "Ulm"', 'label "Ulm" graphics [ x 1 y 2 ]'),
      "nodes are named by their label"),
     ("JSON with links", JSON, "JSON of nodes and links; 4 nodes"),
-    ("JSON of D3", D3, "nodes are named by their label or name"),
+    ("JSON of D3", D3, "nodes are named by their name"),
     ("JSON of vis.js", D3.replace('"source"', '"from"').replace('"target"', '"to"').replace("links", "edges"),
      "JSON of nodes and links; 4 nodes"),
     ("a heading and a weight", "site_x,site_y,distance_km\nUlm,Aue,3.5\nUlm,Hof,1\nAue,Hof,2\nBonn,,\n",
