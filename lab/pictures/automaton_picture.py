@@ -2,9 +2,7 @@
 way."""
 from math import sqrt
 
-from lab.pictures.overview_picture import USUAL
 from lab.pictures.palette import HAIRLINE, INK, PAPER, SOFT, WIRES
-from lab.pictures.program_rounds import MANY_WIRES
 from lab.pictures.svg import Svg
 from lab.pictures.synchroniser import steps_of
 from lab.words import counted
@@ -26,17 +24,12 @@ LEVELS = [
 FILLS = {0: "#E8F1F8", 1: "#FBEFE4", 2: "#FBE3CF"}
 
 
-def usual(network, last):
-    """The pulses that are counted if none are asked for: all, or the first ones of a long run."""
-    return (0, last) if 2 * len(network.edges) * (last + 1) <= MANY_WIRES else (0, min(USUAL - 1, last))
-
-
-def draw(run, pulses=None):
-    first, last = run.window(pulses, usual)
+def draw(run, shown):
+    first, last = shown
     svg, steps = Svg(1120, 670, f"Synchroniser of {run.name}"), steps_of(run, first, last)
     said, others = "the run", ""
-    if (first, last) != (0, run.last):
-        said, others = f"pulses {first} to {last} of the run", "" if pulses else " Count others with --pulses A..B."
+    if shown != (0, run.last):
+        said, others = f"pulses {first} to {last} of the run", " Count others with --pulses A..B."
     svg.heading("How a node knows that a round is over: the synchroniser",
                 f"How often each step is made in {said} of {run.name} ({counted(run.network.nodes, 'node')}, "
                 f"{counted(run.last, 'pulse')}); the wider, the oftener.{others}")

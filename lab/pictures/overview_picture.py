@@ -2,20 +2,13 @@
 from lab.pictures.palette import SOFT
 from lab.pictures.run_picture import Window, draw_bands, draw_lines, draw_ticks, time_words
 from lab.pictures.svg import Svg
+from lab.pictures.transcripts import MOST_READABLE
 
 TOP = 92
-# Above MOST_READABLE pulses a band is too narrow to be followed from node to node; USUAL are drawn of a run that has
-# more.
-MOST_READABLE, USUAL = 100, 40
 
 
-def usual(_network, last):
-    """The pulses that are drawn if none are asked for."""
-    return (0, last) if last <= MOST_READABLE else (0, USUAL - 1)
-
-
-def draw(run, pulses=None):
-    first, last = shown = run.window(pulses, usual)
+def draw(run, shown):
+    first, last = shown
     window = Window(run, shown, TOP, min(22, max(7, 1000 / run.network.nodes)), 0)
     svg = Svg(window.width, window.bottom + 52, f"Overview of {run.name}")
     svg.heading(f"{run.name}: pulses {first} to {last} of {run.last}, without a clock", time_words(run))
@@ -24,8 +17,8 @@ def draw(run, pulses=None):
     draw_ticks(svg, window)
     words = "Each band is one pulse, from the tick at which a node begins it to its next: " + said_of(
         run.network, last - first + 1)
-    if pulses is None and last < run.last:
-        words += f" These are the first {USUAL} pulses of {run.last + 1}: draw others with --pulses A..B."
+    if shown != (0, run.last):
+        words += " Draw others with --pulses A..B."
     svg.text(20, window.bottom + 36, words, 11.5, SOFT)
     return svg.document()
 

@@ -23,7 +23,7 @@ from lab.pictures import (adversary_page, automaton_picture, bits_picture, broke
 from lab.pictures.places import unused_places
 from lab.pictures.program_rounds import (MANY_WIRES, ProgramRounds, is_own, last_pulse, least_wires, read_rounds,
                                          rounds_of)
-from lab.pictures.transcripts import read_transcript
+from lab.pictures.transcripts import read_transcript, window_of
 from lab.pictures.watch_page import steps_of_text
 from lab.schedules.reading import network_of
 from lab.schedules.rules import (OF_ANY_ROUNDS, OF_PROGRAMS as RULES_OF_PROGRAMS, OF_SCHEDULES, program_of,
@@ -71,14 +71,22 @@ class Asked(SimpleNamespace):
             return rounds_of(self.network, self.network.identifiers, self.program)
         return read_rounds(text.text, text.name, self.network, self.program)
 
-    def run(self, usual=None, cut=None):
-        """The run of a transcript, or of what is left of it; of `usual` pulses if no others are asked for."""
-        given, until = self.text("transcript", True), None
-        if usual:
-            until = (self.pulses or usual(self.network, last_pulse(self.network, self.program)))[1]
+    def window(self, usual=None):
+        """The pulses of a run that are drawn: those asked for, or else the `usual` first ones."""
+        return window_of(self.network.name, last_pulse(self.network, self.program), self.pulses, usual)
+
+    def run(self, until=None, cut=None):
+        """The run of a transcript, or of what is left of it; with `until`, as far as the pulses up to that one depend
+        on it."""
+        given = self.text("transcript", True)
         run = read_transcript(cut or given.text, given.name, self.network, until, self.program)
         run.name = given.title or self.network.name
         return run
+
+    def part(self, usual=None):
+        """A run, and the pulses of it that are drawn."""
+        shown = self.window(usual)
+        return self.run(shown[1]), shown
 
 
 # How each kind is drawn that isn't one call.
@@ -98,27 +106,30 @@ def draw_why(asked):
 
 
 def draw_run(asked):
-    cut, wrong = None, None
     if asked.wrong:
         given = asked.text("transcript", True)
         cut, wrong = wrong_run.cut(given.text, given.name, asked.network, asked.program, asked.stopped)
-    run = asked.run(None if wrong else run_picture.usual, cut)
-    return run_picture.draw(run, asked.pulses, asked.only, wrong)
+        if wrong:
+            run = asked.run(cut=cut)
+            if wrong.entry:
+                around = wrong_run.placed(run, wrong.entry)
+                asked.pulses = asked.pulses or around
+            return run_picture.draw(run, asked.window(3), asked.only, wrong)
+    return run_picture.draw(*asked.part(3), asked.only)
 
 
 def draw_node(asked):
     if asked.vertex is None:
-        return automaton_picture.draw(asked.run(automaton_picture.usual), asked.pulses)
-    return timing_picture.draw(asked.run(timing_picture.usual), asked.vertex, asked.pulses)
+        return automaton_picture.draw(*asked.part())
+    return timing_picture.draw(*asked.part(5), asked.vertex)
 
 
 def draw_tally(asked):
-    if by_rounds := not asked.text("transcript"):
-        name, counts = asked.network.name, tally_picture.counts_by(asked.rounds())
-    else:
-        run = asked.run()
-        name, counts = run.name, tally_picture.counts_of(run)
-    return tally_picture.draw(asked.network, name, counts, asked.pulses, by_rounds)
+    if not asked.text("transcript"):
+        return tally_picture.draw(asked.network, asked.network.name, tally_picture.counts_by(asked.rounds()),
+                                  asked.window())
+    run = asked.run()
+    return tally_picture.draw(asked.network, run.name, tally_picture.counts_of(run), asked.window())
 
 
 def draw_watch(asked):
@@ -220,8 +231,7 @@ KINDS = {
         "depend on is read, and checked.",
         "forestlab picture overview examples/petersen.col > petersen-overview.svg\n"
         "  forestlab picture overview examples/queen5_5.col --pulses 100..139 > queen5_5-overview.svg",
-        lambda asked: overview_picture.draw(asked.run(overview_picture.usual), asked.pulses), "transcript",
-        (100, "tally"), of_programs=True),
+        lambda asked: overview_picture.draw(*asked.part()), "transcript", (100, "tally"), of_programs=True),
     "node": Kind(
         "The synchroniser as an automaton: how often each step is made; with --vertex its timing.",
         "With --vertex V: what node V knew, entry by entry (at most 14 ports). Of a long run the steps of the\n"
@@ -231,9 +241,9 @@ KINDS = {
         draw_node, "transcript", of_programs=True),
     "tally": Kind(
         "The wires of a run by pulse, under the identity that counts them.",
-        "Any network; the run has to be whole. Of more than 100 pulses the bars of the first 40, or of others\n"
-        "with --pulses; the identity is the whole run's. If a run would be long, its wires are counted by the\n"
-        "rounds: each whole run has the same.",
+        "Any network. Without a transcript of a whole run the wires are counted by the rounds: each whole run\n"
+        "has the same. Of more than 100 pulses the bars of the first 40, or of others with --pulses; the\n"
+        "identity is the whole run's.",
         "forestlab picture tally examples/petersen.col > petersen-tally.svg",
         draw_tally, "transcript", of_programs=True),
     "player": Kind(
@@ -297,9 +307,9 @@ are on a circle, and more are laid out by their edges. Vertices that would overl
 are drawn smaller, and those still too near are pushed apart. Comment lines
 `c name V NAME` name them, in plan, player, run and overview.
 
-Without a stored text, run, overview, node, watch and, of a short run, tally draw what
-the built program writes, and plan and matrix, too, if it is built. All else is worked
-out by the definitions in Python, which are tested and not proved.
+Without a stored text, run, overview, node and watch draw what the built program writes,
+and plan and matrix, too, if it is built. All else is worked out by the definitions in
+Python, which are tested and not proved.
 
 Status: 0 done, 1 not drawn (one line on standard error says why), 2 the command
 line is refused; if a program refuses, its own line and status.
@@ -362,8 +372,8 @@ OPTIONS = (
     (("adversary",), "--json", {"action": "store_true", "dest": "as_table", "help": "the page's table alone"}),
     *((kinds, f"--{form}", stored(form, f"a stored {form} text, or - for standard input"))
       for kinds, form in ((OF_PLAN, "plan"), (OF_ROUNDS, "rounds"), (OF_RUN, "transcript"))),
-    (OF_RUN, "--workers", {"metavar": "N", "help": "the run's worker threads"}),
-    (OF_RUN, "--capacity", {"metavar": "N", "help": "how many wires its links hold"}),
+    (("run", "overview", "node"), "--workers", {"metavar": "N", "help": "the run's worker threads"}),
+    (("run", "overview", "node"), "--capacity", {"metavar": "N", "help": "how many wires its links hold"}),
     ((*OF_RUN, "watch"), "--pulses", PULSES),
     (("forests", "rounds"), "--forest", {"dest": "forests", "type": some, "metavar": "A..B",
                                          "help": "these forests alone, or one, as 2, counted from 0"}),
@@ -372,7 +382,6 @@ OPTIONS = (
     (("bits", "node"), "--vertex", VERTEX),
     (("why",), "--vertex", VERTEX | {"required": True}),
     (("why",), "--text", {"action": "store_true", "dest": "in_words", "help": "in words, not as a picture"}),
-    (("tally",), "--rounds", stored("rounds", "a stored rounds text to count by, in place of a run")),
     (("run",), "--only", {"type": wires, "metavar": "KINDS", "help": "some of payload,ack,safe,close"}),
     (("run",), "--wrong", {"action": "store_true", "help": "draw a text of edition 2 up to its first entry that isn't "
                            "possible, and that one in red"}),
@@ -432,9 +441,7 @@ def texts_of(given, network, network_text, program):
         return found
     if given.kind in OF_PLAN:
         return [Text("plan", "the plan", plan_text(network_text))]
-    # A long run has as many wires as each other, so they are counted by the rounds.
-    by_rounds = given.kind == "tally" and least_wires(network, program) > MANY_WIRES
-    if given.kind == "watch" or given.kind in OF_RUN and not by_rounds:
+    if KINDS[given.kind].form == "transcript" and given.kind != "tally":
         return [Text("transcript", network.name if given.kind == "watch" else f"the text of {network.name}",
                      run_text(given, network, network_text, program))]
     return []

@@ -6,7 +6,7 @@ A pale bar goes from where a payload is taken to the tick at which it is read, a
 from lab.pictures.marks import dash_of, short_name, wire_arrow
 from lab.pictures.palette import BAND, BORDER, INK, PAPER, PULSE, SOFT, WIRES, WRONG
 from lab.pictures.svg import Svg, text_width
-from lab.pictures.wrong_run import draw_wrong, placed
+from lab.pictures.wrong_run import draw_wrong
 from lab.words import counted
 from lab.wrong import Wrong, at_most
 
@@ -67,27 +67,19 @@ def left_of(network, size):
     return LEFT + max(names, default=-6) + 6
 
 
-def usual(network, last):
-    """The pulses that are drawn if none are asked for."""
-    return 0 if network.nodes <= 3 else 1, min(3, last)
-
-
-def draw(run, pulses=None, kinds=None, wrong=None):
+def draw(run, shown, kinds=None, wrong=None):
     """The picture; with `wrong`, of a run up to an entry that isn't possible."""
-    if wrong and wrong.entry:
-        around = placed(run, wrong.entry)
-        pulses = pulses or around
     kinds = kinds or (KINDS if run.network.nodes <= MOST_NODES_OF_ALL_KINDS else ("payload",))
     nodes = run.network.nodes
     row, lower_row = 88 if nodes <= 3 else 74 if nodes <= 5 else 50, 46 if nodes <= 5 else 30
-    window = Window(run, run.window(pulses, usual), TOP, row, 9.0)
+    window = Window(run, shown, TOP, row, 9.0)
     at_most("run", window.stop - window.start, "steps of time side by side", MOST_STEPS,
             "fewer pulses (--pulses A..B), or overview")
     first, last, lower_top = window.first, window.last, window.bottom + 136
     svg = Svg(window.width, lower_top + (nodes - 1) * lower_row + 66, f"Space and time of {run.name}")
-    shown = ("what each node put, took and did" if set(kinds) == set(KINDS)
-             else " and ".join(f"{NAMES[kind]}s" for kind in kinds))
-    svg.heading(f"{run.name}: {shown}, pulses {first} to {last} of {run.last}",
+    said = ("what each node put, took and did" if set(kinds) == set(KINDS)
+            else " and ".join(f"{NAMES[kind]}s" for kind in kinds))
+    svg.heading(f"{run.name}: {said}, pulses {first} to {last} of {run.last}",
                 time_words(run, ", so every arrow points right"))
     legend(svg, kinds)
     svg.clip("window", window.left - 8, 0, window.width - window.left - 8, lower_top - 74)

@@ -1,8 +1,6 @@
 """What it costs to have no clock: the wires by pulse, under the identity that counts them."""
-from lab.pictures.overview_picture import USUAL, usual
 from lab.pictures.palette import SOFT, WIRES
 from lab.pictures.svg import Svg, text_width
-from lab.pictures.transcripts import window_of
 from lab.words import counted
 from lab.wrong import Wrong
 
@@ -34,9 +32,9 @@ def counts_by(rounds):
     return {"safe": [ways] * last + [0], "ack": payloads, "payload": payloads, "close": [0] * last + [ways]}
 
 
-def draw(network, name, counts, pulses=None, by_rounds=False):
-    last, edges = len(counts["safe"]) - 1, len(network.edges)
-    first, final = window_of(name, last, pulses or usual(network, last))
+def draw(network, name, counts, pulses):
+    """The wires of all pulses, and bars of those from A to B."""
+    (first, final), last, edges = pulses, len(counts["safe"]) - 1, len(network.edges)
     shown = range(first, final + 1)
     totals = {kind: sum(counts[kind]) for kind in ORDER}
     bar = max(WIDEST / len(shown) if len(shown) > WIDEST / 4 else 4, min(26, WIDEST / len(shown)))
@@ -45,15 +43,12 @@ def draw(network, name, counts, pulses=None, by_rounds=False):
     svg.heading(
         f"{sum(totals.values()):,} wires = 2 · {counted(totals['payload'], 'payload')} "
         f"+ 2 · {counted(edges, 'edge')} · ({last} + 1)",
-        f"{name}: in every whole run of a network, wires = 2 · payloads + 2 · edges · (R + 1), R being the last pulse"
-        + ("; counted by the rounds" if by_rounds else ""),
+        f"{name}: in every whole run of a network, wires = 2 · payloads + 2 · edges · (R + 1), R being the last pulse",
     )
     legend(svg, totals)
     draw_bars(svg, counts, shown, bar, width)
-    alone = ("" if len(shown) == last + 1
-             else f"; bars of pulses {first} to {final} of {last} alone, numbers above of all")
-    if pulses is None and final < last:
-        alone = f"; bars of the first {USUAL} pulses of {last + 1} (others with --pulses A..B), numbers above of all"
+    alone = "" if len(shown) == last + 1 else (
+        f"; bars of pulses {first} to {final} of {last} alone (others with --pulses A..B), numbers above of all")
     svg.text(LEFT, TOP + HEIGHT + 36, f"pulse that the wire speaks of (close stands at R){alone}", 11, SOFT)
     said = (
         f"The rounds need {counted(totals['payload'], 'payload')}. Without a clock each is acknowledged, and each node "

@@ -10,17 +10,12 @@ LIMIT = 14
 MOST_ENTRIES = 300
 
 
-def usual(_network, last):
-    """The pulses that are drawn if none are asked for."""
-    return 0, min(4, last)
-
-
-def draw(run, vertex, pulses=None):
+def draw(run, shown, vertex):
     if vertex not in run.network.vertices:
         raise Wrong(f"{run.network.name} has no node {vertex}")
     neighbours = run.network.neighbours[vertex]
     at_most("node", len(neighbours), "ports of a node", LIMIT, "automaton: leave --vertex out")
-    first, last = run.window(pulses, usual)
+    first, last = shown
     moments = [moment for moment in moments_of(run, vertex) if first <= moment.pulse <= last]
     if not moments:
         raise Wrong(f"{run.name}: node {vertex} did nothing in pulses {first} to {last}")

@@ -14,6 +14,8 @@ from lab.wrong import Wrong, wrong_line
 # Texts of more lines are read only as far as the pulses that are drawn depend on them: AHEAD pulses further at first,
 # and further still if nodes ran ahead of each other by more.
 LONG_TEXT, AHEAD = 100_000, 8
+# Above MOST_READABLE pulses a band or bar is too narrow to be followed; USUAL are drawn of a run that has more.
+MOST_READABLE, USUAL = 100, 40
 
 
 @dataclass(slots=True, eq=False)
@@ -53,18 +55,16 @@ class Run:
     def puts(self, kind=None):
         return (entry for entry in self.all() if entry.kind == "put" and kind in (None, entry.wire[0]))
 
-    def window(self, pulses, usual):
-        """The first and the last pulse to be drawn: those asked for, or else the usual ones of the picture."""
-        return window_of(self.name, self.last, pulses or usual(self.network, self.last))
-
     def ticks(self, v):
         """{pulse: stamp} of v, with pulse 0 at 0."""
         return {0: 0} | {entry.pulse: entry.stamp for entry in self.entries[v] if entry.kind == "pulse"}
 
 
-def window_of(name, greatest, pulses):
-    """The first and the last pulse to be drawn, if the run has them."""
-    first, last = pulses
+def window_of(name, greatest, pulses, usual=None):
+    """The first and the last pulse to be drawn, if the run has them: those asked for, or else the `usual` first ones;
+    by default all, or of a long run USUAL."""
+    usual = usual or (USUAL if greatest > MOST_READABLE else greatest + 1)
+    first, last = pulses or (0, min(greatest, usual - 1))
     if not 0 <= first <= last <= greatest:
         raise Wrong(f"{name}: pulses {first} to {last} are not among 0 to {greatest}")
     return first, last

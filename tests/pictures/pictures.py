@@ -29,7 +29,7 @@ FILES = {
 SAID = [
     ("--help", b"", "forestlab picture plan - <"),
     ("plan - --plan {plan}", example("petersen"), "Channel plan of this network"),
-    ("overview star64 --transcript {short64}", b"", "the first 40 pulses of 205"),
+    ("overview star64 --transcript {short64}", b"", "pulses 0 to 39 of 204"),
     ("overview star64 --transcript {short64} --pulses 0..99", b"", "neighbours are never more than one pulse apart"),
     ("overview star64 --transcript {short64} --pulses 0..100", b"", "101 pulses, too many"),
     ("results drops --program recolouring", b"", "2 channels; before there were 3."),

@@ -6,10 +6,7 @@ from itertools import product
 
 from lab.definitions.colours import network_of
 from lab.definitions.nodes import last_pulse
-from lab.definitions.rounds import rounds_text
-from lab.networks.named import network_bytes, network_text
-from lab.networks.network_text import read_network
-from lab.pictures.automaton_picture import usual as usual_of_node
+from lab.networks.named import network_bytes
 from tests.cases import called, example
 from tests.pictures.base import PictureCase, transcript
 from tests.pictures.counted import fields_of, played
@@ -169,11 +166,11 @@ class Runs(PictureCase):
             "a lane for each port": (len(lanes), len(heights)),
         })
 
-    def tally_rows(self, name, network, text, window=None, by=()):
+    def tally_rows(self, name, network, text, window=None, by_rounds=False):
         """A tally's bars, all or those of some pulses, and its title, which counts all wires, beside the transcript of
-        a whole run; it may be drawn by another text."""
+        a whole run; it may be drawn without that, by the rounds."""
         net = network_of(network)
-        root = parsed(self.drawn("tally", network, *by, *pulses(window), text=None if by else text))
+        root = parsed(self.drawn("tally", network, *pulses(window), text=None if by_rounds else text))
         last = last_pulse(net)
         first, final = window or usual(last)
         counts = Counter((more[1], last if more[1] == "close" else int(more[2]))
@@ -197,7 +194,6 @@ class Runs(PictureCase):
                 [off for off, wide in gaps if off < -0.2 or wide < 2 and off > 0.2], []),
             "its title": (texts(root)[0], said),
         })
-        return root
 
     def test_long(self):
         """Of a long run the first 40 pulses are drawn, and only what they depend on is read: the same picture as of a
@@ -214,20 +210,13 @@ class Runs(PictureCase):
         text, short = by_vertex(rows), by_vertex(rows[:max(rows.index(f"{v} pulse 60") for v in net.neighbours)])
         self.note("a long text is long", len(rows) > 100_000, len(rows))
         for kind, *options, said in (
-                ["overview", "the first 40 pulses of 1849:"], ["run", "pulses 1 to 3 of 1848"],
+                ["overview", "pulses 0 to 39 of 1848"], ["run", "pulses 0 to 2 of 1848"],
                 ["node", "in pulses 0 to 39 of the run"], ["node", "--vertex", 3, "pulses 0 to 4"]):
             long, stopped = (self.drawn(kind, network, *options, text=given) for given in (text, short))
             self.note(f"{kind} {options} of a long text", long == stopped and said in long, said)
-        # By the program's own last pulse: 2 · 199 · 201 wires, and 2 · 199 · 25 of the colouring.
-        path = read_network(network_text("path200"), "path200")
-        self.same("node of a long run of another program", (usual_of_node(path, 200), usual_of_node(path, 24)),
-                  ((0, 39), (0, 24)))
-        rounds = self.file("rounds", rounds_text(net))
-        for window, by, said in ((None, [], "the first 40 pulses of 1849"),
-                                 (None, ["--rounds", rounds], "; counted by the rounds"),
-                                 ((0, last), ["--rounds", rounds], "; counted by the rounds")):
-            root = self.tally_rows(f"a long run {by[:1]}", network, stamped, window, by)
-            self.note(f"tally of a long run: {said}", said in " ".join(texts(root)), texts(root)[:3])
+        for window, by_rounds in ((None, False), (None, True), ((0, last), True)):
+            self.tally_rows("a long run by the rounds" if by_rounds else "a long run", network, stamped, window,
+                            by_rounds)
         wrong = by_vertex([re.sub(r"^(5 put \d+ safe) 20$", r"\1 21", row) for row in rows])
         status, picture, _ = self.called("overview", network, text=wrong)
         self.note("a long text with a mistake in these pulses", (status, picture) == (1, b""))
