@@ -15,10 +15,9 @@ import random
 import sys
 
 from bench import graphs
-from lab.definitions.colours import plan_text
+from lab.definitions.colours import colours
+from lab.network import Network
 from lab.networks import kinds
-from lab.networks.network_text import Network
-from lab.networks.texts import text_of
 
 Neighbours = dict[int, list[int]]
 # How many passes are made, one after the other.
@@ -34,7 +33,7 @@ def preferential(nodes: int, edges: int, seed: int) -> Network:
             chosen.add(ends[int(source.random() * len(ends))])
         made |= {(w, v) for w in chosen}
         ends += [*chosen, *[v] * edges]
-    return Network("", nodes, made)
+    return Network(nodes, made)
 
 
 NETWORKS = {
@@ -88,8 +87,7 @@ def smallest_last(neighbours: Neighbours) -> list[int]:
 
 def plan_of(network: Network) -> dict[int, int]:
     """The channels of the definitions' plan."""
-    rows = plan_text(text_of(network).encode()).decode().splitlines()[1:]
-    return {v: channel for v, channel in (map(int, row.split()) for row in rows)}
+    return {v: colour + 1 for v, colour in colours(network).items()}
 
 
 def counts(network: Network) -> list[int]:

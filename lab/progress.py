@@ -8,7 +8,7 @@ import time
 from itertools import chain, count
 
 from lab.networks.costs import Run, processor_seconds
-from lab.networks.network_text import read_network
+from lab.networks.network_text import network_of
 from lab.wrong import Wrong
 
 # Seconds after which a line is written, and then every half hour.
@@ -36,7 +36,7 @@ def about(process: int, command: str) -> str:
         with open(f"/proc/{process}/fd/0", "rb") as file:
             if not stat.S_ISREG(os.fstat(file.fileno()).st_mode):
                 return ""
-            run = Run(read_network(file.read().decode("utf-8", "replace"), "the network"))
+            run = Run(network_of(file.read()))
         return f", of about {exactly(processor_seconds(run, command))} for {run.wires:,} wires"
     except (OSError, Wrong, MemoryError):
         return ""

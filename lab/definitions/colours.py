@@ -1,79 +1,14 @@
-"""The forests and the colours of a good network text by their definitions (docs/claim/DEFINITIONS.md), slow and plain:
-what the tests compare the program with.
+"""The forests and the colours of a network by their definitions (docs/claim/DEFINITIONS.md), slow and plain: what the
+tests compare the program with.
 
 A vertex is a number from 1, an identifier a number below 2^128, a forest a number from 0, and a colour a number from 0:
 the channel of the text less one. A list over the vertices is a dictionary (`Colours`), and is made for all of them at
 once."""
-from typing import Iterable, Mapping
+from typing import Iterable
+
+from lab.network import Network
 
 Colours = dict[int, int]
-
-
-class Network:
-    """The identifier of each vertex, the set of edges, and the barred colours of some vertices; and what the
-    definitions read off these.
-
-    `edges` are pairs of vertices, each edge once. `neighbours[v]` are the vertices that an edge joins to v, and
-    `higher[v]` those with a higher identifier, by ascending identifier: entry f is v's parent in forest f.
-    `number[frozenset((v, w))]` is the forest of an edge. `span` is the greatest degree and the greatest number of bars
-    together: the colours of a plan are 0 to `span`."""
-
-    identifiers: dict[int, int]
-    barred: dict[int, frozenset[int]]
-    neighbours: dict[int, set[int]]
-    higher: dict[int, list[int]]
-    number: dict[frozenset[int], int]
-    greatest_degree: int
-    forest_count: int
-    greatest_bars: int
-    span: int
-
-    def __init__(self, identifiers: dict[int, int], edges: Iterable[tuple[int, int]],
-                 barred: Mapping[int, Iterable[int]] | None = None):
-        self.identifiers = identifiers
-        self.barred = {v: frozenset((barred or {}).get(v, ())) for v in identifiers}
-        self.neighbours = {v: set() for v in identifiers}
-        for v, w in edges:
-            self.neighbours[v].add(w)
-            self.neighbours[w].add(v)
-        self.higher = {v: sorted((w for w in ws if identifiers[w] > identifiers[v]), key=identifiers.get)
-                       for v, ws in self.neighbours.items()}
-        self.number = {frozenset((v, w)): f for v, ws in self.higher.items() for f, w in enumerate(ws)}
-        self.greatest_degree = max((len(ws) for ws in self.neighbours.values()), default=0)
-        self.forest_count = max((len(ws) for ws in self.higher.values()), default=0)
-        self.greatest_bars = max(map(len, self.barred.values()), default=0)
-        self.span = self.greatest_degree + self.greatest_bars
-
-    def parent(self, f: int, v: int) -> int | None:
-        """The parent of v in forest f; None at a root."""
-        return self.higher[v][f] if f < len(self.higher[v]) else None
-
-
-def fields_of(line: bytes) -> list[bytes]:
-    """The fields of a line: blanks and tabs part them, and a carriage return at the end is dropped."""
-    return [field for field in line.removesuffix(b"\r").replace(b"\t", b" ").split(b" ") if field]
-
-
-def number_of(field: bytes) -> int:
-    """The number of a field, however many zeros it begins with; Python takes no more than 4,300 digits."""
-    return int(field.lstrip(b"0") or b"0")
-
-
-def network_of(text: bytes) -> Network:
-    """The network of a text without a fault; a vertex has the identifier that a line gives it, and else its number. A
-    colour is a channel less one."""
-    nodes, given, edges, barred = 0, {}, set(), {}
-    for line in text.split(b"\n"):
-        fields = fields_of(line)
-        if fields and fields[0] == b"p":
-            nodes = number_of(fields[2])
-        elif fields and fields[0] == b"e":
-            edges.add((number_of(fields[1]), number_of(fields[2])))
-        elif fields and fields[0] == b"i":
-            given[number_of(fields[1])] = number_of(fields[2])
-        elif fields and fields[0] == b"b":
-            barred.setdefault(number_of(fields[1]), set()).add(number_of(fields[2]) - 1)
-    return Network({v: given.get(v, v) for v in range(1, nodes + 1)}, edges, barred)
 
 
 def text_of(lines: Iterable[str]) -> bytes:
@@ -81,16 +16,15 @@ def text_of(lines: Iterable[str]) -> bytes:
     return "".join(line + "\n" for line in lines).encode()
 
 
-def forests_text(text: bytes) -> bytes:
+def forests_text(net: Network) -> bytes:
     """The forests text: entry F of a vertex's higher neighbours, by ascending identifier, is its parent in forest F."""
-    net = network_of(text)
     triples = sorted((f, v, w) for v, ws in net.higher.items() for f, w in enumerate(ws))
     return text_of([f"forests {len(net.neighbours)} {net.forest_count}"] + [f"{f} {v} {w}" for f, v, w in triples])
 
 
-def plan_text(text: bytes) -> bytes:
+def plan_text(net: Network) -> bytes:
     """The plan text: the channel of a vertex is its colour plus one."""
-    return text_of(["plan"] + [f"{v} {c + 1}" for v, c in sorted(colours(network_of(text)).items())])
+    return text_of(["plan"] + [f"{v} {c + 1}" for v, c in sorted(colours(net).items())])
 
 
 def at_parent(net: Network, f: int, c: Colours, v: int) -> int | None:

@@ -1,8 +1,8 @@
 """Layers around a root, the node of identifier 1 unless another one is named (breadth-first search in rounds: Lynch,
 Distributed Algorithms, 1996, section 4.2), at one node, by its definition (docs/claim/DEFINITIONS.md), slow and plain.
 Payloads, ports and pulses are as in lab/definitions/nodes.py."""
-from lab.definitions.colours import Network
 from lab.definitions.nodes import Slot
+from lab.network import Network
 
 # The identifier of the node in layer 0.
 ROOT = 1

@@ -1,8 +1,8 @@
 """Electing a leader by flooding (OptFloodMax: Lynch, Distributed Algorithms, 1996, section 4.1), at one node, by its
 definition (docs/claim/DEFINITIONS.md), slow and plain. Payloads, ports and pulses are as in
 lab/definitions/nodes.py."""
-from lab.definitions.colours import Network
 from lab.definitions.nodes import Slot
+from lab.network import Network
 
 
 class Leader:

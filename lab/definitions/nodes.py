@@ -15,7 +15,8 @@ is a tuple: ("Payload", pulse, (kind, number)), ("Ack", pulse), ("Safe", pulse) 
 from collections.abc import Iterable, Iterator
 from dataclasses import dataclass, field
 
-from lab.definitions.colours import Network, other_than
+from lab.definitions.colours import other_than
+from lab.network import Network
 from lab.words import in_words
 
 Payload = tuple[str, int]

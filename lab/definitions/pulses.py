@@ -1,9 +1,8 @@
 """The rounds of the colouring as pictures need them, pulse by pulse: what a text of rounds or the payloads of a
-transcript have to be. What they are is worked out by lab/definitions/rounds.py. Vertices carry identifiers, which
-need not be their numbers."""
-from lab.definitions.colours import Network
+transcript have to be. What they are is worked out by lab/definitions/rounds.py."""
 from lab.definitions.nodes import last_pulse
 from lab.definitions.rounds import FIRST_MERGE, Facts, merge_step, phase_words, rounds_lines
+from lab.network import Network
 from lab.wrong import Wrong
 
 SEED, LAST_COLOUR = 2, FIRST_MERGE - 1
@@ -30,20 +29,18 @@ class Rounds:
     the colours that aren't barred at v, and `first[v]` the least of them, which v has before it chooses; `merged[f][v]`
     is its colour once the forests below f are merged."""
 
-    def __init__(self, network, identifiers):
-        bars = {v: [channel - 1 for channel in network.barred(v)] for v in network.vertices}
-        net = Network({v: identifiers[v] for v in network.vertices}, network.edges, bars)
-        self.network, self.identifiers, self.net, facts = network, identifiers, net, Facts.of(net)
-        self.parents = {(v, f): w for v, ws in net.higher.items() for f, w in enumerate(ws)}
+    def __init__(self, network: Network):
+        self.network, facts = network, Facts.of(network)
+        self.parents = {(v, f): w for v, ws in network.higher.items() for f, w in enumerate(ws)}
         self.forest_of = {pair: f for (v, f), w in self.parents.items() for pair in ((v, w), (w, v))}
-        self.forests, self.width, self.last = net.forest_count, net.span + 1, last_pulse(net)
-        self.allowed = {v: set(range(self.width)) - net.barred[v] for v in network.vertices}
+        self.forests, self.width, self.last = network.forest_count, network.channels, last_pulse(network)
+        self.allowed = {v: set(range(self.width)) - network.barred[v] for v in network.vertices}
         self.merged, self.first = facts.merged, facts.merged[0]
         self.pulses = [Pulse(facts, number) for number in range(self.last + 1)]
 
     def lines(self):
         """The text of rounds, line by line."""
-        return rounds_lines(self.net)
+        return rounds_lines(self.network)
 
     def asked_forests(self, asked):
         """The forests A to B that are asked for, if the network has them; None if none are asked for."""

@@ -1,8 +1,8 @@
 """The classes of a plan choose anew, the greatest colour first (J. C. Culberson, Iterated greedy graph coloring and the
 difficulty landscape, 1992), at one node, by its definition (docs/claim/DEFINITIONS.md), slow and plain."""
-from lab.definitions.colours import Network
 from lab.definitions.nodes import Slot, last_pulse
 from lab.definitions.sequel import Sequel
+from lab.network import Network
 
 
 class Recolouring(Sequel):

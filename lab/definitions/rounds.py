@@ -4,8 +4,9 @@ plain: from lists over the vertices, as lab/definitions/colours.py has them, and
 A pulse p is 0 to R, a vertex v from 1, a forest f and a colour from 0."""
 from collections.abc import Iterator
 
-from lab.definitions.colours import Colours, Network, bit, drop, first_colours, merge, shift, text_of
+from lab.definitions.colours import Colours, bit, drop, first_colours, merge, shift, text_of
 from lab.definitions.nodes import last_pulse
+from lab.network import Network
 
 FIRST_MERGE = 13
 WORK_NAMES = ["step"] * 4 + ["shift", "drop"] * 3

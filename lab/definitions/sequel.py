@@ -1,7 +1,7 @@
 """Programs that go on where another one ends, mostly the colouring, at one node, by their definition
 (docs/claim/DEFINITIONS.md), slow and plain. Payloads, ports and pulses are as in lab/definitions/nodes.py."""
-from lab.definitions.colours import Network
 from lab.definitions.nodes import Colouring, Slot
+from lab.network import Network
 
 
 class Sequel:

@@ -22,7 +22,7 @@ class Run:
     it is the most that there can be. If they may be many, they are counted only if that `is_counted`."""
 
     def __init__(self, network, is_counted=False):
-        self.network, self.forests, self.is_bound = network, network.forests, False
+        self.network, self.forests, self.is_bound = network, network.forest_count, False
         self.last = LAST_COLOUR + 3 * self.forests * network.channels
         rounds = rounds_here(network) if network.nodes * self.last <= MOST_AT_ONCE else None
         if rounds:
@@ -49,7 +49,7 @@ def rounds_here(network):
         from lab.definitions.pulses import Rounds
     except ImportError:
         return None
-    return Rounds(network, network.identifiers)
+    return Rounds(network)
 
 
 def payloads_by_program(network):
@@ -70,8 +70,8 @@ def see_ended(process, name):
 
 def most_payloads(network):
     """A greeting both ways, a label and ten colours of each edge; and in each merge both ends of each edge choose."""
-    forests = network.forests
-    merged = sum(forests - f for v in network.vertices for f in range(len(network.higher(v))))
+    forests = network.forest_count
+    merged = sum(forests - f for parents in network.higher.values() for f in range(len(parents)))
     return 13 * len(network.edges) + 2 * merged
 
 

@@ -21,11 +21,12 @@ def facts(reading, network, is_counted):
     enough = f", so at most {counted(network.channels, 'channel')}"
     bars = network.bars.values()
     barred = (f"{counted(sum(map(len, bars)), 'channel')} at {counted(len(bars), 'node')}, "
-              f"at most {network.most_bars:,} at one{enough}")
+              f"at most {network.greatest_bars:,} at one{enough}")
     return [
         ("nodes", f"{network.nodes:,}{alone}"),
         ("edges", f"{edges:,}{more}; the `p` line says {reading.promised:,}"),
-        ("neighbours", f"{min(degrees, default=0):,} to {network.degree:,} of a node" + ("" if bars else enough)),
+        ("neighbours",
+         f"{min(degrees, default=0):,} to {network.greatest_degree:,} of a node" + ("" if bars else enough)),
         *([("barred", barred)] if bars else []),
         ("forests",
          f"{run.forests:,}, so the last pulse is 12 + 3 * {run.forests:,} * {network.channels:,} = {run.last:,}"),

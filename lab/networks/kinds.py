@@ -7,7 +7,8 @@ from itertools import combinations
 from math import cos, pi, sin
 from typing import NamedTuple
 
-from lab.networks.network_text import MAX_DEGREE, MAX_EDGES, MAX_NODES, Network
+from lab.network import Network
+from lab.networks.network_text import MAX_DEGREE, MAX_EDGES, MAX_NODES
 from lab.networks.places import near
 from lab.networks.random_networks import alike_edges, below
 from lab.wrong import Wrong
@@ -39,7 +40,7 @@ def checked(nodes, edges, places=None):
             raise Wrong(
                 f"that would be more than {MAX_DEGREE} neighbours of node {v if degrees[v] > MAX_DEGREE else w}"
             )
-    return Network("", nodes, found, places)
+    return Network(nodes, found, places=places or {})
 
 
 def circle(vertices):

@@ -2,8 +2,9 @@
 import os
 import re
 
+from lab.network import Network
 from lab.networks.kinds import KINDS
-from lab.networks.network_text import Network, read_network
+from lab.networks.network_text import read_network
 from lab.networks.texts import text_of
 from lab.programs import TOP
 from lab.words import bytes_at, called

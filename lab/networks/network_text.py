@@ -5,6 +5,7 @@ Comment lines may give places (`c at V X Y`) and names (`c name V NAME`); to the
 other."""
 import re
 
+from lab.network import Network
 from lab.networks.fields import fields_of, shown, whole, why_no_number
 from lab.wrong import Wrong, wrong_line
 
@@ -16,46 +17,6 @@ MAX_DEGREE = 1023
 IDENTIFIERS = 2 ** 128
 MAX_CHANNEL = 2048
 MAX_BARS = 1024
-
-
-class Network:
-    """A network that was read or made. `nodes` vertices from 1; `neighbours[v]` ascending; `edges` as pairs, the lower
-    vertex first, ascending; `given[v]` is the place (x, y) of a comment line `c at V X Y`, y growing downwards, and
-    `names[v]` the name of `c name V NAME`; `said[v]` is the identifier of the line `i V NUMBER`, and `identifiers[v]`
-    that or v; `bars[v]` has the channels of lines `b V CHANNEL`, ascending, and is there for the vertices that have
-    some. `span` is the greatest number of neighbours and the greatest number of bars of a vertex together: one channel
-    more than that is enough."""
-
-    def __init__(self, name, nodes, edges, given=None, names=None, identifiers=None, bars=None):
-        self.name, self.nodes, self.given, self.names = name, nodes, given or {}, names or {}
-        self.edges = sorted({(min(edge), max(edge)) for edge in edges})
-        self.vertices = range(1, nodes + 1)
-        self.said = identifiers or {}
-        self.identifiers = {v: v for v in self.vertices} | self.said
-        self.neighbours = {v: [] for v in self.vertices}
-        for v, w in self.edges:
-            self.neighbours[v].append(w)
-            self.neighbours[w].append(v)
-        for v in self.vertices:
-            self.neighbours[v].sort()
-        self.degree = max((len(ws) for ws in self.neighbours.values()), default=0)
-        self.bars = {v: sorted(channels) for v, channels in sorted((bars or {}).items()) if channels}
-        self.most_bars = max(map(len, self.bars.values()), default=0)
-        self.span = self.degree + self.most_bars
-        self.channels = self.span + 1
-
-    def higher(self, v):
-        """The neighbours of a vertex with a higher identifier."""
-        return [w for w in self.neighbours[v] if self.identifiers[w] > self.identifiers[v]]
-
-    @property
-    def forests(self):
-        """How many forests there are: the most neighbours of one vertex with a higher identifier."""
-        return max((len(self.higher(v)) for v in self.vertices), default=0)
-
-    def barred(self, v):
-        """The channels that are barred at a vertex, ascending."""
-        return self.bars.get(v, [])
 
 
 def stem(path):
@@ -194,7 +155,7 @@ def reading_of(text, path):
 
 
 def network_of_reading(read, path):
-    network = Network(stem(path), read.nodes, read.edges, read.places, read.names, read.identifiers, read.bars)
+    network = Network(read.nodes, read.edges, read.identifiers, read.bars, read.names, read.places, stem(path))
     return checked(network, path)
 
 
@@ -222,3 +183,8 @@ def two_alike(identifiers):
 def read_network(text, path):
     """The network of a text, or its first fault."""
     return network_of_reading(reading_of(text, path), path)
+
+
+def network_of(data, path="the network"):
+    """The same of a text in bytes."""
+    return read_network(data.decode("utf-8", "replace"), path)

@@ -30,7 +30,7 @@ def read_plan(text, name, network):
         if channel > network.channels:
             raise wrong_line(name, line, f"vertex {vertex} has channel {channel}, which is above {network.channels} "
                              "(C5); if it is a real channel number: forestlab channels --back TABLE")
-        if channel in network.barred(vertex):
+        if channel in network.bars.get(vertex, ()):
             raise wrong_line(name, line, f"vertex {vertex} has channel {channel}, which is barred at it (C8)")
         plan[vertex] = channel
     for vertex in network.vertices:

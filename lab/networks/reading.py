@@ -1,8 +1,9 @@
 """`forestlab network read`: a network in one of the forms, as a text that the programs read, and what was guessed and
 left out."""
+from lab.network import Network
 from lab.networks.edge_list import NO_END, decoded, twin_of, with_clean_names
 from lab.networks.forms import listed
-from lab.networks.network_text import MAX_EDGES, MAX_NODES, Network, checked, read_network, shown, stem, whole
+from lab.networks.network_text import MAX_EDGES, MAX_NODES, checked, read_network, shown, stem, whole
 from lab.networks.texts import text_of
 from lab.words import counted
 from lab.wrong import Wrong
@@ -73,10 +74,10 @@ def made_of(found, name):
         found.notes.append(f"two nodes are named {shown(twin_of(names))}")
     if len(order) > MAX_NODES:
         raise Wrong(f"{name}: {len(order)} nodes, and a network has at most {MAX_NODES}")
-    made = checked(Network(stem(name), len(order), edges,
+    made = checked(Network(len(order), edges, given(found.identifiers, number, name, "an identifier"),
+                           given(found.bars, number, name, "a barred channel"), names,
                            {v: place for v, place in places.items() if all(abs(part) < FARTHEST for part in place)},
-                           names, given(found.identifiers, number, name, "an identifier"),
-                           given(found.bars, number, name, "a barred channel")), name)
+                           stem(name)), name)
     if len(made.edges) > MAX_EDGES:
         raise Wrong(f"{name}: {len(made.edges)} edges, and a network has at most {MAX_EDGES}")
     return made, [summary(made, found, by)] + found.notes, found.left_out + left_out
@@ -135,4 +136,4 @@ def summary(made, found, by):
     alone = sum(not ws for ws in made.neighbours.values())
     lone = f", {alone} of them without a neighbour" if alone else ""
     return (f"{found.form}; {counted(made.nodes, 'node')}{lone}, {counted(len(made.edges), 'edge')}, "
-            f"at most {counted(made.degree, 'neighbour')}; {by}")
+            f"at most {counted(made.greatest_degree, 'neighbour')}; {by}")

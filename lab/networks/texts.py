@@ -20,6 +20,6 @@ def plain_text(network):
 def text_of(network, head=()):
     """The same after the comment lines: those of `head`, places and names."""
     lines = [f"c {line}" for line in head]
-    lines += [f"c at {v} {decimal(x)} {decimal(y)}" for v, (x, y) in sorted(network.given.items())]
+    lines += [f"c at {v} {decimal(x)} {decimal(y)}" for v, (x, y) in sorted(network.places.items())]
     lines += [f"c name {v} {name}" for v, name in sorted(network.names.items())]
     return "".join(line + "\n" for line in lines) + plain_text(network)

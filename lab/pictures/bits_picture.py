@@ -25,7 +25,7 @@ def draw(rounds, forest=0, vertex=None):
     most = max(digits(number) for pair in pairs for number in pair)
     cell = 7 if most > LONGER else 11 if most > LONG else 18 if most > 8 else 26
     lengths = ", ".join(str(max(map(digits, pair))) for pair in pairs)
-    is_short = all(rounds.identifiers[v] == v for v in network.vertices)
+    is_short = all(rounds.network.identifiers[v] == v for v in network.vertices)
     said = ("Here the names are the nodes’ own numbers, which are short. Names of 128 digits become one of six colours "
             "in four steps, too." if is_short else "Names of up to 128 digits become one of six colours in four steps.")
     rule = ("It looks for the least place i in which its digits differ from its parent’s; with its own digit d there, "

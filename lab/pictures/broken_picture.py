@@ -4,7 +4,6 @@ on where the colouring ends, what its nodes have found at their last pulse. What
 from functools import partial
 
 from lab.definitions.nodes import Colouring
-from lab.networks.network_text import Network
 from lab.pictures.forests_picture import PANEL, Panel
 from lab.pictures.map_picture import box_of, draw_map
 from lab.pictures.marks import colour_square
@@ -28,7 +27,7 @@ LEAST_WIDTH, START = 620, 2
 def draw(network, without, program=Colouring):
     """Of a network, or of a smallest one on which the rounds of a program go wrong."""
     rounds, smaller = broken_rounds(network, without, program)
-    drawn = network or network_of_rounds(rounds)
+    drawn = network or rounds.net
     if isinstance(rounds, RuledSequel):
         picture = OfEnd(rounds, without, drawn, program)
     else:
@@ -51,13 +50,6 @@ def in_lines(words, width):
     return wrapped(words, (width - 40) * 1.1)
 
 
-def network_of_rounds(rounds):
-    """The network that was found, as one that was read."""
-    net = rounds.net
-    bars = {v: [colour + 1 for colour in colours] for v, colours in net.barred.items()}
-    return Network("found", len(net.neighbours), {tuple(sorted(edge)) for edge in net.number}, {}, bars=bars)
-
-
 def left_out(without):
     return " and ".join(f"‘{rule}’" for rule in without)
 
@@ -76,7 +68,7 @@ def title(rounds, without, network):
 
 def told(rounds, without, network, smaller):
     """The rule, the network, and what comes of it."""
-    nodes, edges = len(rounds.net.neighbours), sorted(map(sorted, rounds.net.number))
+    nodes, edges = rounds.net.nodes, rounds.net.edges
     said = [left_out_words(without)]
     if network is None:
         joined = {v for edge in edges for v in edge}
@@ -240,7 +232,7 @@ class OfEnd:
         at_most("broken", network.nodes, "nodes of this program", MOST_MERGED,
                 "`forestlab explore NETWORK --without RULES`, which says it in words")
         self.network, self.faults = network, rounds.faults
-        self.blocks = [(words, found_in(ProgramRounds(network, network.identifiers, played))) for words, played in (
+        self.blocks = [(words, found_in(ProgramRounds(network, played))) for words, played in (
             (f"without {left_out(without)}", rounds.program), ("with all rules", program))]
         self.box = box_of(network, [one for _, found in self.blocks for one in found.values()], LEAST_WIDTH / 2, 0)
 

@@ -20,7 +20,8 @@ class Vertex:
 
     def __init__(self, network, v):
         number = str(network.identifiers[v]) if network.identifiers[v] != v else ""
-        self.v, self.bars, self.title = v, network.barred(v), f"node {v}" + (f", identifier {number}" if number else "")
+        self.v, self.bars = v, network.bars.get(v, [])
+        self.title = f"node {v}" + (f", identifier {number}" if number else "")
         self.size = 8.5 if network.nodes > LARGE else 12
         number = number if len(number) <= 12 else number[:5] + "…" + number[-5:]
         self.words = " ".join(filter(None, [number, short_name(network, v)]))

@@ -28,7 +28,7 @@ def net_of(network):
     least = min(LEAST, 10 * LEAST / max(1, network.nodes) ** 0.5)
     places = spaced(places_of(network), WIDE, HIGH, MARGIN, RADIUS, least, APART)[0] if network.nodes else {}
     nodes = [{"x": round(places[v][0], 1), "y": round(places[v][1], 1), "id": str(network.said.get(v, "")),
-              "name": network.names.get(v, ""), "bars": network.barred(v)} for v in network.vertices]
+              "name": network.names.get(v, ""), "bars": network.bars.get(v, [])} for v in network.vertices]
     return {"name": network.name, "nodes": nodes, "edges": network.edges}
 
 

@@ -25,7 +25,6 @@ from lab.pictures.program_rounds import (MANY_WIRES, ProgramRounds, is_own, last
                                          rounds_of)
 from lab.pictures.transcripts import read_transcript, window_of
 from lab.pictures.watch_page import steps_of_text
-from lab.schedules.reading import network_of
 from lab.schedules.rules import (OF_ANY_ROUNDS, OF_PROGRAMS as RULES_OF_PROGRAMS, OF_SCHEDULES, program_of,
                                  unknown_to)
 from lab.schedules.simulate import played, text_of_run
@@ -68,7 +67,7 @@ class Asked(SimpleNamespace):
         """The rounds of a text, or of the definitions."""
         text = self.text("rounds")
         if text is None:
-            return rounds_of(self.network, self.network.identifiers, self.program)
+            return rounds_of(self.network, self.program)
         return read_rounds(text.text, text.name, self.network, self.program)
 
     def window(self, usual=None):
@@ -183,7 +182,7 @@ KINDS = {
         "a filled circle is a node with a colour; of channels the number is in the circle, and beside it what it\n"
         "was before. All other results are written beside the nodes.",
         "forestlab picture results examples/petersen.col --program matching > petersen-pairs.svg",
-        lambda asked: results_picture.draw(ProgramRounds(asked.network, asked.network.identifiers, asked.program)),
+        lambda asked: results_picture.draw(ProgramRounds(asked.network, asked.program)),
         most=(400, "simulate, whose transcript ends in the same"), is_placed=True, of_programs=True),
     "matrix": Kind(
         "The plan as a matrix, sorted by channel: proper if the diagonal blocks are blank.",
@@ -440,19 +439,19 @@ def texts_of(given, network, network_text, program):
     if found:
         return found
     if given.kind in OF_PLAN:
-        return [Text("plan", "the plan", plan_text(network_text))]
+        return [Text("plan", "the plan", plan_text(network, network_text))]
     if KINDS[given.kind].form == "transcript" and given.kind != "tally":
         return [Text("transcript", network.name if given.kind == "watch" else f"the text of {network.name}",
                      run_text(given, network, network_text, program))]
     return []
 
 
-def plan_text(network_text):
+def plan_text(network, network_text):
     """The plan of the proved program; where that isn't built, of the definitions, which is said."""
     if programs.built("forestplan"):
         return programs.text_of("forestplan", ["plain"], network_text)
     note("forestplan isn't built, so the plan is that of the definitions in Python, which no proof covers")
-    return plan_by_definition(network_text).decode()
+    return plan_by_definition(network).decode()
 
 
 def run_text(given, network, network_text, program):
@@ -464,7 +463,7 @@ def run_text(given, network, network_text, program):
     if wires > MANY_WIRES:
         note(f"a run of {network.name} has more than {wires:,} wires, so its text takes a while")
     if is_own(program):
-        return text_of_run(network.nodes, played(network_of(network), program=program), program)
+        return text_of_run(network.nodes, played(network, program=program), program)
     options = [f"--{name}={value}" for name in ("workers", "capacity") if (value := getattr(given, name, None))]
     if program is Colouring:
         return programs.text_of("forestplan", ["transcript", *options], network_text)

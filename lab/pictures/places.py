@@ -16,14 +16,14 @@ FULL_TURN = 6.283185307179586
 def places_of(network):
     """{vertex: (x, y)}: the comment lines `c at V X Y` if they name every vertex; else a circle for up to six; else a
     layout."""
-    if all(v in network.given for v in network.vertices):
-        return {v: network.given[v] for v in network.vertices}
+    if all(v in network.places for v in network.vertices):
+        return {v: network.places[v] for v in network.vertices}
     return circle(network.nodes) if network.nodes <= LARGEST_CIRCLE else laid_out(network)
 
 
 def unused_places(network):
     """Of a network that places some of its vertices: that they are drawn elsewhere, in words; else None."""
-    named = sum(v in network.given for v in network.vertices)
+    named = sum(v in network.places for v in network.vertices)
     if named in (0, network.nodes):
         return None
     return f"{network.name}: places are given for {named} of {network.nodes} vertices, so they aren't used"

@@ -51,7 +51,8 @@ def said_of(network):
         return f"{counted(network.nodes, 'transmitter')}, and no pair interferes"
     return (
         f"{counted(network.nodes, 'transmitter')}, {counted(len(network.edges), 'pair')} that "
-        f"{'interferes' if len(network.edges) == 1 else 'interfere'}, at most {counted(network.degree, 'neighbour')}: "
+        f"{'interferes' if len(network.edges) == 1 else 'interfere'}, "
+        f"at most {counted(network.greatest_degree, 'neighbour')}: "
         "on each line two different numbers" + ("; crossed out: barred" if network.bars else "")
     )
 

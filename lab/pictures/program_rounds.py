@@ -1,13 +1,13 @@
 """The rounds of any program as pictures need them, pulse by pulse: by its definition (lab/definitions/programs.py), or
 of a text (docs/claim/FORMATS.md) that is, line by line, the rounds of its network."""
 import re
+from dataclasses import replace
 
 from lab.definitions.nodes import Colouring, ports_of, synchronous_pulses
 from lab.definitions.own_program import check_repeats, what_is_wrong
 from lab.definitions.programs import PLAYED, base_of
 from lab.definitions.pulses import Rounds
 from lab.networks.network_text import whole
-from lab.schedules.reading import network_of
 from lab.wrong import Wrong, wrong_line
 
 # A greeting, or the first colour of a vertex.
@@ -33,26 +33,24 @@ class ProgramRounds:
 
     forests, first = 0, {}
 
-    def __init__(self, network, identifiers, program):
-        self.network, self.identifiers, self.program = network, identifiers, program
-        self.net = network_of(network, identifiers)
-        self.last = program.last_pulse(self.net)
+    def __init__(self, network, program):
+        self.network, self.program = network, program
+        self.last = program.last_pulse(network)
         if self.last * network.nodes > MOST_STEPS:
             raise Wrong(f"{network.name}: {self.last} pulses of {network.nodes} nodes are too many to be drawn")
-        check_repeats(self.net, program)
-        self.pulses, ports = [], {v: ports_of(self.net, v) for v in network.vertices}
-        for p, nodes, _, sent in synchronous_pulses(self.net, program):
+        check_repeats(network, program)
+        self.pulses, ports = [], {v: ports_of(network, v) for v in network.vertices}
+        for p, nodes, _, sent in synchronous_pulses(network, program):
             puts = [(v, w, slot[0].lower(), slot[1]) for v in nodes for w, slot in zip(ports[v], sent[v]) if slot]
             drawn = {v: (colour, None if port is None else ports[v][port]) for v, node in nodes.items()
                      if hasattr(node, "drawn") for colour, port in [node.drawn()]}
             self.pulses.append(ProgramPulse(p, {v: node.result() for v, node in nodes.items()}, puts, drawn))
         self.nodes = nodes
-        self.wrong = what_is_wrong(self.net, program, self.pulses[-1].results)
+        self.wrong = what_is_wrong(network, program, self.pulses[-1].results)
 
     def lines(self):
         """The text of rounds, line by line."""
-        net = self.net
-        yield f"rounds 3 {self.program.name} {len(net.neighbours)} {net.greatest_degree} {self.last}"
+        yield f"rounds 3 {self.program.name} {self.network.nodes} {self.network.greatest_degree} {self.last}"
         for pulse in self.pulses:
             yield f"pulse {pulse.number}"
             puts = {v: [] for v in self.network.vertices}
@@ -64,16 +62,14 @@ class ProgramRounds:
                 yield from puts[v]
 
 
-def rounds_of(network, identifiers, program):
+def rounds_of(network, program):
     """The rounds of any program."""
-    if program is Colouring:
-        return Rounds(network, identifiers)
-    return ProgramRounds(network, identifiers, program)
+    return Rounds(network) if program is Colouring else ProgramRounds(network, program)
 
 
 def last_pulse(network, program=Colouring):
     """The last pulse of a program on a network."""
-    return program.last_pulse(network_of(network))
+    return program.last_pulse(network)
 
 
 def least_wires(network, program=Colouring):
@@ -106,11 +102,11 @@ def read_rounds(text, name, network, program):
     """The rounds of any program, if the text has them line by line, or its first line that is wrong."""
     lines = text.removesuffix("\n").split("\n")
     if program is not Colouring:
-        rounds = ProgramRounds(network, network.identifiers, program)
+        rounds = ProgramRounds(network, program)
     elif lines[0].split(" ")[:2] not in (["rounds", "1"], ["rounds", "2"]):
         raise wrong_line(name, 1, "no line `rounds 1 ..` or `rounds 2 ..`")
     else:
-        rounds = Rounds(network, identifiers_of(lines, network, name))
+        rounds = Rounds(replace(network, said=identifiers_of(lines, network, name)))
     wanted = list(rounds.lines())
     for number, (line, want) in enumerate(zip(lines, wanted), 1):
         if line != want:

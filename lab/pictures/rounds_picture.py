@@ -191,4 +191,4 @@ class Strip:
             if self.cone and ("merged", v, self.forest) not in self.cone.facts:
                 self.fade(x, y, self.column, pulse.chosen[v] + 1)
         channel_circle(svg, end + 24, y, 11, channel + 1, mark="after")
-        bar_row(svg, end + 44, y, self.rounds.network.barred(v), BAR)
+        bar_row(svg, end + 44, y, self.rounds.network.bars.get(v, []), BAR)

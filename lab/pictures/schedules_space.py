@@ -4,7 +4,6 @@ is refused here, in a sentence."""
 import re
 
 from lab.definitions.nodes import Colouring
-from lab.schedules.reading import network_of
 from lab.schedules.ruled_rounds import ruled, smallest_wrong
 from lab.schedules.rules import ALL
 from lab.schedules.space import Space
@@ -20,11 +19,11 @@ def space_of(network, kind, without=(), beyond=False, program=Colouring, progres
     now and then how many states and events there are so far."""
     if without and beyond:
         for limit in BROKEN_STATES:
-            space = Space(network_of(network), without, limit, beyond=True, progress=progress, program=program)
+            space = Space(network, without, limit, beyond=True, progress=progress, program=program)
             if space.faults or not space.is_cut:
                 break
         return space
-    space = Space(network_of(network), without, MAX_STATES, progress=progress, program=program)
+    space = Space(network, without, MAX_STATES, progress=progress, program=program)
     if space.is_cut:
         raise Wrong(
             f"{kind} draws at most {MAX_STATES:,} states, and {network.name} has more: leave out an edge or a node"
@@ -37,7 +36,7 @@ def broken_rounds(network, without, program=Colouring):
     the rounds of a program go wrong without these rules. Networks that go right are refused."""
     said = " and ".join(f"`{rule}`" for rule in without)
     if network is not None:
-        rounds = ruled(program)(network_of(network), without)
+        rounds = ruled(program)(network, without)
         if rounds.clash is None:
             raise Wrong(
                 f"not broken: the rounds of {network.name} go right without {said}; without NETWORK, broken draws a "

@@ -5,12 +5,13 @@ Every answer is worked out by the slow definitions (lab/definitions) and from no
 import random
 from functools import partial
 
-from lab.definitions.colours import Network, at_parent, colours, drop, shift
+from lab.definitions.colours import at_parent, colours, drop, shift
 from lab.definitions.nodes import NetState, last_pulse
 from lab.definitions.pulses import LAST_COLOUR
 from lab.definitions.rounds import Facts
-from lab.networks.network_text import Network as Drawn
+from lab.network import Network
 from lab.networks.random_networks import alike_edges
+from lab.networks.texts import plain_text
 from lab.pictures.map_picture import EDGE, Vertex, draw_map
 from lab.pictures.pages import filled, text_of
 from lab.pictures.svg import Svg, escaped
@@ -48,8 +49,7 @@ class Sheet:
         self.name, self.answers = name, answers
         self.source = random.Random(name)
         self.net = network_by(self.source)
-        self.facts, self.vertices = Facts(self.net), sorted(self.net.neighbours)
-        self.edges = sorted(tuple(sorted(edge)) for edge in self.net.number)
+        self.facts, self.vertices, self.edges = Facts(self.net), self.net.vertices, self.net.edges
 
     def any_of(self, things):
         return things[int(self.source.random() * len(things))]
@@ -152,15 +152,12 @@ class Sheet:
                 parts.append(f'<h2>Lesson {lesson}</h2>')
                 parts += [f'<div class="question">{question}</div>' for question in questions]
         if self.answers:
-            parts.append(f"<p>The network, for the programs:</p>\n<pre>{self.network_text()}</pre>")
+            parts.append(f"<p>The network, for the programs:</p>\n<pre>{plain_text(self.net).rstrip()}</pre>")
         return "\n".join([*parts, "</section>"])
 
-    def network_text(self):
-        return "\n".join([f"p edge {NODES} {EDGES}"] + [f"e {v} {w}" for v, w in self.edges])
-
     def map(self):
-        svg, network = Svg(*MAP, f"network of sheet {self.name}"), Drawn(f"sheet {self.name}", NODES, self.edges, {})
-        draw_map(svg, network, {v: Vertex(network, v) for v in network.vertices}, (*MAP, 0, 0), EDGE)
+        svg = Svg(*MAP, f"network of sheet {self.name}")
+        draw_map(svg, self.net, {v: Vertex(self.net, v) for v in self.vertices}, (*MAP, 0, 0), EDGE)
         return f'<svg width="{MAP[0]}" height="{MAP[1]}" role="img" aria-label="the network">\n{svg.inner()}\n</svg>'
 
 
@@ -179,8 +176,7 @@ def farthest(net, edge):
 def network_by(source):
     """A connected network of the sheets' sizes, by chance, with a row of four in forest 0."""
     while True:
-        net = Network({v: v for v in range(1, NODES + 1)},
-                      alike_edges(source, NODES, EDGES, True, NEIGHBOURS, FORESTS))
+        net = Network(NODES, alike_edges(source, NODES, EDGES, True, NEIGHBOURS, FORESTS))
         above = {v: net.parent(0, v) for v in net.neighbours} | {None: None}
         if any(above[above[above[v]]] for v in net.neighbours):
             return net

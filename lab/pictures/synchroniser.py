@@ -12,7 +12,7 @@ Moment = namedtuple("Moment", "entry pulse said awaits heights")
 
 def played(run):
     """(entry, its node's stage and its ports' levels before it, its node and the levels after it) of each entry."""
-    state = NetState(run.rounds.net, run.program)
+    state = NetState(run.network, run.program)
     for entry in sorted(run.all(), key=place_of):
         v, node = entry.vertex, state.nodes[entry.vertex]
         before = stage_of(node), levels_of(state, v)

@@ -2,11 +2,11 @@
 place in time for each, which is its stamp. lab/transcripts reads it, finds an order and judges it, here for all
 pictures."""
 from collections import deque
-from dataclasses import dataclass
+from dataclasses import dataclass, replace
 
 from lab.definitions.nodes import Colouring
+from lab.networks.network_text import two_alike
 from lab.pictures.program_rounds import rounds_of
-from lab.schedules.reading import network_of
 from lab.transcripts.check import find_order
 from lab.transcripts.reading import Wrong as WrongEntry, read_to_fault
 from lab.wrong import Wrong, wrong_line
@@ -86,7 +86,7 @@ def identifiers_of(network, entries):
     for entry in entries:
         if entry.kind == "Put" and entry.what[0] == "Payload" and entry.what[2][0] == "Hello":
             found.setdefault(entry.vertex, entry.what[2][1])
-    return dict(network.identifiers) | {v: number for v, number in found.items() if v in network.vertices}
+    return network.said | {v: number for v, number in found.items() if number != network.identifiers.get(v)}
 
 
 def read_transcript(text, name, network, until=None, program=Colouring):
@@ -105,14 +105,14 @@ def read_transcript(text, name, network, until=None, program=Colouring):
 def run_of(text, name, network, stop, program):
     """The run, or with `stop` what each node did before it begins that pulse, as far as it depends on no more."""
     head, net, order, made = ordered(text, name, network, program, stop)
-    run = Run(network, name, rounds_of(network, net.identifiers, program), program, head.is_stamped)
+    run = Run(net, name, rounds_of(net, program), program, head.is_stamped)
     add_entries(run, made)
     run.whole = order.is_whole()
     return run
 
 
 def ordered(text, name, network, program, stop=None, is_greeted=True):
-    """The first line, the definitions' network, the order that is found, and its entries, each with its stamp; or what
+    """The first line, the network, the order that is found, and its entries, each with its stamp; or what
     is wrong in the text. If `is_greeted`, the vertices are called what their greetings say."""
     try:
         head, read, fault = read_to_fault(text.encode(), program.name, stop)
@@ -120,10 +120,9 @@ def ordered(text, name, network, program, stop=None, is_greeted=True):
         raise Wrong(f"{name} {why}") from None
     if head.nodes != network.nodes:
         raise wrong_line(name, head.line, f"{head.nodes} nodes, and {network.name} has {network.nodes} (Nodes)")
-    identifiers = identifiers_of(network, read) if is_greeted else dict(network.identifiers)
-    if len(set(identifiers.values())) < network.nodes:
+    net = replace(network, said=identifiers_of(network, read)) if is_greeted else network
+    if two_alike(net.identifiers):
         raise Wrong(f"{name}: two nodes have one identifier")
-    net = network_of(network, identifiers)
     order = find_order(net, read, program)
     if wrong := order.wrong(fault, is_part=stop is not None and stop <= program.last_pulse(net)):
         raise Wrong(f"{name} {wrong}")

@@ -8,7 +8,7 @@ from typing import NamedTuple
 
 from lab.definitions.own_program import AGAIN, check_repeats
 from lab.definitions.programs import add_program, check_root, note_ignored_bars, program_at
-from lab.schedules.reading import network_at
+from lab.networks.named import network_at
 from lab.schedules.ruled_rounds import ruled, smallest_wrong
 from lab.schedules.rules import ALL, OF_SCHEDULES, program_of, table, unknown_to
 from lab.schedules.space import Space
@@ -126,19 +126,19 @@ def rounds_found(given):
     """What the rounds of the network do without the rules, or a smallest network on which they go wrong."""
     program, refused = program_at(given.program, given.lots, given.root, given.passes), refused_words(given.without)
     if given.network is not None:
-        name, net = network_at(given.network)
-        note_ignored_bars("explore", net.barred, program)
+        net = network_at(given.network)
+        note_ignored_bars("explore", net.bars, program)
         rounds = ruled(program)(net, given.without)
         if not rounds.clash:
-            return Found(False, f"not broken: the rounds of {name} go right\n{refused}")
-        return Found(True, f"broken on {name}\n{rounds.words()}\n{refused}")
+            return Found(False, f"not broken: the rounds of {net.name} go right\n{refused}")
+        return Found(True, f"broken on {net.name}\n{rounds.words()}\n{refused}")
     rounds, tried, what, most = smallest_wrong(given.without, program)
     if rounds is None:
         return Found(False, f"not broken: {tried:,} {what} of up to {most} nodes go right\n")
-    edges = ", ".join(f"{v}-{w}" for v, w in sorted(map(sorted, rounds.net.number)))
+    edges = ", ".join(f"{v}-{w}" for v, w in rounds.net.edges)
     bar = ", channel 1 barred at node 1" if rounds.net.greatest_bars else ""
     smaller = f"; {tried - 1} smaller {what} go right" if tried > 1 else ""
-    return Found(True, f"broken on {len(rounds.net.neighbours)} nodes with the edges {edges}{bar}{smaller}\n"
+    return Found(True, f"broken on {rounds.net.nodes} nodes with the edges {edges}{bar}{smaller}\n"
                        f"{rounds.words()}\n{refused}")
 
 
@@ -151,15 +151,15 @@ def refused_words(without):
 # The schedules.
 
 def schedules_found(given):
-    name, net = network_at(given.network)
-    if len(net.neighbours) > MOST_NODES:
-        raise Wrong(f"{name} has {len(net.neighbours)} nodes, and every schedule is played of at most {MOST_NODES}")
+    net = network_at(given.network)
+    if net.nodes > MOST_NODES:
+        raise Wrong(f"{net.name} has {net.nodes} nodes, and every schedule is played of at most {MOST_NODES}")
     space = searched(given, net)
     events = space.with_puts(space.path_to_fault() if space.faults else space.path(space.ends[0]))
     if given.list:
         text = "".join(f"{event}\n" for event in events)
     else:
-        text = broken_text(given, space, events) if space.faults else whole_text(given, name, space)
+        text = broken_text(given, space, events) if space.faults else whole_text(given, net.name, space)
     return Found(bool(space.faults), text, list(map(str, events)), space.count, len(space.target))
 
 
@@ -174,8 +174,8 @@ def searched(given, net):
         sys.stderr.flush()
 
     program = program_at(given.program, given.lots, given.root, given.passes)
-    check_root(program, len(net.neighbours))
-    note_ignored_bars("explore", net.barred, program)
+    check_root(program, net.nodes)
+    note_ignored_bars("explore", net.bars, program)
     check_repeats(net, program)
     try:
         space = Space(net, given.without, given.limit, given.puts, False, progress if show else None, given.reduce,

@@ -13,12 +13,13 @@ import itertools
 from collections import namedtuple
 from typing import NamedTuple
 
-from lab.definitions.colours import Network, at_parent, bit, first_colours, merged, other_than, shift
+from lab.definitions.colours import at_parent, bit, first_colours, merged, other_than, shift
 from lab.definitions.independent_set import IndependentSet
 from lab.definitions.matching import Matching
 from lab.definitions.nodes import Colouring, ports_of, synchronous_run
 from lab.definitions.programs import base_of
 from lab.definitions.recolouring import Recolouring
+from lab.network import Network
 from lab.schedules.rules import OF_FORESTS
 
 # Rows of so many nodes are tried, or networks.
@@ -67,7 +68,7 @@ class RuledRounds:
             old = dict.fromkeys(old, 0)
         if "earlier" in self.without:
             net = copy.copy(net)
-            net.neighbours = {v: {w for w in ws if net.number[frozenset((v, w))] == f}
+            net.neighbours = {v: [w for w in ws if net.number[frozenset((v, w))] == f]
                               for v, ws in net.neighbours.items()}
         return merged(net, f, old, self.colours[f][-1])
 
@@ -78,7 +79,7 @@ class RuledRounds:
                     yield Clash(pulse, f, v, self.net.parent(f, v), colour)
 
     def merge_clashes(self, f):
-        for v, w in sorted(map(sorted, self.net.number)):
+        for v, w in self.net.edges:
             if self.net.number[frozenset((v, w))] <= f and self.merged[-1][v] == self.merged[-1][w]:
                 yield Clash(None, f, v, w, self.merged[-1][v])
 
@@ -94,7 +95,7 @@ class RuledRounds:
                     f"both have colour {clash.colour}")
         if self.plan is None:
             return f"{said}\nnode {v} hears its own colour in pulse {clash.pulse + 1}, and can't go on"
-        same = [(a, b) for a, b in sorted(map(sorted, self.net.number)) if self.plan[a] == self.plan[b]]
+        same = [(a, b) for a, b in self.net.edges if self.plan[a] == self.plan[b]]
         return said + "".join(f"\nthe plan gives {a} and {b} channel {self.plan[a] + 1}" for a, b in same[:1])
 
 
@@ -135,7 +136,7 @@ class RuledSet(IndependentSet):
 
     @staticmethod
     def faults(net, nodes):
-        return (Fault((v, w), f"the neighbours {v} and {w} are both in") for v, w in edges_of(net)
+        return (Fault((v, w), f"the neighbours {v} and {w} are both in") for v, w in net.edges
                 if nodes[v].is_in and nodes[w].is_in)
 
 
@@ -151,16 +152,12 @@ class RuledRecolouring(Recolouring):
     def faults(net, nodes):
         colour = {v: node.present() for v, node in nodes.items()}
         yield from (Fault((v, w), f"the neighbours {v} and {w} both have channel {colour[v] + 1}")
-                    for v, w in edges_of(net) if colour[v] == colour[w])
+                    for v, w in net.edges if colour[v] == colour[w])
         yield from (Fault((v,), f"node {v} has channel {c + 1}, which is barred at it") for v, c in colour.items()
                     if c in net.barred[v])
 
 
 RULED = {Matching: RuledMatching, IndependentSet: RuledSet, Recolouring: RuledRecolouring}
-
-
-def edges_of(net):
-    return sorted(map(sorted, net.number))
 
 
 class RuledSequel:
@@ -200,11 +197,11 @@ def smallest_wrong(without, program=Colouring):
     on which the rounds of a program go wrong; the rounds are None if there is none. Channel 1 is barred at node 1 if
     the bars are left out."""
     most, what = (MOST_ROW, "rows") if set(without) <= set(OF_FORESTS) else (MOST_MERGED, "networks")
-    tried, bars = 0, {1: {0}} if "bars" in without else {}
+    tried, bars = 0, {1: [1]} if "bars" in without else {}
     for nodes in range(2, most + 1):
         for edges in networks(nodes, without):
             tried += 1
-            rounds = ruled(program)(Network({v: v for v in range(1, nodes + 1)}, set(edges), bars), without)
+            rounds = ruled(program)(Network(nodes, edges, bars=bars, name="found"), without)
             if rounds.clash:
                 return rounds, tried, what, most
     return None, tried, what, most

@@ -10,8 +10,8 @@ from lab.definitions.nodes import Colouring, NetState, Refused, missing_words
 from lab.definitions.own_program import check_repeats
 from lab.definitions.programs import add_program, check_root, note_ignored_bars, program_at
 from lab.networks.fields import shown
+from lab.networks.named import network_at
 from lab.schedules.policies import POLICIES, Policy, Step
-from lab.schedules.reading import network_at
 from lab.schedules.ruled_node import RuledNode
 from lab.transcripts.fields import first_line
 from lab.transcripts.reading import Entry, line_of
@@ -118,15 +118,11 @@ class Player:
             yield self.make(step.kind, step.node, self.state.port_to.get((step.node, step.neighbour)))
 
 
-def edges_of(net):
-    return sorted(tuple(sorted(edge)) for edge in net.number)
-
-
 def played(net, policy="random", seed="1", slow=(), lazy=(), player=None, program=Colouring):
-    """The entries of a run of a program on a network of the definitions, in the order in which they were made; `player`
-    may be on its way."""
+    """The entries of a run of a program on a network, in the order in which they were made; `player` may be on its
+    way."""
     player = player or Player(net, program)
-    for _ in player.entries(Policy(policy, sorted(net.neighbours), edges_of(net), seed, slow, lazy)):
+    for _ in player.entries(Policy(policy, net.vertices, net.edges, seed, slow, lazy)):
         pass
     return player.made
 
@@ -180,19 +176,19 @@ def command_line():
     return words
 
 
-def check_names(name, net, given):
+def check_names(net, given):
     """Refuses edges and nodes that the network hasn't."""
     for v, w in given.slow:
         if frozenset((v, w)) not in net.number:
-            raise Wrong(f"{name} has no edge {v}-{w}")
+            raise Wrong(f"{net.name} has no edge {v}-{w}")
     for v in given.lazy:
         if v not in net.neighbours:
-            raise Wrong(f"{name} has no node {v}: its nodes are 1 to {len(net.neighbours)}")
+            raise Wrong(f"{net.name} has no node {v}: its nodes are 1 to {net.nodes}")
 
 
 def run_asked(net, given, program):
     """The entries of the run that the command line asks for; a list that ends early is said."""
-    note_ignored_bars("simulate", net.barred, program)
+    note_ignored_bars("simulate", net.bars, program)
     if not given.events:
         return played(net, given.policy, given.seed, given.slow, given.lazy, program=program)
     player, name = Player(net, program), called(given.events)
@@ -211,10 +207,10 @@ def main(words):
         line.error("--to-the-end is for a list of --events")
     if given.network == given.events == "-":
         line.error("standard input is one file, not two")
-    name, net = network_at(given.network)
-    check_names(name, net, given)
+    net = network_at(given.network)
+    check_names(net, given)
     program = program_at(given.program, given.lots, given.root, given.passes)
-    check_root(program, len(net.neighbours))
-    write(given, text_of_run(len(net.neighbours), run_asked(net, given, program), program))
+    check_root(program, net.nodes)
+    write(given, text_of_run(net.nodes, run_asked(net, given, program), program))
     return 0
 

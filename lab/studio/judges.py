@@ -9,7 +9,6 @@ from lab.networks.plan_text import clashes
 from lab.definitions.pulses import Rounds
 from lab.pictures.program_rounds import is_own, read_rounds
 from lab.programs import called
-from lab.schedules.reading import network_of
 from lab.studio.asked import OPENED
 from lab.transcripts.check import whole_run
 from lab.transcripts.reading import Wrong as WrongEntry, read
@@ -34,18 +33,16 @@ def text_from(name, words, network_text):
     return output
 
 
-def plan_of(text):
+def plan_of(network, text):
     """The plan of a network, as a text."""
-    if OPENED["is_proved"]:
-        return text_from("forestplan", ["plain"], text)
-    return plan_text(text.encode()).decode()
+    return text_from("forestplan", ["plain"], text) if OPENED["is_proved"] else plan_text(network).decode()
 
 
 def rounds_of(network, text):
     """The rounds of the colouring."""
     if OPENED["is_proved"]:
         return read_rounds(text_from("forestplay", ["rounds"], text), "the rounds", network, Colouring)
-    return Rounds(network, network.identifiers)
+    return Rounds(network)
 
 
 def verdict_on(network, text, plan):
@@ -57,7 +54,7 @@ def verdict_on(network, text, plan):
     for v, channel in plan.items():
         if channel > network.channels:
             return f"C5 vertex {v}"
-        if channel in network.barred(v):
+        if channel in network.bars.get(v, ()):
             return f"C8 vertex {v}"
     blank = [v for v in network.vertices if v not in plan]
     if blank:
@@ -69,7 +66,7 @@ def verdict_on(network, text, plan):
 def by_definitions(network, text, program):
     """What they say of a whole transcript, and the line of its fault."""
     try:
-        said = whole_run(network_of(network), text.encode(), program)[1]
+        said = whole_run(network, text.encode(), program)[1]
         return {"ok": True, "said": said, "line": None, "by": PYTHON}
     except WrongEntry as fault:
         return {"ok": False, "said": str(fault), "line": fault.line, "by": PYTHON}
@@ -92,7 +89,7 @@ def beginning_judged(network, network_text, entries, program):
         at = [int(found.group(1)) for found in re.finditer(r"^node \d+ pulse (\d+)", output, re.M)]
         flying = len(re.findall(r"\b(?:payload|ack|safe|close)\b", output))
         return {"ok": status == 0, "said": said, "pulses": at, "wires": flying, "by": MACHINE}
-    state, said = NetState(network_of(network), program), ""
+    state, said = NetState(network, program), ""
     try:
         for entry in read(text.encode(), program.name)[1]:
             try:

@@ -69,7 +69,7 @@ def make(asked, _tell):
     more = [float(asked.get("reach") or 0.26), *seed] if kind == "disk" else seed
     network = read_network(text_of(KINDS[kind].make(*sizes, *more)), kind)
     network.name = "-".join(map(str, [kind, *sizes, *more]))
-    network.given = by_shape(kind, *sizes) or network.given
+    network.places = by_shape(kind, *sizes) or network.places
     return shown(network)
 
 
@@ -84,5 +84,5 @@ def by_shape(kind, nodes, *_):
 
 def tidy(asked, _tell):
     network = network_asked(asked)
-    network.given = circle(network.nodes) if network.nodes <= LARGEST_CIRCLE else laid_out(network)
+    network.places = circle(network.nodes) if network.nodes <= LARGEST_CIRCLE else laid_out(network)
     return shown(network)

@@ -11,7 +11,6 @@ from lab.pictures.pages import net_of
 from lab.pictures.picture import OF_PLAN, OF_RUN, Asked, Text, drawing
 from lab.pictures.player_page import film_of
 from lab.pictures.program_rounds import ProgramRounds, last_pulse
-from lab.schedules.reading import network_of
 from lab.schedules.ruled_rounds import ruled, smallest_wrong
 from lab.schedules.rules import OF_PROGRAMS
 from lab.studio.asked import MOST_ROUNDS, network_asked, program_asked, rules_asked
@@ -24,10 +23,11 @@ KINDS = (*OF_PLAN, "results", "forests", "rounds", "bits", "why", *OF_RUN)
 def plan(asked, _tell):
     """The plan, and what the network comes to."""
     network = network_asked(asked)
-    channels = read_plan(plan_of(asked["network"]), "the plan", network)
+    channels = read_plan(plan_of(network, asked["network"]), "the plan", network)
     last = last_pulse(network)
-    return {"plan": [channels[v] for v in network.vertices], "allowed": network.channels, "degree": network.degree,
-            "bars": network.most_bars, "last": last, "forests": (last - 12) // (3 * network.channels)}
+    return {"plan": [channels[v] for v in network.vertices], "allowed": network.channels,
+            "degree": network.greatest_degree, "bars": network.greatest_bars, "last": last,
+            "forests": network.forest_count}
 
 
 def check(asked, _tell):
@@ -55,14 +55,14 @@ def rounds(asked, _tell):
     network = network_asked(asked, MOST_ROUNDS)
     program = program_asked(asked)
     if program is not Colouring:
-        return film_of(ProgramRounds(network, network.identifiers, program))
+        return film_of(ProgramRounds(network, program))
     return film_of(rounds_of(network, asked["network"]))
 
 
 def why(asked, _tell):
     """Why a node has its channel."""
     network = network_asked(asked, MOST_ROUNDS)
-    cone = why_picture.Cone(Rounds(network, network.identifiers), int(asked["vertex"]))
+    cone = why_picture.Cone(Rounds(network), int(asked["vertex"]))
     return {"lines": why_picture.text(cone).splitlines(), "identifiers": cone.identifiers(),
             "messages": [[p, v, w] for p, v, w, _ in sorted(cone.messages)]}
 
@@ -74,7 +74,7 @@ def broken(asked, _tell):
     without = rules_asked(asked, OF_PROGRAMS.get(program.name, {}))
     if not without:
         raise Wrong("which rule is left out?")
-    found = ruled(program)(network_of(network), without)
+    found = ruled(program)(network, without)
     if found.clash is not None:
         return {"here": True, "words": found.words().split("\n"), "found": None,
                 "picture": broken_picture.draw(network, without, program)}
@@ -83,7 +83,7 @@ def broken(asked, _tell):
     if least is None:
         return {"here": False, "words": [f"{said}, and so do those of all {tried:,} {what} of up to {most} nodes"],
                 "found": None, "picture": None}
-    return {"here": False, "words": [said], "found": net_of(broken_picture.network_of_rounds(least)),
+    return {"here": False, "words": [said], "found": net_of(least.net),
             "picture": broken_picture.draw(None, without, program)}
 
 
@@ -93,7 +93,7 @@ def picture(asked, _tell):
     if kind not in KINDS:
         raise Wrong(f"there is no picture {kind}")
     if kind in OF_PLAN:
-        texts = [Text("plan", "the plan", plan_of(asked["network"]))]
+        texts = [Text("plan", "the plan", plan_of(network, asked["network"]))]
     if kind in OF_RUN:
         texts = [Text("transcript", "the run", str(asked["transcript"]))]
     pulses = tuple(int(pulse) for pulse in asked.get("pulses") or ()) or None

@@ -5,9 +5,8 @@ from lab.definitions.programs import program_words
 from lab.pictures.program_rounds import ProgramRounds, is_own, last_pulse, least_wires, rounds_of
 from lab.pictures.watch_page import MOST_ENTRIES, Run, Steps, look_of, steps_of_text
 from lab.schedules.policies import POLICIES, Policy
-from lab.schedules.reading import network_of
 from lab.schedules.rules import OF_SCHEDULES
-from lab.schedules.simulate import Player, edges_of, events_of, text_of_run
+from lab.schedules.simulate import Player, events_of, text_of_run
 from lab.schedules.stepwise import Stepwise
 from lab.studio.asked import MOST_DRAWN, MOST_RUN, OPENED, network_asked, pairs_asked, program_asked, rules_asked
 from lab.studio.judges import beginning_judged, by_definitions, judged, text_from
@@ -25,27 +24,26 @@ def held_of(asked, net):
     """The links and nodes that wait."""
     slow = {tuple(sorted(edge)) for edge in pairs_asked(asked.get("slow", []))}
     lazy = {int(v) for v in asked.get("lazy", [])}
-    if not slow <= set(edges_of(net)) or not lazy <= set(net.neighbours):
+    if not slow <= set(net.edges) or not lazy <= set(net.neighbours):
         raise Wrong("a link or a node that waits isn't in this network")
     return slow, lazy
 
 
 def played(asked, network, program, tell):
     """(transcript, run) by a seed, which no thread made; steps of somebody's may come first."""
-    net = network_of(network)
     most = least_wires(network, program)
     if most > MOST_WIRES_PLAYED:
         raise Wrong(f"a run has more than {most:,} wires: take the threads, since a seeded run is played slowly")
     if asked["policy"] not in POLICIES:
         raise Wrong(f"there is no policy {asked['policy']}")
-    policy = Policy(asked["policy"], sorted(net.neighbours), edges_of(net), str(asked.get("seed", "1")),
-                    *held_of(asked, net))
-    player = Player(net, program)
+    policy = Policy(asked["policy"], network.vertices, network.edges, str(asked.get("seed", "1")),
+                    *held_of(asked, network))
+    player = Player(network, program)
     made = Steps(player.state)
-    for step in first_steps(asked, net, program):
+    for step in first_steps(asked, network, program):
         made.add(player.make(*step))
     # About: twice a wire for each of its puts and takes, and as many again for the payloads and their acknowledgements.
-    of, next_part = 2 * most + len(net.neighbours) * last_pulse(network, program), PART
+    of, next_part = 2 * most + network.nodes * last_pulse(network, program), PART
     for entry in player.entries(policy):
         made.add(entry)
         if not len(player.made) % 200:
@@ -113,7 +111,7 @@ def singled_out(asked, network):
 
 def compared(found, network, program):
     """(pulses whose payloads are those of the rounds, pulses compared, payloads), and what the rounds find."""
-    there = rounds_of(network, network.identifiers, program)
+    there = rounds_of(network, program)
     if isinstance(there, ProgramRounds):
         results = [there.pulses[-1].results[v] for v in network.vertices]
     else:
@@ -144,15 +142,14 @@ def steps(asked, _tell):
     """A run that is made step by step: where it is after some steps, or the events of a `list`, and what can come next.
     `by` steps more are left to chance, or up to all nodes' next pulse `in step`."""
     network, program = network_asked(asked, MOST_RUN), program_asked(asked)
-    net = network_of(network)
-    player = Stepwise(net, program, rules_asked(asked, OF_SCHEDULES))
+    player = Stepwise(network, program, rules_asked(asked, OF_SCHEDULES))
     if "list" in asked:
         player.follow_list(str(asked["list"]))
     else:
         player.follow(str(asked.get("steps") or "").split("_"))
     if len(player.chosen) > MOST_STEPS:
         raise Wrong(f"at most {MOST_STEPS:,} steps are made by hand; No clock plays the rest")
-    held = held_of(asked, net)
+    held = held_of(asked, network)
     if asked.get("by"):
         player.by_chance(min(int(asked["by"]), MOST_BY_CHANCE), str(asked.get("seed", "1")), *held)
     if asked.get("in_step"):

@@ -8,11 +8,11 @@ import json
 import sys
 from collections import deque
 
-from lab.definitions.colours import fields_of, network_of
 from lab.definitions.nodes import Colouring, NetState, Refused, make
 from lab.definitions.programs import add_program, check_root, note_ignored_bars, program_at
 from lab.networks.named import network_bytes
-from lab.networks.network_text import read_network
+from lab.networks.network_text import network_of
+from lab.transcripts.fields import fields_of
 from lab.transcripts.reading import Wrong, read_to_fault
 from lab.transcripts.stamps import Clock, check_whole, refusal, unfinished
 from lab.words import add_output, bytes_at, called, parser_of, write
@@ -150,8 +150,8 @@ def whole_run(net, text, program=Colouring):
     """The lines of the entries in an order that is a run, and the verdict on a transcript of a program on a network; or
     `Wrong`."""
     head, entries, fault = read_to_fault(text, program.name)
-    if head.nodes != len(net.neighbours):
-        raise Wrong(head.line, "Nodes", f"the transcript has {head.nodes} nodes, the network {len(net.neighbours)}")
+    if head.nodes != net.nodes:
+        raise Wrong(head.line, "Nodes", f"the transcript has {head.nodes} nodes, the network {net.nodes}")
     found = find_order(net, entries, program)
     if wrong := found.wrong(fault):
         raise wrong
@@ -163,7 +163,7 @@ def verdict(net, entries):
     """Of a whole run: each wire is put once."""
     puts = [entry.what for entry in entries if entry.kind == "Put"]
     payloads = sum(wire[0] == "Payload" for wire in puts)
-    return f"whole run of {len(net.neighbours)} nodes, {len(entries)} entries, {payloads} payloads, {len(puts)} wires"
+    return f"whole run of {net.nodes} nodes, {len(entries)} entries, {payloads} payloads, {len(puts)} wires"
 
 
 def in_order(made, text):
@@ -171,12 +171,6 @@ def in_order(made, text):
     lines = text.split(b"\n")
     head = next(line for line in lines if fields_of(line))
     return b"".join(line + b"\n" for line in [head] + [lines[line - 1] for line in made])
-
-
-def network_in(data, name):
-    """The network of a text, or its fault in words."""
-    read_network(data.decode("utf-8", "replace"), name)
-    return network_of(data)
 
 
 def words_of_command():
@@ -207,9 +201,9 @@ def texts_of(given):
     if given.network == given.transcript == "-":
         raise WrongNetwork("standard input has one text: name a file for the network or for the transcript")
     network = network_bytes(given.network)
-    net = network_in(network, called(given.network))
+    net = network_of(network, called(given.network))
     program = program_at(given.program, given.lots, given.root, given.passes)
-    check_root(program, len(net.neighbours))
+    check_root(program, net.nodes)
     return net, network, bytes_at(given.transcript), program
 
 
@@ -218,7 +212,7 @@ def main(words):
     # Nothing that is made here goes round in a circle that would have to be collected before the end.
     gc.disable()
     net, _, text, program = texts_of(given)
-    note_ignored_bars("transcript", net.barred, program)
+    note_ignored_bars("transcript", net.bars, program)
     try:
         made, said = whole_run(net, text, program)
     except Wrong as wrong:

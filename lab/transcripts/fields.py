@@ -15,6 +15,11 @@ class NoEntry(ValueError):
     """Why a line isn't an entry, in words."""
 
 
+def fields_of(line):
+    """The fields of a line: blanks and tabs part them, and a carriage return at the end is dropped."""
+    return [field for field in line.removesuffix(b"\r").replace(b"\t", b" ").split(b" ") if field]
+
+
 def name_in_texts(program):
     """The name of a program as the first line of a transcript has it: one field, whatever its file is called."""
     return "".join(letter if letter.isascii() and (letter.isalnum() or letter in "-_") else "_" for letter in program)

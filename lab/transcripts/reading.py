@@ -4,9 +4,8 @@ from dataclasses import dataclass
 from typing import NamedTuple
 
 from lab import wrong
-from lab.definitions.colours import fields_of
 from lab.definitions.nodes import wire_words
-from lab.transcripts.fields import COLOURING, NoEntry, name_in_texts, number, shown, wire_of
+from lab.transcripts.fields import COLOURING, NoEntry, fields_of, name_in_texts, number, shown, wire_of
 
 # What begins the lines of a network.
 NETWORK = (b"p", b"c", b"e", b"i", b"b")

@@ -6,8 +6,8 @@ from functools import lru_cache
 from random import Random
 from typing import Any, Iterable, Iterator
 
+from lab.network import Network
 from lab.networks.named import network_at, path_of
-from lab.networks.network_text import Network
 from lab.workshop.findings import Finding
 from lab.workshop.open_run import League
 from lab.workshop.protocol import COLOURING
@@ -52,7 +52,7 @@ def network_of(name: str, chance: Random) -> Network:
 def random_network(name: str, nodes: int, chance: Random) -> Network:
     """About one or two edges a node."""
     pairs = [(v, w) for v in range(1, nodes + 1) for w in range(v + 1, nodes + 1)]
-    return Network(name, nodes, chance.sample(pairs, min(len(pairs), nodes - 1 + chance.randrange(nodes + 2))))
+    return Network(nodes, chance.sample(pairs, min(len(pairs), nodes - 1 + chance.randrange(nodes + 2))), name=name)
 
 
 def varied(network: Network, chance: Random, program: str) -> Network:
@@ -66,8 +66,8 @@ def varied(network: Network, chance: Random, program: str) -> Network:
     if program == "layers" and 1 not in names and chance.random() < 0.8:
         names[chance.randrange(len(names))] = 1
     bars = network.bars
-    if program in WITH_BARS and network.degree and chance.random() < 0.4:
-        channels = range(1, network.degree + 2)
+    if program in WITH_BARS and network.greatest_degree and chance.random() < 0.4:
+        channels = range(1, network.greatest_degree + 2)
         bars = {v: chance.sample(channels, 1 + chance.randrange(2)) for v in vertices if chance.random() < 0.3}
     return remade(network, network.edges, dict(zip(vertices, names)), bars)
 
@@ -89,7 +89,7 @@ def cases_of(options: Namespace) -> list[Case]:
 
 def remade(network: Network, edges: Iterable, identifiers: dict[int, int], bars: dict[int, list[int]]) -> Network:
     """A network of this name with other edges, identifiers and bars."""
-    return Network(network.name, len(identifiers), edges, {}, {}, identifiers, bars)
+    return Network(len(identifiers), edges, identifiers, bars, name=network.name)
 
 
 def smaller(network: Network) -> Iterator[tuple[Network, list[int]]]:
@@ -100,7 +100,7 @@ def smaller(network: Network) -> Iterator[tuple[Network, list[int]]]:
         left = [v for v in same if v != gone]
         new = {v: k for k, v in enumerate(left, 1)}
         yield remade(network, [(new[v], new[w]) for v, w in network.edges if gone not in (v, w)],
-                     {new[v]: names[v] for v in left}, {new[v]: network.barred(v) for v in left}), left
+                     {new[v]: names[v] for v in left}, {new[v]: network.bars.get(v, []) for v in left}), left
     for edge in network.edges:
         yield remade(network, [other for other in network.edges if other != edge], names, network.bars), same
     for gone in network.bars:

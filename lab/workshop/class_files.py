@@ -14,8 +14,8 @@ from lab.words import parser_of
 COPIED = ("LICENSE-MIT", "LICENSE-APACHE", "bin/forestlab", "docs/learn/TUTORIAL.md", "docs/learn/GALLERY.md",
           "docs/learn/OWN_NETWORK.md", "docs/learn/PROTOCOL.md", "docs/learn/WORKSHOP.md", "docs/pictures", "examples",
           "lab/__init__.py", "lab/__main__.py", "lab/checksums.py", "lab/door.py", "lab/door.sh", "lab/help",
-          "lab/programs.py", "lab/progress.py", "lab/python", "lab/version.py", "lab/words.py", "lab/wrong.py",
-          "lab/networks", "lab/workshop", "lab/schedules/__init__.py", "lab/schedules/policies.py",
+          "lab/network.py", "lab/programs.py", "lab/progress.py", "lab/python", "lab/version.py", "lab/words.py",
+          "lab/wrong.py", "lab/networks", "lab/workshop", "lab/schedules/__init__.py", "lab/schedules/policies.py",
           "lab/transcripts/__init__.py", "lab/transcripts/fields.py", "lab/transcripts/proved_judge.py",
           "lab/transcripts/rules.py")
 # Of these folders, what stays with the teacher.

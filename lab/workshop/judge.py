@@ -2,7 +2,7 @@
 itself what is right."""
 from typing import NamedTuple
 
-from lab.networks.network_text import Network
+from lab.network import Network
 from lab.networks.texts import plain_text
 from lab.programs import called
 from lab.transcripts.fields import first_line

@@ -3,7 +3,7 @@ judged, by the proved `forestplan check`. Pulses, payloads and channels are coun
 import re
 from typing import NamedTuple
 
-from lab.networks.network_text import Network
+from lab.network import Network
 from lab.networks.texts import plain_text
 from lab.workshop.clock_run import ClockRun
 from lab.workshop.findings import Fault, first_of, listed
@@ -26,7 +26,7 @@ class OpenRun(ClockRun):
 
     def __init__(self, network: Network, most_pulses: int | None = None):
         super().__init__(network)
-        self.most_pulses = most_pulses or 20 * (network.nodes + 12 + 3 * network.degree * network.channels)
+        self.most_pulses = most_pulses or 20 * (network.nodes + 12 + 3 * network.greatest_degree * network.channels)
         self.channels: dict[int, int] = {}
         self.payloads, self.league = 0, None
 

@@ -2,7 +2,7 @@
 answer before its line `end`."""
 import re
 
-from lab.networks.network_text import Network
+from lab.network import Network
 from lab.transcripts.fields import NoEntry, wire_of as read_wire
 from lab.workshop.findings import Fault
 
@@ -26,10 +26,10 @@ def own_data(network: Network, v: int, assignment: str,
              forests: int | None = None, last: int | None = None) -> list[str]:
     """The lines before `end`. `forests` belongs to the colouring and to what goes on after it, and `last` is left out
     for an own algorithm."""
-    barred = network.barred(v)
+    barred = network.bars.get(v, [])
     lines = [f"workshop {EDITION} {assignment}", f"identifier {network.identifiers[v]}",
-             f"degree {len(network.neighbours[v])}", f"nodes {network.nodes}", f"delta {network.degree}",
-             f"bars {network.most_bars}"]
+             f"degree {len(network.neighbours[v])}", f"nodes {network.nodes}", f"delta {network.greatest_degree}",
+             f"bars {network.greatest_bars}"]
     lines += [f"{word} {number}" for word, number in (("forests", forests), ("last", last)) if number is not None]
     return [*lines, " ".join(map(str, ["barred", len(barred), *barred]))]
 

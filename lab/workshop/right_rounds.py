@@ -1,6 +1,6 @@
 """The rounds of a network: by port what each node sends in each pulse, and so what comes to its neighbours in the next.
 The right ones are those of `forestplay rounds`, and of the colouring also the plan of `forestplan plain`."""
-from lab.networks.network_text import Network
+from lab.network import Network
 from lab.networks.texts import plain_text
 from lab.workshop.judge import ask
 from lab.workshop.protocol import COLOURING, SEQUELS
@@ -34,7 +34,7 @@ class RightRounds(Rounds):
         super().__init__(network)
         self.program, self.phase, self.colours, self.chose, self.results = program, [], [], [], {}
         head, *lines = self.asked("forestplay", "rounds", program).splitlines()
-        self.forests = network.forests if program in (COLOURING, *SEQUELS) else None
+        self.forests = network.forest_count if program in (COLOURING, *SEQUELS) else None
         self.last = int(head.split()[-1])
         for line in lines:
             self.read(line.split(" "))

@@ -123,7 +123,7 @@ class Why:
     def merged(self, before: int) -> str:
         """Its merged colour before a pulse."""
         chosen = [chose[self.v] for chose in self.first.chose[:before] if self.v in chose]
-        barred = [channel - 1 for channel in self.network.barred(self.v)]
+        barred = [channel - 1 for channel in self.network.bars.get(self.v, ())]
         colour = chosen[-1] if chosen else min(set(range(self.network.channels)) - set(barred))
         return f"it had merged colour {colour}" + (f", and barred at it: {listed('colour', barred)}" if barred else "")
 

@@ -29,7 +29,7 @@ import threading
 import time
 from collections import Counter
 
-from lab.definitions.colours import network_of
+from lab.networks.network_text import network_of
 from lab.transcripts.check import Wrong, in_order, whole_run
 from lab.workshop.cases import cases_of
 from tests.cases import called

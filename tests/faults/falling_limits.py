@@ -3,7 +3,8 @@ each limit the answer is the right bytes, or one line that has a name."""
 import os
 import subprocess
 
-from lab.definitions.colours import network_of, plan_text
+from lab.definitions.colours import plan_text
+from lab.networks.network_text import network_of
 from lab.transcripts.check import in_order, whole_run
 from tests.cases import Case, text
 from tests.commands import PROGRAM_OF
@@ -31,7 +32,7 @@ def runs():
     return [
         (["forests"], PATH),
         (["plain"], PATH),
-        (["check"], PATH + plan_text(PATH)),
+        (["check"], PATH + plan_text(network_of(PATH))),
         (["events"], CIRCLE + b"".join(b"put %d %d\n" % (v, port) for v in range(1, 13) for port in (0, 1))),
         (["replay"], CIRCLE + entries),
         (["rounds"], CIRCLE),

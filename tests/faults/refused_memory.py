@@ -2,7 +2,8 @@
 import os
 import subprocess
 
-from lab.definitions.colours import network_of, plan_text
+from lab.definitions.colours import plan_text
+from lab.networks.network_text import network_of
 from tests.cases import Case, called, text, text_in
 from tests.commands import COMMANDS, EDGE, TRIANGLE
 from tests.programs.made_transcripts import Run
@@ -88,7 +89,7 @@ class RefusedMemory(Case):
         front, triangle, run = build_front(self.folder), text(TRIANGLE), Run(network_of(text(TRIANGLE)), 4)
         barred = [triangle + b"i 1 9\nb 3 1\nb 3 7\nb 1 2\ni 2 0\n",
                   triangle + b"".join(b"b 1 %d\n" % channel for channel in range(1, 131))]
-        for words, data, wanted in (*((["plain"], data, (0, plan_text(data), b"")) for data in barred),
+        for words, data, wanted in (*((["plain"], data, (0, plan_text(network_of(data)), b"")) for data in barred),
                                     (["check"], triangle, (1, b"", b"forestplan: C6 line 1\n")),
                                     (["forests"], b"q\n", (1, b"", b"forestplan: F8 line 1\n")),
                                     (["nothing"], b"", None), (["--help"], b"", None)):

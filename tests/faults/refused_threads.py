@@ -5,7 +5,8 @@ import os
 import subprocess
 import time
 
-from lab.definitions.colours import network_of, plan_text
+from lab.definitions.colours import plan_text
+from lab.networks.network_text import network_of
 from lab.transcripts.check import Wrong, whole_run
 from tests.cases import Case, example, text, text_in
 from tests.commands import EDGE
@@ -64,7 +65,7 @@ def is_right(command, answer, data=TRIANGLE):
     if (status, fault) != (0, b""):
         return False
     if command == "plan":
-        return output == plan_text(data)
+        return output == plan_text(network_of(data))
     try:
         return whole_run(network_of(data), output)[1].startswith("whole run")
     except Wrong:
@@ -86,7 +87,7 @@ class RefusedThreads(Case):
             for thread in range(workers + 1):
                 answer, _, *threads = self.plan.run(["plan", "--workers", str(workers)], data, thread=thread)
                 wanted = (THREADS, [thread, thread - 1, thread - 1]) if thread else (
-                    (0, plan_text(data), b""), [workers] * 3)
+                    (0, plan_text(network_of(data)), b""), [workers] * 3)
                 if (answer, threads) != wanted:
                     wrong.append((thread, answer, threads))
             self.note(f"each of {workers} threads refused in turn: plan of {data[:12]}", not wrong, wrong[:3])
@@ -134,7 +135,7 @@ class RefusedThreads(Case):
                 answer, count = refused_in_threads(PLAN, front, self.folder, workers, data, stop)
                 runs = [runs[0] + 1, runs[1] + (count > 0)]
                 refused += count
-                if answer != (0, plan_text(data), b"") or (workers == 1 and count > 0):
+                if answer != (0, plan_text(network_of(data)), b"") or (workers == 1 and count > 0):
                     wrong.append((data, workers, stop, answer, count))
         self.note(f"pushes refused in the middle of a run: in {runs[1]} of {runs[0]} runs of plan with up to 8 workers,"
                   f" {refused} refusals", not wrong and runs[1] > 0, wrong[:3] or f"none in {patience} seconds")

@@ -6,7 +6,8 @@ import re
 import signal
 import time
 
-from lab.definitions.colours import colours, network_of
+from lab.definitions.colours import colours
+from lab.networks.network_text import network_of
 from lab.pictures.palette import CHANNEL_HUES, FOREST_COLOURS, INK, PALE, PAPER, WIRES, grey, text_on
 from tests import TOP, browser
 from tests.cases import Case

@@ -1,10 +1,14 @@
 """What docs/learn/TUTORIAL.md says of small networks and of rows, worked out from the definitions
 (lab/definitions/colours.py, lab/definitions/nodes.py) or by hand. What it says of nodes that break a rule is in
 tests/programs/schedules.py."""
-from lab.definitions.colours import Network, colours, first_colours, merge, network_of, three
+from dataclasses import replace
+
+from lab.definitions.colours import colours, first_colours, merge, three
 from lab.definitions.nodes import NetState, last_pulse, synchronous_run
 from lab.definitions.recolouring import with_passes
 from lab.definitions.rounds import forest_colours
+from lab.network import Network
+from lab.networks.network_text import network_of
 from tests.cases import Case, contents
 
 
@@ -57,7 +61,7 @@ class TutorialFacts(Case):
         self.same("three colours of the ring of four", three(net, 0), {1: 0, 2: 1, 3: 0, 4: 1})
         self.assertLess(three(net, 1)[1], three(net, 1)[4])
         star = example("examples/star.col")
-        barred = Network(star.identifiers, star.number, {9: {0}})
+        barred = replace(star, bars={9: [1]})
         for given, channel in ((star, 0), (barred, 1)):
             ends = {v: 1 - channel for v in range(1, 9)} | {9: channel}
             self.same(f"the star whose centre has {channel}", colours(given), ends)
@@ -65,7 +69,7 @@ class TutorialFacts(Case):
     def test_passes(self):
         """The passes of exercise 7 (d), by hand as its answer has them: pulses R + N (D + B + 1), R being 36 of the
         ring and 21 of the two nodes."""
-        ring, two = example("examples/barred.col"), Network({1: 1, 2: 2}, {(1, 2)}, {1: {1}})
+        ring, two = example("examples/barred.col"), Network(2, [(1, 2)], bars={1: [2]})
         for net, ends in ((ring, [(40, [2, 1, 2, 1]), (44, [2, 3, 1, 3]), (48, [2, 1, 2, 1])]), (two, [(24, [3, 1])])):
             for passes, wanted in enumerate(ends, 1):
                 program = with_passes(passes)

@@ -2,7 +2,8 @@
 definitions."""
 import random
 
-from lab.definitions.colours import network_of, plan_text
+from lab.definitions.colours import plan_text
+from lab.networks.network_text import network_of
 from lab.pictures import picture
 from tests.cases import Case, example, in_process
 from tests.programs.made_transcripts import made_transcript, merged_text
@@ -35,7 +36,7 @@ class PictureCase(Case):
         """What `picture KIND` makes of a network, if there is one, and a text, given as bytes."""
         words = [] if network is None else [self.file("net.col", network)]
         if text is None and FORM.get(kind) == "plan":
-            text = plan_text(network)
+            text = plan_text(network_of(network))
         if text is not None:
             words += [f"--{FORM.get(kind, 'rounds')}", self.file("text", text)]
         return painter(kind, *words, *options)

@@ -3,8 +3,8 @@ compares these with nodes that hear and send), what has all rules beside lab/def
 programs by hand, and the words beside what `forestlab explore` prints."""
 import re
 
-from lab.definitions.colours import network_of
 from lab.definitions.rounds import Facts
+from lab.networks.network_text import network_of
 from lab.schedules import rules
 from lab.schedules.ruled_rounds import RuledRounds, smallest_wrong
 from tests import TOP

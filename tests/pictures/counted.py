@@ -1,6 +1,6 @@
 """What the lines of a run say of a node, line by line, counted: nothing here comes from the definitions' nodes."""
-from lab.definitions.colours import network_of
 from lab.definitions.nodes import last_pulse
+from lab.networks.network_text import network_of
 
 
 def fields_of(text):

@@ -3,7 +3,7 @@ another one. And where the vertices of a network are drawn, and their names."""
 import re
 from itertools import combinations
 
-from lab.definitions.colours import network_of
+from lab.networks.network_text import network_of
 from lab.schedules import rules
 from tests.cases import examples
 from tests.pictures.base import BARRED, PictureCase, transcript

@@ -2,10 +2,11 @@
 import re
 from collections import Counter
 
-from lab.definitions.colours import bit, colours, network_of
+from lab.definitions.colours import bit, colours
 from lab.definitions.nodes import last_pulse
 from lab.definitions.rounds import FIRST_MERGE, Facts, merge_step
 from lab.networks.named import network_bytes
+from lab.networks.network_text import network_of
 from tests.cases import example, examples
 from tests.pictures.base import APART, BARRED, PictureCase
 from tests.pictures.marks import (centre, data_of, ends, gap, marks, nearest, number, numbered, pairs_joined, parsed,
@@ -23,10 +24,6 @@ QUEEN = example("queen5_5")
 def circles(mark, net_colours):
     """The circles of the channels of all vertices, as `numbered` has them."""
     return [(mark, CHANNELS[c % 8], str(c + 1)) for _, c in sorted(net_colours.items())]
-
-
-def edges_of(net):
-    return sorted(tuple(sorted(edge)) for edge in net.number)
 
 
 def words_of_bars(net, v):
@@ -78,7 +75,7 @@ class Maps(PictureCase):
                 "a vertex each": (titles(root, "vertex"),
                                   [f"vertex {v}: channel {c + 1}{words_of_bars(net, v)}" for v, c in plan.items()]),
                 "hues and numbers": (numbered(root, "channel"), circles("channel", plan)),
-                "its edges": (pairs_joined(root, "edge", places), edges_of(net)),
+                "its edges": (pairs_joined(root, "edge", places), net.edges),
                 "edges end in circles": ([end for mark in marks(root, "edge") for end in ends(mark)
                                           if gap(places[nearest(places, end)], end) > 0.3], []),
                 "labels": (sorted(map(int, words(root, "number"))), [*plan] * is_small),
@@ -110,7 +107,7 @@ class Maps(PictureCase):
             return order[int((middle[mark][axis] - start[axis]) / cell)]
         pairs = {kind: sorted((vertex(mark, 1), vertex(mark, 0)) for mark in marks(root, kind))
                  for kind in ("pair", "wrong")}
-        both = sorted(pair for v, w in edges_of(net) for pair in ((v, w), (w, v)))
+        both = sorted(pair for v, w in net.edges for pair in ((v, w), (w, v)))
         wrong = [(v, w) for v, w in both if plan[v] == plan[w]]
         is_small = len(plan) <= 100
         self.facts(f"matrix of {name}", {
@@ -159,7 +156,7 @@ class Maps(PictureCase):
             "as many arrows as children": (len(marks(above, "arrow")), len(parents)),
             "channels after its merge": (numbered(below, "channel"), circles("channel", facts.merged[f + 1])),
             "its edges below": (Counter(mark.get("stroke") == INK for mark in marks(below, "edge")),
-                                Counter({True: len(parents), False: len(net.number) - len(parents)})),
+                                Counter({True: len(parents), False: len(net.edges) - len(parents)})),
         })
 
     def test_rounds(self):
@@ -245,7 +242,7 @@ class Maps(PictureCase):
                 "parents": (film["parents"], [[v, f, net.parent(f, v)] for v in vertices for f in forests
                                               if net.parent(f, v)]),
                 "the first colours": (film["first"], [facts.merged[0][v] for v in vertices]),
-                "its edges": (sorted(map(tuple, data["net"]["edges"])), edges_of(net)),
+                "its edges": (sorted(map(tuple, data["net"]["edges"])), net.edges),
                 "messages": (shown("puts"), [[[v, *sent] for v in facts.at_work(p) for sent in facts.sent(p, v)]
                                              for p in range(last + 1)]),
                 "colours": (shown("colours"), [[[facts.colours[f][p][v] for f in forests] for v in vertices]

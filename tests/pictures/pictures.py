@@ -6,8 +6,9 @@ import shutil
 import subprocess
 from xml.etree import ElementTree
 
-from lab.definitions.colours import network_of, plan_text
+from lab.definitions.colours import plan_text
 from lab.definitions.rounds import rounds_text
+from lab.networks.network_text import network_of
 from tests import FORESTLAB, TOP
 from tests.cases import called, contents, example, examples, text_in
 from tests.pictures.base import APART, FORM, SEED, PictureCase, painter, transcript
@@ -16,7 +17,7 @@ from tests.programs.made_transcripts import made_transcript, merged_text, transc
 from tests.settings import PLAN, PLAY
 
 OF_RUNS = [kind for kind, form in FORM.items() if form == "transcript"]
-PLAN_OF_PETERSEN = plan_text(example("petersen"))
+PLAN_OF_PETERSEN = plan_text(network_of(example("petersen")))
 RUN_OF_APART, RUN_OF_PETERSEN = transcript(APART, "refused"), transcript(example("petersen"), "refused")
 RUN_OF_TRIANGLE = transcript(example("triangle"), "refused")
 # What rows name: networks and texts by the names of their files.
@@ -181,4 +182,4 @@ class Pictures(PictureCase):
                 joined = {frozenset((v, w)) for v in places for w in places if v < w
                           and gap(places[v], places[w]) < 170}
                 self.note("disk100: two are less than 170 apart just if they interfere",
-                          joined == set(network_of(network).number))
+                          joined == set(map(frozenset, network_of(network).edges)))

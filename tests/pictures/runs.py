@@ -4,9 +4,9 @@ import re
 from collections import Counter
 from itertools import product
 
-from lab.definitions.colours import network_of
 from lab.definitions.nodes import last_pulse
 from lab.networks.named import network_bytes
+from lab.networks.network_text import network_of
 from tests.cases import called, example
 from tests.pictures.base import PictureCase, transcript
 from tests.pictures.counted import fields_of, played
@@ -183,7 +183,7 @@ class Runs(PictureCase):
         # A figure with one decimal place may be off by a twentieth.
         gaps = [(b - a - wide, wide) for (a, wide), (b, _) in zip(bars, bars[1:])]
         payloads = sum(count for (kind, _), count in counts.items() if kind == "payload")
-        edges = "1 edge" if len(net.number) == 1 else f"{len(net.number)} edges"
+        edges = "1 edge" if len(net.edges) == 1 else f"{len(net.edges)} edges"
         said = f"{sum(counts.values()):,} wires = 2 · {payloads:,} payloads + 2 · {edges} · ({last} + 1)"
         self.facts(f"tally of {name}, pulses {first} to {final}", {
             "a bar for each kind and pulse": ({(kind, int(pulse)): int(count) for pulse, kind, count in shown}, {

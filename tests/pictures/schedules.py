@@ -8,8 +8,9 @@ import re
 from collections import Counter
 from itertools import islice, pairwise
 
-from lab.definitions.colours import colours, network_of
+from lab.definitions.colours import colours
 from lab.definitions.nodes import NetState
+from lab.networks.network_text import network_of
 from lab.schedules.space import Space
 from lab.words import in_words
 from tests.cases import example

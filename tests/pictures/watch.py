@@ -5,13 +5,13 @@ acknowledgements of the payloads that it put and hasn't had, and so on. Nothing 
 from itertools import islice, product
 from unittest import mock
 
-from lab.definitions.colours import colours, network_of
+from lab.definitions.colours import colours
 from lab.definitions.nodes import last_pulse
-from lab.networks.network_text import read_network
+from lab.networks.network_text import network_of
 from lab.pictures import watch_page
 from lab.pictures.watch_page import Run, Steps, steps_of_text
 from lab.schedules.policies import Policy
-from lab.schedules.simulate import Player, edges_of, text_of_run
+from lab.schedules.simulate import Player, text_of_run
 from tests.cases import example
 from tests.pictures.base import PictureCase, transcript
 from tests.pictures.counted import fields_of, played
@@ -70,7 +70,7 @@ class Watch(PictureCase):
         })
 
     def test_a_run_that_is_too_long_says_how_to_see_the_rest(self):
-        network = read_network(example("triangle").decode(), "triangle")
+        network = network_of(example("triangle"))
         text = transcript(example("triangle"), "long").decode()
         for most, pulses, is_said in ((20_000, None, False), (100, None, True), (100, (3, 4), False)):
             with self.subTest(most=most, pulses=pulses), mock.patch.object(watch_page, "MOST_ENTRIES", most):
@@ -82,9 +82,9 @@ class Watch(PictureCase):
     def test_run_of_a_player(self):
         """The steps of a player show what its transcript shows, on the way and at the end."""
         for name, most in product(("two", "triangle", "barred", "petersen"), (40, None)):
-            net, network = network_of(example(name)), read_network(example(name).decode(), name)
-            player = Player(net)
-            steps, policy = Steps(player.state), Policy("random", sorted(net.neighbours), edges_of(net), "watch")
+            network = network_of(example(name))
+            player = Player(network)
+            steps, policy = Steps(player.state), Policy("random", network.vertices, network.edges, "watch")
             for entry in islice(player.entries(policy), most):
                 steps.add(entry)
             text = text_of_run(network.nodes, player.made)

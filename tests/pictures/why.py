@@ -7,10 +7,11 @@ import random
 import re
 from itertools import pairwise
 
-from lab.definitions.colours import Network, network_of, three
+from lab.definitions.colours import three
 from lab.definitions.pulses import Rounds
 from lab.definitions.rounds import rounds_text
-from lab.networks.network_text import Network as Read, read_network
+from lab.network import Network
+from lab.networks.network_text import network_of
 from lab.pictures.why_picture import Cone
 from tests.cases import example
 from tests.pictures.base import PictureCase
@@ -94,8 +95,8 @@ class Why(PictureCase):
             names = sorted(source.sample(range(0, 4000, 2), nodes))
             source.shuffle(names)
             identifiers = dict(zip(vertices, names))
-            net = Network(identifiers, edges)
-            rounds = Rounds(Read("case", nodes, edges, {}, None, identifiers), identifiers)
+            net = Network(nodes, edges, identifiers)
+            rounds = Rounds(net)
             for v, f in ((v, f) for v in vertices for f in range(net.forest_count)):
                 facts = Cone(rounds, v).behind(("colour", v, f, 12))
                 others = [w for w in vertices if ("identifier", w) not in facts]
@@ -103,15 +104,14 @@ class Why(PictureCase):
                 changed = identifiers | {w: identifiers[w] + 1 for w in others}
                 tried += bool(others)
                 with self.subTest(case=case, v=v, f=f):
-                    self.assertEqual(three(Network(changed, edges), f)[v], three(net, f)[v])
+                    self.assertEqual(three(Network(nodes, edges, changed), f)[v], three(net, f)[v])
         self.assertGreater(tried, 100)
 
     def test_faded(self):
         """As many squares and circles are faded as aren't in the cone."""
         for name, vertex in (("triangle", 2), ("petersen", 6)):
-            network = read_network(example(name).decode(), name)
-            root, cone = parsed(self.drawn("why", example(name), "--vertex", vertex)), Cone(
-                Rounds(network, network.identifiers), vertex)
+            network = network_of(example(name))
+            root, cone = parsed(self.drawn("why", example(name), "--vertex", vertex)), Cone(Rounds(network), vertex)
             kept = sum(fact[0] != "identifier" for fact in cone.facts)
             self.same(f"{name}: how many are faded", len(marks(root, "faded")),
                       network.nodes * len(cone.forests()) * (11 + 1) - kept)

@@ -7,6 +7,7 @@ the program.
 import os
 
 from lab.definitions.colours import forests_text, plan_text
+from lab.networks.network_text import network_of
 from tests import TOP
 from tests.cases import Case, called, contents, example, examples, text
 from tests.commands import COMMANDS, EDGE, HELPS, PROGRAMS, TRIANGLE, commands_of
@@ -102,15 +103,16 @@ class BlackBox(Case):
         rows = [(name, text(network), *wanted) for name, network, *wanted in NETWORKS]
         rows += [(f"example {name}", network, None, None) for name, network in examples().items()]
         for name, network, channels, forests in rows:
-            plan = plan_text(network)
+            net = network_of(network)
+            plan, split = plan_text(net), forests_text(net)
             if channels is not None:
                 wanted = "plan|" + "".join(f"{v} {channel}|" for v, channel in enumerate(channels, 1))
                 self.same(f"the definition on {name}", plan, text(wanted))
             if forests is not None:
-                self.same(f"the forests of {name} by the definition", forests_text(network), text(forests))
+                self.same(f"the forests of {name} by the definition", split, text(forests))
             # On the greatest stars threads that have no processor would have the others wait for minutes.
             alone = ["--workers", "1"] if len(network) > 9000 else []
-            for words, answer in ((["forests"], forests_text(network)), (["plain"], plan), (["plan", *alone], plan)):
+            for words, answer in ((["forests"], split), (["plain"], plan), (["plan", *alone], plan)):
                 self.same(f"{' '.join(words)} of {name}", called(PLAN, *words, data=network), (0, answer, b""))
             self.says(f"check of {name}", network.rstrip() + b"\n" + plan,
                       f"proper {max(map(int, plan.split()[2::2]), default=0)}")
@@ -133,7 +135,8 @@ class BlackBox(Case):
         pairs = [(v, v + d) for d in range(1, 22) for v in range(1, 20_001 - d)][:400_001]
         head, lines = b"p edge 20000 400000\n", [b"e %d %d\n" % pair for pair in pairs]
         body, again = b"".join(lines[:-1]), b"".join(b"e %d %d\n" % (w, v) for v, w in pairs[:1000])
-        self.same("400,000 edges", called(PLAN, "forests", data=head + body), (0, forests_text(head + body), b""))
+        self.same("400,000 edges", called(PLAN, "forests", data=head + body),
+                  (0, forests_text(network_of(head + body)), b""))
         for name, data, line in (("400,001 edges", head + body + lines[-1], 400002),
                                  ("400,001 edges after repeats", head + again + body + lines[-1] + b"e 0 0\n", 401002)):
             self.same(name, called(PLAN, "forests", data=data), (1, b"", b"forestplan: F7 line %d\n" % line))
@@ -216,7 +219,8 @@ class BlackBox(Case):
         for name, network in [("queen5_5.col", example("queen5_5")), ("a graph without edges", b"p edge 4 0\n")]:
             for command in ("plain", "plan"):
                 done = called(SECOND_PLAN, command, data=network)
-                self.same(f"{command} of {name}, built by the second compiler", done, (0, plan_text(network), b""))
+                self.same(f"{command} of {name}, built by the second compiler", done,
+                          (0, plan_text(network_of(network)), b""))
 
     def test_streams(self):
         """Each command writes to a full device and to a closed pipe, and reads a folder and a closed stream; and a full

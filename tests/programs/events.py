@@ -5,8 +5,9 @@ Expected answers are worked by hand, or come from the definitions in lab/definit
 docs/learn/TUTORIAL.md are compared, too; none is taken from the program."""
 import random
 
-from lab.definitions.colours import colours, network_of
+from lab.definitions.colours import colours
 from lab.definitions.nodes import NetState, Refused, last_pulse, missing_words, ports_of, wire_words
+from lab.networks.network_text import network_of
 from tests.cases import Case, called, text
 from tests.commands import EDGE, TRIANGLE
 from tests.programs.plain_networks import random_of, some_bars, text_of

@@ -1,7 +1,8 @@
 """Texts that nobody would write: good texts of each command, spoiled at random. The same seed makes the same texts."""
 import random
 
-from lab.definitions.colours import network_of, plan_text
+from lab.definitions.colours import plan_text
+from lab.networks.network_text import network_of
 from lab.schedules.simulate import Player
 from lab.transcripts.reading import line_of
 from tests.cases import text as text_of_lines
@@ -68,7 +69,7 @@ def behind(source, command, net, network):
 
 
 def plan_text_lines(source, network):
-    head, *rows = plan_text(network).split(b"\n")[:-1]
+    head, *rows = plan_text(network_of(network)).split(b"\n")[:-1]
     return [head] + source.sample(rows, len(rows))
 
 

@@ -9,8 +9,9 @@ import random
 import sys
 from xml.etree import ElementTree
 
-from lab.definitions.colours import network_of, plan_text
+from lab.definitions.colours import plan_text
 from lab.definitions.rounds import rounds_text
+from lab.networks.network_text import network_of
 from tests import TOP
 from tests.cases import Case
 
@@ -53,9 +54,9 @@ class InPython(Case):
                 node: [other for one, other in pairs if one == node] for node in nodes}
             got = forestplan.plan(graph, bars=bars, workers=2 if count % 4 == 0 else None)
             text, order = forestplan.text_of(graph, bars)
-            wanted = [int(line.split()[1]) for line in plan_text(text.encode()).decode().split("\n")[1:-1]]
+            wanted = [int(line.split()[1]) for line in plan_text(network_of(text.encode())).decode().split("\n")[1:-1]]
             self.note(f"plan {count}", (order, list(got.items())) == (nodes, list(zip(nodes, wanted))), (got, wanted))
-            edges = {frozenset((order[v - 1], order[w - 1])) for v, w in network_of(text.encode()).number}
+            edges = {frozenset((order[v - 1], order[w - 1])) for v, w in network_of(text.encode()).edges}
             self.note(f"edges {count}", edges == {frozenset(pair) for pair in pairs if pair[0] != pair[1]}, edges)
             self.note(f"check {count}", forestplan.check(graph, got, bars=bars) == max(wanted))
 

@@ -15,6 +15,7 @@ import tempfile
 from build import completion
 from lab.__main__ import COMMANDS as OF_LAB
 from lab.definitions.colours import plan_text
+from lab.networks.network_text import network_of
 from tests import TOP
 from tests.cases import Case, called, contents, copied, example, text, wait_until
 from tests.commands import APART, COMMANDS, HELPS, PROGRAMS
@@ -292,7 +293,7 @@ class Install(Case):
         self.note("nothing of one's own", not os.path.exists(os.path.join(top, "mine.txt")))
         data = example("petersen")
         got = run([os.path.join(top, "bin", "forestplan"), "plain"], data)
-        self.same("its program plans", got, (0, plan_text(data), b""))
+        self.same("its program plans", got, (0, plan_text(network_of(data)), b""))
         self.file(os.path.join(top, "README.md"), b"more\n", "ab")
         self.refusal("a changed folder isn't packed", run([*pack, top, packs]), 1, b"first: README.md")
         self.refusal("another folder isn't packed", run([*pack, self.elsewhere]), 2, b"pack: error: ")

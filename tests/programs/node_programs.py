@@ -4,11 +4,11 @@ by chance."""
 import re
 from itertools import product
 
-from lab.definitions.colours import network_of
 from lab.definitions.layers import Layers
 from lab.definitions.leader import Leader
 from lab.definitions.nodes import synchronous_run
 from lab.definitions.programs import program_at
+from lab.networks.network_text import network_of
 from tests.cases import Case, called, forestlab, text
 from tests.commands import EDGE
 from tests.settings import PLAN, PLAY

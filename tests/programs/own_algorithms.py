@@ -6,10 +6,11 @@ import os
 import random
 import textwrap
 
-from lab.definitions.colours import Network, network_of
 from lab.definitions.nodes import synchronous_run
 from lab.definitions.programs import program_at
-from lab.schedules.reading import network_at
+from lab.network import Network
+from lab.networks.named import network_at
+from lab.networks.network_text import network_of
 from tests import TOP
 from tests.cases import Case, examples, forestlab, said_by, text_in
 from tests.pictures.marks import data_of
@@ -91,7 +92,7 @@ def some_networks():
             yield name, net
     source = random.Random(SEED)
     for k, (nodes, edges) in enumerate(random_of(20, 1, 9)(source)):
-        yield f"random {k}", Network(dict(enumerate(source.sample(range(1, 40), nodes), 1)), edges)
+        yield f"random {k}", Network(nodes, edges, dict(enumerate(source.sample(range(1, 40), nodes), 1)))
 
 
 class OwnAlgorithms(Case):
@@ -100,22 +101,21 @@ class OwnAlgorithms(Case):
         for name, net in some_networks():
             nodes = synchronous_run(net, program_at(SET))
             inside = {v for v in nodes if nodes[v].result() == "set in"}
-            good = all(bool(net.neighbours[v] & inside) != (v in inside) for v in nodes)
+            good = all(bool(inside.intersection(net.neighbours[v])) != (v in inside) for v in nodes)
             self.note(f"a maximal independent set of {name}", good, inside)
         source = random.Random(SEED)
         for count in (1, 2, 3, 7, 12):
-            names = list(range(1, count + 1))
-            net = Network({v: v for v in names}, {(min(e), max(e)) for e in tree(source, names)})
+            net = Network(count, tree(source, list(range(1, count + 1))))
             found = {node.result() for node in synchronous_run(net, program_at(COUNT)).values()}
             self.note(f"a tree of {count} nodes counted", found == {f"nodes {count}"}, found)
-        found = {node.result() for node in synchronous_run(network_at("four_cycle")[1], program_at(COUNT)).values()}
+        found = {node.result() for node in synchronous_run(network_at("four_cycle"), program_at(COUNT)).values()}
         self.note("a ring isn't counted", found == {"nodes unknown"}, found)
 
     def test_schedules(self):
         """Every order on two nodes leads to what the rounds find; a run by seed is checked, and drawn."""
         for program in ("leader", "layers", SET, COUNT):
             status, text, fault = said_by("explore", "two", "--program", program)
-            nodes = synchronous_run(network_at("two")[1], program_at(program))
+            nodes = synchronous_run(network_at("two"), program_at(program))
             end = "one end: " + ", ".join(f"{v} {node.result()}" for v, node in nodes.items())
             self.same(f"every order of {program}", (status, text.splitlines()[-1:], fault), (0, [end], ""))
             _, run, _ = forestlab("simulate", "chain6", "--program", program, "--seed", "3")
@@ -132,7 +132,7 @@ class OwnAlgorithms(Case):
                                    "{me.greatest_bars} {me.barred} {last(me)}'")
         text += "def last_pulse(nodes, degree, forests, bars):\n    return 10 * nodes + degree + forests + bars\n" \
                 "def last(me):\n    return last_pulse(me.nodes, me.greatest_degree, me.forests, me.greatest_bars)\n"
-        net = Network({1: 4, 2: 9, 3: 5}, [(1, 2), (2, 3)], {1: [0, 6]})
+        net = Network(3, [(1, 2), (2, 3)], {1: 4, 2: 9, 3: 5}, {1: [1, 7]})
         found = [node.result() for node in synchronous_run(net, program_at(self.file("knows.py", text))).values()]
         self.same("what `me` knows", found, ["4 1 3 2 1 2 (1, 7) 35", "9 2 3 2 1 2 () 35", "5 1 3 2 1 2 () 35"])
 

@@ -6,11 +6,10 @@ import os
 import random
 import re
 
-from lab.definitions.colours import network_of
 from lab.definitions.nodes import last_pulse
 from lab.networks import network
 from lab.networks.costs import most_payloads
-from lab.networks.network_text import read_network
+from lab.networks.network_text import network_of
 from lab.networks.reading import read_any
 from lab.wrong import Wrong
 from tests.cases import Case, called, example, forestlab, in_process
@@ -70,15 +69,15 @@ def pairs_in(text):
     """The edges of a network's text by the names of its nodes, and the nodes without an edge."""
     net, names = network_of(text), comments(text, "name")
     named = {v: names.get(v, str(v)) for v in net.neighbours}
-    return ({frozenset(map(named.get, edge)) for edge in net.number},
+    return ({frozenset(map(named.get, edge)) for edge in net.edges},
             {named[v] for v, ws in net.neighbours.items() if not ws})
 
 
 def by_names(text):
     """Of each node by its name what the lines of a network say."""
-    net = read_network(text.decode(), "net")
+    net = network_of(text)
     names = {v: net.names.get(v, str(v)) for v in net.vertices}
-    return {names[v]: (net.given.get(v), net.said.get(v), net.barred(v), {names[w] for w in net.neighbours[v]})
+    return {names[v]: (net.places.get(v), net.said.get(v), net.bars.get(v), {names[w] for w in net.neighbours[v]})
             for v in net.vertices}
 
 
@@ -196,7 +195,7 @@ class OwnNetworks(Case):
                 found = len(reached(net, 1)) == nodes, net.greatest_degree, net.forest_count
                 good = all(wish in (None, there) for wish, there in zip(wanted, found))
                 self.note(f"random {words}, seed {seed}",
-                          good and (len(net.neighbours), len(net.number)) == (nodes, edges), (found, text))
+                          good and (len(net.neighbours), len(net.edges)) == (nodes, edges), (found, text))
                 texts.add(text.split(b"\n", 1)[1])
             self.note(f"random {words}: the seeds differ", len(texts) == (8 if edges > 2 else 1), len(texts))
 
@@ -310,7 +309,7 @@ class OwnNetworks(Case):
         for name, data in networks.items():
             net = network_of(data)
             told, warned = self.told_of(data)
-            last, edges = last_pulse(net), len(net.number)
+            last, edges = last_pulse(net), len(net.edges)
             payloads = payloads_of(net)
             wires = 2 * payloads + 2 * edges * (last + 1)
             degrees = [len(ws) for ws in net.neighbours.values()]
@@ -329,7 +328,7 @@ class OwnNetworks(Case):
             self.note(f"tell of {name}", {key: got.get(key) for key in wanted} == wanted, (told, wanted))
             self.note(f"tell of {name}: no warning", warned == b"" and told["time"] == "less than a second", told)
             # What is said of a network that is too large to be worked out.
-            most = most_payloads(read_network(data.decode(), name))
+            most = most_payloads(network_of(data))
             self.note(f"the most payloads of {name}", payloads <= most <= 2 * payloads, (payloads, most))
         for data, said in ((b"p edge 3 99\ne 1 2\n", b"the `p` line says 99 edges, and the text has 1: is it cut?"),
                            (b"p edge 2 1\ne 1 2\nc at 3 0 0\n", b"a place is given for vertex 3"),

@@ -8,8 +8,10 @@ import itertools
 import random
 import re
 
-from lab.definitions.colours import Network, bit, colours, first_colours, merge, plan_text, three
+from lab.definitions.colours import bit, colours, first_colours, merge, plan_text, three
 from lab.definitions.rounds import rounds_text
+from lab.network import Network
+from lab.networks.network_text import network_of
 from tests.cases import Case, called
 from tests.settings import PLAN
 
@@ -166,10 +168,10 @@ def texts_of(family):
 
 class PlainNetworks(Case):
     def test_definition(self):
-        triangle = Network({1: 1, 2: 2, 3: 3}, {(1, 2), (1, 3), (2, 3)})
-        barred = Network({1: 1, 2: 2, 3: 3}, {(1, 2), (1, 3), (2, 3)}, {3: {0}})
+        triangle = Network(3, {(1, 2), (1, 3), (2, 3)})
+        barred = Network(3, {(1, 2), (1, 3), (2, 3)}, bars={3: [1]})
         after = {1: 0, 2: 2, 3: 1}
-        highest_digit = Network({1: 2**127 - 1, 2: 2**128 - 1}, {(1, 2)})
+        highest_digit = Network(2, {(1, 2)}, {1: 2**127 - 1, 2: 2**128 - 1})
         for name, got, wanted in [
             ("three colours of the triangle", [three(triangle, f) for f in (0, 1)],
              [{1: 0, 2: 1, 3: 0}, {1: 1, 2: 1, 3: 0}]),
@@ -188,7 +190,7 @@ class PlainNetworks(Case):
             different, count = [], 0
             for count, network in enumerate(texts_of(family), 1):
                 done = called(PLAN, "plain", data=network)
-                if done != (0, plan_text(network), b""):
+                if done != (0, plan_text(network_of(network)), b""):
                     different.append((count, network, done))
             self.note(f"plain by the definition, {count} networks, {family[0]}", count > 0 and not different,
                       f"{len(different)} differ, the first is {different[:1]}")

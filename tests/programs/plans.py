@@ -4,8 +4,9 @@ that stop. No time decides a result, but that a run of more than a minute has fa
 That the bytes are the right ones is shown of `plain`, by plain_networks.py."""
 import itertools
 
-from lab.definitions.colours import network_of, plan_text
+from lab.definitions.colours import plan_text
 from lab.definitions.nodes import wire_words
+from lab.networks.network_text import network_of
 from tests.cases import Case, called, text
 from tests.commands import TRIANGLE as THREE
 from tests.programs.made_transcripts import Run
@@ -98,7 +99,7 @@ class Plans(Case):
                      b"p edge 5 5\ne 1 2\ne 2 3\ne 3 4\ne 4 5\ne 1 5\n"):
             for capacity in (1, 2, 64):
                 whole = Run(network_of(data), capacity)
-                for command, answer in (("plan", plan_text(data)), ("transcript", whole.text())):
+                for command, answer in (("plan", plan_text(network_of(data))), ("transcript", whole.text())):
                     got = [of_one(data, capacity, turns, command) for turns in (whole.looks - 1, whole.looks)]
                     self.same(f"{whole.looks} turns of {command} for {data[:12]!r} with capacity {capacity}, and no "
                               "less", got, [(3, b"", STOPPED), (0, answer, b"")])

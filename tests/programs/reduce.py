@@ -4,7 +4,7 @@ On each network of up to three nodes, and on two others: what goes wrong is the
 same, the ends are the same states, and every state of the reduced search is one of the whole search."""
 from itertools import product
 
-from lab.definitions.colours import Network
+from lab.network import Network
 from lab.schedules.space import Space
 from tests.cases import Case, said_by
 from tests.programs.plain_networks import all_of
@@ -16,16 +16,16 @@ RULES = ((), ("early",), ("acks",), ("acks", "early"))
 
 
 def row_of(nodes):
-    return Network({v: v for v in range(1, nodes + 1)}, [(v, v + 1) for v in range(1, nodes)])
+    return Network(nodes, [(v, v + 1) for v in range(1, nodes)])
 
 
 def rows():
     """(network, rules left out, whether puts are steps)."""
     for nodes in (1, 2, 3):
         for edges in all_of(nodes):
-            net = Network({v: v for v in range(1, nodes + 1)}, edges)
+            net = Network(nodes, edges)
             yield from ((net, *more) for more in (product(RULES, (False, True)) if nodes < 3 else [((), False)]))
-    for net in (Network({1: 9, 2: 200, 3: 5}, [(1, 2), (2, 3)], {2: [0]}), row_of(3)):
+    for net in (Network(3, [(1, 2), (2, 3)], {1: 9, 2: 200, 3: 5}, {2: [1]}), row_of(3)):
         yield from ((net, without, False) for without in RULES[:3])
     yield row_of(4), (), False
 
@@ -45,12 +45,12 @@ class Reduced(Case):
 
     def test_networks(self):
         for net, without, puts in rows():
-            with self.subTest(edges=net.number, without=without, puts=puts):
+            with self.subTest(edges=net.edges, without=without, puts=puts):
                 whole, less = (Space(net, without, MOST, puts, beyond=bool(without), reduce=it) for it in (False, True))
                 self.assertEqual(set(less.faults.values()), set(whole.faults.values()))
                 self.assertEqual(keys_of(less, less.ends), keys_of(whole, whole.ends))
                 self.assertLessEqual(keys_of(less, range(less.count)), keys_of(whole, range(whole.count)))
-                self.assertLessEqual(less.count, whole.count - bool(net.number))
+                self.assertLessEqual(less.count, whole.count - bool(net.edges))
 
     def test_that_early_is_found(self):
         self.assertTrue(Space(row_of(2), ("early",), MOST, reduce=True).faults)

@@ -2,9 +2,9 @@
 
 Expected texts are worked by hand, or come from the definitions in lab/definitions/rounds.py; none is taken from a
 program."""
-from lab.definitions.colours import network_of
 from lab.definitions.nodes import ports_of, synchronous_pulses
 from lab.definitions.rounds import FIRST_MERGE, head_of, merge_step, phase_words, rounds_text
+from lab.networks.network_text import network_of
 from tests.cases import Case, called, examples, text
 from tests.commands import EDGE
 from tests.programs.sequels import networks_by_chance

@@ -7,9 +7,10 @@ import os
 import random
 from collections import Counter
 
-from lab.definitions.colours import colours, network_of
+from lab.definitions.colours import colours
 from lab.definitions.nodes import NetState, last_pulse
 from lab.definitions.values import frozen
+from lab.networks.network_text import network_of
 from lab.schedules import ruled_rounds, rules
 from lab.schedules.space import Space
 from tests import TOP
@@ -85,7 +86,7 @@ def shown(state, v):
 
 def count_of_events(net):
     """n·R + 2·wires, wires being 2·payloads + 2·edges·(R + 1)."""
-    wires = 2 * payloads_of(net) + 2 * len(net.number) * (last_pulse(net) + 1)
+    wires = 2 * payloads_of(net) + 2 * len(net.edges) * (last_pulse(net) + 1)
     return len(net.neighbours) * last_pulse(net) + 2 * wires, wires
 
 
@@ -266,7 +267,7 @@ class Schedules(Case):
     def test_rounds(self):
         for rule in rules.OF_ROUNDS:
             rounds = ruled_rounds.smallest_wrong([rule])[0]
-            self.same(f"the smallest network without {rule}", sorted(map(tuple, map(sorted, rounds.net.number))),
+            self.same(f"the smallest network without {rule}", rounds.net.edges,
                       SMALLEST[rule])
             self.same(f"the first clash without {rule}", rounds.clash, CLASHES.get(rule, rounds.clash))
         # Neighbours in the forest that was just merged never have one colour, whichever rules of the merging are left
@@ -278,7 +279,7 @@ class Schedules(Case):
         source = random.Random(SEED)
         for net in (network_of(text_of_network(source, *pair)) for pair in random_of(40, 1, 9)(source)):
             rounds = ruled_rounds.RuledRounds(net, ())
-            self.same(f"the plan of {net.number} with all rules", (rounds.clash, rounds.plan), (None, colours(net)))
+            self.same(f"the plan of {net.edges} with all rules", (rounds.clash, rounds.plan), (None, colours(net)))
 
     def test_rules(self):
         """Each rule has its part of docs/learn/GALLERY.md, and names a wrong body that is there, in one of the two

@@ -8,10 +8,9 @@ say.
 import itertools
 import re
 
-from lab.definitions.colours import network_of
 from lab.definitions.nodes import ports_of
 from lab.definitions.programs import program_at, program_words
-from lab.networks.network_text import read_network
+from lab.networks.network_text import network_of
 from lab.pictures.program_rounds import ProgramRounds
 from tests.cases import Case, called
 from tests.programs.sequels import CHECKERS, networks_by_chance
@@ -36,22 +35,22 @@ class SequelRuns(Case):
     def test_networks_by_chance(self):
         threads = itertools.cycle(THREADS)
         for k, data in enumerate(networks_by_chance(int(setting("sequels")), NODES, SEED)):
-            net, network = network_of(data), read_network(data.decode(), "net")
+            net = network_of(data)
             rows = called(PLAN, "plain", data=data)[1].decode().split("\n")[1:-1]
             plan = dict(tuple(map(int, row.split())) for row in rows)
             for program, root, passes in PLAYED:
                 made = program_at(program, root=root, passes=passes)
                 asked = program_words(made)
                 name = f"{asked} on network {k}"
-                rounds = ProgramRounds(network, network.identifiers, made)
+                rounds = ProgramRounds(net, made)
                 wanted = "".join(f"{line}\n" for line in rounds.lines()).encode()
                 self.same(f"rounds of {name}", called(PLAY, "rounds", *asked, data=data), (0, wanted, b""))
                 results = rounds.pulses[-1].results
                 if program in CHECKERS:
-                    last = {v: results[v].split()[-1] for v in sorted(net.neighbours)}
+                    last = {v: results[v].split()[-1] for v in net.vertices}
                     said = list(CHECKERS[program](net, last, plan))
                     self.note(f"what {name} has found", not said, said)
-                ends = [f"node {v} pulse {rounds.last} {ended(net, v, results[v])}\n" for v in sorted(net.neighbours)]
+                ends = [f"node {v} pulse {rounds.last} {ended(net, v, results[v])}\n" for v in net.vertices]
                 for workers, capacity in (next(threads), next(threads)):
                     done = called(PLAY, "run", *asked, "--workers", workers, "--capacity", capacity, data=data)
                     self.same(f"run of {name} by {workers} workers, capacity {capacity}", done,

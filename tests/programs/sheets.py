@@ -4,8 +4,8 @@ Each sheet's network is read from its answers, and each answer worked out once m
 (lab/definitions/nodes.py), from counts, and by hand for one network."""
 import re
 
-from lab.definitions.colours import network_of
 from lab.definitions.nodes import synchronous_pulses
+from lab.networks.network_text import network_of
 from tests.cases import Case, said_by
 from tests.programs.plain_networks import payloads_of, reached
 
@@ -28,7 +28,7 @@ class Sheets(Case):
         net = network_of(re.search(r"<pre>(.*?)</pre>", section, re.S)[1].encode())
         vertices, payloads = sorted(net.neighbours), payloads_of(net)
         self.same(f"{name}: its network", (8, 9, 3, 2),
-                  (len(reached(net, 1)), len(net.number), net.greatest_degree, net.forest_count))
+                  (len(reached(net, 1)), len(net.edges), net.greatest_degree, net.forest_count))
         colours, merged = {}, {}
         for p, nodes, _, _ in synchronous_pulses(net):
             for v, node in nodes.items():

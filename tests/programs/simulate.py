@@ -8,8 +8,9 @@ import random
 import re
 import sys
 
-from lab.definitions.colours import colours, network_of
+from lab.definitions.colours import colours
 from lab.definitions.nodes import NetState, last_pulse, make, wire_words
+from lab.networks.network_text import network_of
 from lab.schedules.policies import POLICIES, Policy
 from lab.schedules.simulate import Player, played
 from lab.schedules.space import Space

@@ -3,7 +3,7 @@
 import math
 import random
 
-from lab.definitions.colours import network_of
+from lab.networks.network_text import network_of
 from tests.cases import Case, called, example, said_by
 from tests.programs.own_networks import call, comments, edges_of, pairs_in
 from tests.settings import PLAN

@@ -5,10 +5,10 @@ error)."""
 import functools
 import re
 
-from lab.definitions.colours import forests_text, network_of, plan_text
+from lab.definitions.colours import forests_text, plan_text
 from lab.definitions.nodes import NetState, Refused, entry_words, make
 from lab.definitions.rounds import rounds_text
-from lab.networks.network_text import read_network
+from lab.networks.network_text import network_of, read_network
 from lab.networks.plan_text import clashes, read_plan
 from lab.networks.texts import plain_text
 from lab.transcripts.reading import Wrong, read
@@ -57,9 +57,14 @@ def read_by(reader, rows, *more):
         raise Fault(f"{code} line {line}" if line else code) from None
 
 
+@functools.lru_cache(maxsize=2**12)
+def known(text):
+    return network_of(text)
+
+
 def network_in(rows):
-    """The plainest text of a network."""
-    return plain_text(read_by(read_network, rows)).encode()
+    """The network of some lines: the same object for the same network."""
+    return known(plain_text(read_by(read_network, rows)).encode())
 
 
 def split(rows, is_first):
@@ -74,11 +79,7 @@ def written(write, network):
 
 
 def rounds(rows):
-    return written(rounds_of, network_in(rows))
-
-
-def rounds_of(text):
-    return rounds_text(network_of(text))
+    return written(rounds_text, network_in(rows))
 
 
 def check(rows):
@@ -92,7 +93,7 @@ def check(rows):
 
 def events(rows):
     before, behind = split(rows, lambda first: first in EVENTS)
-    net = network_of(network_in(before))
+    net = network_in(before)
     made = []
     for line, fields in enumerate(behind, len(before) + 1):
         if fields and not fields[0].startswith(b"c"):
@@ -114,7 +115,7 @@ def event_in(line, fields):
 
 def replay(rows):
     before, behind = split(rows, lambda first: first == b"transcript")
-    net = network_of(network_in(before))
+    net = network_in(before)
     try:
         head, entries = read(b"".join(b" ".join(fields) + b"\r\n" for fields in behind))
     except Wrong as wrong:
@@ -147,7 +148,7 @@ def forests(rows):
 
 def transcript(rows):
     """Of workers that make no look (`--turns 0`): without a node there is nothing to be done."""
-    if network_of(network_in(rows)).neighbours:
+    if network_in(rows).nodes:
         raise Stopped
     return b"transcript 2 0\n"
 

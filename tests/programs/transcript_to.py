@@ -5,7 +5,7 @@ import json
 import random
 from collections import Counter
 
-from lab.definitions.colours import network_of
+from lab.networks.network_text import network_of
 from tests.cases import Case, example, said_by
 from tests.programs.made_transcripts import made_transcript, merged_text, transcript_text
 

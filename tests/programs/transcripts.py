@@ -11,9 +11,9 @@ import signal
 import subprocess
 import time
 
-from lab.definitions.colours import network_of
 from lab.definitions.nodes import Colouring, last_pulse
 from lab.definitions.programs import PROGRAMS
+from lab.networks.network_text import network_of
 from lab.schedules.simulate import played, text_of_run
 from lab.transcripts.check import Wrong, find_order, in_order, whole_run
 from lab.transcripts.reading import read
@@ -206,7 +206,7 @@ def networks():
 
 
 def small_networks():
-    return [(data, net) for data, net in networks() if 0 < len(net.neighbours) < 5 and len(net.number) < 5]
+    return [(data, net) for data, net in networks() if 0 < net.nodes < 5 and len(net.edges) < 5]
 
 
 def is_counted(net, data, said):
@@ -375,7 +375,7 @@ class Transcripts(Case):
         run."""
         count = int(setting("spoiled"))
         source, wrong, codes, accepted = random.Random(SEED), [], set(), dict.fromkeys(KINDS, 0)
-        small = [(data, net) for data, net in small_networks() if net.number]
+        small = [(data, net) for data, net in small_networks() if net.edges]
         for i in range(count):
             kind, run = KINDS[i % len(KINDS)], i // len(KINDS)
             if kind == KINDS[0]:

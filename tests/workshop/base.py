@@ -10,7 +10,7 @@ from argparse import Namespace
 from random import Random
 from types import SimpleNamespace
 
-from lab.networks.network_text import Network
+from lab.network import Network
 from lab.workshop.cases import Case, network_of
 from lab.workshop.guard import Guard
 from lab.workshop.options import parsed

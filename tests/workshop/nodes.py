@@ -9,7 +9,7 @@ and the others hear of it. Node 2 chooses anew in pulse 31 and takes 0, node 1 i
 pulse 33."""
 import os
 
-from lab.networks.network_text import Network
+from lab.network import Network
 from lab.schedules.policies import POLICIES
 from lab.workshop.cases import NETWORKS, cases_of
 from lab.workshop.protocol import SEQUELS
@@ -20,10 +20,10 @@ from tests.workshop.base import (ALPHA, C, EXAMPLES, GREEDY, JAVA, MISTAKES, ROU
 NODES = {"rounds": ROUNDS, "alpha": ALPHA}
 # A ring of four whose root is node 3: node 1 is two edges away on both sides, and its port 0 leads to node 2. Node 5
 # has no neighbour.
-RING = Network("ring and one", 5, [(1, 2), (2, 3), (3, 4), (1, 4)], {}, {}, {1: 40, 2: 1 << 100, 3: 1, 4: 7, 5: 2})
-BARRED_RING = Network("barred ring", 5, RING.edges, {}, {}, RING.identifiers, {1: [1], 4: [2]})
+RING = Network(5, [(1, 2), (2, 3), (3, 4), (1, 4)], {1: 40, 2: 1 << 100, 3: 1, 4: 7, 5: 2}, name="ring and one")
+BARRED_RING = Network(5, RING.edges, RING.said, {1: [1], 4: [2]}, name="barred ring")
 # Its colour is 1, since 0 is barred, and 1 again. The last pulse is 14, two after those of the colouring.
-BARRED = Network("barred one", 1, [], {}, {}, {1: 1}, {1: [1]})
+BARRED = Network(1, [], bars={1: [1]}, name="barred one")
 
 # By mistake, what is found on most4 and on rest3: (node, pulse) of a difference, or None where all is right. On rest3
 # by hand: node 2 has the parents 3 and 13, in this order, and as texts in the other. The bit steps of 13, 3 and 2 give

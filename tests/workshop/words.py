@@ -3,7 +3,7 @@ import contextlib
 import io
 from unittest import mock
 
-from lab.networks.network_text import Network
+from lab.network import Network
 from lab.transcripts.rules import rules_of_dues
 from lab.workshop.alpha_verdict import At
 from lab.workshop.judge import Entry
@@ -17,7 +17,7 @@ from tests.workshop.base import network
 # A row in which node 1 is in the middle, and node 3 is the root: identifiers 2 - 7 - 11. By hand: bit steps of 2, 7 and
 # 11 (0010, 0111, 1011) give 2*0+0, 2*2+1 and 2*0+1, so 0, 5 and 1, and the next three keep them. The shift gives node 2
 # the 5, node 1 the 1, and the root 0. Node 2 drops 5: it had 0, its parent has 1, so it takes 2.
-ROW = Network("row", 3, [(1, 2), (1, 3)], {}, {}, {1: 7, 2: 2, 3: 11})
+ROW = Network(3, [(1, 2), (1, 3)], {1: 7, 2: 2, 3: 11}, name="row")
 # Node, pulse, what `Why` is asked of besides, and this node's numbers at the end of what it says.
 OF_ROW = (
     (1, 1, {"port": 1}, "its parents are the neighbours above its own identifier, 7, by ascending identifier: 11 (port "

@@ -1,0 +1,62 @@
+"""What a network is: commands read it, the definitions are of it, and pictures show it."""
+from collections.abc import Iterable, Mapping
+from dataclasses import dataclass, field
+from functools import cached_property
+
+
+@dataclass(eq=False, repr=False)
+class Network:
+    """The vertices from 1 to `nodes`, and the edges between them: `edges` has pairs, the lower vertex first, ascending,
+    and `neighbours[v]` vertices, ascending.
+
+    `said[v]` is an identifier that v was given, below 2^128, and `identifiers[v]` that or v. `bars[v]` are the channels
+    from 1 that are barred at v, ascending, if some are; `barred[v]` are the same as colours from 0, a set of each
+    vertex. `names[v]` and `places[v]`, as (x, y) with y growing downwards, are there where they are known, and `name`
+    is what the network is called.
+
+    `higher[v]` are the neighbours with a higher identifier, by ascending identifier: entry f is v's parent in forest f.
+    `number[frozenset((v, w))]` is the forest of an edge. `span` is the greatest degree and the greatest number of bars
+    together: the colours of a plan are 0 to `span`, and so many `channels` are enough."""
+
+    nodes: int
+    edges: Iterable[tuple[int, int]]
+    said: Mapping[int, int] = field(default_factory=dict)
+    bars: Mapping[int, Iterable[int]] = field(default_factory=dict)
+    names: Mapping[int, str] = field(default_factory=dict)
+    places: Mapping[int, tuple[float, float]] = field(default_factory=dict)
+    name: str = ""
+
+    def __post_init__(self):
+        self.vertices = range(1, self.nodes + 1)
+        self.edges = sorted({(min(edge), max(edge)) for edge in self.edges})
+        self.neighbours: dict[int, list[int]] = {v: [] for v in self.vertices}
+        for v, w in self.edges:
+            self.neighbours[v].append(w)
+            self.neighbours[w].append(v)
+        self.identifiers: dict[int, int] = {v: self.said.get(v, v) for v in self.vertices}
+        self.bars = {v: sorted(channels) for v, channels in sorted(self.bars.items()) if channels}
+        self.greatest_degree = max(map(len, self.neighbours.values()), default=0)
+        self.greatest_bars = max(map(len, self.bars.values()), default=0)
+        self.span = self.greatest_degree + self.greatest_bars
+        self.channels = self.span + 1
+
+    @cached_property
+    def barred(self) -> dict[int, frozenset[int]]:
+        return {v: frozenset(channel - 1 for channel in self.bars.get(v, ())) for v in self.vertices}
+
+    @cached_property
+    def higher(self) -> dict[int, list[int]]:
+        own = self.identifiers
+        return {v: sorted((w for w in near if own[w] > own[v]), key=own.get) for v, near in self.neighbours.items()}
+
+    @cached_property
+    def number(self) -> dict[frozenset[int], int]:
+        return {frozenset((v, w)): f for v, parents in self.higher.items() for f, w in enumerate(parents)}
+
+    @cached_property
+    def forest_count(self) -> int:
+        return max(map(len, self.higher.values()), default=0)
+
+    def parent(self, f: int, v: int) -> int | None:
+        """The parent of v in forest f; None at a root."""
+        return self.higher[v][f] if f < len(self.higher[v]) else None
