@@ -2,7 +2,6 @@
 
 What was given may be wrong; a closed or full output, too little memory and Ctrl-C are no faults of the command. A
 reader that has gone away is no fault at all."""
-import contextlib
 import os
 import signal
 import sys
@@ -12,9 +11,6 @@ from lab.wrong import Wrong
 
 # What ends a command so that nothing is left of it and of what it runs.
 STOPS = (signal.SIGINT, signal.SIGTERM, signal.SIGHUP)
-# The statuses of a fault of the command itself, and of Ctrl-C.
-OWN_FAULT, STOPPED = 70, 130
-NOT_WRITTEN = "the output can't be written"
 
 
 def stop(number, _):
@@ -22,17 +18,6 @@ def stop(number, _):
     if number == signal.SIGINT:
         raise KeyboardInterrupt
     sys.exit(128 + number)
-
-
-@contextlib.contextmanager
-def held():
-    """Signals that end a command wait for the end of this block. A process that is started in it has to let them in
-    again."""
-    before = signal.pthread_sigmask(signal.SIG_BLOCK, STOPS)
-    try:
-        yield
-    finally:
-        signal.pthread_sigmask(signal.SIG_SETMASK, before)
 
 
 def run(name, load):
@@ -48,17 +33,18 @@ def run(name, load):
     except BrokenPipeError:
         status, line = 0, ""
     except KeyboardInterrupt:
-        status, line = STOPPED, "interrupted"
+        status, line = 130, "interrupted"
     except Wrong as why:
         status, line = 1, why
     except OSError as why:
-        status, line = 1, f"{why.filename or NOT_WRITTEN}: {why.strerror or why}"
+        where = why.filename or "the output can't be written"
+        status, line = 1, f"{where}: {why.strerror or why}"
     except MemoryError:
         status, line = 1, "out of memory"
     except Exception as why:
         at = traceback.extract_tb(why.__traceback__)[-1]
-        status, line = OWN_FAULT, (f"a fault of this command itself, please report it: {type(why).__name__}: "
-                                   f"{' '.join(str(why).split())} ({os.path.basename(at.filename)} line {at.lineno})")
+        status, line = 70, (f"a fault of this command itself, please report it: {type(why).__name__}: "
+                            f"{' '.join(str(why).split())} ({os.path.basename(at.filename)} line {at.lineno})")
     # Standard output gets nothing more.
     os.dup2(os.open(os.devnull, os.O_WRONLY), 1)
     sys.stderr.write(line and f"{name}: {line}\n")

@@ -16,11 +16,10 @@ import time
 from dataclasses import dataclass, field
 from multiprocessing.connection import Connection, wait
 
-from lab.door import held
 from lab.programs import TOP
 from lab.schedules.policies import POLICIES
 from lab.workshop.cases import cases_of
-from lab.workshop.guard import USERS, Guard, end_all, give, kept_in, shut
+from lab.workshop.guard import USERS, Guard, end_all, give, held, kept_in, shut
 from lab.workshop.judge import ask
 from lab.workshop.options import add_limits, parsed, seconds
 from lab.workshop.playing import Player

@@ -23,6 +23,7 @@ import time
 from dataclasses import dataclass
 from typing import Collection, Iterator, Sequence
 
+from lab.door import STOPS
 from lab.workshop.findings import Fault
 
 PROCESSOR_SECONDS = 600     # so that an endless loop ends even if the workshop itself is killed
@@ -53,6 +54,17 @@ REFUSED = (90, 91, 92, 93, 94, 260, 268, 452, 188, 189, 190, 463, 132, 235, 261,
 OF_ITSELF = (142, 144, 203, 302, 314)
 FCNTL, LOCKS = 72, (5, 6, 7, 36, 37, 38)
 SYSTEM = ctypes.CDLL(None, use_errno=True)
+
+
+@contextlib.contextmanager
+def held():
+    """Signals that end a command wait for the end of this block. A process that is started in it has to let them in
+    again."""
+    before = signal.pthread_sigmask(signal.SIG_BLOCK, STOPS)
+    try:
+        yield
+    finally:
+        signal.pthread_sigmask(signal.SIG_SETMASK, before)
 
 
 class Limits:

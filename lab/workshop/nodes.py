@@ -2,9 +2,8 @@
 import time
 from typing import Callable
 
-from lab.door import held
 from lab.workshop.findings import Fault
-from lab.workshop.guard import Guard, Limits, end_all, is_reaper
+from lab.workshop.guard import Guard, Limits, end_all, held, is_reaper
 from lab.workshop.processes import Process
 
 Answer = list[str] | Fault
