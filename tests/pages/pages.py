@@ -1,7 +1,6 @@
 """Checks what the pages README.md and docs/ show and name. Their commands are run by tests/programs/install.py.
 
-- Each table of docs/learn/TUTORIAL.md is worked out from the definitions (lab/definitions/colours.py,
-  lab/definitions/nodes.py), not from the program. tutorial_facts.py has the rest of what it says.
+- Each table of docs/learn/TUTORIAL.md is worked out from the definitions (lab/definitions/), not from the program.
 - Each excerpt of code, a fence whose first line names its file, has its lines in that file, in this order; a comment
   `..` means lines that are left out.
 - README.md or docs/work/LAYERS.md names each crate. No line of a page is wider than 150 columns, and none of a Python
@@ -13,10 +12,12 @@ import glob
 import os
 import re
 
-from lab.definitions.nodes import NetState, text_of_wire
+from lab.definitions.colours import colours
+from lab.definitions.nodes import NetState, last_pulse, text_of_wire
+from lab.definitions.rounds import forest_colours
+from lab.networks.network_text import network_of
 from tests import TOP
 from tests.cases import Case, contents, text_in
-from tests.pages.tutorial_facts import channels_of, dropped, example, pulses_of
 
 PAGES = ["README.md"] + sorted(os.path.relpath(path, TOP)
                                for path in glob.glob(os.path.join(TOP, "docs", "**", "*.md"), recursive=True))
@@ -65,25 +66,19 @@ def tutorial_table(title, rows):
     """What the rows of a table have to be, after the first cell of each; None for a table that isn't worked out."""
     found = re.match(r"Forest (\d+) of `(.*)`, pulse by pulse:", title)
     if found:
-        net, f = example(found.group(2)), int(found.group(1))
-        joined, changed = [v for v in sorted(net.neighbours) if net.neighbours[v]], dropped(net, f)
-        parents = [str(net.parent(f, v) or "-") for v in joined]
-        return [[str(v) for v in joined], parents] + [
-            [f"**{c[v]}**" if (p, v) in changed else str(c[v]) for v in joined]
-            for p, c in enumerate(pulses_of(net, f), 2)
-        ]
+        net, f = network_of(contents(found.group(2))), int(found.group(1))
+        joined, lists = [v for v in sorted(net.neighbours) if net.neighbours[v]], forest_colours(net, f)
+        return [[str(v) for v in joined], [str(net.parent(f, v) or "-") for v in joined]] + [
+            [f"**{c[v]}**" if p in (8, 10, 12) and c[v] != lists[p - 1][v] else str(c[v]) for v in joined]
+            for p, c in lists.items()]
     found = re.match(r"Events on `(.*)`:", title)
     if found:
-        return played(example(found.group(1)), rows)
+        return played(network_of(contents(found.group(1))), rows)
     if rows[0][0] == "network":
-        wanted = [rows[0][1:]]
-        for row in rows[2:]:
-            net = example(row[0].strip("`"))
-            last = 12 + 3 * net.forest_count * (net.span + 1)
-            wanted.append(
-                [str(x) for x in (len(net.neighbours), net.greatest_degree, net.forest_count, last, channels_of(net))]
-            )
-        return wanted
+        nets = [network_of(contents(row[0].strip("`"))) for row in rows[2:]]
+        return [rows[0][1:]] + [[str(number) for number in (
+            len(net.neighbours), net.greatest_degree, net.forest_count, last_pulse(net),
+            max(colours(net).values(), default=-1) + 1)] for net in nets]
     if rows[0][0].startswith("identifiers"):
         return [rows[0][1:]] + [list(greatest_colours(int(row[0].split()[0]))) for row in rows[2:]]
     return None
