@@ -102,24 +102,14 @@ def heading_anchor(line):
 
 
 def clauses_of_crate(crate):
-    """The names of the clauses and ghost members of each function and type of a crate, by the name of the function."""
-    found = {}
-    for path in glob.glob(os.path.join(TOP, "crates", crate, "src", "**", "*.rt"), recursive=True):
-        owner = None
-        for line in lines_of(path):
-            head = re.match(r"\s*(?:pub(?:\(\w+\))? )?(?:fn|trait|struct|enum|type|const) (\w+)", line)
-            for title in re.findall(r"\bimpl(?:<[^{]*?>)? (?:[\w:<>, ]* for )?(\w+)", line):
-                found.setdefault(title, set())
-            if head:
-                owner = head.group(1)
-                found.setdefault(owner, set())
-            clause = re.match(r"\s*(?:ensures|requires) (\w+) ", line)
-            ghost = re.match(r"\s*(?:pub )?ghost (\w+)\s*[:=]", line)
-            if owner and clause:
-                found[owner].add(clause.group(1))
-            if ghost:
-                found.setdefault("ghost", set()).add(ghost.group(1))
-    return found
+    """The names of the clauses of each function and type of a crate, and under `ghost` those of its ghost members."""
+    text = "\n".join(map(text_in, sorted(glob.glob(os.path.join(TOP, "crates", crate, "src", "**", "*.rt"),
+                                                   recursive=True))))
+    found = {name: set() for name in re.findall(r"\bimpl(?:<[^{]*?>)? (?:[\w:<>, ]* for )?(\w+)", text)}
+    _, *parts = re.split(r"^\s*(?:pub(?:\(\w+\))? )?(?:fn|trait|struct|enum|type|const) (\w+)", text, flags=re.M)
+    for name, body in zip(parts[::2], parts[1::2]):
+        found.setdefault(name, set()).update(re.findall(r"^\s*(?:ensures|requires) (\w+) ", body, re.M))
+    return found | {"ghost": set(re.findall(r"^\s*(?:pub )?ghost (\w+)\s*[:=]", text, re.M))}
 
 
 def laws_of_crates():
@@ -207,10 +197,8 @@ class Pages(Case):
 
     def test_crates(self):
         """README or LAYERS names each crate of crates.txt, and each crate of the toolchain that it lists."""
-        pages, names = "\n".join(lines_of("README.md") + lines_of("docs/work/LAYERS.md")), set()
-        for line in lines_of("crates.txt"):
-            names |= set(line.partition("#")[0].replace(":", " ").split())
-        missing = sorted(name for name in names if f"`{name}`" not in pages)
+        pages, names = text_in("README.md") + text_in("docs", "work", "LAYERS.md"), text_in("crates.txt")
+        missing = {name for name in re.findall(r"\w+", re.sub("#.*", "", names)) if f"`{name}`" not in pages}
         self.note("crates in README.md and docs/work/LAYERS.md", not missing, f"not named: {missing}")
 
     def test_lengths(self):
