@@ -1,6 +1,5 @@
 """The table of all commands (tests/commands.py) beside the help texts and bin/: none is missing."""
 import os
-import re
 import shutil
 import subprocess
 import sys
@@ -17,30 +16,19 @@ from tests.settings import PATHS
 LIMIT = 300
 
 
-def differences(there, table):
-    """What the table hasn't, and what it alone has."""
-    missing, more = sorted(set(there) - set(table)), sorted(set(table) - set(there))
-    return f"not in tests/commands.py: {missing}; there alone: {more}"
-
-
 class Commands(Case):
     def test_help_texts(self):
-        """A command of a program that the table hasn't is missing there, and so is its help text, or that of none;
-        black_box.py compares the texts with the programs'."""
+        """The table has each command of a program, and lab/help/ their texts; black_box.py compares these with the
+        programs'."""
         for program in PATHS:
-            listed = re.search(r"^Commands:\n((?:  .*\n)+)", text_in("lab", "help", f"{program}.txt"), re.M).group(1)
-            found, names = re.findall("^  ([a-z]+) ", listed, re.M), [command.name for command in commands_of(program)]
-            self.note(f"tests/commands.py has the commands of {program}", found == names, differences(found, names))
-        wanted, there = sorted(f"{name}.txt" for _, name in HELPS), sorted(os.listdir(os.path.join(TOP, "lab", "help")))
-        self.note("lab/help/ has their texts", there == wanted, differences(there, wanted))
+            listed = completion.commands_in((program,), text_in("lab", "help", f"{program}.txt"))
+            self.same(f"the commands of {program}", [command.name for command in commands_of(program)], listed)
+        self.same("lab/help/", {f"{name}.txt" for _, name in HELPS}, set(os.listdir(os.path.join(TOP, "lab", "help"))))
 
     def test_scripts(self):
-        """A command of forestlab that the table hasn't is missing there, and so is one below it that its help lists."""
-        there = sorted(os.listdir(os.path.join(TOP, "bin")))
-        self.note("bin/ has the commands of users, and no others", there == ["forestlab", *sorted(PATHS)], there)
-        names = [script.name for script in SCRIPTS]
-        self.note("tests/commands.py has the commands of forestlab", set(OF_LAB) == {name.split()[0] for name in names},
-                  differences(OF_LAB, names))
+        """The table has each command of forestlab, and each command below one has an example in its help."""
+        self.same("bin/", sorted(os.listdir(os.path.join(TOP, "bin"))), ["forestlab", *sorted(PATHS)])
+        self.same("the commands of forestlab", {script.name.split()[0] for script in SCRIPTS}, set(OF_LAB))
         found = completion.helps(os.path.join(TOP, "bin"), "forestlab")
         self.same("forestlab --help lists them", found[0][2], list(OF_LAB))
         below = [(" ".join(words), text) for words, text, _ in found if len(words) > 2]
