@@ -3,16 +3,15 @@
 import glob
 import os
 import re
-import shutil
 
 from build.crate_lists import TOP
+from build.kit import PARTS
 from lab.words import parser_of
 from lab.workshop.class_files import write
 from lab.wrong import Wrong
 
 # The crates that are copied: what each is called as a crate, as a type, and as a name in texts.
 MODEL, SEQUEL = ("silent", "Silent", "silent"), ("independent_set", "IndependentSet", "independent-set")
-PARTS = ("src", "specs", "proofs")
 # The first lines of the crate's page.
 HEAD = """\
 //! {}: say here what the nodes find, in the words of the subject, and where the
@@ -27,9 +26,6 @@ CHANGES = """\
   src/laws.rt         what the nodes have found at the end, in the words of the subject
   src/texts.rt        what is printed of it, with specs/Texts.antt
 """
-# Words that can't name a crate beside those of the model's code.
-TAKEN = set("""as break const continue crate dyn else enum false fn for ghost if impl in let loop match mod move mut pub
-ref return self static struct super trait true type unsafe use where while core std""".split())
 
 HELP = f"""\
 Makes the crate crates/NAME with a node program, all of it proved already: a copy of
@@ -77,8 +73,8 @@ def check_name(name, top, model=MODEL):
     """Refuses a name that no new crate can have."""
     if not re.fullmatch("[a-z]{1,20}", name):
         raise Wrong(f"{name}: a program's name is one word of at most 20 small letters, a to z")
-    if name in TAKEN or words_in(model) & {name, name.title()}:
-        raise Wrong(f"{name}: this word is taken in the language or in the crate itself")
+    if words_in(model) & {name, name.title()}:
+        raise Wrong(f"{name}: this word is taken in the crate itself")
     if os.path.exists(os.path.join(top, "crates", name)) or name == "colouring":
         raise Wrong(f"{name}: there is a crate or a program of this name")
 
@@ -90,17 +86,12 @@ def renamed(text, model, name):
 
 
 def copy(name, top, model=MODEL):
-    """Writes the crate; nothing of it is there before, and nothing is left if that fails."""
-    to = os.path.join(top, "crates", name)
-    try:
-        for path, text in files_of(model):
-            made = renamed(text, model, name)
-            if path == os.path.join("src", "lib.rt"):
-                made = HEAD.format(name.title()) + made[made.index("//!\n"):]
-            write(os.path.join(to, renamed(path, model, name)), made)
-    except BaseException:
-        shutil.rmtree(to, ignore_errors=True)
-        raise
+    """Writes the crate, of which nothing is there before."""
+    for path, text in files_of(model):
+        made = renamed(text, model, name)
+        if path == os.path.join("src", "lib.rt"):
+            made = HEAD.format(name.title()) + made[made.index("//!\n"):]
+        write(os.path.join(top, "crates", name, renamed(path, model, name)), made)
 
 
 def add_line(name, top, model=MODEL):

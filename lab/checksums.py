@@ -1,7 +1,6 @@
 """The sums of what an installed folder has, in the form that `sha256sum -c` reads."""
 import hashlib
 import os
-import re
 
 NAME = "SHA256SUMS"
 
@@ -22,12 +21,11 @@ def text_of(folder: str) -> str:
 
 
 def read(folder: str) -> dict[str, str]:
-    """The sum of each file by its path, as the folder's own list has it; nothing without a list. Paths that lead out of
-    the folder are passed over."""
+    """The sum of each file by its path, as the folder's own list has it; nothing without a list that can be read. Paths
+    that lead out of the folder are passed over."""
     try:
         with open(os.path.join(folder, NAME), encoding="utf-8") as file:
-            lines = file.read().split("\n")
-    except (OSError, UnicodeDecodeError):
+            lines = [line.rstrip("\n").split("  ", 1) for line in file]
+        return {path: known for known, path in lines if not {"", ".."} & set(path.split("/"))}
+    except (OSError, ValueError):
         return {}
-    found = (re.fullmatch(r"([0-9a-f]{64})  (.+)", line) for line in lines)
-    return {line[2]: line[1] for line in found if line and not {"", ".."} & set(line[2].split("/"))}

@@ -45,21 +45,14 @@ def about(process: int, command: str) -> str:
 def main(words: list[str]) -> int:
     """Watches a process until it ends: PROCESS NAME COMMAND."""
     process, name, command = int(words[0]), words[1], words[2]
-    start, begun, reckons = time.monotonic(), None, None
+    start, reckons = time.monotonic(), None
     for moment in MOMENTS:
-        while True:
-            fields = fields_of(process)
-            # The number of a process that has ended may be another's: its time of start is not.
-            if fields is None or begun not in (None, fields[19]):
-                return 0
-            begun = fields[19]
-            if time.monotonic() - start >= moment:
-                break
+        while fields_of(process) and time.monotonic() - start < moment:
             time.sleep(0.5)
-        if reckons is None:
-            reckons = about(process, command)
-            if fields_of(process) is None:
-                return 0
+        reckons = about(process, command) if reckons is None else reckons
+        fields = fields_of(process)
+        if fields is None:
+            return 0
         took = exactly(time.monotonic() - start)
         used = exactly((int(fields[11]) + int(fields[12])) / os.sysconf("SC_CLK_TCK"))
         print(f"{name}: {took}, {used} of processor time{reckons}", file=sys.stderr, flush=True)
