@@ -11,9 +11,8 @@ from lab.pictures.palette import INK, PAPER, SOFT, WRONG
 from lab.pictures.program_rounds import ProgramRounds
 from lab.pictures.results_picture import draw_chosen, found_in, legend
 from lab.pictures.rounds_picture import draw_heads
-from lab.pictures.schedules_picture import wrapped
 from lab.pictures.schedules_space import broken_rounds, left_out_words
-from lab.pictures.svg import Svg, text_width
+from lab.pictures.svg import Svg, text_width, wrapped
 from lab.schedules.ruled_rounds import RuledRounds, RuledSequel
 from lab.schedules.rules import OF_FORESTS
 from lab.words import counted, in_words

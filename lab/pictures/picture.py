@@ -74,18 +74,17 @@ class Asked(SimpleNamespace):
         """The pulses of a run that are drawn: those asked for, or else the `usual` first ones."""
         return window_of(self.network.name, last_pulse(self.network, self.program), self.pulses, usual)
 
-    def run(self, until=None, cut=None):
-        """The run of a transcript, or of what is left of it; with `until`, as far as the pulses up to that one depend
-        on it."""
+    def run(self, until=None):
+        """The run of a transcript; with `until`, as far as the pulses up to that one depend on it."""
         given = self.text("transcript", True)
-        run = read_transcript(cut or given.text, given.name, self.network, until, self.program)
+        run = read_transcript(given.text, given.name, self.network, until, self.program, self.wrong)
         run.name = given.title or self.network.name
         return run
 
     def part(self, usual=None):
         """A run, and the pulses of it that are drawn."""
         shown = self.window(usual)
-        return self.run(shown[1]), shown
+        return self.run(None if self.wrong else shown[1]), shown
 
 
 # How each kind is drawn that isn't one call.
@@ -105,16 +104,10 @@ def draw_why(asked):
 
 
 def draw_run(asked):
-    if asked.wrong:
-        given = asked.text("transcript", True)
-        cut, wrong = wrong_run.cut(given.text, given.name, asked.network, asked.program, asked.stopped)
-        if wrong:
-            run = asked.run(cut=cut)
-            if wrong.entry:
-                around = wrong_run.placed(run, wrong.entry)
-                asked.pulses = asked.pulses or around
-            return run_picture.draw(run, asked.window(3), asked.only, wrong)
-    return run_picture.draw(*asked.part(3), asked.only)
+    run, shown = asked.part(3)
+    if run.wrong and not asked.pulses:
+        shown = wrong_run.usual_pulses(run)
+    return run_picture.draw(run, shown, asked.only, asked.wrong, asked.stopped)
 
 
 def draw_node(asked):
@@ -382,8 +375,8 @@ OPTIONS = (
     (("why",), "--vertex", VERTEX | {"required": True}),
     (("why",), "--text", {"action": "store_true", "dest": "in_words", "help": "in words, not as a picture"}),
     (("run",), "--only", {"type": wires, "metavar": "KINDS", "help": "some of payload,ack,safe,close"}),
-    (("run",), "--wrong", {"action": "store_true", "help": "draw a text of edition 2 up to its first entry that isn't "
-                           "possible, and that one in red"}),
+    (("run",), "--wrong", {"action": "store_true", "help": "draw a text up to its first entry that isn't possible, and "
+                           "that one in red"}),
     (("run",), "--stopped", {"type": int, "metavar": "V", "help": "with --wrong, of a run that isn't whole: mark the "
                              "vertex at which it stopped"}),
 )

@@ -5,8 +5,8 @@ a band goes from tick p to tick p + 1 of each node, and wires may cross its bord
 A pale bar goes from where a payload is taken to the tick at which it is read, and that tick is p + 1's."""
 from lab.pictures.marks import dash_of, short_name, wire_arrow
 from lab.pictures.palette import BAND, BORDER, INK, PAPER, PULSE, SOFT, WIRES, WRONG
-from lab.pictures.svg import Svg, text_width
-from lab.pictures.wrong_run import draw_wrong
+from lab.pictures.svg import Svg, text_width, wrapped
+from lab.pictures.wrong_run import draw_wrong, said_of
 from lab.words import counted
 from lab.wrong import Wrong, at_most
 
@@ -20,18 +20,16 @@ MOST_NODES_OF_ALL_KINDS = 6
 
 
 class Window:
-    """Pulses `first` to `last` of a run: the ticks of each node, and where a place in time and a node are drawn. A step
-    of time is at least `least` wide, and a band reaches `over` above the first row and below the last."""
+    """Pulses `first` to `last` of a run: where a place in time and a node are drawn. A step of time is at least `least`
+    wide, and a band reaches `over` above the first row and below the last."""
 
     def __init__(self, run, pulses, top, row, least):
         self.run, self.network, self.nodes, (self.first, self.last) = run, run.network, run.network.vertices, pulses
         self.top, self.row, self.size, self.over = top, row, min(15, row), min(30, 0.4 * row)
         self.left = left_of(run.network, self.size)
-        self.ticks = {v: run.ticks(v) for v in self.nodes}
-        if not any(self.first in ticks for ticks in self.ticks.values()):
+        if not any(self.first in ticks for ticks in run.ticks.values()):
             raise Wrong(f"{run.name}: no node begins pulse {self.first}")
-        self.ends = {v: self.ticks[v].get(self.last + 1, listed[-1].stamp + 1 if listed else 1)
-                     for v, listed in run.entries.items()}
+        self.ends = {v: ticks.get(self.last + 1, run.reached[v] + 1) for v, ticks in run.ticks.items()}
         self.start = min(self.time(v, self.first) for v in self.nodes) - 1
         self.stop = max(self.ends.values()) + 1
         self.scale = max(least, min(19.0, 1130 / (self.stop - self.start)))
@@ -42,7 +40,7 @@ class Window:
 
     def time(self, v, pulse):
         """When a node begins a pulse; its end, if it doesn't."""
-        return self.ticks[v].get(pulse, self.ends[v])
+        return self.run.ticks[v].get(pulse, self.ends[v])
 
     def x(self, time):
         return self.left + (time - self.start) * self.scale
@@ -56,9 +54,9 @@ class Window:
         return [(points[0][0], self.top - self.over), *points, (points[-1][0], self.bottom + self.over)]
 
     def arrows(self, kinds):
-        """The puts whose arrows are seen, payloads last, on top."""
-        return (put for kind in ("ack", "safe", "close", "payload") if kind in kinds for put in self.run.puts(kind)
-                if put.mate and put.mate.stamp >= self.start and put.stamp <= self.stop)
+        """The wires whose arrows are seen, payloads last, on top."""
+        return [wire for kind in ("ack", "safe", "close", "payload") if kind in kinds for wire in self.run.wires
+                if wire.kind == kind and wire.take and wire.take >= self.start and wire.put <= self.stop]
 
 
 def left_of(network, size):
@@ -67,34 +65,45 @@ def left_of(network, size):
     return LEFT + max(names, default=-6) + 6
 
 
-def draw(run, shown, kinds=None, wrong=None):
-    """The picture; with `wrong`, of a run up to an entry that isn't possible."""
+def draw(run, shown, kinds=None, is_wrong_drawn=False, stopped=None):
+    """The picture; what is wrong is in it if that is asked for."""
     kinds = kinds or (KINDS if run.network.nodes <= MOST_NODES_OF_ALL_KINDS else ("payload",))
     nodes = run.network.nodes
     row, lower_row = 88 if nodes <= 3 else 74 if nodes <= 5 else 50, 46 if nodes <= 5 else 30
     window = Window(run, shown, TOP, row, 9.0)
     at_most("run", window.stop - window.start, "steps of time side by side", MOST_STEPS,
             "fewer pulses (--pulses A..B), or overview")
-    first, last, lower_top = window.first, window.last, window.bottom + 136
-    svg = Svg(window.width, lower_top + (nodes - 1) * lower_row + 66, f"Space and time of {run.name}")
+    first, last = window.first, window.last
+    wrong = wrapped(said_of(run, stopped), window.width - 40, 12.5 * BOLD) if is_wrong_drawn else []
+    lower = Window(run.in_rounds(first, last), shown, window.bottom + 150 + 12 * len(wrong), lower_row, 0)
+    svg = Svg(window.width, lower.bottom + 66, f"Space and time of {run.name}")
     said = ("what each node put, took and did" if set(kinds) == set(KINDS)
             else " and ".join(f"{NAMES[kind]}s" for kind in kinds))
     svg.heading(f"{run.name}: {said}, pulses {first} to {last} of {run.last}",
                 time_words(run, ", so every arrow points right"))
     legend(svg, kinds)
-    svg.clip("window", window.left - 8, 0, window.width - window.left - 8, lower_top - 74)
+    svg.clip("window", window.left - 8, 0, window.width - window.left - 8, window.bottom + 62)
     draw_bands(svg, window)
     draw_lines(svg, window)
     with svg.group("upper", clip_path="url(#window)"):
+        draw_bars(svg, window, kinds)
         draw_wires(svg, window, kinds)
         draw_ticks(svg, window)
-        if wrong:
-            draw_wrong(svg, window, kinds, wrong)
+        if is_wrong_drawn:
+            draw_wrong(svg, window, kinds, stopped)
     words_y = window.bottom + window.over + 20
-    svg.text(20, words_y, early_words(window, kinds), 11.5, SOFT)
-    if wrong:
-        svg.text(20, words_y + 18, wrong.words, 12.5, WRONG, bold=True)
-    draw_rounds(svg, window, lower_top, lower_row)
+    svg.text(20, words_y, early_words(window), 11.5, SOFT)
+    for number, line in enumerate(wrong, 1):
+        svg.text(20, words_y + 17 * number, line, 12.5, WRONG, bold=True)
+    svg.text(20, lower.top - 54,
+             "The same payloads, each from its own pulse to the one in which it is read: the synchronous rounds",
+             13.5, INK, bold=True)
+    with svg.group("lower"):
+        draw_bands(svg, lower)
+        draw_lines(svg, lower)
+        draw_wires(svg, lower, ("payload",))
+        draw_ticks(svg, lower)
+    svg.text(20, lower.bottom + 42, rounds_words(run, last, len(lower.run.wires)), 11.5, SOFT)
     return svg.document()
 
 
@@ -110,17 +119,15 @@ def time_words(run, behind=""):
 
 
 def draw_lines(svg, window):
+    """A line for each node, and to the left its number and its name."""
+    size = window.size
     for v in window.nodes:
-        draw_line(svg, window, v, window.y(v), window.width - 16, window.size)
-
-
-def draw_line(svg, window, v, y, right, size):
-    """A node's line, and to the left its number and its name."""
-    svg.line(window.left - 6, y, right, y, "#8A8A8A", 1 if size > 13 else 0.6)
-    svg.text(window.left - 14, y + 0.36 * size, v, size, INK, "end", bold=True)
-    if name := short_name(window.network, v):
-        x = window.left - 18 - text_width(window.network.nodes, size) * BOLD
-        svg.text(x, y + 3.6, name, min(10, window.size), SOFT, "end", mark="vertex-name")
+        y = window.y(v)
+        svg.line(window.left - 6, y, window.width - 16, y, "#8A8A8A", 1 if size > 13 else 0.6)
+        svg.text(window.left - 14, y + 0.36 * size, v, size, INK, "end", bold=True)
+        if name := short_name(window.network, v):
+            x = window.left - 18 - text_width(window.network.nodes, size) * BOLD
+            svg.text(x, y + 3.6, name, min(10, size), SOFT, "end", mark="vertex-name")
 
 
 def legend(svg, kinds):
@@ -171,20 +178,23 @@ def polygon(points):
     return steps
 
 
+def draw_bars(svg, window, kinds):
+    """A bar for each payload, from where it is taken to its taker's tick p + 1, at which it is read."""
+    for wire in window.arrows({"payload"} & set(kinds)):
+        y = window.y(wire.w)
+        svg.line(window.x(wire.take), y, window.x(window.time(wire.w, wire.pulse + 1)), y, WIRES["payload"], 5,
+                 opacity="0.35", mark="bar")
+
+
 def draw_wires(svg, window, kinds):
-    """One arrow for each wire that is taken, with its words under the mouse; a bar for each payload."""
+    """One arrow for each wire that is taken, with its words under the mouse; of few nodes a payload's words, too."""
     words = []
-    for put in window.arrows(kinds):
-        take, kind = put.mate, put.wire[0]
-        x1, y1, x2, y2 = window.x(put.stamp), window.y(put.vertex), window.x(take.stamp), window.y(take.vertex)
-        if kind == "payload":
-            # It is read at its taker's tick p + 1.
-            read_at = window.time(put.neighbour, put.wire[1] + 1)
-            svg.line(x2, y2, window.x(read_at), y2, WIRES[kind], 5, opacity="0.35", mark="bar")
-            if len(window.nodes) <= 3 and x1 > window.left:
-                words.append((x1, y1, x2 - x1, y2 - y1, f"{put.wire[2][0]} {put.wire[2][1]}"))
-        with svg.group(kind, put.title()):
-            wire_arrow(svg, x1, y1, x2, y2, kind)
+    for wire in window.arrows(kinds):
+        x1, y1, x2, y2 = window.x(wire.put), window.y(wire.v), window.x(wire.take), window.y(wire.w)
+        if wire.kind == "payload" and len(window.nodes) <= 3 and x1 > window.left:
+            words.append((x1, y1, x2 - x1, y2 - y1, f"{wire.what[2][0].lower()} {wire.what[2][1]}"))
+        with svg.group(wire.kind, wire.title()):
+            wire_arrow(svg, x1, y1, x2, y2, wire.kind)
     write_words(svg, window, words)
 
 
@@ -195,7 +205,7 @@ def write_words(svg, window, words):
         half = text_width(text, 9.5) * BOLD / 2 + 2
         for part in (0.5, 0.32, 0.68, 0.2, 0.8):
             x, y = x1 + dx * part, y1 + dy * part + 3
-            off = (y - 3 - TOP) % window.row
+            off = (y - 3 - window.top) % window.row
             is_inside = window.left + half < x < window.x(window.stop) - half
             is_free = all(abs(x - a) > half + b or abs(y - c) > 13 for a, c, b in used)
             if is_inside and is_free and min(off, window.row - off) > 11:
@@ -207,7 +217,7 @@ def write_words(svg, window, words):
 def draw_ticks(svg, window):
     """Each node's pulses; those outside the window are grey."""
     half, width = min(10, 0.2 * window.row), min(3.4, 0.07 * window.row, 0.3 * window.column)
-    for v, ticks in window.ticks.items():
+    for v, ticks in window.run.ticks.items():
         for pulse, time in sorted(ticks.items()):
             x, y = window.x(time), window.y(v)
             if window.first <= pulse <= window.last + 1:
@@ -216,53 +226,19 @@ def draw_ticks(svg, window):
                 svg.line(x, y - 0.8 * half, x, y + 0.8 * half, "#9A9A9A", 0.7 * width, mark="outside")
 
 
-def early_words(window, kinds):
-    """How many wires came before their pulse had begun at the taker."""
-    seen = [put for put in window.arrows(kinds) if window.first <= put.during <= window.last]
-    early = [put for put in seen if put.wire[0] in ("payload", "safe") and put.wire[1] > put.mate.during]
-    payloads = sum(put.wire[0] == "payload" for put in early)
-    if not seen:
-        return "No clock is shared, and nothing is put in these pulses."
-    named = "payload" if list(kinds) == ["payload"] else "wire"
-    of_them = "" if named == "payload" or not early else f" (payloads: {payloads:,})"
+def early_words(window):
+    """How many payloads came before their pulse had begun at the taker."""
+    put = [wire for wire in window.arrows(("payload",)) if window.first <= wire.pulse <= window.last]
+    early = sum(wire.take < window.time(wire.w, wire.pulse) for wire in put)
     return (
-        f"No clock is shared: of {counted(len(seen), named)} put here {len(early) or 'none'} came early, before its "
-        f"pulse had begun at the taker{of_them}. A payload of pulse p is read when pulse p + 1 begins, never before."
+        f"No clock is shared: of {counted(len(put), 'payload')} put here, {early or 'none'} came before the taker had "
+        "begun their pulse. A payload of pulse p is read when pulse p + 1 begins, never before."
     )
-
-
-def draw_rounds(svg, window, top, row):
-    """The lower half: each payload from its pulse p to pulse p + 1, the same for every run of the network."""
-    run, first, last, left = window.run, window.first, window.last, window.left
-    column, height = 1120 / (last - first + 1), (len(window.nodes) - 1) * row
-    x_of = {pulse: left + (pulse - first) * column for pulse in range(first, last + 2)}
-    y_of = {v: 14 + (v - 1) * row for v in window.nodes}
-    puts = sorted((put for put in run.puts("payload") if first <= put.wire[1] <= last),
-                  key=lambda put: (put.wire[1], put.vertex, put.neighbour))
-    with svg.group("lower", transform=f"translate(0 {top:.0f})"):
-        svg.text(20, -40,
-                 "The same payloads, each from its own pulse to the one in which it is read: the synchronous rounds",
-                 13.5, INK, bold=True)
-        for pulse, x in x_of.items():
-            if pulse <= last:
-                svg.rect(x, -8, column, height + 44, BAND if (pulse - first) % 2 == 0 else PAPER)
-                svg.text(x + 5, -13, f"pulse {pulse}", 11.5, PULSE, bold=True)
-            svg.line(x, -8, x, height + 36, BORDER, 1.2)
-        for v, y in y_of.items():
-            draw_line(svg, window, v, y, left + 1132, 14)
-        for put in puts:
-            with svg.group("round", put.title()):
-                svg.arrow(x_of[put.wire[1]], y_of[put.vertex], x_of[put.wire[1] + 1], y_of[put.neighbour],
-                          WIRES["payload"], 1.7, 8)
-        for y in y_of.values():
-            for x in x_of.values():
-                svg.line(x, y - 8, x, y + 8, INK, 3, mark="slot")
-        svg.text(20, height + 56, rounds_words(run, last, len(puts)), 11.5, SOFT)
 
 
 def rounds_words(run, last, count):
     """What the lower half has: all payloads of its pulses, if each node has come to the end of them."""
-    if not all(last + 1 in run.ticks(v) or run.whole for v in run.network.vertices):
-        return f"{counted(count, 'payload')}: those that are put in these pulses as far as this text goes."
-    return (f"{counted(count, 'payload')}, all that {'is' if count == 1 else 'are'} put in these pulses. Draw "
-            "another run of this network: the upper half changes, this half does not.")
+    if not all(last + 1 in ticks or run.whole for ticks in run.ticks.values()):
+        return f"Payloads that are put in these pulses, as far as this text goes: {count:,}."
+    return (f"All payloads of these pulses: {count:,}. Draw another run of this network: the upper half changes, this "
+            "half does not.")

@@ -1,10 +1,8 @@
 """Every schedule of a tiny network as a lattice: a mark is a state, a line a step, a column an event. One run is bold,
 and what goes wrong is red."""
-import textwrap
-
 from lab.pictures.palette import BAND, BORDER, INK, PAPER, PULSE, SOFT, WIRES, WRONG
 from lab.pictures.schedules_space import fault_words, left_out_words, title_of
-from lab.pictures.svg import Svg, text_width
+from lab.pictures.svg import Svg, text_width, wrapped
 from lab.schedules.explore import events_words, rounded
 from lab.schedules.simulate import events_of
 from lab.wrong import Wrong, wrong_line
@@ -276,8 +274,3 @@ class Lattice:
             svg.circle(x + 6, y - 4, 6, fill, BORDER, 0.8)
             svg.text(x + 18, y, words, 11.5, SOFT)
             x += 24 + text_width(words, 11.5) * 0.95
-
-
-def wrapped(text, width):
-    """The text in lines that are no wider."""
-    return textwrap.wrap(text, int(width / text_width("a", 11.5)), break_long_words=False, break_on_hyphens=False)

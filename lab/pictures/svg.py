@@ -3,6 +3,7 @@ and are written with one decimal place."""
 from contextlib import contextmanager
 from itertools import groupby
 from math import sqrt
+from textwrap import wrap
 
 from lab.pictures.palette import FONT, INK, PAPER, SOFT
 
@@ -32,6 +33,11 @@ def quoted(text):
 def text_width(text, size):
     """About how wide a text is: DejaVu Sans takes six tenths of its size for a letter, or a little less."""
     return 0.6 * size * len(str(text))
+
+
+def wrapped(text, width, size=11.5):
+    """The text in lines that are no wider."""
+    return wrap(text, int(width / text_width("a", size)), break_long_words=False, break_on_hyphens=False)
 
 
 def stretches(values):

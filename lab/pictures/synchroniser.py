@@ -2,8 +2,7 @@
 is played once more by the definitions (lab/definitions/nodes.py)."""
 from collections import Counter, namedtuple
 
-from lab.definitions.nodes import NetState
-from lab.pictures.transcripts import place_of
+from lab.definitions.nodes import NetState, make
 
 # A node after one of its entries: its pulse, whether it has said safe, how many acknowledgements it awaits, and by
 # neighbour the height of each port's lane: its safes above the node's pulse, and a half for a payload.
@@ -13,10 +12,10 @@ Moment = namedtuple("Moment", "entry pulse said awaits heights")
 def played(run):
     """(entry, its node's stage and its ports' levels before it, its node and the levels after it) of each entry."""
     state = NetState(run.network, run.program)
-    for entry in sorted(run.all(), key=place_of):
+    for entry in run.made:
         v, node = entry.vertex, state.nodes[entry.vertex]
         before = stage_of(node), levels_of(state, v)
-        state.step(entry.kind.title(), v, state.port_to.get((v, entry.neighbour)))
+        make(state, entry)
         yield entry, *before, node, levels_of(state, v)
 
 
@@ -40,12 +39,13 @@ def steps_of(run, first, last):
     beginning of pulse `first` until it begins the one after `last`."""
     steps = Counter()
     for entry, stage, levels, node, after in played(run):
-        if entry.kind == "put" or not first <= node.pulse_number <= last:
+        if entry.kind == "Put" or not first <= node.pulse_number <= last:
             continue
-        cause = "pulse" if entry.kind == "pulse" else entry.wire[0]
-        moved = {entry.neighbour: after[entry.neighbour]} if entry.kind == "take" else after
+        cause, moved = "pulse", after
+        if entry.kind == "Take":
+            cause, moved = entry.what[0].lower(), {entry.neighbour: after[entry.neighbour]}
         steps.update((levels[w], cause, level) for w, level in moved.items() if cause != "ack")
-        if entry.kind == "pulse" or stage_of(node) != stage:
+        if cause == "pulse" or stage_of(node) != stage:
             steps[stage, cause, stage_of(node)] += 1
     return steps
 

@@ -15,8 +15,8 @@ def counts_of(run):
         raise Wrong(f"{run.name}: the run is not whole, so its wires can't be tallied")
     last = run.last
     counts = {kind: [0] * (last + 1) for kind in ORDER}
-    for put in run.puts():
-        counts[put.wire[0]][last if put.wire[1] is None else put.wire[1]] += 1
+    for wire in run.wires:
+        counts[wire.kind][last if wire.pulse is None else wire.pulse] += 1
     if sum(map(sum, counts.values())) != 2 * sum(counts["payload"]) + 2 * len(run.network.edges) * (last + 1):
         raise Wrong(
             f"{run.name}: the wires of a whole run are 2 · payloads + 2 · edges · (R + 1), and here they aren't"

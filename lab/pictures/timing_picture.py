@@ -32,7 +32,7 @@ def draw(run, shown, vertex):
     # The middle of each entry's column, where what it changes begins, and the end of the last one.
     xs = [LEFT + (at + 0.5) * step for at in range(len(moments))] + [LEFT + len(moments) * step]
     for x, moment in zip(xs, moments):
-        if moment.entry.kind == "pulse":
+        if moment.entry.kind == "Pulse":
             svg.line(x, 98, x, svg.height - 22, INK, 1.6, mark="tick")
             svg.text(x, 94, f"pulse {moment.pulse}", 10.5, INK, "middle", bold=True)
     draw_own(svg, moments, xs)
@@ -62,7 +62,7 @@ def draw_own(svg, moments, xs):
             svg.rect(xs[first], TOP - 2 - high, xs[end] - xs[first], high + 4, "#BDBDBD", mark="awaits")
     for (_, said), first, end in stretches((moment.pulse, moment.said) for moment in moments):
         if said:
-            begin = xs[first] + (2.5 if moments[first].entry.kind == "pulse" else 0)
+            begin = xs[first] + (2.5 if moments[first].entry.kind == "Pulse" else 0)
             svg.rect(begin, TOP + 16, xs[end] - begin, 12, WIRES["safe"], mark="said")
 
 
@@ -80,9 +80,9 @@ def draw_port(svg, moments, xs, neighbour, base):
     svg.path(steps, INK, 1.5, mark="lane")
     for x, (entry, *_) in zip(xs, moments):
         if entry.neighbour == neighbour:
-            colour = WIRES[entry.wire[0]]
-            with svg.group(entry.kind, f"{entry.kind} {entry.wire[0]}"):
-                if entry.kind == "take":
-                    svg.circle(x, base + 9, 3.8, colour)
+            what, wire = entry.kind.lower(), entry.what[0].lower()
+            with svg.group(what, f"{what} {wire}"):
+                if what == "take":
+                    svg.circle(x, base + 9, 3.8, WIRES[wire])
                 else:
-                    svg.circle(x, base + 9, 3, PAPER, colour, 1.6)
+                    svg.circle(x, base + 9, 3, PAPER, WIRES[wire], 1.6)

@@ -1,12 +1,11 @@
-"""The transcript of a run (docs/claim/FORMATS.md) as pictures need it: entries by node, each take beside its put, and a
-place in time for each, which is its stamp. lab/transcripts reads it, finds an order and judges it, here for all
+"""The transcript of a run (docs/claim/FORMATS.md) as pictures need it: its entries by stamp, which is their place in
+time, and of each wire when it was put and taken. lab/transcripts reads it, finds an order and judges it, here for all
 pictures."""
 from collections import deque
-from dataclasses import dataclass, replace
+from copy import copy
+from typing import NamedTuple
 
-from lab.definitions.nodes import Colouring
-from lab.networks.network_text import two_alike
-from lab.pictures.program_rounds import rounds_of
+from lab.definitions.nodes import Colouring, wire_words
 from lab.transcripts.check import find_order
 from lab.transcripts.reading import Wrong as WrongEntry, read_to_fault
 from lab.wrong import Wrong, wrong_line
@@ -16,48 +15,56 @@ from lab.wrong import Wrong, wrong_line
 LONG_TEXT, AHEAD = 100_000, 8
 # Above MOST_READABLE pulses a band or bar is too narrow to be followed; USUAL are drawn of a run that has more.
 MOST_READABLE, USUAL = 100, 40
+# How many steps of time a pulse of the rounds takes.
+OF_ROUND = 100
 
 
-@dataclass(slots=True, eq=False)
-class Entry:
-    """What a node did: `kind` is `pulse`, `put` or `take`; `wire` is (kind, pulse, payload) of a put or take; `mate` is
-    the put of a take, and back; `stamp` the length of the longest chain of entries that ends here; `during` the node's
-    pulse."""
-    line: int
-    vertex: int
-    kind: str
-    neighbour: int | None
-    wire: tuple | None
-    pulse: int | None
-    stamp: int
-    mate: object = None
-    during: int = 0
+class Wire(NamedTuple):
+    """A wire from `v` to `w`, as lab/definitions/nodes.py has it, and the stamps of its put and of its take; the latter
+    is None if nobody took it."""
+    v: int
+    w: int
+    what: tuple
+    put: int
+    take: int | None
+
+    @property
+    def kind(self):
+        return self.what[0].lower()
+
+    @property
+    def pulse(self):
+        """The pulse that it speaks of; None of a close."""
+        return self.what[1] if len(self.what) > 1 else None
 
     def title(self):
-        """An arrow's title: from whom to whom, and the transcript's words of the wire."""
-        kind, pulse, payload = self.wire
-        words = " ".join(str(word) for word in (kind, pulse, *(payload or ())) if word is not None)
-        return f"{self.vertex} to {self.neighbour}: {words}"
+        return f"{self.v} to {self.w}: {wire_words(self.what)}"
 
 
 class Run:
-    """`entries[v]` in v's order, of nodes that run `program`; `last` is R; `whole`, whether every node is through with
-    its last pulse; `is_stamped`, whether the text is."""
+    """A run of nodes that run `program`: its entries, `made`, by stamp, and its `wires`; `ticks[v]` has the stamp at
+    which v begins each pulse, and `reached[v]` is its last one; `last` is R. `is_stamped` says whether the text is, and
+    `whole`, whether every node is through with its last pulse. `wrong` are the first entry that isn't possible, which
+    ends the run, and what is wrong with it."""
 
-    def __init__(self, network, name, rounds, program, is_stamped):
-        self.network, self.name, self.rounds, self.program, self.is_stamped = network, name, rounds, program, is_stamped
-        self.entries = {v: [] for v in network.vertices}
-        self.last, self.whole = rounds.last, False
+    def __init__(self, name, network, program, order, wrong):
+        self.name, self.network, self.program = name, network, program
+        self.is_stamped, self.whole, self.wrong = order.is_stamped, order.is_whole(), wrong
+        self.made = [entry for entry in order.made if not wrong or not self.is_stamped or entry.line < wrong[1].line]
+        self.last, self.wires = program.last_pulse(network), wires_of(self.made)
+        self.ticks, self.reached = {v: {0: 0} for v in network.vertices}, dict.fromkeys(network.vertices, 0)
+        for entry in self.made:
+            self.reached[entry.vertex] = entry.stamp
+            if entry.kind == "Pulse":
+                self.ticks[entry.vertex][entry.what] = entry.stamp
 
-    def all(self):
-        return (entry for v in self.network.vertices for entry in self.entries[v])
-
-    def puts(self, kind=None):
-        return (entry for entry in self.all() if entry.kind == "put" and kind in (None, entry.wire[0]))
-
-    def ticks(self, v):
-        """{pulse: stamp} of v, with pulse 0 at 0."""
-        return {0: 0} | {entry.pulse: entry.stamp for entry in self.entries[v] if entry.kind == "pulse"}
+    def in_rounds(self, first, last):
+        """The payloads of these pulses in a run whose nodes make all pulses at once: the synchronous rounds."""
+        run = copy(self)
+        run.ticks = dict.fromkeys(self.ticks, {pulse: OF_ROUND * pulse for pulse in range(first, last + 2)})
+        run.wires = sorted(wire._replace(put=OF_ROUND * wire.pulse, take=OF_ROUND * (wire.pulse + 1))
+                           for wire in self.wires if wire.kind == "payload" and first <= wire.pulse <= last)
+        return run
 
 
 def window_of(name, greatest, pulses, usual=None):
@@ -70,81 +77,42 @@ def window_of(name, greatest, pulses, usual=None):
     return first, last
 
 
-def entry_of(read):
-    """The entry of one that lab/transcripts has read."""
-    kind = read.kind.lower()
-    if kind == "pulse":
-        return Entry(read.line, read.vertex, kind, None, None, read.what, read.stamp)
-    word, *pulse, payload = *read.what, *[None] * (3 - len(read.what))
-    wire = word.lower(), pulse[0], payload and (payload[0].lower(), payload[1])
-    return Entry(read.line, read.vertex, kind, read.neighbour, wire, wire[1], read.stamp)
+def wires_of(made):
+    """The wires of entries by stamp. A link hands them over in the order in which they were put."""
+    taken = {}
+    for entry in made:
+        if entry.kind == "Take":
+            taken.setdefault((entry.neighbour, entry.vertex), deque()).append(entry.stamp)
+    return [Wire(v, w, entry.what, entry.stamp, taken[v, w].popleft() if taken.get((v, w)) else None)
+            for entry in made if entry.kind == "Put" for v, w in [(entry.vertex, entry.neighbour)]]
 
 
-def identifiers_of(network, entries):
-    """What the vertices call themselves in their greetings, and those that greet nobody as their network says."""
-    found = {}
-    for entry in entries:
-        if entry.kind == "Put" and entry.what[0] == "Payload" and entry.what[2][0] == "Hello":
-            found.setdefault(entry.vertex, entry.what[2][1])
-    return network.said | {v: number for v, number in found.items() if number != network.identifiers.get(v)}
-
-
-def read_transcript(text, name, network, until=None, program=Colouring):
-    """The run of a program that a transcript records, or what is wrong with it. Of a long text, with `until`, only what
-    the pulses up to that one depend on is read."""
+def read_transcript(text, name, network, until=None, program=Colouring, is_wrong_drawn=False):
+    """The run of a program that a transcript records, or what is wrong with it, unless that is drawn. Of a long text,
+    with `until`, only what the pulses up to that one depend on is read."""
     if until is not None and text.count("\n") > LONG_TEXT:
         ahead = AHEAD
         while ahead <= network.nodes + AHEAD:
-            run = run_of(text, name, network, until + 1 + ahead, program)
-            if all(until + 1 in run.ticks(v) or until >= run.last for v in network.vertices):
+            run = Run(name, network, program, *ordered(text, name, network, program, until + 1 + ahead))
+            if all(until + 1 in ticks or until >= run.last for ticks in run.ticks.values()):
                 return run
             ahead *= 4
-    return run_of(text, name, network, None, program)
+    return Run(name, network, program, *ordered(text, name, network, program, None, is_wrong_drawn))
 
 
-def run_of(text, name, network, stop, program):
-    """The run, or with `stop` what each node did before it begins that pulse, as far as it depends on no more."""
-    head, net, order, made = ordered(text, name, network, program, stop)
-    run = Run(net, name, rounds_of(net, program), program, head.is_stamped)
-    add_entries(run, made)
-    run.whole = order.is_whole()
-    return run
-
-
-def ordered(text, name, network, program, stop=None, is_greeted=True):
-    """The first line, the network, the order that is found, and its entries, each with its stamp; or what
-    is wrong in the text. If `is_greeted`, the vertices are called what their greetings say."""
+def ordered(text, name, network, program, stop=None, is_wrong_drawn=False):
+    """The order that is found of the entries, which are then by stamp; and the first one that isn't possible, with what
+    is wrong, if that is drawn, and else refused. With `stop`, of each node only what it did before it begins that pulse
+    is read."""
     try:
         head, read, fault = read_to_fault(text.encode(), program.name, stop)
     except WrongEntry as why:
         raise Wrong(f"{name} {why}") from None
     if head.nodes != network.nodes:
         raise wrong_line(name, head.line, f"{head.nodes} nodes, and {network.name} has {network.nodes} (Nodes)")
-    net = replace(network, said=identifiers_of(network, read)) if is_greeted else network
-    if two_alike(net.identifiers):
-        raise Wrong(f"{name}: two nodes have one identifier")
-    order = find_order(net, read, program)
-    if wrong := order.wrong(fault, is_part=stop is not None and stop <= program.last_pulse(net)):
+    order = find_order(network, read, program)
+    wrong = order.wrong(fault, is_part=stop is not None and stop <= program.last_pulse(network))
+    if wrong and not (is_wrong_drawn and wrong.code not in ("X1", "NoSuch")):
         raise Wrong(f"{name} {wrong}")
-    return head, net, order, order.made
-
-
-def place_of(entry):
-    """By what entries are in the order of a transcript."""
-    return entry.stamp, entry.vertex
-
-
-def add_entries(run, made):
-    """The entries in the order found: of each its put or take, and its node's pulse."""
-    flying, pulse = {}, dict.fromkeys(run.entries, 0)
-    for entry in map(entry_of, made):
-        v = entry.vertex
-        if entry.kind == "pulse":
-            pulse[v] = entry.pulse
-        elif entry.kind == "put":
-            flying.setdefault((v, entry.neighbour), deque()).append(entry)
-        else:
-            entry.mate = flying[entry.neighbour, v].popleft()
-            entry.mate.mate = entry
-        entry.during = pulse[v]
-        run.entries[v].append(entry)
+    order.made.sort(key=lambda entry: (entry.stamp, entry.vertex))
+    return order, wrong and (order.first_refused(), wrong)

@@ -8,7 +8,7 @@ from collections import deque
 
 from lab.definitions.nodes import Colouring, NetState, make, wire_words
 from lab.pictures.pages import net_of, page
-from lab.pictures.transcripts import ordered, place_of
+from lab.pictures.transcripts import ordered
 from lab.transcripts.reading import words
 from lab.wrong import Wrong
 
@@ -76,10 +76,10 @@ class Steps:
 
 def steps_of_text(name, network, text, pulses=None, program=Colouring):
     """The steps of a transcript, as far as they are needed for these pulses; or its first fault in words."""
-    _, net, _, entries = ordered(text, name, network, program, is_greeted=False)
-    state, made = NetState(net, program), dict.fromkeys(net.neighbours, 0)
+    order, _ = ordered(text, name, network, program)
+    state, made = NetState(network, program), dict.fromkeys(network.vertices, 0)
     steps = Steps(state)
-    for entry in sorted(entries, key=place_of):
+    for entry in order.made:
         make(state, entry)
         steps.add(entry)
         if entry.kind == "Pulse":

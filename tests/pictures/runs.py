@@ -51,8 +51,8 @@ class Runs(PictureCase):
         """A run that is drawn whole is read back from left to right into its transcript. Its bars go from where a
         payload is taken to the tick that reads it."""
         last = last_pulse(network_of(network))
-        root = parsed(self.drawn("run", network, *pulses((0, last)), "--only", ",".join(WIRES), text=text))
-        ticks = {}
+        picture = parsed(self.drawn("run", network, *pulses((0, last)), "--only", ",".join(WIRES), text=text))
+        (root,), ticks = marks(picture, "upper"), {}
         for mark in marks(root, "tick"):
             (x, y), _ = ends(mark)
             ticks.setdefault(y + 10, []).append(x)
@@ -96,14 +96,14 @@ class Runs(PictureCase):
         and the next pulse."""
         picture = self.drawn("run", network, *pulses((first, last)), text=text)
         lower = marks(parsed(picture), "lower")[0]
-        slots = [(x, y + 8) for (x, y), _ in map(ends, marks(lower, "slot"))]
+        slots = [(x, round((y + end) / 2, 1)) for (x, y), (_, end) in map(ends, marks(lower, "tick"))]
         columns, rows = (sorted({slot[axis] for slot in slots}) for axis in (0, 1))
         puts = [(int(v), int(more[0]), int(more[2]), f"{v} to {more[0]}: {' '.join(more[1:])}")
                 for _, v, kind, *more in fields_of(text) if kind == "put" and more[1] == "payload"]
         self.facts(f"window of {name}", {
             "a slot for each node and pulse": (sorted(slots), [(x, y) for x in columns for y in rows]),
             "as many": ((len(columns), len(rows)), (last - first + 2, len(network_of(network).neighbours))),
-            "payloads": ({title(group): begins_and_tip(group) for group in marks(lower, "round")}, {
+            "payloads": ({title(group): begins_and_tip(group) for group in marks(lower, "payload")}, {
                 said: ((columns[p - first], rows[v - 1]), (columns[p - first + 1], rows[w - 1]))
                 for v, w, p, said in puts if first <= p <= last}),
         })
