@@ -42,16 +42,15 @@ class Rounds:
         """The text of rounds, line by line."""
         return rounds_lines(self.network)
 
-    def asked_forests(self, asked):
-        """The forests A to B that are asked for, if the network has them; None if none are asked for."""
+    def asked_forests(self, asked, usual=1):
+        """The forests A to B that are asked for, if the network has them; else the `usual` first ones."""
         if not self.forests:
             raise Wrong(f"{self.network.name} has no edge, so no forest")
-        if asked is None:
-            return None
-        if not 0 <= asked[0] <= asked[1] < self.forests:
+        first, last = asked or (0, min(self.forests, usual) - 1)
+        if not 0 <= first <= last < self.forests:
             there = "forest 0 alone" if self.forests == 1 else f"forests 0 to {self.forests - 1}"
             raise Wrong(f"{self.network.name} has {there}")
-        return range(asked[0], asked[1] + 1)
+        return range(first, last + 1)
 
     def in_forest(self, v, f):
         """Whether an edge of forest f ends at v."""

@@ -2,7 +2,7 @@
 from lab.definitions.nodes import bit_step
 from lab.pictures.marks import colour_square
 from lab.pictures.palette import INK, PAPER, SOFT, digits
-from lab.pictures.svg import Svg, text_width
+from lab.pictures.svg import Svg
 from lab.wrong import Wrong
 
 RING = "#D55E00"
@@ -30,8 +30,7 @@ def draw(rounds, forest=0, vertex=None):
             "in four steps, too." if is_short else "Names of up to 128 digits become one of six colours in four steps.")
     rule = ("It looks for the least place i in which its digits differ from its parent’s; with its own digit d there, "
             "it becomes 2·i + d.")
-    width = max(LEFT + most * cell + 350, 40 + text_width(rule, 11.5) * 0.95)
-    svg = Svg(width, TOP + 5 * STEP - 12, f"Bit steps of {network.name}")
+    svg = Svg(LEFT + most * cell + 350, TOP + 5 * STEP - 12, f"Bit steps of {network.name}")
     svg.heading(f"{network.name}: node {vertex} and its parent {parent} in forest {forest}: {lengths} digits", rule,
                 said)
     for step, (own, above) in enumerate(pairs):

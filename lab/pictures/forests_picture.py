@@ -3,11 +3,12 @@ from lab.definitions.pulses import LAST_COLOUR
 from lab.pictures.marks import LARGE, SMALL, Map, alone_chip, channel_circle, colour_square
 from lab.pictures.palette import INK, PAPER, SOFT, WRONG
 from lab.pictures.places import OF_SQUARES, box_height, places_of
+from lab.pictures.rounds_picture import left_out_of
 from lab.pictures.svg import Svg, text_width
 from lab.words import counted
-from lab.wrong import Wrong, at_most
+from lab.wrong import at_most
 
-MOST_COLUMNS, PANEL, SPACE, GAP, LEFT, TOP = 6, 250, 26, 120, 20, 140
+MOST_COLUMNS, PANEL, SPACE, LEFT, TOP = 6, 250, 26, 20, 140
 FAINT, BEFORE, LEGEND = "#E6E6E6", "#9A9A9A", 640
 
 
@@ -58,73 +59,41 @@ class Panel(Map):
 
 
 def draw(rounds, asked=None):
-    network, count = rounds.network, rounds.forests
-    if count == 0:
-        raise Wrong(f"{network.name} has no edge, so no forest: use plan")
-    columns, width = columns_of(rounds.asked_forests(asked), rounds.forests)
-    panel, three = Panel(network), rounds.pulses[LAST_COLOUR].colours
-    lower = TOP + panel.height + 54
-    parted = f"{counted(len(network.edges), 'edge')} in {counted(count, 'forest')}"
-    said = f"{network.name}: {parted}; merged, they are the plan"
-    svg = Svg(max(width, LEGEND, 60 + text_width(said, 17) * 1.1), lower + panel.height + 22,
-              f"Forests of {network.name}")
-    svg.heading(said)
-    legend(svg)
-    shift = (svg.width - width) / 2
-    for forest, left in columns:
-        left += shift
-        if isinstance(forest, range):
-            left_out(svg, left, panel, forest)
-            continue
+    """The forests A to B that are asked for; else the first ones, as many as have room beside each other."""
+    network, forests = rounds.network, list(rounds.asked_forests(asked, MOST_COLUMNS))
+    at_most("forests", len(forests), "forests side by side", MOST_COLUMNS, "--forest A..B with fewer")
+    panel, three, lines = Panel(network), rounds.pulses[LAST_COLOUR].colours, left_out_of(rounds, forests)
+    upper = TOP + 18 * len(lines)
+    lower, width = upper + panel.height + 54, len(forests) * (PANEL + SPACE) - SPACE + 2 * LEFT
+    svg = Svg(max(width, LEGEND), lower + panel.height + 22, f"Forests of {network.name}")
+    parted = f"{counted(len(network.edges), 'edge')} in {counted(rounds.forests, 'forest')}"
+    svg.heading(f"{network.name}: {parted}; merged, they are the plan", *lines)
+    legend(svg, 52 + 18 * len(lines))
+    for column, forest in enumerate(forests):
+        left = (svg.width - width) / 2 + LEFT + column * (PANEL + SPACE)
         parents = dict(rounds.edges_of(forest))
-        title(svg, left, TOP, f"forest {forest}", counted(len(parents), "edge"))
+        title(svg, left, upper, f"forest {forest}", counted(len(parents), "edge"))
         with svg.group("forest", f"forest {forest}"):
-            panel.colours(svg, left, TOP, parents, {v: three[v, forest] for v in network.vertices})
-        title(svg, left, lower, "all merged: the plan" if forest == count - 1 else
+            panel.colours(svg, left, upper, parents, {v: three[v, forest] for v in network.vertices})
+        title(svg, left, lower, "all merged: the plan" if forest == rounds.forests - 1 else
               "merged: forest 0" if forest == 0 else f"merged: forests 0 to {forest}")
         with svg.group("merged", f"after forest {forest}"):
             panel.channels(svg, left, lower, rounds.forest_of, forest, forest, rounds.merged[forest + 1])
     return svg.document()
 
 
-def columns_of(asked, forests):
-    """(forest, left) of each column, a range for those left out, and the width of all: what is asked for, at most six;
-    else all, or the first four and the last."""
-    shown = list(range(forests)) if asked is None else list(asked)
-    if asked is not None:
-        at_most("forests", len(shown), "forests side by side", MOST_COLUMNS, "--forest A..B with fewer")
-    elif forests > MOST_COLUMNS:
-        shown = shown[:MOST_COLUMNS - 2] + [range(MOST_COLUMNS - 2, forests - 1), forests - 1]
-    columns, left = [], LEFT
-    for forest in shown:
-        columns.append((forest, left))
-        left += GAP if isinstance(forest, range) else PANEL + SPACE
-    return columns, left - SPACE + LEFT
-
-
-def legend(svg):
-    y = 52
+def legend(svg, y):
     for colour in range(3):
         colour_square(svg, 28 + 18 * colour, y, 7.5, colour, mark="legend")
-    svg.text(80, y + 4, "square: the colour in this forest", 11.5, SOFT)
     channel_circle(svg, 302, y, 8, 1, mark="legend")
-    svg.text(316, y + 4, "circle: the channel so far", 11.5, SOFT)
-    svg.line(492, y, 510, y, INK, 1.8)
-    svg.head(516, y, 1, 0, 8, INK)
-    svg.text(524, y + 4, "to the parent", 11.5, SOFT)
+    svg.arrow(492, y, 516, y, INK, 1.8, 8)
     alone_chip(svg, 28, y + 22, 6, 1)
-    svg.text(80, y + 26, "no edge in this forest", 11.5, SOFT)
-    for x, colour, words in ((292, INK, "merged now"), (412, BEFORE, "merged before"), (540, FAINT, "other edges")):
+    for x, colour in ((292, INK), (412, BEFORE), (540, FAINT)):
         svg.line(x, y + 22, x + 18, y + 22, colour, 1.8)
-        svg.text(x + 24, y + 26, words, 11.5, SOFT)
-
-
-def left_out(svg, left, panel, forests):
-    x = left + GAP / 2 - SPACE / 2
-    for top in (TOP, TOP + panel.height + 54):
-        svg.text(x, top + panel.height / 2, "…", 40, SOFT, "middle")
-    svg.text(x, TOP + panel.height / 2 + 26, f"forests {forests[0]} to {forests[-1]}", 11, SOFT, "middle")
-    svg.text(x, TOP + panel.height / 2 + 42, "(--forest A..B)", 10, SOFT, "middle")
+    for x, down, words in ((80, 0, "square: the colour in this forest"), (316, 0, "circle: the channel so far"),
+                           (524, 0, "to the parent"), (80, 22, "no edge in this forest"), (316, 22, "merged now"),
+                           (436, 22, "merged before"), (564, 22, "other edges")):
+        svg.text(x, y + down + 4, words, 11.5, SOFT)
 
 
 def title(svg, left, top, text, under=None):

@@ -1,22 +1,21 @@
 """The network alone: numbers in circles, joined where they interfere. What a question sheet shows; and the map of other
 pictures that have words beside the circles."""
 from lab.pictures.marks import LARGE, SMALL, Map, bar_row, bars_width, channel_circle, short_name, width_of_map
-from lab.pictures.palette import INK, PAPER, SOFT
+from lab.pictures.palette import INK, PAPER, SOFT, text_on
 from lab.pictures.places import box_height, places_of
 from lab.pictures.svg import Svg, text_width
 from lab.words import counted
 
-MARGIN, TOP = 48, 58
-BAR, GAP = 9, 3
+MARGIN, GAP = 48, 8
 # The colour and the width of an edge.
 EDGE = SOFT, 1.4
 
 
 class Vertex:
-    """What is drawn of a vertex: its number in a circle, `words` and its barred channels beside it, and its title;
-    `mark` is the class of its words."""
+    """What is drawn of a vertex: a circle with its channel, or if it has none with its number and filled in a colour;
+    `words` and its barred channels beside it, and its title; `mark` is the class of its words."""
 
-    mark = None
+    mark, channel, fill = None, None, PAPER
 
     def __init__(self, network, v):
         number = str(network.identifiers[v]) if network.identifiers[v] != v else ""
@@ -28,50 +27,38 @@ class Vertex:
 
     def room(self):
         """How wide its words and bars are."""
-        return text_width(self.words, self.size) + (GAP + bars_width(self.bars, BAR) if self.bars else 0)
-
-    def box(self):
-        """Half the width and half the height of its words and bars."""
-        return self.room() / 2, BAR if self.bars else 0.45 * self.size
+        return text_width(self.words, self.size) + (GAP + bars_width(self.bars, self.size) if self.bars else 0)
 
     def draw(self, svg, x, y, radius, spot):
         with svg.group("vertex", self.title):
-            self.draw_node(svg, x, y, radius)
-        self.draw_beside(svg, *spot)
-
-    def draw_node(self, svg, x, y, radius):
-        svg.circle(x, y, radius, PAPER, INK, 1.6)
-        svg.text(x, y + 0.36 * radius, self.v, round(0.95 * radius, 1), INK, "middle", bold=True)
-
-    def draw_beside(self, svg, x, y):
-        left, width = x - self.room() / 2, text_width(self.words, self.size)
+            if self.channel:
+                svg.circle(x, y, radius + 1.6, PAPER)
+                channel_circle(svg, x, y, radius, self.channel)
+            else:
+                svg.circle(x, y, radius, self.fill, INK, 1.6, mark="blank" if self.fill == PAPER else "filled")
+                svg.text(x, y + 0.36 * radius, self.v, round(0.95 * radius, 1), text_on(self.fill), "middle", bold=True)
+        left, width = spot[0] - self.room() / 2, text_width(self.words, self.size)
         if self.words:
-            svg.text(left + width / 2, y + 0.37 * self.size, self.words, self.size, INK, "middle", halo=3,
+            svg.text(left + width / 2, spot[1] + 0.37 * self.size, self.words, self.size, INK, "middle", halo=3,
                      mark=self.mark)
-        if self.bars:
-            bar_row(svg, left + width + GAP, y, self.bars, BAR)
-
-
-def draw_channel(svg, x, y, radius, channel):
-    """The node of a vertex that has a channel, apart from edges that end at it."""
-    svg.circle(x, y, radius + 1.6, PAPER)
-    channel_circle(svg, x, y, radius, channel)
+        bar_row(svg, left + width + GAP, spot[1], self.bars, self.size)
 
 
 def draw(network):
     said = f"{counted(network.nodes, 'node')}, {counted(len(network.edges), 'edge')}"
     vertices = {v: Vertex(network, v) for v in network.vertices}
-    least = max(60 + text_width(network.name, 17) * 1.1, 40 + text_width(said, 11.5))
-    svg, box = begun(network, vertices, f"Map of {network.name}", least, TOP)
-    svg.heading(network.name, said)
+    svg, box = begun(network, vertices, f"Map of {network.name}", network.name, said)
     draw_map(svg, network, vertices, box, EDGE)
     return svg.document()
 
 
-def begun(network, vertices, title, least, top):
-    """A picture as wide as the map needs, and at least so wide; and its box."""
-    width, height, *_ = box = box_of(network, vertices.values(), least, top)
-    return Svg(width, top + height + 10, title), box
+def begun(network, vertices, title, *heading):
+    """A picture with its heading, as wide as that and the map need; and the map's box."""
+    svg, top = Svg(0, 0, title), 26 + 16 * len(heading)
+    svg.heading(*heading)
+    svg.width, height, *_ = box = box_of(network, vertices.values(), svg.width, top)
+    svg.height = top + height + 10
+    return svg, box
 
 
 def box_of(network, vertices, least, top):
@@ -92,6 +79,7 @@ def draw_map(svg, network, vertices, box, edge, draw_more=None, left=0):
         drawn.edge(svg, v, w, *edge)
     if draw_more:
         draw_more(drawn)
-    drawn.label(drawn.radius + (7 if network.nodes > LARGE else 11), {v: one.box() for v, one in vertices.items()})
+    drawn.label(drawn.radius + (7 if network.nodes > LARGE else 11),
+                {v: (one.room() / 2, 0.45 * one.size) for v, one in vertices.items()})
     for v, (x, y) in sorted(drawn.places.items()):
         vertices[v].draw(svg, x, y, drawn.radius, drawn.labels[v])

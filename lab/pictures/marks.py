@@ -2,7 +2,7 @@
 from copy import copy
 from math import sqrt
 
-from lab.pictures.palette import (ALONE, FOREST_COLOURS, INK, PAPER, SOFT, WIRES, WRONG, channel_hue, grey, is_ring,
+from lab.pictures.palette import (FOREST_COLOURS, INK, PAPER, SOFT, WIRES, WRONG, channel_hue, grey, is_ring,
                                   short, text_on)
 from lab.pictures.places import OF_CIRCLES, bends, label_places, middle, moved, spaced
 from lab.pictures.svg import text_width
@@ -28,53 +28,39 @@ def channel_circle(svg, x, y, radius, channel, mark="channel"):
     svg.text(x, y + size * 0.36, channel, round(size, 1), fill, "middle", bold=True)
 
 
-# The most barred channels of a vertex that are drawn; after them comes how many more there are.
+# The most barred channels of a vertex that are written; an ellipsis stands for more.
 MOST_BARS = 4
 
 
-def bar_mark(svg, x, y, radius, channel, mark="bar"):
-    """A channel that is barred at a vertex: its number, crossed out."""
-    svg.circle(x, y, radius, PAPER, channel_hue(channel), 1, mark=mark)
-    size = round(radius * (1.2, 1.0, 0.8, 0.62)[len(str(channel)) - 1], 1)
-    svg.text(x, y + size * 0.36, channel, size, INK, "middle", bold=True)
-    svg.line(x - 0.9 * radius, y + 0.9 * radius, x + 0.9 * radius, y - 0.9 * radius, WRONG, 1.5, opacity="0.9")
+def bar_words(channels):
+    return " ".join(map(str, channels[:MOST_BARS])) + " …" * (len(channels) > MOST_BARS)
 
 
-def more_bars(channels):
-    return f"+{len(channels) - MOST_BARS}" if len(channels) > MOST_BARS else ""
+def bars_width(channels, size):
+    """How much room the barred channels of a vertex take."""
+    return text_width(bar_words(channels), size)
 
 
-def bars_width(channels, radius):
-    """How much room a row of barred channels takes."""
-    return min(len(channels), MOST_BARS) * (2 * radius + 2) + text_width(more_bars(channels), 1.5 * radius)
+def bar_row(svg, x, y, channels, size):
+    """The barred channels of a vertex, lowest first, crossed out, to the right of a place."""
+    if channels:
+        svg.text(x, y + 0.37 * size, bar_words(channels), size, INK, bold=True, halo=3, mark="bar")
+        svg.line(x - 3, y - 0.5 * size, x + bars_width(channels, size) + 3, y + 0.5 * size, WRONG, 1.2)
 
 
-def bar_row(svg, x, y, channels, radius):
-    """The barred channels of a vertex, lowest first, to the right of a place."""
-    for at, channel in enumerate(channels[:MOST_BARS]):
-        bar_mark(svg, x + radius + at * (2 * radius + 2), y, radius, channel)
-    if more_bars(channels):
-        svg.text(x + MOST_BARS * (2 * radius + 2), y + 0.55 * radius, more_bars(channels), 1.5 * radius, SOFT, halo=2,
-                 mark="more")
-
-
-def colour_square(svg, x, y, half, colour, mark="colour", is_name=False):
+def colour_square(svg, x, y, half, colour, mark="colour", is_name=False, opacity=None):
     """A colour of 0 to 5 in one forest; or a name, or another number that is no such colour yet: grey, darker the
     longer it is."""
     is_grey, text = is_name or colour >= len(FOREST_COLOURS), short(colour)
     fill, ink = grey(colour) if is_grey else (FOREST_COLOURS[colour], text_on(FOREST_COLOURS[colour]))
-    svg.rect(x - half, y - half, 2 * half, 2 * half, fill, PAPER, 1, half * 0.25, mark=mark)
-    svg.text(x, y + half * 0.37, text, round(half * (1.1 if len(text) < 3 else 0.8), 1), ink, "middle", bold=True)
+    svg.rect(x - half, y - half, 2 * half, 2 * half, fill, PAPER, 1, half * 0.25, mark=mark, fill_opacity=opacity)
+    svg.text(x, y + half * 0.37, text, round(half * (1.1 if len(text) < 3 else 0.8), 1), INK if opacity else ink,
+             "middle", bold=True)
 
 
 def alone_chip(svg, x, y, half, colour):
-    """A vertex at which no edge of the forest ends, with its colour in the forest if that is one of 0 to 5."""
-    if colour >= len(FOREST_COLOURS):
-        svg.rect(x - half, y - half, 2 * half, 2 * half, ALONE, PAPER, 1, 2, mark="alone")
-        return
-    svg.rect(x - half, y - half, 2 * half, 2 * half, FOREST_COLOURS[colour], PAPER, 1, 2, mark="alone",
-             fill_opacity="0.3")
-    svg.text(x, y + half * 0.45, colour, round(half * 1.3, 1), INK, "middle", bold=True, mark="alone-colour")
+    """The square of a vertex at which no edge of the forest ends: pale."""
+    colour_square(svg, x, y, half, colour, "alone", opacity="0.3")
 
 
 class Map:
@@ -140,19 +126,3 @@ def label_of(network, v):
 
 def dash_of(kind):
     return "4 2.5" if kind == "ack" else None
-
-
-def channel_legend(svg, x, y, used, most, width):
-    """The channels used, over as many lines as they need; returns how many pixels they take."""
-    svg.text(x, y + 4, "channels", 11.5, SOFT)
-    at_x, at_y = x + 72, y
-    for channel in used:
-        if at_x > width - 30:
-            at_x, at_y = x + 72, at_y + 24
-        channel_circle(svg, at_x, at_y, 9, channel, mark="legend")
-        at_x += 25
-    words = f"{len(used)} of the {most} allowed"
-    if at_x + text_width(words, 11.5) > width:
-        at_x, at_y = x + 72, at_y + 22
-    svg.text(at_x, at_y + 4, words, 11.5, SOFT)
-    return at_y - y + 20

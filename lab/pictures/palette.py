@@ -14,7 +14,6 @@ CHANNEL_HUES = ["#0072B2", "#E69F00", "#009E73", "#F0E442", "#CC79A7", "#56B4E9"
 
 # Tol, medium contrast: 3, 4 and 5 are the pale twins of 0, 1 and 2, and are the ones that are dropped.
 FOREST_COLOURS = ["#004488", "#997700", "#994455", "#6699CC", "#EECC66", "#EE99AA"]
-ALONE = "#DDDDDD"
 
 WIRES = {"payload": "#0072B2", "ack": "#8C8C8C", "safe": "#D55E00", "close": "#111111"}
 # The grounds of wires with words in them.

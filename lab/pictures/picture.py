@@ -185,7 +185,7 @@ KINDS = {
         (2000, "`forestplan check`, which says whether the plan is proper")),
     "forests": Kind(
         "Each forest with its three colours, and the plan after each merge.",
-        "Of more than six forests the first four and the last, or up to six others with --forest.",
+        "Of more than six forests the first six, or others with --forest.",
         "forestlab picture forests examples/four_cycle.col > four_cycle-forests.svg",
         lambda asked: forests_picture.draw(asked.rounds(), asked.forests), "rounds", (400, "matrix"),
         is_placed=True),

@@ -1,8 +1,7 @@
 """The plan on the map: who has which channel."""
 from lab.networks.plan_text import clashes
-from lab.pictures.map_picture import TOP, Vertex, begun, draw_channel, draw_map
-from lab.pictures.marks import SMALL, channel_legend, label_of
-from lab.pictures.svg import text_width
+from lab.pictures.map_picture import Vertex, begun, draw_map
+from lab.pictures.marks import SMALL, label_of
 from lab.words import counted
 from lab.wrong import Wrong
 
@@ -23,9 +22,6 @@ class Planned(Vertex):
         if network.nodes > LARGEST_NUMBERED:
             self.words, self.bars = "", []
 
-    def draw_node(self, svg, x, y, radius):
-        draw_channel(svg, x, y, radius, self.channel)
-
 
 def draw(network, plan):
     clash = clashes(network, plan)
@@ -34,14 +30,13 @@ def draw(network, plan):
         raise Wrong(
             f"the plan is not proper: neighbours {v} and {w} share channel {plan[v]} (C4); matrix draws such a plan"
         )
-    said, vertices = said_of(network), {v: Planned(network, v, plan[v]) for v in network.vertices}
-    svg, box = begun(network, vertices, f"Channel plan of {network.name}", 40 + text_width(said, 11) * 0.9, TOP)
-    svg.heading(f"{network.name}: the plan is proper", said)
+    vertices = {v: Planned(network, v, plan[v]) for v in network.vertices}
+    used = f"In the circles are the channels: {len(set(plan.values()))} of the {network.channels} allowed"
+    svg, box = begun(network, vertices, f"Channel plan of {network.name}", f"{network.name}: the plan is proper",
+                     said_of(network), used + ("; crossed out: barred" if network.bars else ""))
     is_dense = len(network.edges) > 5 * network.nodes
     draw_map(svg, network, vertices, box,
              ("#D0D0D0", 0.7) if is_dense else ("#B9B9B9", 0.9) if network.nodes > SMALL else ("#9A9A9A", 1.6))
-    used = sorted(set(plan.values()))
-    svg.height += 16 + channel_legend(svg, 20, svg.height + 10, used, network.channels, svg.width)
     return svg.document()
 
 
@@ -49,12 +44,9 @@ def said_of(network):
     """What there is, and what to look for."""
     if not network.edges:
         return f"{counted(network.nodes, 'transmitter')}, and no pair interferes"
-    return (
-        f"{counted(network.nodes, 'transmitter')}, {counted(len(network.edges), 'pair')} that "
-        f"{'interferes' if len(network.edges) == 1 else 'interfere'}, "
-        f"at most {counted(network.greatest_degree, 'neighbour')}: "
-        "on each line two different numbers" + ("; crossed out: barred" if network.bars else "")
-    )
+    return (f"{counted(network.nodes, 'transmitter')}, {counted(len(network.edges), 'pair')} that "
+            f"{'interferes' if len(network.edges) == 1 else 'interfere'}, at most "
+            f"{counted(network.greatest_degree, 'neighbour')}: on each line two different numbers")
 
 
 def said_of_bars(bars):

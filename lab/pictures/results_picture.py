@@ -4,13 +4,11 @@ from lab.definitions.independent_set import IndependentSet
 from lab.definitions.matching import Matching
 from lab.definitions.nodes import Colouring
 from lab.definitions.recolouring import Recolouring
-from lab.pictures.map_picture import Vertex, begun, draw_channel, draw_map
+from lab.pictures.map_picture import Vertex, begun, draw_map
 from lab.pictures.marks import short_name
-from lab.pictures.palette import INK, PAPER, channel_hue, text_on
-from lab.pictures.svg import text_width
+from lab.pictures.palette import INK, channel_hue
 from lab.words import counted
 
-TOP = 84
 # Programs whose colours are channels: in the circle is the channel, and the node's number beside it; and those of which
 # the marks show all.
 OF_CHANNELS, SHOWN = (Colouring, Recolouring), (Matching, IndependentSet)
@@ -27,6 +25,10 @@ class Found(Vertex):
         node = rounds.nodes[v]
         self.result, (self.colour, self.other) = node.result(), rounds.pulses[-1].drawn.get(v, (None, None))
         self.has_channel, is_shown = isinstance(node, OF_CHANNELS), isinstance(node, SHOWN)
+        if self.has_channel:
+            self.channel = self.colour + 1
+        elif self.colour is not None:
+            self.fill = channel_hue(self.colour + 1)
         self.before = node.first.merged if isinstance(node, Recolouring) else self.colour
         is_new = self.has_channel and self.before != self.colour
         self.title = f"node {v}: {self.result}" + (f", was channel {self.before + 1}" if is_new else "")
@@ -34,14 +36,6 @@ class Found(Vertex):
         said = f"was {self.before + 1}" if is_new else "" if self.has_channel or is_shown and (
             self.colour, self.other) != (None, None) else self.result
         self.words = " ".join(filter(None, [str(v) * self.has_channel, short_name(rounds.network, v), said]))
-
-    def draw_node(self, svg, x, y, radius):
-        if self.has_channel:
-            draw_channel(svg, x, y, radius, self.colour + 1)
-            return
-        fill = PAPER if self.colour is None else channel_hue(self.colour + 1)
-        svg.circle(x, y, radius, fill, INK, 1.6, mark="blank" if self.colour is None else "filled")
-        svg.text(x, y + 0.36 * radius, self.v, round(0.95 * radius, 1), text_on(fill), "middle", bold=True)
 
 
 def found_in(rounds):
@@ -53,9 +47,8 @@ def draw(rounds):
     lines = [f"What each node has found after pulse {rounds.last}{legend(found)}.", counts(found, network) + "."]
     if rounds.wrong:
         lines.append(f"It isn't right: {rounds.wrong}.")
-    least = 40 + max(text_width(line, 11.5) for line in lines)
-    svg, box = begun(network, found, f"{rounds.program.name} on {network.name}", least, TOP)
-    svg.heading(f"{network.name}: {rounds.program.name}", *lines)
+    svg, box = begun(network, found, f"{rounds.program.name} on {network.name}",
+                     f"{network.name}: {rounds.program.name}", *lines)
     draw_map(svg, network, found, box, ("#9A9A9A", 1.2), lambda drawn: draw_chosen(svg, drawn, found))
     return svg.document()
 

@@ -1,7 +1,7 @@
 """The rounds strip: a block for each forest, a row for each node, a column for each pulse; squares while it is
 coloured, circles where channels are chosen."""
 from lab.definitions.pulses import LAST_COLOUR
-from lab.pictures.marks import alone_chip, bar_mark, bar_row, bars_width, channel_circle, colour_square
+from lab.pictures.marks import alone_chip, bar_row, bars_width, channel_circle, colour_square
 from lab.pictures.palette import FOREST_COLOURS, INK, PAPER, SOFT, channel_hue, short
 from lab.pictures.svg import Svg, text_width
 from lab.wrong import at_most
@@ -10,7 +10,7 @@ MOST_ROWS, USUAL_ROWS = 400, 40
 COLUMN, ROW, LEFT, TOP = 27, 27, 112, 100
 FULL_STEPS = 40
 HEAD, FOOT = 68, 30
-BAR = 8
+BAR = 12
 GROUPS = [(2, 2, "start"), (3, 6, "bit steps"), (7, 7, "shift"), (8, 8, "drop 5"), (9, 9, "shift"), (10, 10, "drop 4"),
           (11, 11, "shift"), (12, 12, "drop 3")]
 MERGES = LEFT + 11 * COLUMN + 34
@@ -18,8 +18,8 @@ MERGES = LEFT + 11 * COLUMN + 34
 
 def draw(rounds, asked=None):
     """The forests A to B that are asked for; else the first ones, as many as a slide has room for."""
-    network, asked = rounds.network, rounds.asked_forests(asked)
-    forests = list(asked or range(min(rounds.forests, max(1, USUAL_ROWS // network.nodes))))
+    network = rounds.network
+    forests = list(rounds.asked_forests(asked, max(1, USUAL_ROWS // network.nodes)))
     at_most("rounds", len(forests) * network.nodes, "rows", MOST_ROWS, "rounds --forest F, one forest at a time")
     title = f"{network.name}: six colours at pulse 6, three at pulse 12, the plan at pulse {rounds.last}"
     return draw_strips(rounds, forests, title, left_out_of(rounds, forests))
@@ -75,7 +75,7 @@ def legend(svg, y, has_bars):
     alone_chip(svg, 574, y, COLUMN / 2 - 6, 1)
     svg.text(588, y + 4, "no edge in this forest: its colour there", 11.5, SOFT)
     if has_bars:
-        bar_mark(svg, 838, y, BAR, 1, mark="legend")
+        bar_row(svg, 836, y, [1], BAR)
         svg.text(852, y + 4, "barred at the node", 11.5, SOFT)
     y += 22
     channel_circle(svg, 28, y, 8, 1, mark="legend")

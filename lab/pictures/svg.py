@@ -119,10 +119,13 @@ class Svg:
         self.head(x2, y2, dx, dy, size, colour, hollow)
 
     def heading(self, title, *lines):
-        """The fact that the picture shows, and what helps to read it, from the upper left corner."""
+        """The fact that the picture shows, and what helps to read it, from the upper left corner; the picture is made
+        as wide as they are."""
         self.text(20, 28, title, 17, INK, bold=True)
         for number, line in enumerate(lines):
             self.text(20, 48 + 16 * number, line, 11.5, SOFT)
+        self.width = max([self.width, 40 + 1.1 * text_width(title, 17),
+                          *(40 + 0.9 * text_width(line, 11.5) for line in lines)])
 
     def inner(self):
         return "\n".join(self.parts)

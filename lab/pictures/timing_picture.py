@@ -25,8 +25,7 @@ def draw(run, shown, vertex):
         "One step to the right is one entry of this node. A lane rises by half with a payload taken, to the next line "
         "with a safe; each pulse lowers all by one."
     )
-    width = max(LEFT + len(moments) * step + 24, 40 + text_width(said, 11.5) * 0.95)
-    svg = Svg(width, TOP + 58 + len(neighbours) * LANE + 26, f"Node {vertex} of {run.name}")
+    svg = Svg(LEFT + len(moments) * step + 24, TOP + 58 + len(neighbours) * LANE + 26, f"Node {vertex} of {run.name}")
     svg.heading(f"{run.name}, node {vertex}: pulses {first} to {last} as it lived them", said)
     legend(svg)
     # The middle of each entry's column, where what it changes begins, and the end of the last one.

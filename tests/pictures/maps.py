@@ -15,7 +15,7 @@ from tests.pictures.marks import (centre, data_of, ends, gap, marks, nearest, nu
 CHANNELS = ["#0072B2", "#E69F00", "#009E73", "#F0E442", "#CC79A7", "#56B4E9", "#D55E00", "#444444"]
 COLOURS = ["#004488", "#997700", "#994455", "#6699CC", "#EECC66", "#EE99AA"]
 HEADS = ["start", "bit steps", "shift", "drop 5", "shift", "drop 4", "shift", "drop 3"]
-INK, ALONE = "#1B1B1B", "#DDDDDD"
+INK = "#1B1B1B"
 
 NETWORKS = examples() | {"path2": network_bytes("path2"), "one apart": APART, "barred petersen": BARRED}
 QUEEN = example("queen5_5")
@@ -34,14 +34,9 @@ def words_of_bars(net, v):
 
 
 def bars_of(net):
-    """What is crossed out: of each vertex the lowest four barred channels, and how many more there are."""
-    rows = [sorted(net.barred[v]) for v in sorted(net.barred)]
-    return ([("bar", CHANNELS[c % 8], str(c + 1)) for bars in rows for c in bars[:4]],
-            [f"+{len(bars) - 4}" for bars in rows if len(bars) > 4])
-
-
-def bars_in(root):
-    return numbered(root, "bar"), words(root, "more")
+    """What is crossed out: of each vertex the lowest four barred channels, with an ellipsis for more."""
+    rows = [[str(c + 1) for c in sorted(net.barred[v])] for v in sorted(net.barred)]
+    return [" ".join(bars[:4] + ["…"] * (len(bars) > 4)) for bars in rows if bars]
 
 
 def seen_from_1(places):
@@ -51,13 +46,12 @@ def seen_from_1(places):
 
 
 def strip_mark(column, colour, is_in_forest):
-    if column and not is_in_forest:
-        return ("alone", COLOURS[colour], str(colour)) if colour < 6 else ("alone", ALONE, None)
+    mark = "alone" if column and not is_in_forest else "colour"
     if column and colour < 6:
-        return "colour", COLOURS[colour], str(colour)
+        return mark, COLOURS[colour], str(colour)
     digits = max(1, colour.bit_length())
     level = 235 - min(140, 7 * digits)
-    return "colour", f"#{level:02X}{level:02X}{level:02X}", str(colour) if colour < 1000 else f"{digits}d"
+    return mark, f"#{level:02X}{level:02X}{level:02X}", str(colour) if colour < 1000 else f"{digits}d"
 
 
 def parents_in(net, f):
@@ -70,7 +64,7 @@ class Maps(PictureCase):
             net, root = network_of(network), parsed(self.drawn("plan", network))
             plan = dict(sorted(colours(net).items()))
             places = {v: centre(mark) for v, mark in zip(plan, marks(root, "channel"))}
-            is_small, said = len(plan) <= 100, " ".join(texts(root)[:2])
+            is_small, said = len(plan) <= 100, " ".join(texts(root)[:3])
             self.facts(f"plan of {name}", {
                 "a vertex each": (titles(root, "vertex"),
                                   [f"vertex {v}: channel {c + 1}{words_of_bars(net, v)}" for v, c in plan.items()]),
@@ -79,8 +73,9 @@ class Maps(PictureCase):
                 "edges end in circles": ([end for mark in marks(root, "edge") for end in ends(mark)
                                           if gap(places[nearest(places, end)], end) > 0.3], []),
                 "labels": (sorted(map(int, words(root, "number"))), [*plan] * is_small),
-                "crossed out": (bars_in(root), bars_of(net) if is_small else ([], [])),
+                "crossed out": (words(root, "bar"), bars_of(net) if is_small else []),
                 "it says what is crossed out": ("barred" in said, net.greatest_bars > 0),
+                "it says how many are used": (f"{len({*plan.values()})} of the {net.span + 1} allowed" in said, True),
             })
             given = {int(v): (float(x), float(y)) for v, x, y in re.findall(rb"c at (\d+) (\S+) (\S+)", network)}
             if len(given) == len(plan):
@@ -126,7 +121,7 @@ class Maps(PictureCase):
     def test_forests(self):
         for name, network in NETWORKS.items():
             count = network_of(network).forest_count
-            self.forests_rows(name, network, [f for f in range(count) if count <= 6 or f < 4 or f == count - 1])
+            self.forests_rows(name, network, range(min(count, 6)))
         self.forests_rows("queen5_5", QUEEN, range(4, 10), "--forest", "4..9")
 
     def forests_rows(self, name, network, kept, *options):
@@ -195,7 +190,7 @@ class Maps(PictureCase):
                     strip_mark(column, row[v], v in {*parents, *parents.values()}) for v in turn
                     for column, row in enumerate(facts.colours[f].values())]),
                 **{mark: (numbered(choices, mark), circles(mark, facts.merged[f + 1])) for mark in ("choice", "after")},
-                "crossed out": (bars_in(choices), bars_of(net)),
+                "crossed out": (words(choices, "bar"), bars_of(net)),
                 "who chooses first": ([(v, w) for v in xs for w in xs if (xs[v] < xs[w]) != (turn[v] < turn[w])], []),
             })
 
