@@ -39,7 +39,7 @@ class Pages(Case):
     def test_the_first_failure_of_the_skeleton_is_as_the_page_has_it(self):
         block = page("WORKSHOP.md").partition("reports what your node has to do next:\n\n")[2].partition("\n\n")[0]
         lines = [line.strip() for line in block.splitlines()]
-        got = call("rounds", "two", "--", *python("skeletons", "rounds_node.py")).stdout.splitlines()[2:]
+        got = call("rounds", "two", "--", *python("skeletons", "node.py")).stdout.splitlines()[2:]
         self.assertEqual(len(got), len(lines))
         for line, wanted in zip(got, lines):
             self.assertTrue(line.startswith(wanted.removesuffix("..")), (line, wanted))
@@ -144,7 +144,7 @@ class ClassFolder(Case):
     def test_it_works(self):
         self.assertLessEqual({"README.md", "LICENSE-MIT", "LICENSE-APACHE"}, self.found)
         environment = {"PATH": os.environ["PATH"], "HOME": self.folder}
-        node = ["python3", "examples/workshop/skeletons/rounds_node.py"]
+        node = ["python3", "examples/workshop/skeletons/node.py"]
         for words, status in ((["workshop", "rounds", "two", "--", *node], 1), (["network", "tell", "petersen"], 0),
                               *(([name, "examples/two.col"], 2)
                                 for name in ("picture", "explore", "simulate", "transcript", "sheet"))):

@@ -77,7 +77,7 @@ class Pictures(Played):
     def test_the_workshop_draws_what_is_wrong(self):
         """A skeleton that acknowledges nothing is stuck, and its two greetings are drawn."""
         file = os.path.join(self.folder, "run.svg")
-        done = call("alpha", "two", "--picture", file, "--", *python("skeletons", "alpha_node.py"))
+        done = call("alpha", "two", "--picture", file, "--", *python("skeletons", "node.py"))
         self.assertEqual(done.returncode, 1)
         svg = text_in(file)
         self.assertRegex(svg, r"\(NotWhole\): it stops at node [12]\.")

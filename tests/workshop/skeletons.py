@@ -10,13 +10,14 @@ from tests.workshop.base import EXAMPLES, call, compiled
 FOLDER = os.path.join(EXAMPLES, "skeletons")
 # Two nodes in one process: after both have started, each is asked for its own identifier.
 OWN = "to {0}\nworkshop 1 {1}\nidentifier {2}\ndegree 1\nnodes 2\ndelta 1\nbars 0\nforests 1\nlast 18\nbarred 0\nend\n"
-PYTHON = "return []           # yours", "return [f\"put 0 label {self.own['identifier']}\"]  #"
+PULSE, TAKE = (f"return []           # yours: `put PORT {what}" for what in ("WORD", "WIRE"))
+PYTHON = "return [f\"put 0 label {self.own['identifier']}\"]  #"
 LABEL = ["label {}"] * 2
 # A skeleton, its kind, what stands in it in one place, what is put there, and what it then says twice. In one in C what
 # comes is printed whole, a field that a wire hasn't as nothing, and in one in Java what is in the inbox of port 0.
 ROWS = (
-    ("rounds_node.py", "rounds", *PYTHON, LABEL), ("alpha_node.py", "alpha", *PYTHON, LABEL),
-    ("rounds_node.py", "open", *PYTHON, LABEL),
+    ("node.py", "rounds", PULSE, PYTHON, LABEL), ("node.py", "open", PULSE, PYTHON, LABEL),
+    ("node.py", "alpha", TAKE, PYTHON, LABEL),
     ("rounds_node.c", "rounds", "/* yours:", 'if (pulse > 0) printf("put 0 label %s\\n", me->identifier); /*', LABEL),
     ("alpha_node.c", "alpha", "/* yours:",
      'printf("put 0 %d %s %d %s.%s. %d %s\\n", port, wire->kind, wire->pulse, wire->word, wire->number, me->last, '
