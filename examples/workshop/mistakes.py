@@ -16,8 +16,6 @@ COLOURING = {
     "no_shift": ("only roots shift", "least_but(own) if above is None else above\n            elif",
         "least_but(own) if above is None else own\n            elif"),
     "drop_parent": ("a drop avoids the parent alone", "least_but(self.before[forest], above)", "least_but(above)"),
-    "drop_children": ("a drop avoids the children alone",
-        "least_but(self.before[forest], above)", "least_but(self.before[forest])"),
     "drop_all": ("5, 4 and 3 are dropped at once", "elif own == {8: 5, 10: 4, 12: 3}[p]:", "elif own >= 3:"),
     "bit_highest": ("the bit step takes the highest digit that differs",
         "    digit = 0\n    while above is not None and (own >> digit & 1) == (above >> digit & 1):\n"
@@ -25,8 +23,6 @@ COLOURING = {
         "    digit = (own ^ above).bit_length() - 1 if above is not None else 0"),
     "bit_root": ("a root keeps its colour in a bit step",
         "    digit = 0\n    while", "    if above is None:\n        return own\n    digit = 0\n    while"),
-    "bit_parent": ("the bit step takes the parent's digit",
-        "return 2 * digit + (own >> digit & 1)", "return 2 * digit + ((own if above is None else above) >> digit & 1)"),
     "label_ports": ("parents are numbered by port, and not by identifier",
         "sorted((name, port) for port, name in names.items() if name > self.name)",
         "[(name, port) for port, name in names.items() if name > self.name]"),
@@ -47,22 +43,16 @@ COLOURING = {
         "(self.colours[forest], self.old) !=", "(self.colours[forest], self.merged) !="),
     "merge_keep": ("what was taken in the merge before still counts",
         "self.old, self.taken = self.merged, set()\n        else", "self.old = self.merged\n        else"),
-    "merge_first_heard": ("what comes in the first pulse of a merge counts",
-        "        else:\n            self.taken |= heard", "        self.taken |= heard"),
     "bars_forgotten": ("barred channels are forgotten",
         'self.barred = {channel - 1 for channel in own["barred"]}', "self.barred = set()"),
     "bars_channels": ("a barred channel is taken for a colour",
         '{channel - 1 for channel in own["barred"]}', 'set(own["barred"])'),
-    "bars_first": ("everybody begins with colour 0, barred or not",
-        "self.merged = self.least_free(set())\n        self.old", "self.merged = 0\n        self.old"),
     "bars_width": ("the pairs of a merge are counted without the bars",
         'own["delta"] + own["bars"] + 1', 'own["delta"] + 1'),
 }
 
 # Of the synchroniser.
 ALPHA = {
-    "acks_unwaited": ("safe is said without waiting for acknowledgements",
-        "            self.ports[at].waits = True\n", ""),
     "acks_after": ("an acknowledgement is put after whatever the payload leads to",
         '            self.put(at, f"ack {rest[0]}")\n',
         '            self.go_on()\n            self.put(at, f"ack {rest[0]}")\n'),
@@ -78,16 +68,10 @@ ALPHA = {
         "port.present, port.early = port.early, None", "port.present, port.early = None, None"),
     "early_safe_lost": ("an early safe is lost with the next pulse",
         "port.safe, port.early_safe = port.early_safe, False", "port.safe, port.early_safe = False, False"),
-    "early_safe_now": ("an early safe counts for this pulse, and is then lost",
-        "        if pulse == self.pulse:\n            port.safe = True\n        else:\n"
-        "            port.early_safe = True",
-        "        port.safe = True"),
     "safes_any": ("a pulse is made with the first safe",
         "all(port.safe for port in self.ports)", "(not self.ports or any(port.safe for port in self.ports))"),
     "safes_none": ("a pulse is made without the neighbours' safes",
         "self.said and all(port.safe for port in self.ports)", "self.said"),
-    "safes_counted": ("safes are counted, early ones too, whoever said them", "all(port.safe for port in self.ports)",
-        "sum(port.safe + port.early_safe for port in self.ports) >= len(self.ports)"),
     "safe_unsaid": ("a pulse is made before the node itself is safe",
         "self.pulse < self.last and self.said and all", "self.pulse < self.last and all"),
     "safe_twice": ("safe is said with every wire that comes once all is acknowledged",
@@ -96,7 +80,6 @@ ALPHA = {
     "safe_with_ack": ("a node that sends nothing in a pulse doesn't say safe",
         "            self.ports[at].waits = True\n        self.say_safe_if_it_is()",
         "            self.ports[at].waits = True"),
-    "said_kept": ("having said safe isn't forgotten with the next pulse", "            self.said = False\n", ""),
     "close_early": ("close is put after the last safe, before the last pulse",
         '                self.put(at, f"safe {self.pulse}")\n',
         '                self.put(at, f"safe {self.pulse}")\n                if self.pulse == self.last - 1:\n'
@@ -135,14 +118,11 @@ OTHERS = {
     "set_beside": ("a node joins though a neighbour has",
         "if turn != self.merged or self.is_beside:", "if turn != self.merged:"),
     "set_forgets": ("it forgets that a neighbour has joined", "self.is_beside or bool(inbox)", "bool(inbox)"),
-    "set_channel": ("it joins in the turn of its channel, and not of its colour",
-        "if turn != self.merged or", "if turn != self.merged + 1 or"),
     "anew_least": ("the least channel chooses first",
         "if turn != self.width - 1 - self.merged:", "if turn != self.merged:"),
     "anew_bars": ("barred channels are forgotten in the second choice",
         "self.anew = self.least_free(self.heard)", "self.anew = min(set(range(self.width)) - self.heard)"),
     "anew_last": ("only what came last counts", "self.heard |= {colour", "self.heard = {colour"),
-    "anew_old": ("it sends its old colour", 'return {port: ("anew", self.anew)', 'return {port: ("anew", self.merged)'),
 }
 
 FILES = {"colouring.py": COLOURING, "alpha_node.py": ALPHA, "programs.py": OTHERS}

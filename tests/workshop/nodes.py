@@ -7,15 +7,13 @@ forest 0 node 1 is below 2, and 2 below 3, and in forest 1 node 1 is below 3. Th
 forest 0, and 1, 2, 0 in the plan, after pulse 30. So node 3 takes node 2 in pulse 14. Node 3 joins the set in pulse 31,
 and the others hear of it. Node 2 chooses anew in pulse 31 and takes 0, node 1 in pulse 32 and takes 1, node 3 in
 pulse 33."""
-import os
-
 from lab.network import Network
 from lab.schedules.policies import POLICIES
-from lab.workshop.cases import NETWORKS, cases_of
+from lab.workshop.cases import cases_of
 from lab.workshop.protocol import SEQUELS
 from lab.workshop.right_rounds import RightRounds
-from tests.workshop.base import (ALPHA, C, EXAMPLES, GREEDY, JAVA, MISTAKES, ROUNDS, Played, answering, compiled,
-                                 network, options_of, played)
+from tests.workshop.base import (ALPHA, C, GREEDY, JAVA, MISTAKES, ROUNDS, Played, answering, compiled, network,
+                                 options_of, played)
 
 NODES = {"rounds": ROUNDS, "alpha": ALPHA}
 # A ring of four whose root is node 3: node 1 is two edges away on both sides, and its port 0 leads to node 2. Node 5
@@ -30,34 +28,28 @@ BARRED = Network(1, [], bars={1: [1]}, name="barred one")
 # 1, 3 and 0, and then the same again; the shift gives node 2 the 3, which is dropped in pulse 12 and not in pulse 8.
 COLOURING = {
     "shift_root": ((1, 7), (1, 7)), "no_shift": ((3, 7), (2, 7)), "drop_parent": ((3, 8), None),
-    "drop_children": ((3, 8), None), "drop_all": (None, (2, 8)), "bit_highest": ((3, 3), (2, 3)),
-    "bit_root": ((1, 3), (1, 3)), "bit_parent": ((3, 3), (2, 3)), "label_ports": ((3, 1), (2, 1)),
-    "label_falling": ((3, 1), (2, 1)), "names_text": (None, (2, 1)), "names_64": ((1, 0), None),
-    "names_float": ((3, 3), None), "merge_this": ((1, 31), (1, 26)), "merge_all": ((1, 13), (2, 13)),
-    "merge_old": ((2, 38), (3, 19)), "merge_keep": ((3, 55), (3, 27)), "bars_forgotten": ((4, 19), (1, 13)),
-    "bars_channels": ((4, 19), (1, 13)), "bars_first": ((4, 19), (1, 13)), "bars_width": ((4, 19), (3, 16)),
-    # Nobody ever chooses in the last pulse of a merge, and nothing is sent in it.
-    "merge_last": (None, None), "merge_first_heard": (None, None),
+    "drop_all": (None, (2, 8)), "bit_highest": ((3, 3), (2, 3)), "bit_root": ((1, 3), (1, 3)),
+    "label_ports": ((3, 1), (2, 1)), "label_falling": ((3, 1), (2, 1)), "names_text": (None, (2, 1)),
+    "names_64": ((1, 0), None), "names_float": ((3, 3), None), "merge_this": ((1, 31), (1, 26)),
+    "merge_all": ((1, 13), (2, 13)), "merge_old": ((2, 38), (3, 19)), "merge_keep": ((3, 55), (3, 27)),
+    "bars_forgotten": ((4, 19), (1, 13)), "bars_channels": ((4, 19), (1, 13)), "bars_width": ((4, 19), (3, 16)),
+    "merge_last": (None, None),         # nobody ever chooses in the last pulse of a merge
 }
 # By mistake, what is found on alone4; what else the node could do there, and why it can't do that.
 PULSE = "a node makes its next pulse once it has said safe and has the safes of all its neighbours"
 SAFE = "once each payload that it sent in P is acknowledged; it "
 NO_ACK = "it can't have said safe yet: it lacks the acknowledgement of pulse 1 by port 0"
 SYNCHRONISER = {
-    "acks_unwaited": ("NothingToPut", 1, 0, "waits for ack 0 by port 0; safe 0 by port 0", f"{SAFE}can't have said"),
     "acks_own_pulse": ("WrongWire", 2, 2, "put 1 ack 3", "a payload is acknowledged with its own pulse as soon"),
     "acks_first": ("NothingToPut", 2, 0, "waits for ack 0 by port 0; safe 0 by ports 0 and 1", f"{SAFE}can't have"),
     "early_present": ("WrongWire", 2, 23, "one of: put 0 safe 23; put 1 safe 23", "pulse 23 is the turn of the nodes"),
     "early_lost": ("WrongWire", 2, 23, "one of: put 0 safe 23; put 1 safe 23", "`chosen 0` came by port 0 in pulse 23"),
     "early_safe_lost": ("stuck", 2, 1, "", f"{PULSE}, and this node has"),
-    "early_safe_now": ("stuck", 2, 29, "", f"{PULSE}, and this node has"),
     "safes_any": ("NotReady", 2, 0, "waits for safe 0 by port 0", f"{PULSE}; it lacks safe 0 by port 0"),
     "safes_none": ("NotReady", 3, 0, "waits for safe 0 by port 0", f"{PULSE}; it lacks safe 0 by port 0"),
-    "safes_counted": ("NotReady", 2, 0, "waits for safe 0 by port 0", f"{PULSE}; it lacks safe 0 by port 0"),
     "safe_unsaid": ("NotReady", 2, 1, "waits for ack 1 by port 0", f"{PULSE}; {NO_ACK}"),
     "safe_twice": ("NothingToPut", 3, 0, "waits for safe 0 by port 0", f"{SAFE}has put safe 0 by port 0 already"),
     "safe_with_ack": ("WrongWire", 1, 1, "put 0 safe 1", "this link has to get safe 1 before: safe P is said as"),
-    "said_kept": ("NotReady", 2, 1, "waits for ack 1 by port 0", f"{PULSE}; {NO_ACK}"),
     "close_early": ("NothingToPut", 1, 29, "waits for safe 29 by port 0", "its last pulse, 30; it is at pulse 29"),
     "close_safe": ("WrongWire", 1, 30, "put 0 close", "its pulse, 30, is the last"),
     "close_never": ("stuck", 1, 30, "", "close is put on each link as the node makes its last pulse"),
@@ -93,7 +85,6 @@ OTHERS = {
                        "in the last pulse; it had merged colour 1; `joined 0` came by port 1 in pulse 32"),
         "set_forgets": (2, 33, "result", 33, "a node is in if it has joined in the turn of its colour; it had merged "
                         "colour 2; `joined 0` came by port 1 in pulse 32"),
-        "set_channel": (3, 31, "WrongWire", 31, "pulse 31 is the turn of the nodes of colour 0, channel 1"),
     },
     "recolouring": {
         "anew_least": (2, 31, "WrongWire", 31, "pulse 31 is the turn of the nodes that have colour 2, channel 3"),
@@ -101,7 +92,6 @@ OTHERS = {
                       "merged colour 1, and barred at it: colour 0; nothing has come"),
         "anew_last": (3, 33, "result", 33, "plus one; it had merged colour 0; `anew 0` came by port 1 in pulse 32, "
                       "`anew 1` came by port 0 in pulse 33"),
-        "anew_old": (2, 31, "WrongWire", 31, "takes the least colour that isn't barred at it and that no neighbour"),
     },
 }
 
@@ -170,15 +160,6 @@ class Mistakes(Played):
     def test_each_has_a_row(self):
         others = {name for names in OTHERS.values() for name in names}
         self.assertEqual(set(COLOURING) | set(SYNCHRONISER) | others, set(MISTAKES.MISTAKES))
-
-    def test_the_two_networks_show_all_that_can_show(self):
-        """Those that rest3 is there for are in its comment, and how many most4 shows in that of most4."""
-        can_show = {name for name, rights in COLOURING.items() if rights != (None, None)}
-        on_most4 = {name for name in can_show if COLOURING[name][0]}
-        self.assertEqual(can_show - on_most4, {"drop_all", "names_text"})
-        self.assertLessEqual({"rest3", "most4"}, set(NETWORKS.split(",")))
-        with open(os.path.join(EXAMPLES, "most4.col"), encoding="ascii") as text:
-            self.assertIn(f"{len(on_most4)} of the {len(can_show)} typical mistakes", text.readline())
 
     def test_of_the_colouring(self):
         for name, rights in COLOURING.items():
@@ -262,7 +243,7 @@ class Cases(Played):
         for case in made:
             with self.subTest(case=case.number):
                 self.assertEqual(len(set(case.network.identifiers.values())), case.network.nodes)
-                self.assertEqual(bool(case.network.bars), case.network.name in ("most4", "rest3"))
+        self.assertEqual({case.network.name for case in made if case.network.bars}, {"most4", "rest3"})
         for program, has_bars in (("colouring", True), ("matching", False), ("independent-set", True),
                                   ("recolouring", True)):
             made = cases_of(options_of("rounds", "ring5", "--runs", "20", "--program", program))

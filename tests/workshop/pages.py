@@ -57,7 +57,7 @@ class Pages(Case):
             (talking, protocol.MOST_LETTERS, r"up to ([\d,]+) letters a line"),
             (talking, processes.LAST_LINES, r"shows the last (\w+) lines"),
             (teaching, len(MISTAKES.MISTAKES), r"writes ([\d,]+)\s+wrong nodes"),
-            (teaching, len(MISTAKES.MISTAKES) - 3, r"([\d,]+) of them show; three change nothing"),
+            (teaching, len(MISTAKES.MISTAKES) - 2, r"([\d,]+) of them show; two change nothing"),
             (workshop, len(cases.NETWORKS.split(",")), r"plays (\w+) networks under"),
             (workshop, len(POLICIES), r"networks under (\w+) policies"),
             (workshop, 10 * len(cases.NETWORKS.split(",")), r"workshop alpha --runs ([\d,]+) -- "),
