@@ -1,15 +1,25 @@
 """A run without a clock: the workshop holds the links and delivers one wire at a time. What the nodes put, take and
 make is written down with Lamport's stamps, and `forestplay replay` judges it."""
 from collections import deque
+from typing import NamedTuple
 
+from lab.networks.texts import plain_text
 from lab.schedules.policies import Policy, Step
+from lab.transcripts.fields import first_line
+from lab.transcripts.proved_judge import Verdict, verdict_of
 from lab.workshop.findings import Fault
-from lab.workshop.judge import Entry, transcript_text, verdict_on
 from lab.workshop.nodes import PATIENCE, Nodes
-from lab.workshop.protocol import FORMS, PULSES, is_number, no_such_line, own_data, port_of, result_of, wire_of
-from lab.workshop.right_rounds import RightRounds
+from lab.workshop.protocol import fields_of, forms_of, own_data, wire_of
+from lab.workshop.right_rounds import RightRounds, words_of
 
 OWN_DATA = "its own data"
+
+
+class Entry(NamedTuple):
+    """What a node did: `words` as a transcript has them, with the neighbour's vertex; `stamp` is Lamport's."""
+    stamp: int
+    vertex: int
+    words: str
 
 
 class Link(Step):
@@ -71,26 +81,23 @@ class AlphaRun:
 
     def if_late(self) -> None:
         """A program may hang because of what went wrong before: then there is no need to wait for it."""
-        if verdict_on(self.network, self.in_order(), self.rounds.program).is_about_an_entry:
+        if self.verdict().is_about_an_entry:
             raise Fault("silent", "it didn't answer, and something was wrong before")
 
     def answered(self, v: int, line: str) -> None:
-        program = self.rounds.program
-        match line.split():
-            case ["pulse", pulse] if is_number(pulse, PULSES):
-                self.write(v, f"pulse {int(pulse)}")
-            case ["put", port, *wire] if is_number(port) and wire:
-                w = self.network.neighbours[v][port_of(line, port, len(self.rounds.ports[v]))]
-                words = wire_of(line, wire, program)
+        program, neighbours = self.rounds.program, self.network.neighbours[v]
+        match fields_of(line, forms_of("alpha", program), len(neighbours)):
+            case "pulse", pulse:
+                self.write(v, f"pulse {pulse}")
+            case "put", port, wire:
+                w, words = neighbours[int(port)], wire_of(line, wire, program)
                 self.write(v, f"put {w} {words}")
                 self.count += 1
                 link = self.links.setdefault((v, w), Link(v, w))
                 link.wires.append((words, self.counters[v], self.count))
                 link.renew()
-            case fields if result := result_of(program, fields):
-                self.results[v] = result
-            case _:
-                raise no_such_line(line, ", ".join(["`put PORT WIRE`", "`pulse P`", *FORMS[program]]))
+            case result:
+                self.results[v] = " ".join(result)
 
     def write(self, v: int, words: str, after: int = 0) -> None:
         self.counters[v] = 1 + max(self.counters[v], after)
@@ -101,4 +108,10 @@ class AlphaRun:
         return sorted(self.entries, key=lambda entry: entry[:2])
 
     def text(self) -> str:
-        return transcript_text(self.network.nodes, self.in_order(), self.rounds.program)
+        lines = [first_line(self.network.nodes, self.rounds.program),
+                 *(f"{stamp} {v} {words}" for stamp, v, words in self.in_order())]
+        return "".join(line + "\n" for line in lines)
+
+    def verdict(self) -> Verdict:
+        """What the judge says of it."""
+        return verdict_of(plain_text(self.network), self.text(), words_of(self.rounds.program))

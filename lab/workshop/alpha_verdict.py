@@ -4,13 +4,16 @@ is asked of the machine."""
 import re
 from dataclasses import dataclass
 
+from lab.networks.texts import plain_text
+from lab.transcripts.proved_judge import Verdict, verdict_of
 from lab.transcripts.rules import Standing, rule_of, rules_of_dues
-from lab.workshop.alpha_run import OWN_DATA, AlphaRun
-from lab.workshop.findings import Finding, first_of, last_of, listed
-from lab.workshop.judge import Entry, Verdict, due_at, verdict_on
-from lab.workshop.protocol import FORMS
-from lab.workshop.right_rounds import RightRounds
+from lab.workshop.alpha_run import OWN_DATA, AlphaRun, Entry
+from lab.workshop.findings import Finding, first_of, kind_of, last_of, listed
+from lab.workshop.right_rounds import RightRounds, words_of
 from lab.workshop.why import Why
+
+# No run has such a pulse, so an entry that names it is refused, and the judge says what would be possible.
+IMPOSSIBLE = (1 << 32) - 1
 
 
 @dataclass
@@ -26,9 +29,6 @@ class At(Standing):
     def has_payload_due(self) -> bool:
         return any(wire.startswith("payload") for wire in self.puts.values())
 
-    def owes(self, payloads: str) -> str:
-        return f"in pulse {self.pulse} it has to send {payloads} first; {self.rounds.heard_words(self.v, self.pulse)}"
-
     def right(self) -> str:
         """What a right node could do there."""
         dues = self.dues()
@@ -43,9 +43,9 @@ class At(Standing):
         return [with_port(self.rounds, self.v, words) for _, u, words in self.before if u == self.v]
 
     def hints(self, about_payload: bool) -> list[tuple[str, str]]:
-        """What the node had got: the inbox of its pulse, what came early, and what it did last."""
-        inbox = [("inbox", self.rounds.heard_words(self.v, self.pulse))] if self.pulse and about_payload else []
-        return [*inbox, *(("early", words) for words in self.early(about_payload)),
+        """What the node had got: what came for its pulse, what came early, and what it did last."""
+        came = [("came", self.rounds.came(self.pulse, self.v))] if self.pulse and about_payload else []
+        return [*came, *(("early", words) for words in self.early(about_payload)),
                 ("so far", "; ".join(last_of(self.own())) or "nothing")]
 
     def early(self, about_payload: bool) -> list[str]:
@@ -63,15 +63,22 @@ class At(Standing):
 
 
 def at_node(rounds: RightRounds, before: list[Entry], v: int) -> At:
-    """Asks the machine what v can do after these entries, all of which are right."""
-    can_pulse, lacks, puts = due_at(rounds.network, before, v, rounds.program)
-    pulse = sum(1 for _, u, words in before if u == v and words.startswith("pulse"))
+    """Asks the machine what v can do after these entries, all of which are right: by entries that can't be right, since
+    it refuses each, and says what would be possible there, or that v lacks `ack 0 of 2; safe 0 of 2 and 3`."""
+    network, ports = plain_text(rounds.network), rounds.ports[v]
+    text = "".join([f"transcript 1 {rounds.network.nodes}\n", *(f"{u} {words}\n" for _, u, words in before)])
+
+    def refusal_of(words):
+        return verdict_of(network, f"{text}{v} {words} {IMPOSSIBLE}\n", words_of(rounds.program))
 
     def by_ports(found):
-        return " by " + listed("port", [rounds.ports[v][int(w)] for w in re.findall("[0-9]+", found[1])])
-    lacks = re.sub(r" of ([0-9]+(?:(?:, | and )[0-9]+)*)", by_ports, lacks)
-    by_port = {rounds.ports[v][w]: wire for w, wire in puts.items()}
-    return At(pulse, rounds.last, can_pulse, lacks, by_port, "by port {}", rounds, before, v)
+        return " by " + listed("port", [ports[int(w)] for w in re.findall("[0-9]+", found[1])])
+
+    of_pulse, of_puts = refusal_of("pulse"), {port: refusal_of(f"put {w} ack") for w, port in ports.items()}
+    can_pulse, pulse = of_pulse.name == "WrongWire", sum(u == v and words.startswith("pulse") for _, u, words in before)
+    lacks = "" if can_pulse else re.sub(r" of ([0-9]+(?:(?:, | and )[0-9]+)*)", by_ports, of_pulse.words)
+    puts = {port: put.words.removeprefix("expected ") for port, put in of_puts.items() if put.name == "WrongWire"}
+    return At(pulse, rounds.last, can_pulse, lacks, puts, "by port {}", rounds, before, v)
 
 
 def with_port(rounds: RightRounds, v: int, words: str) -> str:
@@ -84,7 +91,7 @@ def finding_of(run: AlphaRun) -> Finding | None:
     """What isn't right in a run that was played, or None. What comes first in the run counts: a program that ends
     because of a wrong step before gets the verdict on that step."""
     entries = run.in_order()
-    verdict = verdict_on(run.network, entries, run.rounds.program)
+    verdict = run.verdict()
     if verdict.is_about_an_entry:
         return wrong_entry(run, entries, verdict)
     if run.stop:
@@ -105,7 +112,7 @@ def wrong_entry(run: AlphaRun, entries: list[Entry], verdict: Verdict) -> Findin
 def no_answer(run: AlphaRun, entries: list[Entry]) -> Finding:
     v, fault, asked = run.stop
     at = at_node(run.rounds, entries, v)
-    inbox = f"; {run.rounds.heard_words(v, at.pulse + 1)}" if at.can_pulse else ""
+    inbox = f", for which {run.rounds.came(at.pulse + 1, v)} came" if at.can_pulse else ""
     lines = [("where", f"node {v} at pulse {at.pulse}, after it got {asked}"), ("wrong", fault.words),
              ("right", at.right() + inbox), *at.hints(fault.kind == "ended"),
              ("judge", "all that was done before is right")]
@@ -125,17 +132,11 @@ def stuck(run: AlphaRun, entries: list[Entry], verdict: Verdict) -> Finding:
     return Finding("stuck", owing[0].v, owing[0].pulse, lines, way=kind_of(owing[0].dues()[0]))
 
 
-def kind_of(words: str) -> str:
-    """An entry's kind: `pulse`, or the wire's, and of a payload its word too."""
-    fields = words.split()
-    return fields[0] if fields[0] == "pulse" else " ".join(field for field in fields[2:5] if not field.isdecimal())
-
-
 def wrong_result(run: AlphaRun) -> Finding | None:
     """Of a run that is right and whole: the first node that said another channel, or another result."""
     for v, result in run.rounds.results.items():
         if run.results.get(v) != result:
-            said = run.results.get(v) or f"no line {' or '.join(FORMS[run.rounds.program])}"
+            said = run.results.get(v, f"no line `{result}`")
             lines = [("where", f"node {v}, at its end"), ("wrong", said), ("right", result),
                      ("why", Why(run.rounds, v).of())]
             return Finding("result", v, run.rounds.last, lines)

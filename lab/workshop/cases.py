@@ -8,8 +8,8 @@ from typing import Any, Iterable, Iterator
 
 from lab.network import Network
 from lab.networks.named import network_at, path_of
+from lab.workshop.clock_run import League
 from lab.workshop.findings import Finding
-from lab.workshop.open_run import League
 from lab.workshop.protocol import COLOURING
 
 # Each mistake of the colouring that can be caught shows on most4 or rest3, and each of the synchroniser on alone4.

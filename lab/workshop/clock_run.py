@@ -1,15 +1,31 @@
-"""A run with a clock: in each pulse all nodes are asked, and each gets what came from its neighbours in the pulse
-before."""
-from lab.workshop.findings import Fault, Finding, first_of, listed
+"""The runs with a clock: in each pulse all nodes are asked, and each gets what came from its neighbours in the pulse
+before. What they do is compared with the proved rounds, pulse by pulse; or it is free, and only the plan at the end is
+judged."""
+import re
+from typing import Iterator, NamedTuple
+
+from lab.network import Network
+from lab.networks.texts import plain_text
+from lab.workshop.findings import Fault, Finding, first_of, kind_of, listed
 from lab.workshop.nodes import PATIENCE, Answer, Nodes
-from lab.workshop.protocol import is_number, no_such_line, port_of, shown
-from lab.workshop.right_rounds import Rounds
+from lab.workshop.protocol import COLOURING, fields_of, forms_of, own_data, shown
+from lab.workshop.right_rounds import RightRounds, Rounds, ask
+from lab.workshop.why import Why
+from lab.wrong import Wrong
+
+
+class League(NamedTuple):
+    """What a right run of an own algorithm took: pulses after pulse 0, payloads, and the greatest channel."""
+    pulses: int
+    payloads: int
+    channels: int
 
 
 class ClockRun(Rounds):
-    """`puts` is what the nodes sent so far. The two kinds of runs, of `rounds` and of `open`, have `first_message(v)`;
-    `forms`, the lines of an answer; `payload(line, words)`, a payload as it is carried, or None; `is_said(v, line,
-    fields)`, which takes another line, if there is such a one; and `is_over(p)`."""
+    """`puts` is what the nodes sent so far; `forests` and `last` are what a node is told, and `program` is what it may
+    say. The two kinds have `hear(v, line, fields)`, which takes any line but `put`, and `is_over(p)`."""
+    forests = last = league = None
+    program = COLOURING
 
     def difference(self, p: int, v: int) -> Finding | None:
         """What is wrong in a node's answer, which has been read."""
@@ -36,6 +52,9 @@ class ClockRun(Rounds):
             questions = {v: [f"pulse {p}", *(f"take {port} {words}" for port, words in self.inbox(p, v).items())]
                          for v in self.network.vertices}
 
+    def first_message(self, v: int) -> list[str]:
+        return own_data(self.network, v, self.assignment, self.forests, self.last)
+
     def answered(self, p: int, v: int, answer: Answer) -> Finding | None:
         try:
             if isinstance(answer, Fault):
@@ -54,13 +73,120 @@ class ClockRun(Rounds):
         return f"pulse {p}"
 
     def read(self, v: int, answer: list[str]) -> None:
-        puts = self.puts[-1][v] = {}
+        puts, forms = {}, forms_of(self.assignment, self.program)
+        self.puts[-1][v] = puts
         for line in answer:
-            match line.split():
-                case ["put", port, *words] if is_number(port) and (payload := self.payload(line, words)):
-                    at = port_of(line, port, len(self.ports[v]))
-                    if at in puts:
+            match fields_of(line, forms, len(self.ports[v])):
+                case "put", port, *words:
+                    if int(port) in puts:
                         raise Fault("garbage", f"{shown(line)} is a second payload by this port in one pulse")
-                    puts[at] = payload
-                case fields if not self.is_said(v, line, fields):
-                    raise no_such_line(line, self.forms)
+                    puts[int(port)] = " ".join(words)
+                case fields:
+                    self.hear(v, line, fields)
+
+
+class RoundsRun(ClockRun):
+    """`said[v]`, what a node said of itself in this pulse, by what it is about: `colour 0`, `chose`, `result`."""
+    assignment, kept = "rounds", "said.puts"
+
+    def __init__(self, rounds: RightRounds):
+        super().__init__(rounds.network)
+        self.rounds, self.said = rounds, {}
+        self.program, self.forests, self.last = rounds.program, rounds.forests, rounds.last
+        self.pulse_words = rounds.pulse_words
+
+    def read(self, v, answer):
+        self.said[v] = {}
+        super().read(v, answer)
+
+    def hear(self, v, line, fields):
+        about = {"colour": " ".join(fields[:2]), "chose": "chose"}.get(fields[0], "result")
+        self.said[v][about] = " ".join(fields)
+
+    def difference(self, p, v):
+        for wrong, right, of in self.compared(p, v):
+            if wrong != right:
+                lines = [("wrong", wrong), ("right", right), ("why", Why(self.rounds, v).of(**of))]
+                way = f"{''.join(self.rounds.phase[p][:1])} {kind_of(wrong if right.startswith('no') else right)}"
+                return self.finding("differs", p, v, lines, way=way)
+        return None
+
+    def compared(self, p: int, v: int) -> Iterator[tuple[str, str, dict[str, int]]]:
+        """What it said, what is right, and of what `Why` says why. What it says of its colours needn't be said."""
+        rounds, said, puts = self.rounds, self.said[v], self.puts[p][v]
+        for forest, colour in enumerate(rounds.colours[p].get(v, [])):
+            right = f"colour {forest} {colour}"
+            yield said.get(f"colour {forest}", right), right, {"p": p, "forest": forest}
+        right = f"chose {rounds.chose[p][v]}" if v in rounds.chose[p] else "no choice"
+        yield said.get("chose", right), right, {"p": p}
+        right_puts = rounds.puts[p].get(v, {})
+        for port in sorted(right_puts.keys() | puts.keys()):
+            wrong, right = (f"put {port} {found[port]}" if port in found else f"nothing by port {port}"
+                            for found in (puts, right_puts))
+            yield wrong, right, {"p": p, "port": port}
+        if p == rounds.last:
+            yield said.get("result", f"no line `{rounds.results[v]}`"), rounds.results[v], {}
+
+    def is_over(self, p):
+        return p == self.last
+
+    def text(self) -> str:
+        """What the nodes sent, as `forestplay rounds` writes it."""
+        return "".join(f"{v} put {self.network.neighbours[v][port]} payload {p} {words}\n"
+                       for p, by in enumerate(self.puts) for v, puts in by.items()
+                       for port, words in sorted(puts.items()))
+
+
+class OpenRun(ClockRun):
+    """An algorithm of the students' own: `channels[v]` as nodes said them; `league` once the plan is right. A run has
+    at most `most_pulses`, by default 20 for each node and each pulse of the lessons' algorithm."""
+    assignment, kept = "open", "plan"
+
+    def __init__(self, network: Network, most_pulses: int | None = None):
+        super().__init__(network)
+        self.most_pulses = most_pulses or 20 * (network.nodes + 12 + 3 * network.greatest_degree * network.channels)
+        self.channels: dict[int, int] = {}
+        self.payloads = 0
+
+    def hear(self, v, line, fields):
+        channel = int(fields[1])
+        if channel == 0:
+            raise Fault("garbage", f"{shown(line)}: channels count from 1; a channel is a colour plus 1")
+        if self.channels.setdefault(v, channel) != channel:
+            raise Fault("garbage", f"{shown(line)}, but it has said channel {self.channels[v]} before")
+
+    def is_done(self) -> bool:
+        """Whether every node has said its channel, and nothing is on its way."""
+        return len(self.channels) == self.network.nodes and not any(self.puts[-1].values())
+
+    def is_over(self, p):
+        self.payloads += sum(map(len, self.puts[p].values()))
+        if p:
+            self.puts[p - 1] = {}           # it has come
+        return self.is_done() or p == self.most_pulses
+
+    def text(self) -> str:
+        return "plan\n" + "".join(f"{v} {channel}\n" for v, channel in sorted(self.channels.items()))
+
+    def judged(self, p):
+        """The verdict of the proved check. A channel that is too great for it to be read has C6."""
+        if not self.is_done():
+            silent = [v for v in self.network.vertices if v not in self.channels]
+            words = f"after {p} pulses " + (f"{listed('node', first_of(silent))} said no channel" if silent else
+                                            "all nodes have their channels, and payloads are still sent")
+            return self.finding("endless", p, (silent or [1])[0], [("wrong", words)])
+        status, _, line = ask("forestplan", "check", plain_text(self.network) + self.text())
+        if status == 0:
+            self.league = League(p, self.payloads, max(self.channels.values(), default=0))
+            return None
+        found = re.fullmatch(r"forestplan: (C[4568]) (?:vertex|vertices|line) (\d+)(?: (\d+))?", line)
+        if status != 1 or not found:
+            raise Wrong(f"forestplan check ends with status {status}: {line}")
+        code, v, w = found[1], int(found[2]), found[3]
+        if code == "C6":                # its lines are `plan`, and then one for each node in turn
+            code, v = "C5", v - 1
+        channel = self.channels[v]
+        words = {"C4": f"nodes {v} and {w} are neighbours, and both have channel {channel}",
+                 "C5": f"channel {channel} of node {v} isn't one of 1 to {self.network.channels}, which are enough",
+                 "C8": f"channel {channel} of node {v} is barred there"}[code]
+        return self.finding(code, p, v, [("wrong", words), ("judge", line)])

@@ -39,6 +39,11 @@ class Finding:
         return [f"{label:6} {words}" for label, words in self.lines]
 
 
+def kind_of(words: str) -> str:
+    """Words without their numbers."""
+    return " ".join(word for word in words.split() if not word.isdecimal())
+
+
 def first_of(words) -> list[str]:
     """The first of a list, and a mark if there are more."""
     return [*map(str, words[:MOST]), *[".."] * (len(words) > MOST)]

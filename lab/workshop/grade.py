@@ -20,11 +20,11 @@ from lab.programs import TOP
 from lab.schedules.policies import POLICIES
 from lab.workshop.cases import cases_of
 from lab.workshop.guard import USERS, Guard, end_all, give, held, kept_in, shut
-from lab.workshop.judge import ask
 from lab.workshop.options import add_limits, parsed, seconds
 from lab.workshop.playing import Player
 from lab.workshop.protocol import shown
 from lab.workshop.report import aligned, as_json, report
+from lab.workshop.right_rounds import ask
 from lab.words import count, parser_of
 from lab.wrong import Wrong
 

@@ -7,8 +7,8 @@ import tempfile
 from lab.networks.texts import plain_text
 from lab.programs import TOP
 from lab.workshop.cases import Case
-from lab.workshop.judge import words_of
 from lab.workshop.report import described
+from lab.workshop.right_rounds import words_of
 
 DOOR = os.path.join(TOP, "bin")
 # By what a run keeps, the commands that give the verdict again.

@@ -8,13 +8,12 @@ from lab.schedules.policies import Policy
 from lab.workshop.alpha_run import AlphaRun
 from lab.workshop.alpha_verdict import finding_of
 from lab.workshop.cases import Case, smaller
+from lab.workshop.clock_run import ClockRun, OpenRun, RoundsRun
 from lab.workshop.findings import Fault, Finding, listed
 from lab.workshop.guard import Guard, Limits
 from lab.workshop.nodes import Nodes
-from lab.workshop.open_run import OpenRun
 from lab.workshop.protocol import shown
 from lab.workshop.right_rounds import RightRounds
-from lab.workshop.rounds_run import RoundsRun
 from lab.wrong import Wrong
 
 MOST_SHRINKS = 60
@@ -46,7 +45,7 @@ class Player:
             raise Wrong(fault.words) from None
         if self.options.assignment == "alpha":
             found = case.finding = finding_of(case.run)
-        elif self.options.assignment == "open":
+        else:
             case.league = case.run.league
         if found and len(self.commands) > 1:
             self.name_owner(case)
@@ -54,7 +53,7 @@ class Player:
             found.lines.append(("note", APART))
         return found is None
 
-    def run_of(self, case: Case) -> RoundsRun | AlphaRun | OpenRun:
+    def run_of(self, case: Case) -> ClockRun | AlphaRun:
         if self.options.assignment == "open":
             return OpenRun(case.network, self.options.most_pulses)
         rounds = RightRounds(case.network, self.options.program)

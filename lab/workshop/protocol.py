@@ -1,6 +1,7 @@
 """What the workshop and a node say to each other (docs/learn/PROTOCOL.md): the first message, and the lines of an
 answer before its line `end`."""
 import re
+from functools import cache
 
 from lab.network import Network
 from lab.transcripts.fields import NoEntry, wire_of as read_wire
@@ -8,18 +9,21 @@ from lab.workshop.findings import Fault
 
 EDITION = 1
 COLOURING = "colouring"
-# Of each program the lines in which a node says what it has found.
-FORMS = {COLOURING: ["`channel C`"], "leader": ["`leader IDENTIFIER`"],
-         "layers": ["`layer N by PORT`", "`layer 0`", "`layer none`"],
-         "matching": ["`partner PORT`", "`partner none`"], "independent-set": ["`in`", "`out`"],
-         "recolouring": ["`channel C`"]}
+# The forms of the lines of an answer: by assignment, and by program those in which a node says what it has found.
+LINES = {"rounds": ["put PORT WORD NUMBER"], "alpha": ["put PORT WIRE", "pulse P"], "open": ["put PORT WORDS.."]}
+OF_COLOURING = ["colour FOREST COLOUR", "chose COLOUR"]
+FOUND = {COLOURING: ["channel C"], "leader": ["leader IDENTIFIER"], "recolouring": ["channel C"],
+         "layers": ["layer N by PORT", "layer 0", "layer none"], "matching": ["partner PORT", "partner none"],
+         "independent-set": ["in", "out"]}
 # Those that go on after the colouring, by forests and colours.
 SEQUELS = ("matching", "independent-set", "recolouring")
-PULSES = 1 << 32
 MOST_BYTES = 1 << 20
 MOST_LINES = 20_000
-MOST_LETTERS = 1000         # of a line
+MOST_LETTERS = 1000         # of a payload of an own algorithm
 END = re.compile(rb"(?m)^[ \t\r]*end[ \t\r]*\n")
+# What there is for the words of a form: those in small letters are themselves, and all others are numbers.
+FIELDS = {"WORD": r"(\S+)", "WIRE": "(.+)", "WORDS..": f"(.{{1,{MOST_LETTERS}}})", "P": "0*([0-9]{1,9})"}
+NUMBER = "0*([0-9]{1,39})"
 
 
 def own_data(network: Network, v: int, assignment: str,
@@ -56,37 +60,36 @@ def shown(got: str | bytes | bytearray, most: int = 80) -> str:
     return f"`{''.join(c if c.isprintable() else '?' for c in text)}{' ..' if len(got) > most else ''}`"
 
 
-def is_number(field: str, below: int = 1 << 128) -> bool:
-    return field.isascii() and field.isdecimal() and len(field) <= 40 and int(field) < below
+def forms_of(assignment: str, program: str) -> list[str]:
+    """The forms of the lines of an answer."""
+    of_colouring = OF_COLOURING * ((assignment, program) == ("rounds", COLOURING))
+    return [*LINES[assignment], *of_colouring, *FOUND[program]]
 
 
-def no_such_line(line: str, forms: str) -> Fault:
-    what = shown(line) if line.strip() else "an empty line"
-    return Fault("garbage", f"{what} is no line of an answer, which are {forms} and `end`; "
-                            "what a program prints to find mistakes goes to standard error")
+@cache
+def pattern(form: str) -> re.Pattern:
+    return re.compile(" ".join(f"({word})" if word.islower() else FIELDS.get(word, NUMBER) for word in form.split()))
 
 
-def port_of(line: str, number: str, degree: int) -> int:
-    """The port of a line, if the node has it."""
-    if int(number) < degree:
-        return int(number)
-    ports = "no port" if degree == 0 else "port 0 alone" if degree == 1 else f"ports 0 to {degree - 1}"
-    raise Fault("garbage", f"{shown(line)}: there is no port {number[:9]}; the node has {ports}")
+def fields_of(line: str, forms: list[str], degree: int) -> tuple[str, ...]:
+    """The fields of a line that has one of these forms, numbers without zeros before them; a port by which something
+    is put is one of the node."""
+    words = " ".join(line.split())
+    found = next((found for form in forms if (found := pattern(form).fullmatch(words))), None)
+    if not found:
+        what, lines = shown(line) if words else "an empty line", ", ".join(f"`{form}`" for form in forms)
+        raise Fault("garbage", f"{what} is no line of an answer, which are {lines} and `end`; what a program prints to "
+                               "find mistakes goes to standard error")
+    if found[1] == "put" and int(found[2]) >= degree:
+        ports = "no port" if degree == 0 else "port 0 alone" if degree == 1 else f"ports 0 to {degree - 1}"
+        raise Fault("garbage", f"{shown(line)}: there is no port {found[2][:9]}; the node has {ports}")
+    return found.groups()
 
 
-def result_of(program: str, fields: list[str]) -> str | None:
-    """The words of a result, without zeros before its numbers; None if they have no form of the program."""
-    for words in (form.strip("`").split() for form in FORMS[program]):
-        if len(words) == len(fields) and all(field == word if word.islower() else is_number(field)
-                                             for word, field in zip(words, fields)):
-            return " ".join(str(int(field)) if is_number(field) else field for field in fields)
-    return None
-
-
-def wire_of(line: str, fields: list[str], program: str) -> str:
-    """The words of the wire that a line names, without zeros before its numbers; a payload is one of the program."""
+def wire_of(line: str, words: str, program: str) -> str:
+    """The wire that a line names, without zeros before its numbers; a payload is one of the program."""
     try:
-        read_wire(program, *[field.encode() for field in fields])
+        read_wire(program, *words.encode().split())
     except NoEntry as why:
         raise Fault("garbage", f"{shown(line)}: {why}") from None
-    return " ".join(str(int(field)) if field.isdecimal() else field for field in fields)
+    return re.sub("\\b0+(?=[0-9])", "", words)

@@ -2,9 +2,20 @@
 The right ones are those of `forestplay rounds`, and of the colouring also the plan of `forestplan plain`."""
 from lab.network import Network
 from lab.networks.texts import plain_text
-from lab.workshop.judge import ask
+from lab.programs import called
 from lab.workshop.protocol import COLOURING, SEQUELS
 from lab.wrong import Wrong
+
+
+def words_of(program: str) -> list[str]:
+    """The words by which a command learns what the nodes run."""
+    return [] if program == COLOURING else ["--program", program]
+
+
+def ask(name: str, command: str, text: str, program: str = COLOURING) -> tuple[int, str, str]:
+    """(status, standard output, standard error) of a proved program on a text; `program` is what the nodes run."""
+    done = called(name, [command, *words_of(program)], text.encode())
+    return done.returncode, done.stdout.decode(), done.stderr.decode("utf-8", "replace").strip()
 
 
 class Rounds:
@@ -70,7 +81,3 @@ class RightRounds(Rounds):
     def pulse_words(self, p: int) -> str:
         """`pulse 3 (step)`; a program without phases has `pulse 3`."""
         return f"pulse {p}" + (f" ({' '.join(self.phase[p])})" if self.phase[p] else "")
-
-    def heard_words(self, v: int, p: int) -> str:
-        """What a node's neighbours sent it for the inbox of a pulse from 1 on, as a sentence."""
-        return f"in pulse {p - 1} node {v}'s neighbours sent it {self.came(p, v)}: the inbox of its pulse {p}"

@@ -70,7 +70,7 @@ class Command(Played):
         node = ["sh", "-c", '"$@" | grep -v --line-buffered channel', "sh", *wrong]
         done = call("rounds", "two", "path3", "--", *node)
         self.assertRegex(done.stdout, r"\ncase   0: two; 2 nodes, edges 1-2\nwhere  node 1, pulse 7 \(shift\)\n")
-        self.assertRegex(call("rounds", "path1", "--", *node).stdout, "no line `channel C`")
+        self.assertRegex(call("rounds", "path1", "--", *node).stdout, "no line `channel 1`")
 
     def test_a_case_by_its_number(self):
         all_of, one = (json.loads(call("rounds", "random6", *words, "--json", "--one-process", "--", *ROUNDS).stdout)

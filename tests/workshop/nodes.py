@@ -198,8 +198,7 @@ class Mistakes(Played):
     def test_a_result_that_isn_t_said(self):
         """A node that is silent is right in every pulse if nobody is the root, up to the last."""
         found = self.found(("differs", 1, 3), "rounds", "alone4", answering(), program="layers")
-        said = "wrong  no line `layer N by PORT` or `layer 0` or `layer none`"
-        self.note("its words", said in found.text(), found.text())
+        self.note("its words", "wrong  no line `layer none`" in found.text(), found.text())
 
     def test_blame_is_of_the_node_whose_mistake_it_is(self):
         """Two right nodes, and one at the end of the row that makes pulses without its neighbours' safes."""

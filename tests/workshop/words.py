@@ -5,8 +5,8 @@ from unittest import mock
 
 from lab.network import Network
 from lab.transcripts.rules import rules_of_dues
+from lab.workshop.alpha_run import Entry
 from lab.workshop.alpha_verdict import At
-from lab.workshop.judge import Entry
 from lab.workshop.processes import last_errors
 from lab.workshop.right_rounds import RightRounds
 from lab.workshop.why import Why
@@ -96,12 +96,6 @@ class AlphaWords(Case):
                 for p in range(2, 10))]),
         ):
             self.same(f"{came[:3]} {about_payload}", self.at(*came).early(about_payload), right)
-
-    def test_whose_messages_an_inbox_has(self):
-        for v, p, words in ((1, 1, "in pulse 0 node 1's neighbours sent it hello 2 by port 0, hello 11 by port 1: the "
-                                   "inbox of its pulse 1"),
-                            (2, 2, "in pulse 1 node 2's neighbours sent it nothing: the inbox of its pulse 2")):
-            self.same(f"node {v} in pulse {p}", self.rounds.heard_words(v, p), words)
 
     def test_why_a_node_has_to_do_what_it_doesn_t(self):
         """By hand: in pulse 1 node 1 labels its parent, node 3; in pulse 0 it greets both neighbours."""
