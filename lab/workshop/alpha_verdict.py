@@ -18,16 +18,13 @@ IMPOSSIBLE = (1 << 32) - 1
 
 @dataclass
 class At(Standing):
-    """Node `v` after the entries `before`; links are named by their ports."""
+    """Node `v`, which has done what is in `own`; links are named by their ports."""
     rounds: RightRounds
-    before: list[Entry]
+    own: list[str]
     v: int
 
     def why_payload(self, link: int) -> str:
         return Why(self.rounds, self.v).of(self.pulse, link)
-
-    def has_payload_due(self) -> bool:
-        return any(wire.startswith("payload") for wire in self.puts.values())
 
     def right(self) -> str:
         """What a right node could do there."""
@@ -38,28 +35,18 @@ class At(Standing):
             return "nothing more: it has made its last pulse and put all that it has to"
         return f"nothing yet: before its next pulse it waits for {self.lacks}"
 
-    def own(self) -> list[str]:
-        """What the node did, in its own words."""
-        return [with_port(self.rounds, self.v, words) for _, u, words in self.before if u == self.v]
-
-    def hints(self, about_payload: bool) -> list[tuple[str, str]]:
-        """What the node had got: what came for its pulse, what came early, and what it did last."""
-        came = [("came", self.rounds.came(self.pulse, self.v))] if self.pulse and about_payload else []
-        return [*came, *(("early", words) for words in self.early(about_payload)),
-                ("so far", "; ".join(last_of(self.own())) or "nothing")]
-
-    def early(self, about_payload: bool) -> list[str]:
-        """What came a pulse early and matters now: the safes that aren't used up yet, and the payloads. If what is
-        wrong may come from a payload, all of them matter: one that was lost can show late."""
-        found, pulse = [], 0
-        for words in self.own():
+    def hints(self) -> list[tuple[str, str]]:
+        """What the node had got: what came for its pulse, what came a pulse early for this one or the next, and what it
+        did last."""
+        came, pulse = [("came", self.rounds.came(self.pulse, self.v))] * bool(self.pulse), 0
+        for words in self.own:
             match words.split():
                 case ["pulse", _]:
                     pulse += 1
-                case ["take", _, "safe" | "payload" as wire, of, *_] if int(of) == pulse + 1 and (
-                        pulse + 1 >= self.pulse or about_payload and wire == "payload"):
-                    found.append(f"`{words}` came at pulse {pulse}, and is to be kept until pulse {of} is made")
-        return last_of(found)
+                case ["take", _, "safe" | "payload", of, *_] if pulse + 1 == int(of) >= self.pulse - 1:
+                    kept = f"`{words}` came at pulse {pulse}, and is to be kept until pulse {of} is made"
+                    came.append(("early", kept))
+        return [*came, ("so far", "; ".join(last_of(self.own)) or "nothing")]
 
 
 def at_node(rounds: RightRounds, before: list[Entry], v: int) -> At:
@@ -75,10 +62,11 @@ def at_node(rounds: RightRounds, before: list[Entry], v: int) -> At:
         return " by " + listed("port", [ports[int(w)] for w in re.findall("[0-9]+", found[1])])
 
     of_pulse, of_puts = refusal_of("pulse"), {port: refusal_of(f"put {w} ack") for w, port in ports.items()}
-    can_pulse, pulse = of_pulse.name == "WrongWire", sum(u == v and words.startswith("pulse") for _, u, words in before)
+    can_pulse, own = of_pulse.name == "WrongWire", [with_port(rounds, v, words) for _, u, words in before if u == v]
     lacks = "" if can_pulse else re.sub(r" of ([0-9]+(?:(?:, | and )[0-9]+)*)", by_ports, of_pulse.words)
     puts = {port: put.words.removeprefix("expected ") for port, put in of_puts.items() if put.name == "WrongWire"}
-    return At(pulse, rounds.last, can_pulse, lacks, puts, "by port {}", rounds, before, v)
+    pulse = sum(words.startswith("pulse") for words in own)
+    return At(pulse, rounds.last, can_pulse, lacks, puts, "by port {}", rounds, own, v)
 
 
 def with_port(rounds: RightRounds, v: int, words: str) -> str:
@@ -105,7 +93,7 @@ def wrong_entry(run: AlphaRun, entries: list[Entry], verdict: Verdict) -> Findin
     neighbour = f" (to node {words.split()[1]})" * words.startswith("put")
     lines = [("where", f"node {v} at pulse {at.pulse}, entry {verdict.at + 1} of the run, stamp {stamp}"),
              ("wrong", own + neighbour), ("right", at.right()), ("why", rule_of(at, own)),
-             *at.hints(" payload " in words or at.has_payload_due()), ("judge", verdict.line)]
+             *at.hints(), ("judge", verdict.line)]
     return Finding(verdict.name, v, at.pulse, lines, verdict.at, way=kind_of(words))
 
 
@@ -114,8 +102,7 @@ def no_answer(run: AlphaRun, entries: list[Entry]) -> Finding:
     at = at_node(run.rounds, entries, v)
     inbox = f", for which {run.rounds.came(at.pulse + 1, v)} came" if at.can_pulse else ""
     lines = [("where", f"node {v} at pulse {at.pulse}, after it got {asked}"), ("wrong", fault.words),
-             ("right", at.right() + inbox), *at.hints(fault.kind == "ended"),
-             ("judge", "all that was done before is right")]
+             ("right", at.right() + inbox), *at.hints(), ("judge", "all that was done before is right")]
     return Finding(fault.kind, v, at.pulse, lines, is_first=asked == OWN_DATA)
 
 
@@ -124,12 +111,12 @@ def stuck(run: AlphaRun, entries: list[Entry], verdict: Verdict) -> Finding:
     all_at = [at_node(run.rounds, entries, v) for v in run.network.vertices]
     owing = [at for at in all_at if at.dues()]
     waiting = [f"node {at.v} for {at.lacks}" for at in all_at if not at.dues() and at.pulse < at.last]
-    first, *others = [("wrong", f"node {at.v} at pulse {at.pulse} doesn't {at.undone()}") for at in owing]
-    waits = " | ".join(first_of(waiting))
+    wrong, *others = [("wrong", f"node {at.v} at pulse {at.pulse} doesn't {at.undone()}") for at in owing]
     where = f"nothing is on its way after {len(entries)} of {run.rounds.events} entries, and not all is done"
-    lines = [("where", where), first, ("why", rules_of_dues(owing[0])), *owing[0].hints(owing[0].has_payload_due()),
-             *others[:3], *[("waits", waits)] * bool(waits), ("judge", verdict.line)]
-    return Finding("stuck", owing[0].v, owing[0].pulse, lines, way=kind_of(owing[0].dues()[0]))
+    first, waits = owing[0], [("waits", " | ".join(first_of(waiting)))] * bool(waiting)
+    lines = [("where", where), wrong, ("why", rules_of_dues(first)), *first.hints(), *others[:3], *waits,
+             ("judge", verdict.line)]
+    return Finding("stuck", first.v, first.pulse, lines, way=kind_of(first.dues()[0]))
 
 
 def wrong_result(run: AlphaRun) -> Finding | None:

@@ -35,7 +35,7 @@ COLOURING = {
     "bars_forgotten": ((4, 19), (1, 13)), "bars_channels": ((4, 19), (1, 13)), "bars_width": ((4, 19), (3, 16)),
     "merge_last": (None, None),         # nobody ever chooses in the last pulse of a merge
 }
-# By mistake, what is found on alone4; what else the node could do there, and why it can't do that.
+# By mistake, what is found on alone4; what else the node could do there, why it can't do that, and what came early.
 PULSE = "a node makes its next pulse once it has said safe and has the safes of all its neighbours"
 SAFE = "once each payload that it sent in P is acknowledged; it "
 NO_ACK = "it can't have said safe yet: it lacks the acknowledgement of pulse 1 by port 0"
@@ -43,8 +43,11 @@ SYNCHRONISER = {
     "acks_own_pulse": ("WrongWire", 2, 2, "put 1 ack 3", "a payload is acknowledged with its own pulse as soon"),
     "acks_first": ("NothingToPut", 2, 0, "waits for ack 0 by port 0; safe 0 by ports 0 and 1", f"{SAFE}can't have"),
     "early_present": ("WrongWire", 2, 23, "one of: put 0 safe 23; put 1 safe 23", "pulse 23 is the turn of the nodes"),
-    "early_lost": ("WrongWire", 2, 23, "one of: put 0 safe 23; put 1 safe 23", "`chosen 0` came by port 0 in pulse 23"),
-    "early_safe_lost": ("stuck", 2, 1, "", f"{PULSE}, and this node has"),
+    "early_lost": ("WrongWire", 2, 23, "one of: put 0 safe 23; put 1 safe 23", "`chosen 0` came by port 0 in pulse 23",
+                   "\ncame   chosen 0 by port 0, chosen 0 by port 1\nearly  `take 1 payload 22 chosen 0` came at pulse "
+                   "21, and is to be kept until pulse 22 is made\n"),
+    "early_safe_lost": ("stuck", 2, 1, f"{PULSE}, and this node has", "\nearly  `take 1 safe 1` came at pulse 0, and "
+                        "is to be kept until pulse 1 is made\n"),
     "safes_any": ("NotReady", 2, 0, "waits for safe 0 by port 0", f"{PULSE}; it lacks safe 0 by port 0"),
     "safes_none": ("NotReady", 3, 0, "waits for safe 0 by port 0", f"{PULSE}; it lacks safe 0 by port 0"),
     "safe_unsaid": ("NotReady", 2, 1, "waits for ack 1 by port 0", f"{PULSE}; {NO_ACK}"),
@@ -52,9 +55,9 @@ SYNCHRONISER = {
     "safe_with_ack": ("WrongWire", 1, 1, "put 0 safe 1", "this link has to get safe 1 before: safe P is said as"),
     "close_early": ("NothingToPut", 1, 29, "waits for safe 29 by port 0", "its last pulse, 30; it is at pulse 29"),
     "close_safe": ("WrongWire", 1, 30, "put 0 close", "its pulse, 30, is the last"),
-    "close_never": ("stuck", 1, 30, "", "close is put on each link as the node makes its last pulse"),
-    "one_pulse": ("stuck", 4, 1, "", f"{PULSE}, and this node has"),
-    "leaves": ("ended", 2, 29, "waits for safe 29 by port 0", ""),
+    "close_never": ("stuck", 1, 30, "close is put on each link as the node makes its last pulse"),
+    "one_pulse": ("stuck", 4, 1, f"{PULSE}, and this node has"),
+    "leaves": ("ended", 2, 29, "waits for safe 29 by port 0"),
     "no_channel": ("result", 1, 30, "channel 1", "the channel is the merged colour and one"),
     # A payload completes nothing, so nothing else is in the answer to it.
     "acks_after": None,
@@ -172,8 +175,8 @@ class Mistakes(Played):
             found = self.found(row and row[:3], "alpha", "alone4", self.wrong_node(name, "alpha_node.py"),
                                policy="newest", one_process=name != "leaves")
             if row:
-                said = dict(found.lines)
-                self.note(name, row[3] in said.get("right", "") and row[4] in said.get("why", ""), said)
+                text = "\n".join(found.text())
+                self.note(name, all(words in text for words in row[3:]), text)
 
     def test_of_other_programs(self):
         for program, names in OTHERS.items():
@@ -199,6 +202,11 @@ class Mistakes(Played):
         """A node that is silent is right in every pulse if nobody is the root, up to the last."""
         found = self.found(("differs", 1, 3), "rounds", "alone4", answering(), program="layers")
         self.note("its words", "wrong  no line `layer none`" in found.text(), found.text())
+
+    def test_a_node_that_does_nothing(self):
+        found = self.found(("stuck", 1, 0), "alpha", "triangle", answering())
+        why = "in pulse 0 a node sends `hello` and its identifier, 1, by each port"
+        self.same("why", dict(found.lines)["why"], why)
 
     def test_blame_is_of_the_node_whose_mistake_it_is(self):
         """Two right nodes, and one at the end of the row that makes pulses without its neighbours' safes."""

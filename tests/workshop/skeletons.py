@@ -28,7 +28,8 @@ ROWS = (
     ("AlphaNode.java", "alpha", "// yours:", 'put(0, "label " + identifier); //', LABEL),
 )
 # They greet in pulse 0, so what is wrong is what comes after it.
-WRONG = {"rounds": "node 1, pulse 1 (orient)", "alpha": "doesn't put 0 ack 0", "open": "nodes 1, 2 and 3 said no"}
+WRONG = {"rounds": "node 1, pulse 1 (orient)", "open": "nodes 1, 2 and 3 said no",
+         "alpha": "doesn't put 0 ack 0\nwhy    a payload is acknowledged with its own pulse as soon as it is taken\n"}
 
 
 class Skeletons(Case):

@@ -4,9 +4,6 @@ import io
 from unittest import mock
 
 from lab.network import Network
-from lab.transcripts.rules import rules_of_dues
-from lab.workshop.alpha_run import Entry
-from lab.workshop.alpha_verdict import At
 from lab.workshop.processes import last_errors
 from lab.workshop.right_rounds import RightRounds
 from lab.workshop.why import Why
@@ -36,81 +33,24 @@ OF_ROW = (
                         "0 and its children are by port 0 and have 5"),
     (1, 12, {}, "nodes choose in the pulses after 12 alone"),
 )
+OF_TWO = (
+    (2, 15, {}, "pulse 15 is the turn of the nodes that have colour 1 in forest 0 and had merged colour 0 before this "
+                "merge: such a node takes the least colour that isn't barred at it and that didn't come in this merge, "
+                "and sends it to its neighbours in forests 0 to 0, but nothing in the last pulse of a merge; in forest "
+                "0 it had 1, it is a root and its children are by port 0; it had merged colour 0; `chosen 0` came by "
+                "port 0 in pulse 14"),
+)
 
 
 class Words(Case):
-    def test_of_a_row_of_three(self):
-        rounds = RightRounds(ROW)
-        for v, p, of, words in OF_ROW:
-            said = Why(rounds, v).of(p, **of)
-            self.note(f"node {v} in pulse {p}", said.endswith(words), said)
-
-    def test_of_a_merge_of_two_nodes(self):
-        """By hand: their three-colours are 0 and 1, both have the merged colour 0, and there are 2 colours. So node
-        1 chooses in the first pulse, and node 2, which hears of it, in the third."""
-        rounds = RightRounds(network("two"))
-        turn = "pulse {} is the turn of the nodes that have colour {} in forest 0 and had merged colour 0 before " \
-               "this merge: such a node takes the least colour that isn't barred at it and that didn't come in this " \
-               "merge, and sends it to its neighbours in forests 0 to 0, but nothing in the last pulse of a merge; " \
-               "in forest 0 it had {}, {}; it had merged colour 0; {}"
-        above, below = "its parent is by port 0 and it has no child", "it is a root and its children are by port 0"
-        for v, p, colour, own, links, rest in (
-            (1, 13, 0, "0", above, "nothing has come"),
-            (2, 13, 0, "1", below, "nothing has come"),
-            (2, 15, 1, "1", below, "`chosen 0` came by port 0 in pulse 14"),
-        ):
-            self.same(f"node {v} in pulse {p}", Why(rounds, v).of(p), turn.format(p, colour, own, links, rest))
-        self.assertEqual(rounds.results, {1: "channel 1", 2: "channel 2"})
-
-
-def pulses(first, last):
-    """Pulses of node 1 of the row with the safes that come between them; its port 0 is to node 2, and port 1 to node
-    3."""
-    return [words for p in range(first, last + 1)
-            for words in (f"take 2 safe {p - 1}", f"take 3 safe {p - 1}", f"pulse {p}", f"put 2 safe {p}")]
-
-
-class AlphaWords(Case):
-    @classmethod
-    def setUpClass(cls):
-        cls.rounds = RightRounds(ROW)
-
-    def at(self, *words):
-        entries = [Entry(k, 1, entry) for k, entry in enumerate(words)]
-        pulse = sum(entry.startswith("pulse") for entry in words)
-        return At(pulse, self.rounds.last, False, "", {}, "by port {}", self.rounds, entries, 1)
-
-    def test_what_came_early(self):
-        """A payload is shown however long ago it came, if what is wrong may come from it; a safe until its pulse is
-        over; of many the last eight."""
-        label, long_ago = "take 2 payload 1 label 0", pulses(1, 20)
-        words = "`take 0 payload 1 label 0` came at pulse 0, and is to be kept until pulse 1 is made"
-        safe = "`take 1 safe 1` came at pulse 0, and is to be kept until pulse 1 is made"
-        many = [word for p in range(1, 10) for word in (f"take 3 payload {p} colour 0", f"pulse {p}")]
-        for came, about_payload, right in (
-            ([label, *long_ago], True, [words]), ([label, *long_ago], False, []), ([label], False, [words]),
-            (["pulse 1", label], True, []), (["take 3 safe 0", "take 3 safe 1", "pulse 1"], False, [safe]),
-            (["take 3 safe 0", "take 3 safe 1", "pulse 1", "pulse 2"], False, []),
-            (many, True, ["..", *(
-                f"`take 1 payload {p} colour 0` came at pulse {p - 1}, and is to be kept until pulse {p} is made"
-                for p in range(2, 10))]),
-        ):
-            self.same(f"{came[:3]} {about_payload}", self.at(*came).early(about_payload), right)
-
-    def test_why_a_node_has_to_do_what_it_doesn_t(self):
-        """By hand: in pulse 1 node 1 labels its parent, node 3; in pulse 0 it greets both neighbours."""
-        ack = "a payload is acknowledged with its own pulse as soon as it is taken"
-        safe = "safe P is said as soon as all payloads of P are acknowledged, and at once if none was sent"
-        label = "its parents are the neighbours above its own identifier, 7, by ascending identifier: 11 (port 1) in " \
-                "forest 0; each gets the label of its forest"
-        pulse = "a node makes its next pulse once it has said safe and has the safes of all its neighbours"
-        for puts, can_pulse, right in (
-            ({0: "safe 1", 1: "ack 0"}, False, f"{safe}; {ack}"), ({1: "payload 1 label 0"}, False, label),
-            ({0: "ack 1", 1: "ack 0"}, True, f"{ack}; {pulse}, and this node has"),
-        ):
-            at = self.at("pulse 1")
-            at.puts, at.can_pulse = puts, can_pulse
-            self.same(f"{puts}", rules_of_dues(at), right)
+    def test_why(self):
+        """Of two nodes by hand: their three-colours are 0 and 1, both have the merged colour 0, and there are 2
+        colours. So node 1 chooses in the first pulse, and node 2, which hears of it, in the third."""
+        for given, rows in ((ROW, OF_ROW), (network("two"), OF_TWO)):
+            rounds = RightRounds(given)
+            for v, p, of, words in rows:
+                said = Why(rounds, v).of(p, **of)
+                self.note(f"{given.name}: node {v} in pulse {p}", said.endswith(words), said)
 
 
 PYTHON = """\
