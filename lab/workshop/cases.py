@@ -8,7 +8,6 @@ from typing import Any, Iterable, Iterator
 
 from lab.network import Network
 from lab.networks.named import network_at, path_of
-from lab.workshop.clock_run import League
 from lab.workshop.findings import Finding
 from lab.workshop.protocol import COLOURING
 
@@ -30,7 +29,7 @@ class Case:
     owners: list[int] = field(default_factory=list)
     finding: Finding | None = None
     run: Any = field(default=None, repr=False)
-    league: League | None = None
+    league: dict[str, int] | None = None
 
     def size(self) -> tuple[int, int, int, int]:
         """What makes a case that isn't right small."""

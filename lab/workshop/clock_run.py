@@ -2,7 +2,7 @@
 before. What they do is compared with the proved rounds, pulse by pulse; or it is free, and only the plan at the end is
 judged."""
 import re
-from typing import Iterator, NamedTuple
+from typing import Iterator
 
 from lab.network import Network
 from lab.networks.texts import plain_text
@@ -12,13 +12,6 @@ from lab.workshop.protocol import COLOURING, fields_of, forms_of, own_data, show
 from lab.workshop.right_rounds import RightRounds, Rounds, ask
 from lab.workshop.why import Why
 from lab.wrong import Wrong
-
-
-class League(NamedTuple):
-    """What a right run of an own algorithm took: pulses after pulse 0, payloads, and the greatest channel."""
-    pulses: int
-    payloads: int
-    channels: int
 
 
 class ClockRun(Rounds):
@@ -138,13 +131,14 @@ class RoundsRun(ClockRun):
 
 
 class OpenRun(ClockRun):
-    """An algorithm of the students' own: `channels[v]` as nodes said them; `league` once the plan is right. A run has
-    at most `most_pulses`, by default 20 for each node and each pulse of the lessons' algorithm."""
+    """An algorithm of the students' own: `channels[v]` as nodes said them; `league` once the plan is right: the pulses
+    after pulse 0, the payloads and the greatest channel. A run has at most `most_pulses`, 20 for each node and each
+    pulse of the lessons' algorithm."""
     assignment, kept = "open", "plan"
 
-    def __init__(self, network: Network, most_pulses: int | None = None):
+    def __init__(self, network: Network):
         super().__init__(network)
-        self.most_pulses = most_pulses or 20 * (network.nodes + 12 + 3 * network.greatest_degree * network.channels)
+        self.most_pulses = 20 * (network.nodes + 12 + 3 * network.greatest_degree * network.channels)
         self.channels: dict[int, int] = {}
         self.payloads = 0
 
@@ -177,7 +171,7 @@ class OpenRun(ClockRun):
             return self.finding("endless", p, (silent or [1])[0], [("wrong", words)])
         status, _, line = ask("forestplan", "check", plain_text(self.network) + self.text())
         if status == 0:
-            self.league = League(p, self.payloads, max(self.channels.values(), default=0))
+            self.league = {"pulses": p, "payloads": self.payloads, "channels": max(self.channels.values(), default=0)}
             return None
         found = re.fullmatch(r"forestplan: (C[4568]) (?:vertex|vertices|line) (\d+)(?: (\d+))?", line)
         if status != 1 or not found:

@@ -57,8 +57,6 @@ def command_line() -> argparse.ArgumentParser:
     words.add_argument("--case", type=int, metavar="K", help="run number K of these alone")
     words.add_argument("--first", action="store_true", help="end with the first run that isn't right")
     add_limits(words)
-    words.add_argument("--most-pulses", type=count, metavar="N",
-                       help="of open: no run may take more; default: 20 for each node and each pulse of the lessons")
     words.add_argument("--no-guard", action="store_true",
                        help="let programs reach other processes: for a container's command that needs more rights")
     words.add_argument("--one-process", action="store_true",

@@ -55,7 +55,7 @@ class Player:
 
     def run_of(self, case: Case) -> ClockRun | AlphaRun:
         if self.options.assignment == "open":
-            return OpenRun(case.network, self.options.most_pulses)
+            return OpenRun(case.network)
         rounds = RightRounds(case.network, self.options.program)
         if self.options.assignment == "rounds":
             return RoundsRun(rounds)

@@ -26,7 +26,7 @@ def league(cases: list[Case]) -> list[str]:
     for name in dict.fromkeys(case.network.name for case in cases):
         some = [case.league for case in cases if case.network.name == name and case.league]
         if some:
-            rows.append([name, *(str(max(column)) for column in zip(*some))])
+            rows.append([name, *(str(max(took[what] for took in some)) for what in rows[0][1:])])
     return aligned(rows) if len(rows) > 1 else []
 
 
@@ -76,7 +76,7 @@ def as_json(options: Namespace, cases: list[Case], shown: Case | None, seconds: 
             row |= {"node": found.node, "pulse": found.pulse}
             row |= {} if found.owner is None else {"command": options.commands[found.owner]}
         elif case.league:
-            row |= case.league._asdict()
+            row |= case.league
         return row
     program = {} if options.assignment == "open" else {"program": options.program}
     return {"workshop": EDITION, "assignment": options.assignment, **program, "commands": options.commands,

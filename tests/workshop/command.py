@@ -119,5 +119,5 @@ class Command(Played):
     def test_the_league_counts(self):
         done = call("open", "path5", "--", *GREEDY)
         self.assertEqual(done.stdout.splitlines()[-1].split(), ["path5", "6", "16", "2"])
-        done = call("open", "two", "--most-pulses", "5", "--", *answering())
-        self.assertIn("after 5 pulses nodes 1 and 2 said no channel", done.stdout)
+        done = call("open", "two", "--", *answering())
+        self.assertIn("after 400 pulses nodes 1 and 2 said no channel", done.stdout)

@@ -147,7 +147,7 @@ class RightNodes(Played):
         for name, league in (("path5", (6, 16, 2)), ("ring6", (7, 24, 2)), ("complete4", (5, 24, 4)),
                              ("path1", (0, 0, 1))):
             case = played("open", name, GREEDY)
-            self.same(name, (case.finding, case.league), (None, league))
+            self.same(name, (case.finding, tuple(case.league.values())), (None, league))
 
     def test_from_how_many_nodes_on_the_lessons_are_faster(self):
         """The teacher's answer to exercise 5: from 21 on a row and from 30 on a ring, each with one node less not yet.
@@ -155,7 +155,7 @@ class RightNodes(Played):
         for kind, first, last in (("path", 21, 21), ("ring", 30, 30)):
             for nodes, pulses in ((first - 1, last), (first, last + 1)):
                 case = played("open", f"{kind}{nodes}", GREEDY, one_process=True)
-                self.same(f"{kind} {nodes}", (case.finding, case.league.pulses), (None, pulses))
+                self.same(f"{kind} {nodes}", (case.finding, case.league["pulses"]), (None, pulses))
                 self.same(f"rounds of {kind} {nodes}", RightRounds(network(f"{kind}{nodes}")).last, last)
 
 
