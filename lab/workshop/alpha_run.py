@@ -53,8 +53,7 @@ class AlphaRun:
         """Until nothing is on its way, a node gives no answer, or there are more entries than any right run has: then
         one of them is wrong, for certain."""
         for v in self.network.vertices:
-            data = own_data(self.network, v, "alpha", self.rounds.forests, self.rounds.last)
-            if not self.is_answered(nodes, v, data, OWN_DATA):
+            if not self.is_answered(nodes, v, own_data(self.network, v, "alpha", self.rounds), OWN_DATA):
                 return
         while self.links and len(self.entries) <= self.rounds.events:
             link = self.policy.choose(list(self.links.values()))

@@ -15,10 +15,9 @@ from lab.wrong import Wrong
 
 
 class ClockRun(Rounds):
-    """`puts` is what the nodes sent so far; `forests` and `last` are what a node is told, and `program` is what it may
-    say. The two kinds have `hear(v, line, fields)`, which takes any line but `put`, and `is_over(p)`."""
-    forests = last = league = None
-    program = COLOURING
+    """`puts` is what the nodes sent so far, and `rounds` the right rounds, if there are any. The two kinds have
+    `assignment`; `hear(v, line, fields)`, which takes any line but `put`; and `is_over(p)`."""
+    rounds = league = None
 
     def difference(self, p: int, v: int) -> Finding | None:
         """What is wrong in a node's answer, which has been read."""
@@ -46,7 +45,7 @@ class ClockRun(Rounds):
                          for v in self.network.vertices}
 
     def first_message(self, v: int) -> list[str]:
-        return own_data(self.network, v, self.assignment, self.forests, self.last)
+        return own_data(self.network, v, self.assignment, self.rounds)
 
     def answered(self, p: int, v: int, answer: Answer) -> Finding | None:
         try:
@@ -66,8 +65,8 @@ class ClockRun(Rounds):
         return f"pulse {p}"
 
     def read(self, v: int, answer: list[str]) -> None:
-        puts, forms = {}, forms_of(self.assignment, self.program)
-        self.puts[-1][v] = puts
+        puts = self.puts[-1][v] = {}
+        forms = forms_of(self.assignment, self.rounds.program if self.rounds else COLOURING)
         for line in answer:
             match fields_of(line, forms, len(self.ports[v])):
                 case "put", port, *words:
@@ -84,9 +83,7 @@ class RoundsRun(ClockRun):
 
     def __init__(self, rounds: RightRounds):
         super().__init__(rounds.network)
-        self.rounds, self.said = rounds, {}
-        self.program, self.forests, self.last = rounds.program, rounds.forests, rounds.last
-        self.pulse_words = rounds.pulse_words
+        self.rounds, self.said, self.pulse_words = rounds, {}, rounds.pulse_words
 
     def read(self, v, answer):
         self.said[v] = {}
@@ -121,7 +118,7 @@ class RoundsRun(ClockRun):
             yield said.get("result", f"no line `{rounds.results[v]}`"), rounds.results[v], {}
 
     def is_over(self, p):
-        return p == self.last
+        return p == self.rounds.last
 
     def text(self) -> str:
         """What the nodes sent, as `forestplay rounds` writes it."""

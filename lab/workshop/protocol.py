@@ -26,16 +26,13 @@ FIELDS = {"WORD": r"(\S+)", "WIRE": "(.+)", "WORDS..": f"(.{{1,{MOST_LETTERS}}})
 NUMBER = "0*([0-9]{1,39})"
 
 
-def own_data(network: Network, v: int, assignment: str,
-             forests: int | None = None, last: int | None = None) -> list[str]:
-    """The lines before `end`. `forests` belongs to the colouring and to what goes on after it, and `last` is left out
-    for an own algorithm."""
-    barred = network.bars.get(v, [])
-    lines = [f"workshop {EDITION} {assignment}", f"identifier {network.identifiers[v]}",
-             f"degree {len(network.neighbours[v])}", f"nodes {network.nodes}", f"delta {network.greatest_degree}",
-             f"bars {network.greatest_bars}"]
-    lines += [f"{word} {number}" for word, number in (("forests", forests), ("last", last)) if number is not None]
-    return [*lines, " ".join(map(str, ["barred", len(barred), *barred]))]
+def own_data(network: Network, v: int, assignment: str, rounds=None) -> list[str]:
+    """The lines before `end`; two of them are of the right rounds, which an own algorithm hasn't."""
+    barred, of_rounds = network.bars.get(v, []), {"forests": rounds.forests, "last": rounds.last} if rounds else {}
+    numbers = {"identifier": network.identifiers[v], "degree": len(network.neighbours[v]), "nodes": network.nodes,
+               "delta": network.greatest_degree, "bars": network.greatest_bars, **of_rounds}
+    return [f"workshop {EDITION} {assignment}", *(f"{word} {n}" for word, n in numbers.items() if n is not None),
+            " ".join(map(str, ["barred", len(barred), *barred]))]
 
 
 def end_of(got: bytes | bytearray) -> tuple[int, int] | None:
