@@ -1,5 +1,7 @@
 """The command line of the workshop."""
 import argparse
+import re
+from itertools import groupby
 
 from lab.schedules.policies import POLICIES
 from lab.transcripts.fields import PAYLOADS
@@ -75,13 +77,9 @@ def add_limits(words: argparse.ArgumentParser) -> None:
 
 
 def seconds(text: str) -> float:
-    try:
-        found = float(text)
-    except ValueError:
-        found = 0.0
-    if not 0 < found < 1e6:
+    if not re.fullmatch(r"[0-9]{1,6}(\.[0-9]+)?", text) or not float(text):
         raise argparse.ArgumentTypeError(f"{text} is no number of seconds")
-    return found
+    return float(text)
 
 
 def policies(text: str) -> list[str]:
@@ -96,7 +94,7 @@ def parsed(words: list[str]) -> argparse.Namespace:
     at = words.index("--") if "--" in words else len(words)
     line = command_line()
     options = line.parse_intermixed_args(words[:at])
-    options.commands = split(words[at + 1:])
+    options.commands = [list(command) for is_mark, command in groupby(words[at + 1:], "--".__eq__) if not is_mark]
     if not options.commands:
         line.error("there is no command after `--`")
     if options.assignment == "open" and options.program:
@@ -108,14 +106,3 @@ def parsed(words: list[str]) -> argparse.Namespace:
     options.runs = options.runs or len(options.networks) or 100
     options.networks = options.networks or NETWORKS.split(",")
     return options
-
-
-def split(words: list[str]) -> list[list[str]]:
-    """The commands, each after a `--`."""
-    commands = [[]]
-    for word in words:
-        if word == "--":
-            commands.append([])
-        else:
-            commands[-1].append(word)
-    return [command for command in commands if command]
