@@ -3,6 +3,7 @@ comes from its standard output. Whatever it does, the workshop goes on: what is 
 leaves no process."""
 import contextlib
 import os
+import re
 import select
 import signal
 import subprocess
@@ -12,7 +13,7 @@ from typing import Callable
 
 from lab.workshop.findings import Fault
 from lab.workshop.guard import Guard, Limits
-from lab.workshop.protocol import MOST_BYTES, end_of, lines_of, shown
+from lab.workshop.protocol import END, MOST_BYTES, lines_of, shown
 
 SOON = 0.3                  # seconds after which an answer is late, and it is looked whether it still matters
 LOOK = 0.004                # seconds between two looks whether a program has ended
@@ -20,8 +21,9 @@ LOOK_AT_FILES = 1.0         # seconds between two looks at what a program that s
 FIRST_FACTOR = 3            # the first answer may take so many times as long
 FIRST_HINT = " (does it flush standard output after `end`, and answer before it reads on after the line `end`?)"
 LAST_LINES, LAST_LETTERS, LAST_BYTES = 5, 600, 1 << 14
-MOST_CALLS = 2              # lines `at ..` that are kept of each list of calls, as Java and JavaScript print them
-MARKS = " \t^~"             # of these letters alone are the lines with which Python marks a place in the line above
+# What isn't shown: lines with which Python marks a place in the line above, and of a list of calls, as Java and
+# JavaScript print it, all but the two innermost.
+UNSHOWN = re.compile(r"(?m)^[ \t\r^~]*\n|((?:^[ \t]*at .*\n){2})(?:^[ \t]*at .*\n)+")
 START_HINT = ("; is it `chmod +x`, does its first line say what runs it, as `#!/usr/bin/env python3`, and is it called "
               "as `./FILE` or `python3 FILE`?")
 
@@ -76,7 +78,7 @@ class Process:
         if if_late and not self.readable.poll(SOON * 1000):
             if_late()
         got = bytearray()
-        while not (ends := end_of(got)):
+        while not (end := END.search(got)):
             if len(got) > MOST_BYTES:
                 raise Fault("flood", f"it wrote more than {MOST_BYTES} bytes without a line `end`")
             nothing = "it wrote nothing" + FIRST_HINT * (self.asked == 1)
@@ -85,9 +87,9 @@ class Process:
             if not part:
                 raise self.ended(got)
             got += part
-        if len(got) > ends[1]:
-            raise after_its_end(got[ends[1]:])
-        return lines_of(got[:ends[0]])
+        if len(got) > end.end():
+            raise after_its_end(got[end.end():])
+        return lines_of(got[:end.start()])
 
     def wait(self, poll: select.poll, silent: str) -> None:
         until = min(self.until, self.limits.over)
@@ -165,13 +167,7 @@ def name_of(number: int) -> str:
 
 def last_errors(text: bytes) -> str:
     """What a program that ended wrote to standard error at last, so that the place of its mistake is among it: the last
-    lines in one, or nothing; without lines of marks, and with the innermost calls of a long list alone."""
-    lines, calls = [], 0
-    for line in text[-LAST_BYTES:].decode("utf-8", "replace").splitlines():
-        if not line.strip(MARKS):
-            continue
-        calls = calls + 1 if line.lstrip().startswith("at ") else 0
-        if calls <= MOST_CALLS:
-            lines.append(line.strip())
-    words = " | ".join(lines[-LAST_LINES:])
+    lines in one, or nothing."""
+    lines = UNSHOWN.sub(r"\1", text.decode("utf-8", "replace") + "\n").splitlines()
+    words = " | ".join(line.strip() for line in lines[-LAST_LINES:])
     return shown(words[-LAST_LETTERS:], LAST_LETTERS) if words else ""

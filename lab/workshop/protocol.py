@@ -20,6 +20,7 @@ SEQUELS = ("matching", "independent-set", "recolouring")
 MOST_BYTES = 1 << 20
 MOST_LINES = 20_000
 MOST_LETTERS = 1000         # of a payload of an own algorithm
+# The line that ends an answer: as in all lines, blanks around it count for nothing.
 END = re.compile(rb"(?m)^[ \t\r]*end[ \t\r]*\n")
 # What there is for the words of a form: those in small letters are themselves, and all others are numbers.
 FIELDS = {"WORD": r"(\S+)", "WIRE": "(.+)", "WORDS..": f"(.{{1,{MOST_LETTERS}}})", "P": "0*([0-9]{1,9})"}
@@ -33,13 +34,6 @@ def own_data(network: Network, v: int, assignment: str, rounds=None) -> list[str
                "delta": network.greatest_degree, "bars": network.greatest_bars, **of_rounds}
     return [f"workshop {EDITION} {assignment}", *(f"{word} {n}" for word, n in numbers.items() if n is not None),
             " ".join(map(str, ["barred", len(barred), *barred]))]
-
-
-def end_of(got: bytes | bytearray) -> tuple[int, int] | None:
-    """Where the first line `end` begins, and where the text goes on after it; None if there is none yet. As in all
-    lines, blanks around it count for nothing."""
-    found = END.search(got)
-    return found and found.span()
 
 
 def lines_of(text: bytes | bytearray) -> list[str]:
