@@ -1,8 +1,8 @@
 """Plays cases: one after the other, and then smaller ones in which the same is wrong."""
 import shlex
+import sys
 import time
 from argparse import Namespace
-from typing import Callable
 
 from lab.schedules.policies import Policy
 from lab.workshop.alpha_run import AlphaRun
@@ -17,17 +17,24 @@ from lab.workshop.right_rounds import RightRounds
 from lab.wrong import Wrong
 
 MOST_SHRINKS = 60
+PROGRESS_SECONDS = 10
 APART = "with --one-process each message begins with a line `to K`; does the program keep its nodes apart by it?"
 UNPLAYED = "no other run is played, since nothing answered its first message in two; all others count as silent, too"
 
 
 class Player:
-    """Plays what the options of the command line ask for, until the time is over, and says how far it is."""
+    """Plays what the options of the command line ask for, until the time is over; if it is shown, it says on standard
+    error how far it is."""
 
     def __init__(self, options: Namespace, guard: Guard | None = None, over: float = float("inf"),
-                 say: Callable[[str], None] = lambda _: None):
-        self.options, self.commands, self.over, self.say = options, options.commands, over, say
-        self.guard = guard or Guard(is_open=options.no_guard)
+                 is_shown: bool = False):
+        self.options, self.commands, self.over, self.is_shown = options, options.commands, over, is_shown
+        self.guard, self.said = guard or Guard(is_open=options.no_guard), time.monotonic()
+
+    def say(self, words: str) -> None:
+        if self.is_shown and time.monotonic() - self.said > PROGRESS_SECONDS:
+            self.said = time.monotonic()
+            print(f"workshop: {words}", file=sys.stderr, flush=True)
 
     def nodes(self, case: Case) -> Nodes:
         programs = len(self.commands) if self.options.one_process else case.network.nodes

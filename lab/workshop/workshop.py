@@ -1,33 +1,34 @@
-"""The command `workshop`: plays the runs, and reports."""
+"""The command `workshop`: plays the runs, and reports them. It keeps a case, so that anybody can repeat the verdict
+without the workshop, and draws it."""
 import json
 import os
+import shlex
+import subprocess
 import sys
-import time
+import tempfile
 from argparse import Namespace
 
+from lab.networks.texts import plain_text
+from lab.programs import TOP
 from lab.workshop import class_files, grade
 from lab.workshop.cases import Case, cases_of
 from lab.workshop.guard import shut
-from lab.workshop.keeping import draw, keep
 from lab.workshop.options import parsed
 from lab.workshop.playing import Player
-from lab.workshop.report import as_json, report
+from lab.workshop.report import as_json, described, report
+from lab.workshop.right_rounds import words_of
 from lab.wrong import Wrong
 
-PROGRESS_SECONDS = 10
 OTHERS = {"grade": grade.main, "class": class_files.main}
-
-
-class Progress:
-    """Says on standard error now and then how far the runs are."""
-
-    def __init__(self):
-        self.said = time.monotonic()
-
-    def __call__(self, words: str) -> None:
-        if time.monotonic() - self.said > PROGRESS_SECONDS:
-            self.said = time.monotonic()
-            print(f"workshop: {words}", file=sys.stderr, flush=True)
+DOOR = os.path.join(TOP, "bin")
+# By what a run keeps, the commands that give the verdict again.
+REPEAT = {
+    "run.transcript": ["cat {at}/network.col {at}/run.transcript | {door}/forestplay replay{words}",
+                       "{door}/forestlab transcript check {at}/network.col {at}/run.transcript{words}"],
+    "plan": ["cat {at}/network.col {at}/plan | {door}/forestplan check"],
+    "said.puts": ["{door}/forestplay rounds{words} < {at}/network.col | grep ' put ' > {at}/right.puts",
+                  "diff {at}/said.puts {at}/right.puts"],
+}
 
 
 def main(words: list[str]) -> int:
@@ -45,7 +46,7 @@ def main(words: list[str]) -> int:
 
 def run(options: Namespace, cases: list[Case]) -> int:
     shut()
-    cases, shown, seconds = Player(options, say=Progress()).played(cases)
+    cases, shown, seconds = Player(options, is_shown=True).played(cases)
     case = shown or cases[-1]
     if options.keep:
         keep(case, options.keep, options.program)
@@ -62,3 +63,33 @@ def write(text: str) -> None:
         print(text, flush=True)
     except BrokenPipeError:
         os.dup2(os.open(os.devnull, os.O_WRONLY), 1)
+
+
+def keep(case: Case, folder: str, program: str) -> None:
+    """Writes network, run and verdict into a folder, and with them the commands that repeat it, for the folder in which
+    the workshop was called. The folder of a class has no `forestlab transcript`."""
+    os.makedirs(folder, exist_ok=True)
+    given = {"at": shlex.quote(folder), "door": shlex.quote(min(os.path.relpath(DOOR), DOOR, key=len)),
+             "words": "".join(f" {word}" for word in words_of(program))}
+    commands = [f"  {command.format(**given)}" for command in REPEAT[case.run.kept]
+                if "transcript check" not in command or os.path.exists(os.path.join(TOP, "lab/transcripts/check.py"))]
+    words = described(case) if case.finding else [f"case   {case.number}: right"]
+    words += ["", "The same without the workshop:", *commands, ""]
+    for name, text in {"network.col": plain_text(case.network), case.run.kept: case.run.text(),
+                       "verdict.txt": "\n".join(words)}.items():
+        with open(os.path.join(folder, name), "w", encoding="utf-8") as file:
+            file.write(text)
+
+
+def draw(case: Case, file: str, program: str) -> str | None:
+    """Draws a run without a clock, up to what is wrong; returns what went wrong with that."""
+    found = case.finding
+    last = found.pulse if found else 3
+    stopped = ["--stopped", str(found.node)] if found and found.entry is None else []
+    with tempfile.TemporaryDirectory() as folder:
+        keep(case, folder, program)
+        done = subprocess.run([os.path.join(DOOR, "forestlab"), "picture", "run", os.path.join(folder, "network.col"),
+                               "--transcript", os.path.join(folder, case.run.kept), "--wrong", "--pulses",
+                               f"{max(0, last - 1)}..{last}", "-o", file, *stopped, *words_of(program)],
+                              capture_output=True, text=True)
+        return done.stderr.strip().replace(folder, "the run") if done.returncode else None

@@ -4,12 +4,12 @@ import io
 from unittest import mock
 
 from lab.network import Network
+from lab.workshop.playing import PROGRESS_SECONDS, Player
 from lab.workshop.processes import last_errors
 from lab.workshop.right_rounds import RightRounds
 from lab.workshop.why import Why
-from lab.workshop.workshop import PROGRESS_SECONDS, Progress
 from tests.cases import Case
-from tests.workshop.base import network
+from tests.workshop.base import network, options_of
 
 # A row in which node 1 is in the middle, and node 3 is the root: identifiers 2 - 7 - 11. By hand: bit steps of 2, 7 and
 # 11 (0010, 0111, 1011) give 2*0+0, 2*2+1 and 2*0+1, so 0, 5 and 1, and the next three keep them. The shift gives node 2
@@ -89,7 +89,7 @@ class StandardError(Case):
         errors = io.StringIO()
         with mock.patch("time.monotonic", side_effect=[0, 1, PROGRESS_SECONDS + 1, PROGRESS_SECONDS + 1]), \
                 contextlib.redirect_stderr(errors):
-            progress = Progress()
-            progress("run 1 of 9")
-            progress("run 2 of 9")
+            player = Player(options_of("rounds"), is_shown=True)
+            player.say("run 1 of 9")
+            player.say("run 2 of 9")
         self.assertEqual(errors.getvalue(), "workshop: run 2 of 9\n")
