@@ -100,8 +100,6 @@ def main(words: list[str]) -> int:
     with tempfile.TemporaryDirectory(prefix=".class-", dir=os.path.dirname(folder)) as room:
         made = os.path.join(room, "made")
         copy_class(made)
-        if os.path.isdir(folder):
-            os.rmdir(folder)
         os.rename(made, folder)
     print(f"{folder} is for students")
     return 0

@@ -21,6 +21,7 @@ import struct
 import subprocess
 import time
 from dataclasses import dataclass
+from pathlib import Path
 from typing import Collection, Iterator, Sequence
 
 from lab.door import STOPS
@@ -230,22 +231,20 @@ def call_filter() -> bytes:
 def kept_in(folder: str) -> int:
     """The bytes of all files below a folder; of too many files, folders too deep, or what can't be looked at, as a path
     that is too long, too many bytes."""
-    size, files, waiting = 0, 0, [(folder, 0)]
-    while waiting:
-        at, depth = waiting.pop()
-        try:
-            for entry in os.scandir(at):
-                files += 1
-                if files > MOST_FILES or depth > DEEPEST:
-                    return MOST_KEPT + 1
-                if entry.is_dir(follow_symlinks=False):
-                    waiting.append((entry.path, depth + 1))
-                else:
-                    size += 512 * entry.stat(follow_symlinks=False).st_blocks
-        except FileNotFoundError:               # it has gone meanwhile
-            pass
-        except OSError:
-            return MOST_KEPT + 1
+    size, files, folders = 0, 0, [(folder, 0)]
+    try:
+        for at, depth in folders:
+            with contextlib.suppress(FileNotFoundError):        # it has gone meanwhile
+                for entry in os.scandir(at):
+                    files += 1
+                    if files > MOST_FILES or depth > DEEPEST:
+                        return MOST_KEPT + 1
+                    if entry.is_dir(follow_symlinks=False):
+                        folders.append((entry.path, depth + 1))
+                    else:
+                        size += 512 * entry.stat(follow_symlinks=False).st_blocks
+    except OSError:
+        return MOST_KEPT + 1
     return size
 
 
@@ -274,19 +273,13 @@ def checked(result: int) -> int:
 
 def beside(hidden: Sequence[str]) -> Iterator[str]:
     """All that there is but the hidden paths, as few paths: what lies beside them and beside the folders above."""
-    hidden = {os.path.realpath(path) for path in hidden}
-    hidden = {path for path in hidden if not hidden & folders_above(path)}
-    above = set().union(*map(folders_above, hidden))
+    hidden = {Path(path).resolve() for path in hidden}
+    hidden = {path for path in hidden if hidden.isdisjoint(path.parents)}
+    above = {folder for path in hidden for folder in path.parents}
     for folder in above:
         with contextlib.suppress(OSError):
-            for name in os.listdir(folder):
-                path = os.path.join(folder, name)
-                if path not in hidden and path not in above and not os.path.islink(path):
-                    yield path
-
-
-def folders_above(path: str) -> set[str]:
-    return {path[:at] or "/" for at in range(len(path)) if path[at] == "/"}
+            yield from (str(path) for path in folder.iterdir()
+                        if path not in hidden and path not in above and not path.is_symlink())
 
 
 # What programs leave behind.
