@@ -263,7 +263,7 @@ def play_all(parts: list[Part], given: argparse.Namespace, jobs: int, room: str)
             for pipe, (part, process, until) in list(running.items()):
                 if pipe in ready or time.monotonic() > until:
                     del running[pipe]
-                    part.found = finished(process, pipe if pipe in ready else None)
+                    part.found = finished(process, pipe)
                     end_all([other.pid for _, other, _ in running.values()])
                     said = clean(f"{part.words()} {part.said()}".strip())
                     print(f"grade: {clean(part.student)} {part.assignment}: {said}", file=sys.stderr, flush=True)
@@ -276,14 +276,13 @@ def play_all(parts: list[Part], given: argparse.Namespace, jobs: int, room: str)
             end_all()
 
 
-def finished(process, pipe: Connection | None) -> dict:
+def finished(process, pipe: Connection) -> dict:
     """What a process has found: only what it says itself and ends well on is a result."""
     said = b""
-    if pipe:
-        with contextlib.suppress(EOFError):
-            said = pipe.recv_bytes()
-    else:
+    if not pipe.poll():         # its time is over
         process.kill()
+    with contextlib.suppress(EOFError, OSError):
+        said = pipe.recv_bytes()
     process.join()
     if process.exitcode == 0:
         return json.loads(said)
@@ -326,9 +325,9 @@ def in_all(own: list[Part]) -> str:
 def as_one(submissions: dict[str, list[Part]], seed: str) -> dict:
     """For a program. `grade` is the edition of this form."""
     def one(part):
-        result = part.result or {"points": None} | part.found
-        names = ("runs", "right", "seconds", "cases") if part.result else result
-        return {"points": part.points, "command": part.command} | {name: result[name] for name in names}
+        names = ("runs", "right", "seconds", "cases")
+        found = {name: part.result[name] for name in names} if part.result else {"points": None} | part.found
+        return {"points": part.points, "command": part.command} | found
     return {"grade": EDITION, "seed": seed, "submissions": [
         {"student": student, "in_all": in_all(own), **{part.assignment: one(part) for part in own}}
         for student, own in submissions.items()]}

@@ -9,6 +9,7 @@ import platform
 import re
 import shutil
 import socket
+import time
 from unittest import mock
 
 from lab.schedules.policies import POLICIES
@@ -183,13 +184,14 @@ class Grades(Case):
         self.assertEqual(grade.compiled(["java", "None.java"], folder, Guard()), ["java", "None.java"])
 
     def test_a_result_is_only_what_the_workshop_says_itself(self):
-        """A process that plays a part is ended, ends otherwise, or says what it shouldn't: that is no result."""
+        """A process that plays a part is ended, has a fault, hangs, or ends badly after it has said something: that is
+        no result."""
         given = mock.Mock(seconds=1, users={"anna": 0})
-        for code, why in (("os._exit(3)", "status 3"), ("os.kill(os.getpid(), 9)", "SIGKILL"),
-                          ("1 / 0", "status 2")):
+        for code, why in (("os._exit(3)", "status 3"), ("os.kill(os.getpid(), 9)", "SIGKILL"), ("1 / 0", "status 2"),
+                          ("time.sleep(30)", "SIGKILL"), ("os._exit = lambda _: os.kill(os.getpid(), 9)", "SIGKILL")):
             with self.subTest(code):
                 part = grade.Part("anna", "", "rounds", ["x"])
-                with mock.patch.object(grade, "play", lambda *_, code=code: exec(code)), \
+                with mock.patch.multiple(grade, play=lambda *_, code=code: exec(code), GRACE=0), \
                         contextlib.redirect_stderr(io.StringIO()):
                     grade.play_all([part], given, 1, "")
                 self.assertEqual(part.found, {"why": f"no result: its process ended with {why}"})
