@@ -71,15 +71,21 @@ class Forgers(unittest.TestCase):
         self.assertEqual(left_at_last(), [])
 
     def test_nothing_reaches_the_workshop(self):
-        done = call("rounds", "two", "--json", *PYTHON, program(REACHING))
+        """And nothing stays: children of sessions of their own, whose parents have ended. The environment is small, and
+        no signal is blocked, though signals wait while a program is started."""
+        more = (f"for _ in range(60):\n    away({MARK})\nsaid.append('names=' + '+'.join(sorted(os.environ)))\n"
+                "said.append(f'blocked={len(signal.pthread_sigmask(signal.SIG_BLOCK, ()))}')\n")
+        done = call("rounds", "two", "--json", *PYTHON, program(REACHING, more),
+                    env={**os.environ, "SECRET": "x", "PYTHONUNBUFFERED": "1", "HOME": "/", "LANG": "C.UTF-8"})
         self.assertEqual(done.returncode, 1, done)
         result = json.loads(done.stdout)
         self.assertEqual([case["verdict"] for case in result["cases"]], ["ended"])
         found = got(" ".join(result["shown"]))
-        self.assertEqual(found.keys(), REACHING.keys())
-        for name, what in found.items():
-            with self.subTest(name):
-                self.assertIn(what, ("PermissionError", "OSError"))
+        names = set(found.pop("names").split("+"))
+        self.assertLessEqual(names, {"HOME", "LANG", "PATH", "TMPDIR", "LC_CTYPE"})
+        self.assertLessEqual({"HOME", "LANG", "PATH"}, names)
+        self.assertEqual((found.pop("blocked"), found.keys()), ("0", REACHING.keys()))
+        self.assertLessEqual(set(found.values()), {"PermissionError", "OSError"}, found)
 
     def test_nor_anothers_node(self):
         """Nodes of two people in one network: the second can't end, trace, or speak for the first."""
@@ -94,15 +100,6 @@ class Forgers(unittest.TestCase):
         find = find.replace("int(p) < os", "int(p) > os")
         done = call("rounds", "two", "--timeout", "2", *PYTHON, program(attacks, find), *waits)
         self.assertEqual(set(got(done.stdout).values()), {"PermissionError"}, done.stdout)
-
-    def test_nothing_stays(self):
-        """Children of sessions of their own, whose parents have ended; and many of them."""
-        for count in (1, 60):
-            with self.subTest(count):
-                more = f"for _ in range({count}):\n    away({MARK})\n"
-                done = call("rounds", "two", *PYTHON, program({}, more))
-                self.assertEqual(done.returncode, 1, done)
-                self.assertEqual(left_at_last(), [])
 
     def test_nor_if_the_workshop_is_killed(self):
         """The nodes themselves end with it."""
@@ -132,26 +129,6 @@ class Forgers(unittest.TestCase):
         done = call("rounds", "path1", "--memory", "200", *PYTHON, program({}, more))
         self.assertIn("wrong: flood", done.stdout)
         self.assertIn("it takes more than 200 megabytes of memory", done.stdout)
-
-    def test_what_it_prints_is_harmless(self):
-        """No letter that a terminal obeys, and no line of its own."""
-        code = BEGIN + "print('\\x1b[2J\\x1b]0;x\\x07right\\u202e\\r\\nright')\nsys.stderr.write('\\x1b[31m')\n"
-        done = call("rounds", "two", *PYTHON, code)
-        self.assertEqual(done.returncode, 1)
-        self.assertNotRegex(done.stdout, "[\x00-\x09\x0b-\x1f\x7f\u202e]")
-        self.assertNotRegex(done.stdout, r"(?m)^right$")
-
-    def test_the_environment_is_small(self):
-        """And no signal is blocked, though signals wait while a program is started."""
-        more = ("said.append('names=' + '+'.join(sorted(os.environ)))\n"
-                "said.append(f'blocked={len(signal.pthread_sigmask(signal.SIG_BLOCK, ()))}')\n")
-        done = call("rounds", "two", *PYTHON, program({}, more),
-                    env={**os.environ, "SECRET": "x", "PYTHONUNBUFFERED": "1", "HOME": "/", "LANG": "C.UTF-8"})
-        said = got(done.stdout)
-        names = set(said["names"].split("+"))
-        self.assertLessEqual(names, {"HOME", "LANG", "PATH", "TMPDIR", "LC_CTYPE"})
-        self.assertLessEqual({"HOME", "LANG", "PATH"}, names)
-        self.assertEqual(said["blocked"], "0")
 
 
 class Guards(unittest.TestCase):

@@ -35,17 +35,16 @@ TOO_MUCH = "signal.signal(signal.SIGXFSZ, signal.SIG_DFL); open({file!r}, 'wb').
 ROWS = (
     (LONG, "silent", "it wrote nothing within 2 seconds"),
     ("print('put 0 colour', flush=True); " + LONG, "silent", "`put 0 colour`, and no line `end`"),
-    ("raise ValueError('inbox is empty')", "ended",
-     "line 12, in answer | File \"<string>\", line 8, in misbehave | ValueError: inbox is empty`"),
+    ("raise ValueError('inbox is empty\\x1b[2J')", "ended",
+     "line 12, in answer | File \"<string>\", line 8, in misbehave | ValueError: inbox is empty?[2J`"),
     ("while True: print('put 0 colour 3')", "flood", "more than 1048576 bytes"),
     ("right(['colour 0 1'] * 30_000)", "flood", "30000 lines"),
     ("os.write(1, '\\n'.join(['end', *lines, 'end', '']).encode())", "garbage", "after the line `end`"),
-    ("os.write(1, bytes(range(256)) * 4 + b'\\nend\\n')", "garbage", "is no line of an answer"),
+    ("os.write(1, '\\u202e\\r'.encode() + bytes(range(256)) * 4 + b'\\nend\\n')", "garbage", "is no line of an answer"),
     ("os.close(1); " + LONG, "ended", "goes on running"),
     (f"subprocess.Popen(['sleep', {MARK!r}]); " + LONG, "silent", "it wrote nothing within 2 seconds"),
     ("bytearray(1 << 31)", "ended", "MemoryError"),
     (TOO_MUCH, "ended", "SIGXFSZ (it wrote too much"),
-    ("right(lines); sys.exit(0)", "ended", "status 0 instead of an answer"),
     ("sys.stderr.write('debugging\\n' * 100_000); right(lines)", None, ""),
 )
 # The same from the first message on.
@@ -82,21 +81,26 @@ class Misbehaving(Played):
     def tearDown(self):
         self.assertEqual(left_at_last(), [])
 
-    def named(self, how: str, node: list[str], kind: str | None, words: str, timeout: float = 2) -> None:
-        found = played("rounds", "two", node, timeout=timeout).finding
+    def named(self, how: str, kind: str | None, words: str, *nodes: list[str], timeout: float = 2) -> None:
+        """What it says is harmless: it has no letter that a terminal obeys."""
+        found = played("rounds", "two", *nodes, timeout=timeout).finding
         said = dict(found.lines) if found else {}
-        good = (found and found.kind) == kind and (not kind or words in said["wrong"])
+        good = (found and found.kind) == kind and (not kind or words in said["wrong"]) and "".join(
+            said.values()).isprintable()
         place = re.fullmatch(r"node 1, pulse [045] \(\w+\)", said.get("where", "node 1, pulse 4 (step)"))
         self.note(how, good and place, said)
         self.same(f"{how}: none is left", left_at_last(), [])
 
     def test_each_is_named(self):
         for code, kind, words in ROWS:
-            self.named(code, command(code.replace("{file!r}", repr(os.path.join(self.folder, "big")))), kind, words)
+            self.named(code, kind, words, command(code.replace("{file!r}", repr(os.path.join(self.folder, "big")))))
         for code, kind, words in AT_ONCE:
-            self.named(code, command(code, 1), kind, words, 0.3 if kind else 2)
-        self.named("goes at once", [sys.executable, "-S", "-c", "", MARK], "ended", "status 0")
-        self.named("stays", command("right(lines)", last=LONG), None, "")
+            self.named(code, kind, words, command(code, 1), timeout=0.3 if kind else 2)
+        self.named("goes at once", "ended", "status 0", [sys.executable, "-S", "-c", "", MARK])
+        # The other answers late, so that the end of this one's output is there before its next message.
+        self.named("goes after an answer", "ended", "status 0 instead of an answer",
+                   command("right(lines); sys.exit(0)"), command("time.sleep(0.5); right(lines)"))
+        self.named("stays", None, "", command("right(lines)", last=LONG))
 
     def test_a_late_answer_to_a_wrong_step_isn_t_waited_for(self):
         """Node 2 hangs in pulse 1, but before that it acknowledges nothing: that is what it is told."""
