@@ -13,8 +13,6 @@ NO_ACK = "it can't have said safe yet: it lacks the acknowledgement of pulse 0 f
 PULSE = "a node makes its next pulse once it has said safe and has the safes of all its neighbours"
 # (the entries of edition 2, the line that is said)
 ROWS = (
-    (f"1 1 put 2 {HELLO_1}|2 1 put 2 safe 0|",
-     f"line 3: NothingToPut: node 1 puts safe 0 for 2, for which it has nothing; {SAFE}; {NO_ACK}"),
     (GREETED + "3 2 put 1 ack 1|",
      "line 6: WrongWire: node 2 puts ack 1 for 1, but the next one there is ack 0; a payload is acknowledged with its "
      "own pulse as soon as it is taken, before anything else is put on that link"),
@@ -33,8 +31,6 @@ ROWS = (
     (ACKED + "5 1 put 2 safe 0|6 1 put 2 safe 1|",
      "line 11: NothingToPut: node 1 puts safe 1 for 2, for which it has nothing; the node is at pulse 0, and safe P is "
      "said in pulse P"),
-    ("1 1 pulse 1|",
-     f"line 2: NotReady: node 1 makes pulse 1, but it lacks ack 0 of 2; safe 0 of 2; {PULSE}; {NO_ACK}"),
     ("1 3 pulse 1|", "line 2: NoSuch: node 3 makes pulse 1, but the nodes are 1 to 2"),
     ("1 1 put 1 safe 0|", "line 2: NoSuch: node 1 puts safe 0 for 1, which is no neighbour of 1"),
     (f"1 1 take 2 {HELLO_2}|1 2 put 1 {HELLO_2}|",
@@ -94,8 +90,6 @@ class Transcripts(Case):
 
     def test_of_edition_1(self):
         for entries, line in (
-            (f"1 put 2 {HELLO_1}|1 put 2 safe 0|",
-             f"line 3: NothingToPut: node 1 puts safe 0 for 2, for which it has nothing; {SAFE}; {NO_ACK}"),
             (f"1 put 2 {HELLO_1}|1 take 2 {HELLO_2}|2 put 1 {HELLO_2}|2 take 1 {HELLO_1}|",
              "line 5: NotWhole: after the last entry nothing is on its way, and not all is done: node 1 at pulse 0 "
              "doesn't put 2 ack 0; node 2 at pulse 0 doesn't put 1 ack 0"),
