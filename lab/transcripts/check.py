@@ -38,7 +38,7 @@ Of a transcript that is right it prints one line, as
   whole run of 3 nodes, 658 entries, 49 payloads, 284 wires
 Of any other it prints on standard error one line with the line of the transcript
 and what is wrong there, as
-  line 6: LinkEmpty: node 1 takes payload 0 hello 3 from 3, which never puts it
+  line 6: LinkEmpty: node 1 takes payload 0 hello 3 from 3, which hasn't put it by then
 
   X1            neither the first line, as `transcript 2 N`, nor an entry, as one with a
                 payload of another program: give its name, --program
@@ -66,7 +66,7 @@ class Found:
     first one."""
 
     def __init__(self, net, entries, program):
-        self.entries, self.is_stamped = entries, bool(entries) and entries[0].stamp is not None
+        self.is_stamped = bool(entries) and entries[0].stamp is not None
         self.state, self.clock, self.made = NetState(net, program), Clock(net.neighbours), []
         self.left, self.refusals = {}, {}
         for entry in entries:
@@ -108,7 +108,7 @@ class Found:
         entry = self.first_refused()
         if entry is None or fault and self.waits(entry) or is_part and set(self.refusals.values()) == {"LinkEmpty"}:
             return fault
-        return refusal(self.state, entry, self.refusals[entry.vertex], self.entries, self.clock)
+        return refusal(self.state, entry, self.refusals[entry.vertex], self.clock)
 
     def is_whole(self):
         return not self.refusals and not any(unfinished(self.state))

@@ -42,46 +42,28 @@ def standing(state, v):
     return Standing(node.pulse_number, node.last, node.can_pulse(), lacks, puts, "for {}")
 
 
-def refusal(state, entry, code, entries, clock):
-    """Of an entry that isn't possible: what it lacks, and the rule that a pulse or a put breaks."""
-    said = words(entry) + lacked(state, entry, code)
-    if code == "LinkEmpty":
-        said += why_link_empty(entry, entries)
+# What an entry lacks, of the refusals that say no more of it.
+LACKED = {"NoSuch": ", but there is no such node or neighbour", "NothingToPut": ", for which it has nothing",
+          "LinkEmpty": ", which hasn't put it by then (is the text cut?)"}
+
+
+def refusal(state, entry, code, clock):
+    """Of an entry that isn't possible: what it lacks or what is due there, and the rule that a pulse or a put
+    breaks."""
+    said, at = words(entry) + LACKED.get(code, ""), code != "NoSuch" and standing(state, entry.vertex)
+    if code == "NotReady" and at.lacks:
+        said += f", but it lacks {at.lacks}"
+    elif code == "WrongWire":
+        due = state.carried(*event_of(state, entry))
+        said += f", but the next one there is {due if entry.kind == 'Pulse' else wire_words(due)}"
     elif code == "WrongStamp":
         due = clock.counters[entry.vertex]
         said += f" with stamp {entry.stamp}, but " + (
             f"the clock there gives {due}" if entry.stamp != due else "entries ascend by stamp, and then by node")
-    elif code != "NoSuch" and entry.kind != "Take":
+    if code in ("NotReady", "NothingToPut", "WrongWire") and entry.kind != "Take":
         what = f"pulse {entry.what}" if entry.kind == "Pulse" else f"put {entry.neighbour} {wire_words(entry.what)}"
-        said += f"; {rule_of(standing(state, entry.vertex), what, says_lacks=False)}"
+        said += f"; {rule_of(at, what, says_lacks=False)}"
     return Wrong(entry.line, code, said)
-
-
-def lacked(state, entry, code):
-    """What an entry lacks, or what is due there, as far as the words of its rule don't say it."""
-    match code:
-        case "NoSuch" if entry.vertex in state.nodes:
-            return f", which is no neighbour of {entry.vertex}"
-        case "NoSuch":
-            return f", but the nodes are 1 to {len(state.nodes)}"
-        case "NothingToPut":
-            return ", for which it has nothing"
-        case "NotReady" if lacks := standing(state, entry.vertex).lacks:
-            return f", but it lacks {lacks}"
-        case "WrongWire":
-            due = state.carried(*event_of(state, entry))
-            return f", but the next one there is {due if entry.kind == 'Pulse' else wire_words(due)}"
-    return ""
-
-
-def why_link_empty(entry, entries):
-    """Of a wire that isn't there: where it is put, or that it never is."""
-    link = entry.neighbour, entry.vertex
-    taken = sum(e.kind == "Take" and (e.neighbour, e.vertex) == link and e.line < entry.line for e in entries)
-    puts = [e for e in entries if e.kind == "Put" and (e.vertex, e.neighbour) == link][taken:]
-    put = next((e for e in puts if e.what == entry.what), None)
-    return f"; it is put in line {put.line}, which can't have come before" if put else (
-        f", and {entry.neighbour} never puts it (is the text cut?)")
 
 
 def unfinished(state):

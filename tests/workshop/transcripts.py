@@ -31,21 +31,13 @@ ROWS = (
     (ACKED + "5 1 put 2 safe 0|6 1 put 2 safe 1|",
      "line 11: NothingToPut: node 1 puts safe 1 for 2, for which it has nothing; the node is at pulse 0, and safe P is "
      "said in pulse P"),
-    ("1 3 pulse 1|", "line 2: NoSuch: node 3 makes pulse 1, but the nodes are 1 to 2"),
-    ("1 1 put 1 safe 0|", "line 2: NoSuch: node 1 puts safe 0 for 1, which is no neighbour of 1"),
-    (f"1 1 take 2 {HELLO_2}|1 2 put 1 {HELLO_2}|",
-     "line 2: LinkEmpty: node 1 takes payload 0 hello 2 from 2; it is put in line 3, which "
-     "can't have come before"),
-    (f"1 1 take 2 {HELLO_2}|",
-     "line 2: LinkEmpty: node 1 takes payload 0 hello 2 from 2, and 2 never puts it (is the text cut?)"),
-    # What is put there later is another wire.
-    (f"1 1 take 2 {HELLO_2}|2 2 put 1 ack 0|",
-     "line 2: LinkEmpty: node 1 takes payload 0 hello 2 from 2, and 2 never puts it (is the text cut?)"),
-    (f"1 1 take 2 {HELLO_2}|2 2 put 1 ack 0|3 2 put 1 {HELLO_2}|",
-     "line 2: LinkEmpty: node 1 takes payload 0 hello 2 from 2; it is put in line 4, which "
-     "can't have come before"),
-    (f"1 1 put 2 {HELLO_1}|1 2 put 1 {HELLO_2}|2 1 take 2 {HELLO_2}|3 1 take 2 {HELLO_2}|",
-     "line 5: LinkEmpty: node 1 takes payload 0 hello 2 from 2, and 2 never puts it (is the text cut?)"),
+    ("1 3 pulse 1|", "line 2: NoSuch: node 3 makes pulse 1, but there is no such node or neighbour"),
+    ("1 1 put 1 safe 0|", "line 2: NoSuch: node 1 puts safe 0 for 1, but there is no such node or neighbour"),
+    *((f"{entries}1 take 2 {HELLO_2}|{more}", f"line {line}: LinkEmpty: node 1 takes payload 0 hello 2 from 2, which "
+                                              "hasn't put it by then (is the text cut?)")
+      for entries, more, line in (
+          ("1 ", f"1 2 put 1 {HELLO_2}|", 2), ("1 ", "", 2), ("1 ", "2 2 put 1 ack 0|", 2),
+          (f"1 1 put 2 {HELLO_1}|1 2 put 1 {HELLO_2}|2 1 take 2 {HELLO_2}|3 ", "", 5))),
     # Nothing is on its way: it isn't asked whether the text is cut.
     (GREETED, "line 5: NotWhole: after the last entry nothing is on its way, and not all is done: node 1 at pulse 0 "
               "doesn't put 2 ack 0; node 2 at pulse 0 doesn't put 1 ack 0"),
