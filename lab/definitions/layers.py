@@ -53,8 +53,3 @@ class Layers:
         if self.layer is None:
             return "layer none"
         return f"layer {self.layer}" if self.by is None else f"layer {self.layer} by {self.by}"
-
-
-def with_root(root: int) -> type:
-    """The program whose root is this vertex."""
-    return type("Layers", (Layers,), {"root": root})

@@ -50,8 +50,3 @@ class Recolouring(Sequel):
 
     def drawn(self) -> tuple[int | None, int | None]:
         return self.present(), None
-
-
-def with_passes(passes: int) -> type:
-    """The program that makes as many passes."""
-    return type("Recolouring", (Recolouring,), {"passes": passes})

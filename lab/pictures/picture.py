@@ -12,7 +12,7 @@ from typing import NamedTuple
 from lab import programs
 from lab.definitions.colours import plan_text as plan_by_definition
 from lab.definitions.nodes import Colouring
-from lab.definitions.programs import add_program, check_root, note_ignored_bars, program_at, program_words
+from lab.definitions.programs import add_program, program_asked, program_words
 from lab.networks.named import network_text
 from lab.networks.network_text import read_network, stem
 from lab.networks.plan_text import read_plan
@@ -464,11 +464,9 @@ def run_text(given, network, network_text, program):
                             network_text)
 
 
-def asked_by(given):
-    """What the command line asks for, but for its network and texts."""
-    named = (getattr(given, option, default) for option, default in (
-        ("program", Colouring.name), ("lots", "1"), ("root", None), ("passes", None)))
-    return Asked(**vars(given) | {"program": program_at(*named), "network": None,
+def asked_by(given, network=None):
+    """What the command line asks for, but for its texts."""
+    return Asked(**vars(given) | {"program": program_asked("picture", given, network), "network": network,
                                   "progress": progress if sys.stderr.isatty() else None})
 
 
@@ -489,12 +487,10 @@ def drawn(given):
     network = read_network(data, called(given.network))
     network.name = given.title or ("this network" if given.network == "-" else network.name)
     check_size(given.kind, network)
-    asked = asked_by(given)
-    check_root(asked.program, network.nodes)
-    asked.network, asked.texts = network, texts_of(given, network, data.encode(), asked.program)
+    asked = asked_by(given, network)
+    asked.texts = texts_of(given, network, data.encode(), asked.program)
     if KINDS[given.kind].is_placed and (said := unused_places(network)):
         note(said)
-    note_ignored_bars("picture", network.bars, asked.program)
     return drawing(given.kind, asked)
 
 

@@ -4,8 +4,7 @@ import re
 from dataclasses import replace
 
 from lab.definitions.nodes import Colouring, ports_of, synchronous_pulses
-from lab.definitions.own_program import check_repeats, what_is_wrong
-from lab.definitions.programs import PLAYED, base_of
+from lab.definitions.own_program import OwnNode, check_repeats, what_is_wrong
 from lab.definitions.pulses import Rounds
 from lab.networks.network_text import whole
 from lab.wrong import Wrong, wrong_line
@@ -79,8 +78,8 @@ def least_wires(network, program=Colouring):
 
 
 def is_own(program):
-    """Whether no proved program runs a program: it is from a file, or known by its definition alone."""
-    return base_of(program) not in PLAYED
+    """Whether no proved program runs a program: it is from a file."""
+    return issubclass(program, OwnNode)
 
 
 def identifiers_of(lines, network, name):

@@ -7,7 +7,7 @@ from collections import Counter
 from typing import NamedTuple
 
 from lab.definitions.own_program import AGAIN, check_repeats
-from lab.definitions.programs import add_program, check_root, note_ignored_bars, program_at
+from lab.definitions.programs import add_program, program_asked
 from lab.networks.named import network_at
 from lab.schedules.ruled_rounds import ruled, smallest_wrong
 from lab.schedules.rules import ALL, OF_SCHEDULES, program_of, table, unknown_to
@@ -124,10 +124,9 @@ class Found(NamedTuple):
 
 def rounds_found(given):
     """What the rounds of the network do without the rules, or a smallest network on which they go wrong."""
-    program, refused = program_at(given.program, given.lots, given.root, given.passes), refused_words(given.without)
-    if given.network is not None:
-        net = network_at(given.network)
-        note_ignored_bars("explore", net.bars, program)
+    net, refused = None if given.network is None else network_at(given.network), refused_words(given.without)
+    program = program_asked("explore", given, net)
+    if net is not None:
         rounds = ruled(program)(net, given.without)
         if not rounds.clash:
             return Found(False, f"not broken: the rounds of {net.name} go right\n{refused}")
@@ -173,9 +172,7 @@ def searched(given, net):
         sys.stderr.write(f"\r\033[Kexplore: {states:,} states of at most {given.limit:,}, {depth} events far")
         sys.stderr.flush()
 
-    program = program_at(given.program, given.lots, given.root, given.passes)
-    check_root(program, net.nodes)
-    note_ignored_bars("explore", net.bars, program)
+    program = program_asked("explore", given, net)
     check_repeats(net, program)
     try:
         space = Space(net, given.without, given.limit, given.puts, False, progress if show else None, given.reduce,

@@ -17,7 +17,6 @@ from lab.definitions.colours import at_parent, bit, first_colours, merged, other
 from lab.definitions.independent_set import IndependentSet
 from lab.definitions.matching import Matching
 from lab.definitions.nodes import Colouring, ports_of, synchronous_run
-from lab.definitions.programs import base_of
 from lab.definitions.recolouring import Recolouring
 from lab.network import Network
 from lab.schedules.rules import OF_FORESTS
@@ -164,7 +163,7 @@ class RuledSequel:
     """`faults` are what isn't right at the end, and `clash` is the first of them, or None."""
 
     def __init__(self, net, without, program):
-        base = RULED[base_of(program)]
+        base = next(ruled for base, ruled in RULED.items() if issubclass(program, base))
         self.net, self.program = net, type(program.__name__, (base, program), {"without": frozenset(without)})
         self.nodes = synchronous_run(net, self.program)
         self.faults = list(base.faults(net, self.nodes))

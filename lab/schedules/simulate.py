@@ -8,7 +8,7 @@ from collections import deque
 
 from lab.definitions.nodes import Colouring, NetState, Refused, missing_words
 from lab.definitions.own_program import check_repeats
-from lab.definitions.programs import add_program, check_root, note_ignored_bars, program_at
+from lab.definitions.programs import add_program, program_asked
 from lab.networks.fields import shown
 from lab.networks.named import network_at
 from lab.schedules.policies import POLICIES, Policy, Step
@@ -188,7 +188,6 @@ def check_names(net, given):
 
 def run_asked(net, given, program):
     """The entries of the run that the command line asks for; a list that ends early is said."""
-    note_ignored_bars("simulate", net.bars, program)
     if not given.events:
         return played(net, given.policy, given.seed, given.slow, given.lazy, program=program)
     player, name = Player(net, program), called(given.events)
@@ -209,8 +208,7 @@ def main(words):
         line.error("standard input is one file, not two")
     net = network_at(given.network)
     check_names(net, given)
-    program = program_at(given.program, given.lots, given.root, given.passes)
-    check_root(program, net.nodes)
+    program = program_asked("simulate", given, net)
     write(given, text_of_run(net.nodes, run_asked(net, given, program), program))
     return 0
 

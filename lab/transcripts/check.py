@@ -9,7 +9,7 @@ import sys
 from collections import deque
 
 from lab.definitions.nodes import Colouring, NetState, Refused, make
-from lab.definitions.programs import add_program, check_root, note_ignored_bars, program_at
+from lab.definitions.programs import add_program, program_asked
 from lab.networks.named import network_bytes
 from lab.networks.network_text import network_of
 from lab.transcripts.fields import fields_of
@@ -202,9 +202,7 @@ def texts_of(given):
         raise WrongNetwork("standard input has one text: name a file for the network or for the transcript")
     network = network_bytes(given.network)
     net = network_of(network, called(given.network))
-    program = program_at(given.program, given.lots, given.root, given.passes)
-    check_root(program, net.nodes)
-    return net, network, bytes_at(given.transcript), program
+    return net, network, bytes_at(given.transcript), program_asked("transcript", given, net)
 
 
 def main(words):
@@ -212,7 +210,6 @@ def main(words):
     # Nothing that is made here goes round in a circle that would have to be collected before the end.
     gc.disable()
     net, _, text, program = texts_of(given)
-    note_ignored_bars("transcript", net.bars, program)
     try:
         made, said = whole_run(net, text, program)
     except Wrong as wrong:
