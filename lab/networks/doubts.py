@@ -67,12 +67,12 @@ def kind_of(field: str) -> str:
     return "whole" if whole(field) is not None else "number" if is_number(field) else "name"
 
 
-def doubts_of_pairs(pairs: Pairs, is_closed: bool, is_unknown: bool) -> Doubts:
+def doubts_of_pairs(pairs: Pairs, is_closed: bool) -> Doubts:
     """Of rows that may be a title, a sum, a count or a heading; or if they are `is_closed`, so that each is
     a node with neighbours that have rows, a node without one."""
     rows = [(line, [end for end in ends if end]) for line, *ends in pairs.rows]
     yield from odd_rows(pairs, rows)
-    yield from single_nodes(pairs, rows, is_closed, is_unknown)
+    yield from single_nodes(pairs, rows, is_closed)
     if pairs.separator is None and not all(pairs.is_apart(ends) for _, ends in rows):
         apart = [row for row in rows if pairs.is_apart(row[1])]
         known = {look_of(end) for _, ends in rows[1:] if not pairs.is_apart(ends)
@@ -112,14 +112,14 @@ def odd_rows(pairs: Pairs, rows: list[tuple[int, list[str]]]) -> Doubts:
         yield line, f"`{shown(' '.join(last))}` may be a sum or a footer"
 
 
-def single_nodes(pairs: Pairs, rows: list[tuple[int, list[str]]], is_closed: bool, is_unknown: bool) -> Doubts:
+def single_nodes(pairs: Pairs, rows: list[tuple[int, list[str]]], is_closed: bool) -> Doubts:
     """A line of one node that may be a title, a count, or a cell that is merged with the one above: pairs come after
     it, or its node has pairs, too; or it is 0, and the numbers count from 1."""
     last = max((line for line, ends in rows if len(ends) > 1), default=0)
     looks = {look_of(end) for _, ends in rows if len(ends) > 1 for end in ends}
     for line, ends in rows:
         one, times = ends[0], pairs.times[ends[0]]
-        if len(ends) > 1 or line == rows[0][0] and not is_unknown:
+        if len(ends) > 1:
             continue
         is_end = one == "0" and line == rows[-1][0] and all(whole(end) for _, ends in rows[:-1] for end in ends)
         is_odd = times == 1 and (SUMS.fullmatch(one) or DATE.fullmatch(one) or look_of(one) not in looks)

@@ -143,7 +143,7 @@ def read_pairs(table: Table, name: str, heading: bool | None, is_sure: bool) -> 
     rows = [(line, *ends_of(line, fields, columns, len(titles) if named else None, name)) for line, fields in body]
     if not is_sure:
         pairs = Pairs(rows, table.separator, is_headed)
-        refuse(doubts_of_pairs(pairs, closed, heading is None), name)
+        refuse(doubts_of_pairs(pairs, closed), name)
         refuse(doubts_of_names(pairs), name)
         refuse(doubts_of_shape(pairs, named is not None), name)
         refuse(doubts_of_columns(titles, body, columns, set(pairs.lines)), name)

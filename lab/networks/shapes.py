@@ -22,17 +22,11 @@ def shapes(rows: Rows, separator: str | None, text: str) -> Iterator[tuple[bool,
     fields = [row for _, row in rows]
     known = {field for row in fields for field in row if field}
     yield all(row[0] in ("c", "p") for row in fields), "DIMACS without an `e` line: is it cut?"
-    mark = next((field for field in known if field != ":" and not any(map(str.isalnum, field))), "")
-    yield "|" in mark or all("|" in row[0] and not any(row[1:]) for row in fields), (
-        "a table with bars, which isn't read: save it as CSV (psql --csv, mysql -B, sqlite3 -csv)")
-    yield bool(mark), f"rows with `{shown(mark)}`, which is no name of a node"
-    yield any(row[0].startswith("//") for row in fields), "rows with comments after `//`: remove these lines"
-    yield have_counts(fields), "pairs and single nodes, or nodes and a line for each neighbour (--as multiline)"
-    yield any(map(is_broken, known)), ("names in brackets or braces with blanks or commas, which can't be separated "
-                                       "(networkx: nx.convert_node_labels_to_integers(G), nx.write_graphml(G, FILE))")
-    inside = [] if separator else [field for field in known if re.search("[,;]", without_inner_commas(field))]
-    yield bool(inside), (f"rows with `{shown(min(inside, default=''))}`, whose mark separates fields elsewhere, and "
-                         "not each line has one")
+    odd = [field for field in known
+           if is_odd(field) or not separator and re.search("[,;]", without_inner_commas(field))]
+    yield bool(odd), (f"rows with `{shown(min(odd, default=''))}`, which is no name of a node: a comment, a part of a "
+                      "table with bars (save it as CSV: psql --csv, mysql -B, sqlite3 -csv), a mark that separates "
+                      "fields elsewhere, or a name that has blanks in brackets (networkx: nx.write_graphml(G, FILE))")
     yield are_parted(text, known), "nodes and edges in parts that a line with `#` begins, as TGF and LGL have"
     yield is_by_line(rows) or is_by_line(rows[1:]), (
         "METIS, or lines with the neighbours of the node that is their number: without its first line it is adjacency "
@@ -40,15 +34,18 @@ def shapes(rows: Rows, separator: str | None, text: str) -> Iterator[tuple[bool,
     yield has_counts(fields), (f"pairs below a line (`{shown(' '.join(fields[0]))}`) of how many nodes and edges there "
                                "are: remove it then")
     yield is_matrix(fields), "a matrix (networkx: nx.from_numpy_array(numpy.loadtxt(FILE)), nx.write_graphml(G, FILE))"
-    yield are_degrees(fields), "nodes and how many neighbours each has"
-    yield all(row[1:] == ["0"] for row in fields), "pairs with 0, or nodes without neighbours (--as multiline)"
+    last = max((at for at, row in enumerate(fields) if any(row[1:])), default=0)
+    yield fields[last][1:] == [str(len(fields) - last - 1)] and all(row[1:] == ["0"] for row in fields[:last]), (
+        "pairs, or nodes and how many lines of neighbours each has (--as multiline)")
     yield all(not any(row[1:]) for row in fields), "a list of names, or graph6 without its head (--as graph6)"
 
 
-def is_broken(field: str) -> bool:
-    """Whether a field has brackets that aren't in pairs, or braces as no name has them."""
-    return any(field.count(one) != field.count(other) for one, other in ("()", "[]", "{}")) or (
-        field.startswith("{") or field.endswith("{}") or DATA.search(field) is not None)
+def is_odd(field: str) -> bool:
+    """Whether a field has bars, marks alone or a comment's, brackets that aren't in pairs, or braces as no name has
+    them."""
+    return "|" in field or field.startswith(("//", "{")) or field.endswith("{}") or DATA.search(field) is not None or (
+        field != ":" and not any(map(str.isalnum, field))) or any(
+            field.count(one) != field.count(other) for one, other in ("()", "[]", "{}"))
 
 
 def are_parted(text: str, known: set[str]) -> bool:
@@ -59,48 +56,26 @@ def are_parted(text: str, known: set[str]) -> bool:
         row[0] == "#" and len(row) == 2 and (is_number(row[1]) or row[1] in known) for row in words)
 
 
-def have_counts(fields: list[list[str]]) -> bool:
-    """Whether each row of two has a number, and is followed by as many rows of one; some by one or more."""
-    at, most = 0, 0
-    while at < len(fields):
-        count = whole(fields[at][1]) if len(fields[at]) == 2 else None
-        below = fields[at + 1:at + 1 + min(count or 0, len(fields))]
-        if count is None or len(below) < count or any(len(row) != 1 for row in below):
-            return False
-        at, most = at + 1 + count, max(most, count)
-    return most > 0
-
-
 def is_by_line(rows: Rows) -> bool:
     """Whether each line may have the neighbours of the node that is its number, counted from 0 or from 1."""
-    if not rows or None in map(whole, rows[0][1]):
-        return False
-    for first in {rows[0][0], rows[0][0] - 1, 1, 0}:
-        lines = {line - first: set(map(whole, fields)) for line, fields in rows}
-        if all(other in lines and other != node and node in lines[other] for node, ones in lines.items()
-               for other in ones):
-            return True
-    return False
+    numbered = ({line - first: set(map(whole, fields)) for line, fields in rows}
+                for first in {0, 1, *(line - up for line, _ in rows[:1] for up in (0, 1))})
+    return rows != [] and any(all(other in lines and other != node and node in lines[other]
+                                  for node, ones in lines.items() for other in ones) for lines in numbered)
 
 
 def has_counts(fields: list[list[str]]) -> bool:
-    """Whether the first row, or the first two of one number each, may count the nodes and the edges of the pairs below,
-    which have numbers alone; as those of METIS, each line of which has the neighbours of a node."""
-    single = next((at for at, row in enumerate(fields) if len(row) != 1), len(fields))
-    first = [whole(field) for row in fields[:max(single, 1)] for field in row]
-    body = [list(map(whole, row[:2])) for row in fields[max(single, 1):]]
+    """Whether the first row may count the nodes and the edges of the pairs below, which have numbers alone; as that of
+    METIS, each line of which has the neighbours of a node."""
+    first, body = list(map(whole, fields[0])), [list(map(whole, row[:2])) for row in fields[1:]]
     ends = sum(body, [])
-    if not body or None in ends + first:
+    if not body or len(first) < 2 or None in ends + first:
         return False
     entries, least = sum(map(len, fields[1:])), min(max(ends), len(set(ends)))
     if len(body) > 2 and len(first) == 2 and max(len(body), max(ends)) <= first[0] and entries in (
             first[1], 2 * first[1]):
         return True
-    if any(len(row) < 2 for row in body):
-        return False
-    if single:
-        return single <= 2 and any(count not in ends and (count == len(body) or count > max(ends)) for count in first)
-    if len(fields[1]) < 3 and set(first[:2]) in map(set, body):
+    if min(map(len, body)) < 2 or len(fields[1]) < 3 and set(first[:2]) in map(set, body):
         return False
     if len(first) == 3 and first[0] == first[1] and (first[2] == len(body) or max(ends) <= first[0]):
         return True
@@ -109,16 +84,6 @@ def has_counts(fields: list[list[str]]) -> bool:
     return max(map(len, fields)) < 4 and any(
         one >= least and other in (len(body), 2 * len(body)) or one == len(body) and other >= least
         for one, other in zip(first, first[1:]))
-
-
-def are_degrees(fields: list[list[str]]) -> bool:
-    """Whether each line may be a node of its own and how many neighbours it has: fewer than there are lines, with an
-    even sum. A tree may look so, too, if each line names a node before its parent; only its root has no line."""
-    if len(fields) < 3 or any(len(row) != 2 or None in map(whole, row) for row in fields):
-        return False
-    nodes, counts = {row[0] for row in fields}, [whole(row[1]) for row in fields]
-    are_few = len(nodes) == len(fields) > max(counts) and sum(counts) % 2 == 0
-    return are_few and len({row[1] for row in fields} - nodes) > 1
 
 
 def is_matrix(fields: list[list[str]]) -> bool:
