@@ -10,9 +10,9 @@ from lab.networks import by_networkx
 from lab.networks.reading import listed_of
 from lab.wrong import Wrong
 from tests.cases import Case
-from tests.programs.foreign_texts import found_in, spoilt
+from tests.programs.foreign_texts import found_in
 
-GRAPHS, MUTATED, SEED = 60, 1500, 20261129
+GRAPHS, SEED = 60, 20261129
 NAMES = (range(8), range(1, 9), ("Ulm", "Aue", "Hof", "Köln", "g.h", "e-f", "B{2}", "n"),
          ("Bad Tölz", "a b", "x,y", "#1", "say", "z;1", "node", "graph"))
 
@@ -52,30 +52,22 @@ def leda(graph):
 
 
 def forms(nx):
-    """(the form, its writer, the reader of networkx, words for `read`, whether it has names of nodes)."""
+    """(the form, its writer, words for `read`, whether it has names of nodes)."""
     def numbered(graph):
         plain = nx.Graph(nx.convert_node_labels_to_integers(graph))
         plain.remove_edges_from(list(nx.selfloop_edges(plain)))
         return plain
-
-    def from_graph6(text):
-        return nx.from_graph6_bytes(text.strip().encode())
     return (
-        ("GraphML", written(nx.write_graphml_xml), lambda text: nx.parse_graphml(text, force_multigraph=True), {},
-         True),
-        ("GML", lambda graph: "\n".join(nx.generate_gml(graph, str)), lambda text: nx.parse_gml(text, label="id"), {},
-         True),
-        ("JSON", lambda graph: json.dumps(nx.node_link_data(graph, edges="links")),
-         lambda text: nx.node_link_graph(json.loads(text), edges="links"), {}, True),
-        ("GEXF", written(nx.write_gexf), lambda text: nx.read_gexf(io.BytesIO(text.encode())), {}, True),
-        ("Pajek", lambda graph: "\n".join(nx.generate_pajek(graph)), lambda text: nx.parse_pajek(text.split("\n")), {},
-         True),
-        ("LEDA", leda, lambda text: nx.parse_leda(text.split("\n")), {}, True),
-        ("graph6", lambda graph: nx.to_graph6_bytes(numbered(graph)).decode(), from_graph6, {}, False),
-        ("graph6 without a head", lambda graph: nx.to_graph6_bytes(numbered(graph), header=False).decode(), from_graph6,
+        ("GraphML", written(nx.write_graphml_xml), {}, True),
+        ("GML", lambda graph: "\n".join(nx.generate_gml(graph, str)), {}, True),
+        ("JSON", lambda graph: json.dumps(nx.node_link_data(graph, edges="links")), {}, True),
+        ("GEXF", written(nx.write_gexf), {}, True),
+        ("Pajek", lambda graph: "\n".join(nx.generate_pajek(graph)), {}, True),
+        ("LEDA", leda, {}, True),
+        ("graph6", lambda graph: nx.to_graph6_bytes(numbered(graph)).decode(), {}, False),
+        ("graph6 without a head", lambda graph: nx.to_graph6_bytes(numbered(graph), header=False).decode(),
          {"form": "graph6"}, False),
-        ("sparse6", lambda graph: nx.to_sparse6_bytes(numbered(graph)).decode(),
-         lambda text: nx.from_sparse6_bytes(text.strip().encode()), {}, False),
+        ("sparse6", lambda graph: nx.to_sparse6_bytes(numbered(graph)).decode(), {}, False),
     )
 
 
@@ -99,7 +91,7 @@ class ByNetworkx(Case):
 
     def test_written(self):
         import networkx
-        for form, writer, _, words, has_names in forms(networkx):
+        for form, writer, words, has_names in forms(networkx):
             wrong = []
             # Names of LEDA can't have braces.
             for graph in graphs(networkx, random.Random(SEED), NAMES[:2] if form == "LEDA" else NAMES):
@@ -109,24 +101,6 @@ class ByNetworkx(Case):
                 if got != wanted(graph):
                     wrong.append((text, got, wanted(graph)))
             self.note(f"{form}: the same network", not wrong, (len(wrong), wrong[:1]))
-
-    def test_mutated(self):
-        """A text with a mistake that both read is the same network to both, in the forms that tell nodes exactly."""
-        import networkx as nx
-        source, wrong, both = random.Random(SEED), [], 0
-        while both < MUTATED // 5:
-            form, writer, reader, words, _ = source.choice(forms(nx))
-            graph = source.choice(list(graphs(nx, random.Random(source.randrange(10)))))
-            text = spoilt(source, writer(nx.convert_node_labels_to_integers(graph)), "")
-            got = found_in(text.encode(), **words)[0]
-            try:
-                theirs = wanted(reader(text)) if got is not None else None
-            except Exception:
-                theirs = None
-            both += theirs is not None
-            if theirs is not None and [len(part) for part in got] != [len(part) for part in theirs]:
-                wrong.append((form, text, got, theirs))
-        self.note("the same network to both", not wrong, (len(wrong), wrong[:1]))
 
     def test_counted(self):
         """An edge that comes twice, weights, labels of edges, and edges that may count from 0."""
@@ -139,6 +113,13 @@ class ByNetworkx(Case):
         ):
             (edges, _), left_out = found_in(text.encode())
             self.note(wanted, len(edges) == len(left_out) == 1 and left_out[0].startswith(wanted), left_out)
+
+    def test_otherwise(self):
+        """What networkx reads otherwise, or not at all, is refused."""
+        for text, words in (('*vertices 2\n1 "Ulm"\n2 "Ulm"\n*edges\n1 2\n', "have two nodes one name"),
+                            (":~\n", "networkx can't read it as sparse6")):
+            with self.subTest(text), self.assertRaisesRegex(Wrong, words):
+                listed_of(text.encode(), "net")
 
     def test_encodings(self):
         """The encoding that XML declares is obeyed."""
