@@ -21,8 +21,7 @@ from lab.pictures import (adversary_page, automaton_picture, bits_picture, broke
                           rounds_picture, run_picture, schedules_picture, schedules_space, tally_picture,
                           timing_picture, watch_page, why_picture, wrong_run)
 from lab.pictures.places import unused_places
-from lab.pictures.program_rounds import (MANY_WIRES, ProgramRounds, is_own, last_pulse, least_wires, read_rounds,
-                                         rounds_of)
+from lab.pictures.program_rounds import (MANY_WIRES, ProgramRounds, is_own, least_wires, read_rounds, rounds_of)
 from lab.pictures.transcripts import read_transcript, window_of
 from lab.pictures.watch_page import steps_of_text
 from lab.schedules.rules import (OF_ANY_ROUNDS, OF_PROGRAMS as RULES_OF_PROGRAMS, OF_SCHEDULES, program_of,
@@ -72,7 +71,7 @@ class Asked(SimpleNamespace):
 
     def window(self, usual=None):
         """The pulses of a run that are drawn: those asked for, or else the `usual` first ones."""
-        return window_of(self.network.name, last_pulse(self.network, self.program), self.pulses, usual)
+        return window_of(self.network.name, self.program.last_pulse(self.network), self.pulses, usual)
 
     def run(self, until=None):
         """The run of a transcript; with `until`, as far as the pulses up to that one depend on it."""

@@ -1,16 +1,12 @@
 """The rounds of any program as pictures need them, pulse by pulse: by its definition (lab/definitions/programs.py), or
 of a text (docs/claim/FORMATS.md) that is, line by line, the rounds of its network."""
-import re
-from dataclasses import replace
+from itertools import zip_longest
 
 from lab.definitions.nodes import Colouring, ports_of, synchronous_pulses
 from lab.definitions.own_program import OwnNode, check_repeats, what_is_wrong
 from lab.definitions.pulses import Rounds
-from lab.networks.network_text import whole
 from lab.wrong import Wrong, wrong_line
 
-# A greeting, or the first colour of a vertex.
-GREETING = re.compile(r"([0-9]+) (?:put [^ ]* payload 0 hello|colour 0) ([0-9]+)")
 # Rounds of more steps of nodes than this take minutes to work out.
 MOST_STEPS = 2_000_000
 # A run of more wires is said to take a while.
@@ -66,15 +62,10 @@ def rounds_of(network, program):
     return Rounds(network) if program is Colouring else ProgramRounds(network, program)
 
 
-def last_pulse(network, program=Colouring):
-    """The last pulse of a program on a network."""
-    return program.last_pulse(network)
-
-
 def least_wires(network, program=Colouring):
     """The wires of a whole run without the two for each payload: a safe for each pulse but the last, each edge and each
     end, and a close for each edge and each end."""
-    return 2 * len(network.edges) * (last_pulse(network, program) + 1)
+    return 2 * len(network.edges) * (program.last_pulse(network) + 1)
 
 
 def is_own(program):
@@ -82,35 +73,11 @@ def is_own(program):
     return issubclass(program, OwnNode)
 
 
-def identifiers_of(lines, network, name):
-    """What the vertices call themselves: in their greetings; a vertex without neighbours by its first colour, or as its
-    network says."""
-    found, taken = {}, {}
-    for line in lines:
-        if parts := GREETING.fullmatch(line.removesuffix("\r").replace("\t", " ")):
-            found.setdefault(*map(whole, parts.groups()))
-    found = {v: found.get(v, network.identifiers[v]) for v in network.vertices}
-    for v, number in found.items():
-        if number in taken:
-            raise Wrong(f"{name}: vertices {taken[number]} and {v} have one identifier")
-        taken[number] = v
-    return found
-
-
 def read_rounds(text, name, network, program):
     """The rounds of any program, if the text has them line by line, or its first line that is wrong."""
-    lines = text.removesuffix("\n").split("\n")
-    if program is not Colouring:
-        rounds = ProgramRounds(network, program)
-    elif lines[0].split(" ")[:2] not in (["rounds", "1"], ["rounds", "2"]):
-        raise wrong_line(name, 1, "no line `rounds 1 ..` or `rounds 2 ..`")
-    else:
-        rounds = Rounds(replace(network, said=identifiers_of(lines, network, name)))
-    wanted = list(rounds.lines())
-    for number, (line, want) in enumerate(zip(lines, wanted), 1):
-        if line != want:
-            raise wrong_line(name, number, f"`{line[:60]}`, and the rounds of {network.name} have `{want}`")
-    if len(lines) != len(wanted):
-        raise wrong_line(name, min(len(lines), len(wanted)) + 1,
-                         f"the text has {len(lines)} lines, and the rounds of {network.name} {len(wanted)}")
+    rounds, lines = rounds_of(network, program), text.removesuffix("\n").split("\n")
+    for number, (line, due) in enumerate(zip_longest(lines, rounds.lines()), 1):
+        if line != due:
+            said = ("no line" if one is None else f"`{one[:60]}`" for one in (line, due))
+            raise wrong_line(name, number, f", and the rounds of {network.name} have ".join(said))
     return rounds

@@ -2,7 +2,7 @@
 goes wrong without a rule, and pictures."""
 import re
 
-from lab.definitions.nodes import Colouring
+from lab.definitions.nodes import Colouring, last_pulse
 from lab.networks.codes import code_of
 from lab.networks.plan_text import read_plan
 from lab.pictures import broken_picture, why_picture
@@ -10,7 +10,7 @@ from lab.definitions.pulses import Rounds
 from lab.pictures.pages import net_of
 from lab.pictures.picture import OF_PLAN, OF_RUN, Asked, Text, drawing
 from lab.pictures.player_page import film_of
-from lab.pictures.program_rounds import ProgramRounds, last_pulse
+from lab.pictures.program_rounds import ProgramRounds
 from lab.schedules.ruled_rounds import ruled, smallest_wrong
 from lab.schedules.rules import OF_PROGRAMS
 from lab.studio.asked import MOST_ROUNDS, network_asked, program_asked, rules_asked

@@ -2,7 +2,7 @@
 made step by step."""
 from lab.definitions.nodes import Colouring
 from lab.definitions.programs import program_words
-from lab.pictures.program_rounds import ProgramRounds, is_own, last_pulse, least_wires, rounds_of
+from lab.pictures.program_rounds import ProgramRounds, is_own, least_wires, rounds_of
 from lab.pictures.watch_page import MOST_ENTRIES, Run, Steps, look_of, steps_of_text
 from lab.schedules.policies import POLICIES, Policy
 from lab.schedules.rules import OF_SCHEDULES
@@ -43,7 +43,7 @@ def played(asked, network, program, tell):
     for step in first_steps(asked, network, program):
         made.add(player.make(*step))
     # About: twice a wire for each of its puts and takes, and as many again for the payloads and their acknowledgements.
-    of, next_part = 2 * most + network.nodes * last_pulse(network, program), PART
+    of, next_part = 2 * most + network.nodes * program.last_pulse(network), PART
     for entry in player.entries(policy):
         made.add(entry)
         if not len(player.made) % 200:
