@@ -1,40 +1,35 @@
 """Every schedule of a tiny network as a lattice: a mark is a state, a line a step, a column an event. One run is bold,
 and what goes wrong is red."""
+from bisect import bisect_right
+from itertools import accumulate
+
 from lab.pictures.palette import BAND, BORDER, INK, PAPER, PULSE, SOFT, WIRES, WRONG
 from lab.pictures.schedules_space import fault_words, left_out_words, title_of
 from lab.pictures.svg import Svg, text_width, wrapped
+from lab.pictures.transcripts import window_of
 from lab.schedules.explore import events_words, rounded
 from lab.schedules.simulate import events_of
-from lab.wrong import Wrong, wrong_line
+from lab.wrong import at_most, wrong_line
 
 COLUMNS, MOST_COLUMNS, STEPS, MOST_STEPS = 36, 108, 6_000, 12_000
 LEFT, HIGH, WIDE, LEAST_WIDTH = 44, 560, 1150, 780
 SWEEPS = 6
-# A lattice of few columns has them farther apart, so that it fills its width.
-FEW_COLUMNS, SHORT = 6, 690
 APART = [BAND, "#CFE3F1", "#8FBBDD", "#56B4E9"]
 
 
-def draw(network, space, window, run_text):
-    """The states after `window` events, or after the first ones; bold is the run of a list of events, or one of
-    ours."""
-    last = last_column(space)
-    low, high = window or first_window(space, last)
-    if not 0 <= low <= high <= last:
-        raise Wrong(
-            f"{network.name} has states after 0 to {last} events: --columns takes two of these numbers, the lower one "
-            "first"
-        )
-    steps = steps_between(space)[low:high]
-    if high - low > MOST_COLUMNS:
-        raise Wrong(f"schedules draws at most {MOST_COLUMNS} events at a time, and {low}..{high} are {high - low}")
-    if sum(steps) > MOST_STEPS:
-        raise Wrong(
-            f"schedules draws at most {MOST_STEPS:,} steps, and {low}..{high} have {sum(steps):,}: draw fewer events"
-        )
-    bold = (run_of(network, space, run_text) if run_text is not None else
-            first_fault(space) if space.faults else in_step(space))
-    return Lattice(network, space, low, high, last, bold, run_text is not None).drawn().document()
+def draw(network, space, asked, run_text):
+    """The states after the events A to B that are `asked` for, or after the first ones; bold is the run of a list of
+    events, or one of ours."""
+    low, high = window_of(network.name, last_column(space), asked, 1 + columns_of(space), "events")
+    at_most("schedules", high - low, "events at a time", MOST_COLUMNS, "fewer events (--columns A..B)")
+    at_most("schedules", sum(steps_between(space)[low:high]), "steps", MOST_STEPS, "fewer events (--columns A..B)")
+    if run_text is not None:
+        bold = steps_of(space, events_given(network, space, run_text))
+    elif space.faults:
+        bold = steps_of(space, ((0, *key_of(event)) for event in space.path_to_fault()))
+    else:
+        bold = in_step(space)
+    return Lattice(network, space, low, high, bold, run_text is not None).drawn().document()
 
 
 def last_column(space):
@@ -53,58 +48,42 @@ def steps_between(space):
     return counts
 
 
-def first_window(space, last):
-    """The first columns, as many as a picture has room for."""
-    steps, high = 0, 0
-    for count in steps_between(space)[:min(last, COLUMNS)]:
-        steps += count
-        if steps > STEPS and high:
-            break
-        high += 1
-    return 0, high
+def columns_of(space):
+    """How many columns are drawn beside the first one if none are asked for: as many as have room."""
+    return min(COLUMNS, max(1, bisect_right(list(accumulate(steps_between(space))), STEPS)))
 
 
 # The run that is bold: its steps as (state, number of the step in it).
 
-def first_fault(space):
-    """A shortest list of events that goes wrong."""
-    s, e = next(iter(space.faults))
-    return states_to(space, s) + ([] if e is None else [(s, e)])
+def key_of(event):
+    return event.kind, event.v, event.port, event.place
 
 
-def states_to(space, s):
-    found = []
-    while s:
-        before = space.from_state[s]
-        found.append((before, next(k for k, (_, t) in enumerate(space.steps(before)) if t == s)))
-        s = before
-    return found[::-1]
+def events_given(network, space, text):
+    """(line, *key) of the events of a list; puts make themselves, so those that the network has are passed over."""
+    return (event for event in events_of(text, "the list", "fifo" in space.without)
+            if event[1] != "put" or event[3] >= len(network.neighbours.get(event[2], ())))
 
 
-def in_step(space):
-    """All messages come before a node makes a pulse."""
+def steps_of(space, events):
     s, found = 0, []
-    while steps := space.steps(s):
-        takes = [k for k, (event, _) in enumerate(steps) if event.kind == "take"]
-        pulses = space.nodes(s)
-        e = takes[0] if takes else min(range(len(steps)), key=lambda k: (pulses[steps[k][0].v].pulse, k))
+    for line, *key in events:
+        steps = space.steps(s) if s is not None else []
+        e = next((k for k, (event, _) in enumerate(steps) if key_of(event) == tuple(key)), None)
+        if e is None:
+            words = " ".join(str(word) for word in key[:3] if word is not None)
+            raise wrong_line("the list", line, f"`{words}` isn't possible there")
         found.append((s, e))
         s = steps[e][1]
     return found
 
 
-def run_of(network, space, text):
-    """The run of a list of events; puts make themselves, so those that the network has are passed over."""
+def in_step(space):
+    """All messages come before a node makes a pulse, and then the node that has made the fewest."""
     s, found = 0, []
-    for line, kind, v, port, place in events_of(text, "the list", "fifo" in space.without):
-        if kind == "put" and port < len(network.neighbours.get(v, ())):
-            continue
-        steps = space.steps(s) if s is not None else []
-        e = next((k for k, (event, _) in enumerate(steps)
-                  if (event.kind, event.v, event.port, event.place) == (kind, v, port, place)), None)
-        if e is None:
-            words = f"{kind} {v}" + ("" if port is None else f" {port}")
-            raise wrong_line("the list", line, f"`{words}` isn't possible there")
+    while steps := space.steps(s):
+        pulses = space.nodes(s)
+        e = min(range(len(steps)), key=lambda k: steps[k][0].kind == "pulse" and 1 + pulses[steps[k][0].v].pulse)
         found.append((s, e))
         s = steps[e][1]
     return found
@@ -114,9 +93,8 @@ class Lattice:
     """`bold` are the steps of one run, which `is_given` or one of ours. A step ends at a state; one that is refused has
     an end of its own, (s, e)."""
 
-    def __init__(self, network, space, low, high, last, bold, is_given):
-        self.network, self.space, self.low, self.high, self.last, self.is_given = (
-            network, space, low, high, last, is_given)
+    def __init__(self, network, space, low, high, bold, is_given):
+        self.network, self.space, self.low, self.high, self.is_given = network, space, low, high, is_given
         self.bold, self.passed = set(bold), {s for s, _ in bold} | {space.steps(s)[e][1] for s, e in bold} | {0}
         self.columns = [[] for _ in range(low, high + 1)]
         for s in range(space.count):
@@ -148,11 +126,9 @@ class Lattice:
                 column.sort(key=lambda s: (self.lead(s), mean[s], self.row[s]))
                 self.spread(column)
         self.widest = max(map(len, self.columns))
-        is_short = len(self.columns) <= FEW_COLUMNS
-        room = (SHORT if is_short else WIDE) / max(1, len(self.columns) - 1)
-        self.gap = min(60 if is_short else 40, max(4, HIGH / self.widest))
-        self.step = min(320 if is_short else 64, max(10, room))
-        self.radius = min(18 if is_short else 11, 0.42 * self.gap, 0.36 * self.step)
+        self.gap = min(50, max(4, HIGH / self.widest))
+        self.step = min(320, max(10, WIDE / max(1, len(self.columns) - 1)))
+        self.radius = min(16, 0.42 * self.gap, 0.36 * self.step)
 
     def lead(self, s):
         """Of two nodes, above: node 1 is ahead; below: node 2 is."""
@@ -210,8 +186,8 @@ class Lattice:
         said.append(f"A mark is a state of the whole network{inside}; a line is one event. "
                     f"{space.count:,} states, {len(space.target):,} steps"
                     + ("." if space.schedules is None else f", {rounded(space.schedules)} schedules."))
-        if (self.low, self.high) != (0, self.last):
-            said.append(f"Here are those after {self.low} to {self.high} of {self.last} events.")
+        if (self.low, self.high) != (0, last := last_column(space)):
+            said.append(f"Here are those after {self.low} to {self.high} of {last} events.")
         if any(self.low <= space.depth[s] < self.high for s, _ in self.bold):
             said.append("Bold: the run that was given." if self.is_given else
                         f"Bold: a shortest schedule that goes wrong: {fault_words(space)}." if space.faults else

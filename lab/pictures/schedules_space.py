@@ -56,8 +56,8 @@ def rules_of(text, among):
 
 
 def fault_words(space, key=None):
-    """What goes wrong, of all that does the first by default."""
-    return quoted(space.faults[key] if key else next(iter(space.faults.values())))
+    """What goes wrong, by default that to which the fewest events lead."""
+    return quoted(space.faults[key or space.first_fault()])
 
 
 def quoted(words):

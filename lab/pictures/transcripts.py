@@ -67,13 +67,13 @@ class Run:
         return run
 
 
-def window_of(name, greatest, pulses, usual=None):
+def window_of(name, greatest, asked, usual=None, what="pulses"):
     """The first and the last pulse to be drawn, if the run has them: those asked for, or else the `usual` first ones;
     by default all, or of a long run USUAL."""
     usual = usual or (USUAL if greatest > MOST_READABLE else greatest + 1)
-    first, last = pulses or (0, min(greatest, usual - 1))
+    first, last = asked or (0, min(greatest, usual - 1))
     if not 0 <= first <= last <= greatest:
-        raise Wrong(f"{name}: pulses {first} to {last} are not among 0 to {greatest}")
+        raise Wrong(f"{name}: {what} {first} to {last} are not among 0 to {greatest}")
     return first, last
 
 
