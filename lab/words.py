@@ -6,6 +6,7 @@ import os
 import re
 import stat
 import sys
+from collections.abc import Callable
 
 from lab.wrong import Wrong
 
@@ -92,6 +93,16 @@ def count(text: str, most: int = 10 ** 9 - 1) -> int:
     if not (text.isascii() and text.isdecimal() and len(text) < 10 and 1 <= int(text) <= most):
         raise argparse.ArgumentTypeError(f"{text} is no number from 1 to {most:,}")
     return int(text)
+
+
+def some_of(*names: str) -> Callable[[str], tuple[str, ...]]:
+    """The type of an option that takes some of these words, with commas between."""
+    def chosen(text: str) -> tuple[str, ...]:
+        words = tuple(dict.fromkeys(text.split(",")))
+        if not set(words) <= set(names):
+            raise argparse.ArgumentTypeError(f"some of {','.join(names)}")
+        return words
+    return chosen
 
 
 def source_of(seed: str) -> int | str:

@@ -21,13 +21,12 @@ from lab.pictures import (adversary_page, automaton_picture, bits_picture, broke
                           rounds_picture, run_picture, schedules_picture, schedules_space, tally_picture,
                           timing_picture, watch_page, why_picture, wrong_run)
 from lab.pictures.places import unused_places
-from lab.pictures.program_rounds import (MANY_WIRES, ProgramRounds, is_own, least_wires, read_rounds, rounds_of)
+from lab.pictures.program_rounds import ProgramRounds, is_own, least_wires, read_rounds, rounds_of
 from lab.pictures.transcripts import read_transcript, window_of
 from lab.pictures.watch_page import steps_of_text
-from lab.schedules.rules import (OF_ANY_ROUNDS, OF_PROGRAMS as RULES_OF_PROGRAMS, OF_SCHEDULES, program_of,
-                                 unknown_to)
+from lab.schedules.rules import OF_ANY_ROUNDS, OF_PROGRAMS as RULES_OF_PROGRAMS, OF_SCHEDULES, unknown_to
 from lab.schedules.simulate import played, text_of_run
-from lab.words import add_command, add_options, add_output, called, parser_of, text_at, write
+from lab.words import add_command, add_options, add_output, called, parser_of, some_of, text_at, write
 from lab.wrong import Wrong, at_most
 
 
@@ -36,27 +35,29 @@ MOST_WIRES = 4_000_000
 
 
 class Text(NamedTuple):
-    """A text that is drawn: its form (plan, rounds, transcript or events), what its faults call it, and how the picture
-    names a run, if not as the network."""
+    """A text that is drawn: its form (plan, rounds, transcript or events), and what its faults call it; without folder
+    and ending that is the name of a run."""
     form: str
     name: str
     text: str
-    title: str | None = None
 
 
 class Asked(SimpleNamespace):
-    """What a picture is drawn of: a network, texts, and the options that the help of each kind names. `progress` is
-    told now and then how many states and events a search has found."""
+    """What a picture is drawn of: a network, texts, and the options that the help of each kind names. `written` writes
+    a text of a form that is needed and isn't there; `progress` is told now and then how many states and events a search
+    has found."""
 
-    network = forests = forest = pulses = vertex = only = stopped = columns = progress = None
+    network = forests = forest = pulses = vertex = only = stopped = columns = title = written = progress = None
     program, texts, without, wrong, in_words, as_table = Colouring, (), (), False, False, False
 
     def text(self, form, is_needed=False):
-        """The text of a form; None if there is none."""
+        """The text of a form; None if there is none and none is needed."""
         found = next((text for text in self.texts if text.form == form), None)
-        if is_needed and not found:
+        if found or not is_needed:
+            return found
+        if not self.written:
             raise Wrong(f"there is no {form} to draw")
-        return found
+        return Text(form, self.network.name, self.written(form))
 
     def plan(self):
         text = self.text("plan", True)
@@ -77,7 +78,7 @@ class Asked(SimpleNamespace):
         """The run of a transcript; with `until`, as far as the pulses up to that one depend on it."""
         given = self.text("transcript", True)
         run = read_transcript(given.text, given.name, self.network, until, self.program, self.wrong)
-        run.name = given.title or self.network.name
+        run.name = self.title or stem(given.name)
         return run
 
     def part(self, usual=None):
@@ -124,9 +125,9 @@ def draw_tally(asked):
 
 
 def draw_watch(asked):
-    asked.text("transcript", True)
+    texts = asked.texts or [asked.text("transcript", True)]
     return watch_page.draw([watch_page.Run(text.name, asked.network, steps_of_text(
-        text.name, asked.network, text.text, asked.pulses, asked.program), asked.pulses) for text in asked.texts])
+        text.name, asked.network, text.text, asked.pulses, asked.program), asked.pulses) for text in texts])
 
 
 def space_in(kind, asked, beyond):
@@ -144,16 +145,13 @@ def draw_adversary(asked):
 
 
 class Kind(NamedTuple):
-    """A kind of picture: a line of help, more of it, and examples; how it is drawn; the form of the text that it draws;
-    its most nodes and the kind to use above; whether nodes are where the network places them, and whether it draws any
-    program."""
+    """A kind of picture: a line of help, more of it, and examples; how it is drawn; its most nodes and the kind to use
+    above; and whether it draws any program."""
     does: str
     more: str
     example: str
     draw: Callable[[Asked], str]
-    form: str | None = None
     most: tuple[int, str] | None = None
-    is_placed: bool = False
     of_programs: bool = False
 
 
@@ -162,12 +160,12 @@ KINDS = {
         "The network alone, without a plan: for a question sheet.",
         "Identifiers that differ from the numbers are written beside them.",
         "forestlab picture map examples/petersen.col > petersen-map.svg",
-        lambda asked: map_picture.draw(asked.network), most=(400, "matrix"), is_placed=True),
+        lambda asked: map_picture.draw(asked.network), (400, "matrix")),
     "plan": Kind(
         "The plan on the map: who has which channel.",
         "A plan that is not proper is refused; matrix draws it.",
         "forestlab picture plan examples/petersen.col > petersen-plan.svg",
-        lambda asked: plan_picture.draw(asked.network, asked.plan()), "plan", (400, "matrix"), is_placed=True),
+        lambda asked: plan_picture.draw(asked.network, asked.plan()), (400, "matrix")),
     "results": Kind(
         "What the nodes of any program have found at their last pulse, on the map.",
         "A thick line is an edge that a node has chosen, with an arrow if the other end hasn't;\n"
@@ -175,31 +173,30 @@ KINDS = {
         "was before. All other results are written beside the nodes.",
         "forestlab picture results examples/petersen.col --program matching > petersen-pairs.svg",
         lambda asked: results_picture.draw(ProgramRounds(asked.network, asked.program)),
-        most=(400, "simulate, whose transcript ends in the same"), is_placed=True, of_programs=True),
+        (400, "simulate, whose transcript ends in the same"), of_programs=True),
     "matrix": Kind(
         "The plan as a matrix, sorted by channel: proper if the diagonal blocks are blank.",
         "Pairs on one channel are red.",
         "forestlab picture matrix examples/queen5_5.col > queen5_5-matrix.svg",
-        lambda asked: matrix_picture.draw(asked.network, asked.plan()), "plan",
+        lambda asked: matrix_picture.draw(asked.network, asked.plan()),
         (2000, "`forestplan check`, which says whether the plan is proper")),
     "forests": Kind(
         "Each forest with its three colours, and the plan after each merge.",
         "Of more than six forests the first six, or others with --forest.",
         "forestlab picture forests examples/four_cycle.col > four_cycle-forests.svg",
-        lambda asked: forests_picture.draw(asked.rounds(), asked.forests), "rounds", (400, "matrix"),
-        is_placed=True),
+        lambda asked: forests_picture.draw(asked.rounds(), asked.forests), (400, "matrix")),
     "rounds": Kind(
         "The colours of each node in each forest, and when it chooses which channel.",
         "A row for each node of each forest: without --forest the first forests, as many as have 40 rows\n"
         "together, and with it at most 400 rows.",
         "forestlab picture rounds examples/triangle.col > triangle-rounds.svg",
-        draw_rounds, "rounds", (100, "forests"), of_programs=True),
+        draw_rounds, (100, "forests"), of_programs=True),
     "bits": Kind(
         "One node above its parent, digit by digit, over the four bit steps.",
         "Without --vertex, the least one that has a parent. A vertex without a line `i V NUMBER` has its own\n"
         "number as its name, of few digits.",
         "forestlab picture bits examples/petersen.col --vertex 6 > petersen-bits.svg",
-        lambda asked: bits_picture.draw(asked.rounds(), asked.forest or 0, asked.vertex), "rounds"),
+        lambda asked: bits_picture.draw(asked.rounds(), asked.forest or 0, asked.vertex)),
     "why": Kind(
         "Which messages decided the channel of --vertex, on the rounds or in words.",
         "At most 400 rows, a row for each node of each forest that mattered; what didn't decide it is\n"
@@ -208,40 +205,40 @@ KINDS = {
         "a channel is free, and, of the greetings, who is whose parent.",
         "forestlab picture why examples/triangle.col --vertex 2 > triangle-why.svg\n"
         "  forestlab picture why examples/petersen.col --vertex 6 --text",
-        draw_why, "rounds"),
+        draw_why),
     "run": Kind(
         "Space and time of a run without a clock: what each node put, took and did, above its rounds.",
         "Above 6 nodes, payloads alone unless --only says more. Without a stored text two calls differ, as the\n"
         "runs do, but for --workers 1. With --wrong, a text that is refused, up to what is wrong.",
         "forestlab picture run examples/chain6.col --pulses 3..5 --transcript \\\n"
         "    examples/chain6_slow.transcript > chain6_slow-spacetime.svg",
-        draw_run, "transcript", (12, "overview"), of_programs=True),
+        draw_run, (12, "overview"), of_programs=True),
     "overview": Kind(
         "The pulses of a run without a clock, from beginning to end.",
         "Of a run of more than 100 pulses the first 40, or others with --pulses; of a long text only what they\n"
         "depend on is read, and checked.",
         "forestlab picture overview examples/petersen.col > petersen-overview.svg\n"
         "  forestlab picture overview examples/queen5_5.col --pulses 100..139 > queen5_5-overview.svg",
-        lambda asked: overview_picture.draw(*asked.part()), "transcript", (100, "tally"), of_programs=True),
+        lambda asked: overview_picture.draw(*asked.part()), (100, "tally"), of_programs=True),
     "node": Kind(
         "The synchroniser as an automaton: how often each step is made; with --vertex its timing.",
         "With --vertex V: what node V knew, entry by entry (at most 14 ports). Of a long run the steps of the\n"
         "first 40 pulses, or of others with --pulses.",
         "forestlab picture node examples/petersen.col > petersen-automaton.svg\n"
         "  forestlab picture node examples/petersen.col --vertex 1 > petersen-timing.svg",
-        draw_node, "transcript", of_programs=True),
+        draw_node, of_programs=True),
     "tally": Kind(
         "The wires of a run by pulse, under the identity that counts them.",
         "Any network. Without a transcript of a whole run the wires are counted by the rounds: each whole run\n"
         "has the same. Of more than 100 pulses the bars of the first 40, or of others with --pulses; the\n"
         "identity is the whole run's.",
         "forestlab picture tally examples/petersen.col > petersen-tally.svg",
-        draw_tally, "transcript", of_programs=True),
+        draw_tally, of_programs=True),
     "player": Kind(
         "A page with a slider and a play button: the network at each pulse (HTML).",
         "Add #pulse-P to the page's address for a link to pulse P, and #pulse-P-forest-F for one of its forests.",
         "forestlab picture player examples/petersen.col > petersen.html",
-        lambda asked: player_page.draw(asked.rounds()), "rounds", (40, "rounds"), is_placed=True, of_programs=True),
+        lambda asked: player_page.draw(asked.rounds()), (40, "rounds"), of_programs=True),
     "watch": Kind(
         "A page that plays a run without a clock, or two side by side: messages move (HTML).",
         "At most 20,000 entries: of a longer run the first pulses, or others with --pulses. TRANSCRIPT is a\n"
@@ -250,7 +247,7 @@ KINDS = {
         "forestlab simulate examples/chain6.col --slow 2-3 > slow.transcript\n"
         "  forestlab picture watch examples/chain6.col slow.transcript > slow.html\n"
         "  forestlab picture watch examples/chain6.col slow.transcript examples/chain6_slow.transcript > two.html",
-        draw_watch, "transcript", (40, "overview"), is_placed=True, of_programs=True),
+        draw_watch, (40, "overview"), of_programs=True),
     "schedules": Kind(
         "Every order of events of a tiny network: its states as a lattice, one column an event.",
         "At most 200,000 states. Of long ones the first columns, or others with --columns.\n"
@@ -258,14 +255,14 @@ KINDS = {
         "comes after it, too.",
         "forestlab picture schedules examples/triangle.col --columns 0..24 > triangle-schedules.svg\n"
         "  forestlab picture schedules examples/path.col --without safes > path-without-safes.svg",
-        draw_schedules, "events", (4, "run, which draws one schedule"), of_programs=True),
+        draw_schedules, (4, "run, which draws one schedule"), of_programs=True),
     "adversary": Kind(
         "A page on which you are the network: you choose which message comes next (HTML).",
         "At most 200,000 states. With a rule left out, what goes wrong is there too, in a table that may end\n"
         "early, which the page says.",
         "forestlab picture adversary examples/triangle.col > triangle.html\n"
         "  forestlab picture adversary examples/path.col --without safes > path-without-safes.html",
-        draw_adversary, most=(4, "player"), of_programs=True),
+        draw_adversary, (4, "player"), of_programs=True),
     "broken": Kind(
         "What goes wrong without a rule of the rounds, and the same rounds with all rules.",
         "At most 40 nodes if they go wrong in a merge or at the end of another program. Without NETWORK, a\n"
@@ -274,17 +271,13 @@ KINDS = {
         "  forestlab picture broken examples/petersen.col --without pair > petersen-without-pair.svg\n"
         "  forestlab picture broken --program independent-set --without class > set-without-class.svg",
         lambda asked: broken_picture.draw(asked.network, asked.without, asked.program),
-        most=(2000, "`forestlab explore NETWORK --without RULES`, which says it in words"), is_placed=True,
-        of_programs=True),
+        (2000, "`forestlab explore NETWORK --without RULES`, which says it in words"), of_programs=True),
 }
 
 
-def of_form(form):
-    """The kinds that draw a text of a form and can be given it by an option."""
-    return tuple(name for name, kind in KINDS.items() if kind.form == form and name != "watch")
-
-
-OF_PLAN, OF_ROUNDS, OF_RUN = map(of_form, ("plan", "rounds", "transcript"))
+# The kinds that draw a text of one form, which an option may name.
+OF_PLAN, OF_ROUNDS = ("plan", "matrix"), ("forests", "rounds", "bits", "why", "player")
+OF_RUN = "run", "overview", "node", "tally"
 
 HELP = ("Draws plans, rounds and runs, as SVG on standard output; the last three kinds draw\n"
         "what `forestlab explore` searches.\n\n"
@@ -309,37 +302,12 @@ line is refused; if a program refuses, its own line and status.
 """
 
 
-def pulses(text):
-    found = re.fullmatch(r"([0-9]{1,9})\.\.([0-9]{1,9})", text)
+def numbers(text):
+    """One number, or the first and the last of several."""
+    found = re.fullmatch(r"([0-9]{1,9})(?:\.\.([0-9]{1,9}))?", text)
     if not found:
-        raise argparse.ArgumentTypeError("two numbers, as 3..5")
-    return int(found.group(1)), int(found.group(2))
-
-
-def some(text):
-    """One number, or two."""
-    return pulses(text if ".." in text else f"{text}..{text}")
-
-
-def wires(text):
-    kinds = text.split(",")
-    if not set(kinds) <= set(run_picture.KINDS):
-        raise argparse.ArgumentTypeError("some of payload,ack,safe,close")
-    return [kind for kind in run_picture.KINDS if kind in kinds]
-
-
-def rules(text, among=OF_SCHEDULES):
-    found = schedules_space.rules_of(text, among)
-    if found is None:
-        raise argparse.ArgumentTypeError(f"some of {','.join(among)}")
-    return found
-
-
-def rules_of_rounds(text):
-    found = rules(text, OF_ANY_ROUNDS)
-    if not program_of(found):
-        raise argparse.ArgumentTypeError("rules of two programs can't be left out together")
-    return found
+        raise argparse.ArgumentTypeError("a number, or two, as 3..5")
+    return int(found[1]), int(found[2] or found[1])
 
 
 def stored(form, said):
@@ -347,18 +315,18 @@ def stored(form, said):
     return {"dest": "stored", "action": "append", "type": lambda path: (form, path), "metavar": "FILE", "help": said}
 
 
-PULSES = {"type": pulses, "metavar": "A..B", "help": "these pulses alone"}
+PULSES = {"type": numbers, "metavar": "A..B", "help": "these pulses alone"}
 VERTEX = {"type": int, "metavar": "V", "help": "a vertex, counted from 1"}
 # The options of the kinds, besides those of programs, in the order of the help.
 OPTIONS = (
     (("watch",), "stored", {"metavar": "TRANSCRIPT", "nargs": "*", "type": lambda path: ("transcript", path),
                             "help": "a stored run, or two of them"}),
-    (("schedules", "adversary"), "--without", {
-        "type": rules, "default": (), "metavar": "RULES", "help": f"some of {','.join(OF_SCHEDULES)}"}),
-    (("broken",), "--without", {"type": rules_of_rounds, "required": True, "metavar": "RULES", "help": "some of "
-                                + "; or ".join(f"{','.join(of)} of {name}" for name, of in RULES_OF_PROGRAMS.items())}),
-    (("schedules",), "--columns", {
-        "type": pulses, "metavar": "A..B", "help": "the states after A to B events alone"}),
+    (("schedules", "adversary"), "--without", {"type": some_of(*OF_SCHEDULES), "default": (), "metavar": "RULES",
+                                               "help": f"some of {','.join(OF_SCHEDULES)}"}),
+    (("broken",), "--without", {"type": some_of(*OF_ANY_ROUNDS), "required": True, "metavar": "RULES",
+                                "help": "some of " + "; or ".join(
+                                    f"{','.join(of)} of {name}" for name, of in RULES_OF_PROGRAMS.items())}),
+    (("schedules",), "--columns", PULSES | {"help": "the states after A to B events alone"}),
     (("schedules",), "--events", stored("events", "the run drawn bold, a list of events; else the one in step")),
     (("adversary",), "--json", {"action": "store_true", "dest": "as_table", "help": "the page's table alone"}),
     *((kinds, f"--{form}", stored(form, f"a stored {form} text, or - for standard input"))
@@ -366,14 +334,15 @@ OPTIONS = (
     (("run", "overview", "node"), "--workers", {"metavar": "N", "help": "the run's worker threads"}),
     (("run", "overview", "node"), "--capacity", {"metavar": "N", "help": "how many wires its links hold"}),
     ((*OF_RUN, "watch"), "--pulses", PULSES),
-    (("forests", "rounds"), "--forest", {"dest": "forests", "type": some, "metavar": "A..B",
+    (("forests", "rounds"), "--forest", {"dest": "forests", "type": numbers, "metavar": "A..B",
                                          "help": "these forests alone, or one, as 2, counted from 0"}),
     (("rounds",), "--pulses", PULSES | {"help": "these pulses alone, of another program"}),
     (("bits",), "--forest", {"type": int, "metavar": "F", "help": "one forest, counted from 0"}),
     (("bits", "node"), "--vertex", VERTEX),
     (("why",), "--vertex", VERTEX | {"required": True}),
     (("why",), "--text", {"action": "store_true", "dest": "in_words", "help": "in words, not as a picture"}),
-    (("run",), "--only", {"type": wires, "metavar": "KINDS", "help": "some of payload,ack,safe,close"}),
+    (("run",), "--only", {"type": some_of(*run_picture.KINDS), "metavar": "KINDS",
+                          "help": f"some of {','.join(run_picture.KINDS)}"}),
     (("run",), "--wrong", {"action": "store_true", "help": "draw a text up to its first entry that isn't possible, and "
                            "that one in red"}),
     (("run",), "--stopped", {"type": int, "metavar": "V", "help": "with --wrong, of a run that isn't whole: mark the "
@@ -382,8 +351,8 @@ OPTIONS = (
 
 
 def command_line():
-    """The parser, and the one of each kind."""
     words = parser_of("picture", "KIND NETWORK [options]", HELP, MORE_HELP)
+    words.set_defaults(stored=None)
     kinds = words.add_subparsers(dest="kind", metavar="KIND", required=True, help="one of those above")
     for name, does in KINDS.items():
         usage = "[NETWORK] --without RULES" if name == "broken" else "NETWORK [options]"
@@ -396,24 +365,19 @@ def command_line():
             add_program(kind)
         add_options(kind, name, OPTIONS)
         add_output(kind)
-    return words, kinds.choices
-
-
-def check_size(kind, network):
-    """Refuses a network without a node, or one too large for a kind, before any text of it is asked for."""
-    if network.nodes == 0:
-        raise Wrong(f"{network.name}: no node, so nothing to draw")
-    if KINDS[kind].most:
-        limit, instead = KINDS[kind].most
-        at_most(kind, network.nodes, "nodes", limit, instead)
+    return words
 
 
 def drawing(kind, asked):
-    """The picture of a kind: SVG, a page or words. A plan and a run have to be among the texts; rounds of which there
-    is no text are worked out by the definitions. No program is called, no file read, and nothing said: a fault raises
+    """The picture of a kind: SVG, a page or words. A plan and a run have to be among the texts, or be written; rounds
+    of which there is no text are worked out by the definitions. No file is read, and nothing said: a fault raises
     `Wrong`."""
     if asked.network is not None:
-        check_size(kind, asked.network)
+        if asked.network.nodes == 0:
+            raise Wrong(f"{asked.network.name}: no node, so nothing to draw")
+        if KINDS[kind].most:
+            limit, instead = KINDS[kind].most
+            at_most(kind, asked.network.nodes, "nodes", limit, instead)
     return KINDS[kind].draw(asked)
 
 
@@ -421,21 +385,6 @@ def drawing(kind, asked):
 
 def note(what):
     print(f"picture: {what}", file=sys.stderr)
-
-
-def texts_of(given, network, network_text, program):
-    """The texts that are drawn: those of files, or what a program writes."""
-    found = [Text(form, called(path), text_at(path),
-                  None if path == "-" or given.title or given.kind == "watch" else stem(path))
-             for form, path in getattr(given, "stored", None) or []]
-    if found:
-        return found
-    if given.kind in OF_PLAN:
-        return [Text("plan", "the plan", plan_text(network, network_text))]
-    if KINDS[given.kind].form == "transcript" and given.kind != "tally":
-        return [Text("transcript", network.name if given.kind == "watch" else f"the text of {network.name}",
-                     run_text(given, network, network_text, program))]
-    return []
 
 
 def plan_text(network, network_text):
@@ -452,8 +401,6 @@ def run_text(given, network, network_text, program):
     if wires > MOST_WIRES:
         raise Wrong(f"{given.kind} draws a run of at most {MOST_WIRES:,} wires, and one of {network.name} has more "
                     f"than {wires:,}: use tally, which counts them by the rounds")
-    if wires > MANY_WIRES:
-        note(f"a run of {network.name} has more than {wires:,} wires, so its text takes a while")
     if is_own(program):
         return text_of_run(network.nodes, played(network, program=program), program)
     options = [f"--{name}={value}" for name in ("workers", "capacity") if (value := getattr(given, name, None))]
@@ -463,46 +410,42 @@ def run_text(given, network, network_text, program):
                             network_text)
 
 
-def asked_by(given, network=None):
-    """What the command line asks for, but for its texts."""
-    return Asked(**vars(given) | {"program": program_asked("picture", given, network), "network": network,
-                                  "progress": progress if sys.stderr.isatty() else None})
-
-
 def progress(states, events):
     note(f"{states:,} states, up to {events} events")
 
 
 def drawn(given):
     """The picture that the command line asks for."""
-    if given.kind == "broken" and given.network is None:
-        return drawing("broken", asked_by(given))
-    paths = [path for _, path in getattr(given, "stored", None) or []]
-    if given.kind == "watch" and len(paths) > 2:
+    stored = given.stored or []
+    if given.kind == "watch" and len(stored) > 2:
         raise Wrong("a page has room for two runs")
-    if [given.network, *paths].count("-") > 1:
+    if [given.network, *(path for _, path in stored)].count("-") > 1:
         raise Wrong("standard input has one text: name a file for each other one")
+    asked = Asked(**vars(given) | {"progress": progress if sys.stderr.isatty() else None})
+    if given.network is None:
+        asked.program = program_asked("picture", given)
+        return drawing(given.kind, asked)
     data = network_text(given.network)
-    network = read_network(data, called(given.network))
+    asked.network = network = read_network(data, called(given.network))
     network.name = given.title or ("this network" if given.network == "-" else network.name)
-    check_size(given.kind, network)
-    asked = asked_by(given, network)
-    asked.texts = texts_of(given, network, data.encode(), asked.program)
-    if KINDS[given.kind].is_placed and (said := unused_places(network)):
+    asked.program = program_asked("picture", given, network)
+    asked.texts = [Text(form, called(path), text_at(path)) for form, path in stored]
+    asked.written = lambda form: (plan_text(network, data.encode()) if form == "plan" else
+                                  run_text(given, network, data.encode(), asked.program))
+    picture = drawing(given.kind, asked)
+    if said := unused_places(network):
         note(said)
-    return drawing(given.kind, asked)
+    return picture
 
 
 def main(words):
     gc.disable()  # It draws one picture and ends; on long texts the collector would take a third of the time.
-    parser, kinds = command_line()
-    given, others = parser.parse_known_args(words)
-    if others:
-        kinds[given.kind].error(f"unrecognized arguments: {' '.join(others)}")
+    line = command_line()
+    given = line.parse_args(words)
     if given.kind == "broken" and (why := unknown_to(given.program, given.without)):
-        kinds[given.kind].error(why)
+        line.error(why)
     if getattr(given, "stopped", None) is not None and not given.wrong:
-        kinds[given.kind].error("--stopped is for --wrong")
+        line.error("--stopped is for --wrong")
     try:
         picture = drawn(given)
     except programs.Refused as why:
@@ -510,4 +453,3 @@ def main(words):
         return why.status
     write(given, picture)
     return 0
-

@@ -9,8 +9,6 @@ from lab.wrong import Wrong, wrong_line
 
 # Rounds of more steps of nodes than this take minutes to work out.
 MOST_STEPS = 2_000_000
-# A run of more wires is said to take a while.
-MANY_WIRES = 50_000
 
 
 class ProgramPulse:

@@ -49,12 +49,6 @@ def broken_rounds(network, without, program=Colouring):
     return rounds, tried - 1
 
 
-def rules_of(text, among):
-    """The rules of an option `--without RULE,RULE`, or None if one of them isn't among those that can be left out."""
-    rules = tuple(text.split(","))
-    return rules if set(rules) <= set(among) and len(set(rules)) == len(rules) else None
-
-
 def fault_words(space, key=None):
     """What goes wrong, by default that to which the fewest events lead."""
     return quoted(space.faults[key or space.first_fault()])

@@ -75,6 +75,8 @@ def program_of(words):
 def unknown_to(program, words):
     """Why the rounds of a program can't be played without these rules, or None if they can."""
     of = program_of(words)
+    if of is None:
+        return "rules of two programs can't be left out together"
     return None if of == program else f"only --program {of} has the rules {','.join(OF_PROGRAMS[of])}"
 
 

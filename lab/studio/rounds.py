@@ -98,4 +98,4 @@ def picture(asked, _tell):
         texts = [Text("transcript", "the run", str(asked["transcript"]))]
     pulses = tuple(int(pulse) for pulse in asked.get("pulses") or ()) or None
     return drawing(kind, Asked(network=network, texts=texts, program=program_asked(asked), forest=asked.get("forest"),
-                               vertex=asked.get("vertex"), pulses=pulses))
+                               vertex=asked.get("vertex"), pulses=pulses, title=network.name))

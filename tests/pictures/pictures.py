@@ -47,10 +47,10 @@ SAID = [
 # Words of a call, the text on standard input, the status, and a part of the line that says why.
 REFUSED = [
     ("", b"", 2, "picture: error: "), ("plan", b"", 2, "picture plan: error: "), ("maps x", b"", 2, "invalid choice"),
-    ("plan x y", b"", 2, "unrecognized arguments: y"), ("run x --pulses 3", b"", 2, "two numbers, as 3..5"),
-    ("overview x --pulses 3,5", b"", 2, "two numbers"), ("schedules two --columns 0..9,", b"", 2, "two numbers"),
+    ("plan x y", b"", 2, "unrecognized arguments: y"), ("run x --pulses 3..", b"", 2, "a number, or two, as 3..5"),
+    ("overview x --pulses 3,5", b"", 2, "a number"), ("schedules two --columns 0..9,", b"", 2, "a number"),
     ("run x --only hello", b"", 2, "some of payload,ack,safe,"), ("bits x --vertex y", b"", 2, "invalid int value"),
-    ("why triangle --vertex x", b"", 2, "invalid int value"), ("forests x --forest a", b"", 2, "two numbers"),
+    ("why triangle --vertex x", b"", 2, "invalid int value"), ("forests x --forest a", b"", 2, "a number"),
     ("broken", b"", 2, "--without"), ("broken x --without safes", b"", 2, "some of "),
     ("schedules two --without safe", b"", 2, "safes"), ("adversary two --without safe", b"", 2, "safes"),
     ("broken --without partner", b"", 2, "only --program matching has the rules partner,last"),
