@@ -46,7 +46,7 @@ def digits(most):
 def rounds_here(network):
     """The rounds by their definition; None in the folder of a class, which doesn't have it."""
     try:
-        from lab.definitions.pulses import Rounds
+        from lab.definitions.rounds import Rounds
     except ImportError:
         return None
     return Rounds(network)

@@ -1,5 +1,5 @@
 """The forest sheet: one column a forest; above, its edges and three colours; below, the channels once it is merged."""
-from lab.definitions.pulses import LAST_COLOUR
+from lab.definitions.rounds import LAST_COLOUR
 from lab.pictures.marks import LARGE, SMALL, Map, alone_chip, channel_circle, colour_square
 from lab.pictures.palette import INK, PAPER, SOFT, WRONG
 from lab.pictures.places import OF_SQUARES, box_height, places_of

@@ -1,6 +1,6 @@
 """The player: one HTML page without any library, the network at each pulse, with a slider and a play button; of the
 colouring, or of another program. page/player.js draws it."""
-from lab.definitions.pulses import SEED, Rounds
+from lab.definitions.rounds import SEED, Rounds
 from lab.definitions.recolouring import Recolouring
 from lab.pictures.pages import net_of, page
 from lab.pictures.program_picture import is_new

@@ -4,20 +4,11 @@ from itertools import zip_longest
 
 from lab.definitions.nodes import Colouring, ports_of, synchronous_pulses
 from lab.definitions.own_program import OwnNode, check_repeats, what_is_wrong
-from lab.definitions.pulses import Rounds
+from lab.definitions.rounds import Pulse, Rounds
 from lab.wrong import Wrong, wrong_line
 
 # Rounds of more steps of nodes than this take minutes to work out.
 MOST_STEPS = 2_000_000
-
-
-class ProgramPulse:
-    """What all nodes did in one pulse: `results[v]` is what v has found after it, in words, `puts` as (v, w, word,
-    number); `drawn[v]`, if the program says it, a colour and the vertex at the other end of an edge."""
-
-    def __init__(self, number, results, puts, drawn):
-        self.number, self.results, self.puts, self.drawn = number, results, puts, drawn
-        self.phase, self.step, self.colours, self.chosen = "", None, {}, {}
 
 
 class ProgramRounds:
@@ -37,7 +28,8 @@ class ProgramRounds:
             puts = [(v, w, slot[0].lower(), slot[1]) for v in nodes for w, slot in zip(ports[v], sent[v]) if slot]
             drawn = {v: (colour, None if port is None else ports[v][port]) for v, node in nodes.items()
                      if hasattr(node, "drawn") for colour, port in [node.drawn()]}
-            self.pulses.append(ProgramPulse(p, {v: node.result() for v, node in nodes.items()}, puts, drawn))
+            results = {v: node.result() for v, node in nodes.items()}
+            self.pulses.append(Pulse(p, puts, results=results, drawn=drawn))
         self.nodes = nodes
         self.wrong = what_is_wrong(network, program, self.pulses[-1].results)
 
@@ -45,14 +37,7 @@ class ProgramRounds:
         """The text of rounds, line by line."""
         yield f"rounds 3 {self.program.name} {self.network.nodes} {self.network.greatest_degree} {self.last}"
         for pulse in self.pulses:
-            yield f"pulse {pulse.number}"
-            puts = {v: [] for v in self.network.vertices}
-            for v, w, word, number in pulse.puts:
-                puts[v].append(f"{v} put {w} payload {pulse.number} {word} {number}")
-            for v in self.network.vertices:
-                if pulse.number == self.last:
-                    yield f"{v} {pulse.results[v]}"
-                yield from puts[v]
+            yield from pulse.lines("", pulse.results.items() if pulse.number == self.last else ())
 
 
 def rounds_of(network, program):

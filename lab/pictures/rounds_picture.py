@@ -1,6 +1,6 @@
 """The rounds strip: a block for each forest, a row for each node, a column for each pulse; squares while it is
 coloured, circles where channels are chosen."""
-from lab.definitions.pulses import LAST_COLOUR
+from lab.definitions.rounds import LAST_COLOUR
 from lab.pictures.marks import alone_chip, bar_row, bars_width, channel_circle, colour_square
 from lab.pictures.palette import FOREST_COLOURS, INK, PAPER, SOFT, channel_hue, short
 from lab.pictures.svg import Svg, text_width

@@ -7,8 +7,7 @@ from functools import partial
 
 from lab.definitions.colours import at_parent, colours, drop, shift
 from lab.definitions.nodes import NetState, last_pulse
-from lab.definitions.pulses import LAST_COLOUR
-from lab.definitions.rounds import Facts
+from lab.definitions.rounds import LAST_COLOUR, Rounds
 from lab.network import Network
 from lab.networks.random_networks import alike_edges
 from lab.networks.texts import plain_text
@@ -49,7 +48,7 @@ class Sheet:
         self.name, self.answers = name, answers
         self.source = random.Random(name)
         self.net = network_by(self.source)
-        self.facts, self.vertices, self.edges = Facts(self.net), self.net.vertices, self.net.edges
+        self.rounds, self.vertices, self.edges = Rounds(self.net), self.net.vertices, self.net.edges
 
     def any_of(self, things):
         return things[int(self.source.random() * len(things))]
@@ -90,7 +89,7 @@ class Sheet:
         yield ("<p>Cut the network into forests. Who is whose parent? (A root has a -.)</p>" + self.table("node", rows))
 
     def lesson_3(self):
-        table = self.facts.colours[0]
+        table = self.rounds.colours[0]
         children = [v for v in self.vertices if self.net.parent(0, v) and not self.net.parent(0, self.net.parent(0, v))]
         v = self.any_of(children)
         w = self.net.parent(0, v)
@@ -126,16 +125,17 @@ class Sheet:
 
     def lesson_4(self):
         rows = [(name, [colours[v] for v in self.vertices], is_given) for f in range(FORESTS)
-                for name, colours, is_given in ((f"colour in forest {f}", self.facts.colours[f][LAST_COLOUR], True),
-                                                ("after its merge", self.facts.merged[f + 1], False))]
+                for name, colours, is_given in ((f"colour in forest {f}", self.rounds.colours[f][LAST_COLOUR], True),
+                                                ("after its merge", self.rounds.merged[f + 1], False))]
         yield "<p>Merge the two forests; all begin with colour 0.</p>" + self.table("node", rows)
         v, f = self.any_of(self.vertices), FORESTS - 1
-        yield (f"<p>At which pulse does node {v} choose in the merge of forest {f}? "
-               f"{self.filled(self.facts.turn(f, v))} Which pulse is the last? {self.filled(last_pulse(self.net))}</p>")
+        turn = self.rounds.turn(f, v)
+        yield (f"<p>At which pulse does node {v} choose in the merge of forest {f}? {self.filled(turn)} Which pulse is "
+               f"the last? {self.filled(last_pulse(self.net))}</p>")
 
     def lesson_5(self):
         pulses = range(last_pulse(self.net) + 1)
-        payloads = sum(len(list(self.facts.sent(p, v))) for p in pulses for v in self.vertices)
+        payloads = sum(len(pulse.puts) for pulse in self.rounds.pulses)
         wires = 2 * payloads + 2 * len(self.edges) * len(pulses)
         yield f"<p>A whole run without a clock has {payloads} payloads. How many wires? {self.filled(wires)}</p>"
         edge = self.any_of(self.edges)

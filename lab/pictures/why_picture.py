@@ -4,7 +4,7 @@ A fact is what a node is at some point of the rounds: ("identifier", v), ("colou
 after pulse p, or ("merged", v, f), the colour that v chose in the merge of forest f. `Cone` goes back from the last
 choice of a node to all facts that its value was worked out from. What a node didn't hear is no fact: that a channel is
 free follows from nobody's having taken it before; and who is whose parent follows from the greetings."""
-from lab.definitions.pulses import DROPPED, LAST_COLOUR, SEED
+from lab.definitions.rounds import DROPPED, LAST_COLOUR, SEED
 from lab.pictures.layout import distances
 from lab.pictures.rounds_picture import MOST_ROWS, draw_strips
 from lab.words import counted, in_words

@@ -6,7 +6,7 @@ from lab.definitions.colours import plan_text
 from lab.definitions.nodes import Colouring, NetState, Refused, entry_words, make
 from lab.definitions.programs import program_words
 from lab.networks.plan_text import clashes
-from lab.definitions.pulses import Rounds
+from lab.definitions.rounds import Rounds
 from lab.pictures.program_rounds import is_own, read_rounds
 from lab.programs import called
 from lab.studio.asked import OPENED

@@ -6,7 +6,7 @@ from lab.definitions.nodes import Colouring, last_pulse
 from lab.networks.codes import code_of
 from lab.networks.plan_text import read_plan
 from lab.pictures import broken_picture, why_picture
-from lab.definitions.pulses import Rounds
+from lab.definitions.rounds import Rounds
 from lab.pictures.pages import net_of
 from lab.pictures.picture import OF_PLAN, OF_RUN, Asked, Text, drawing
 from lab.pictures.player_page import film_of

@@ -3,7 +3,7 @@ compares these with nodes that hear and send), what has all rules beside lab/def
 programs by hand, and the words beside what `forestlab explore` prints."""
 import re
 
-from lab.definitions.rounds import Facts
+from lab.definitions.rounds import Rounds
 from lab.networks.network_text import network_of
 from lab.schedules import rules
 from lab.schedules.ruled_rounds import RuledRounds, smallest_wrong
@@ -81,7 +81,7 @@ class Broken(PictureCase):
                        for mark, (_, _, said) in zip(marks(root, "node"), numbered(root, "node")))
         (frame,) = [shape for mark, shape in shapes(without) if mark.get("class") == "wrong"]
         squares = [shape for mark, shape in shapes(without) if mark.get("class") == "colour"]
-        lists = rounds.colours[clash.forest], [*Facts(net).colours[clash.forest].values()][:clash.pulse - 1]
+        lists = rounds.colours[clash.forest], [*Rounds(net).colours[clash.forest].values()][:clash.pulse - 1]
         self.facts(name, {
             "its nodes": ([v for _, v in nodes], chain),
             "the colours": ([squares_of(group) for group in (without, with_all)],
@@ -93,7 +93,7 @@ class Broken(PictureCase):
 
     def merge_rows(self, name, rounds, root, *groups):
         """Three panels each; red are the edges of the forests merged whose ends have one channel, and no others."""
-        clash, net, right = rounds.clash, rounds.net, Facts(rounds.net)
+        clash, net, right = rounds.clash, rounds.net, Rounds(rounds.net)
         f, vertices = clash.forest, sorted(rounds.net.neighbours)
         for group, (before, colours, after), left_out in zip(groups, (
                 (rounds.merged[f], rounds.colours[f][-1], rounds.merged[f + 1]),

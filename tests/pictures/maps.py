@@ -4,7 +4,7 @@ from collections import Counter
 
 from lab.definitions.colours import bit, colours
 from lab.definitions.nodes import last_pulse
-from lab.definitions.rounds import FIRST_MERGE, Facts, merge_step
+from lab.definitions.rounds import FIRST_MERGE, Rounds, merge_step
 from lab.networks.named import network_bytes
 from lab.networks.network_text import network_of
 from tests.cases import example, examples
@@ -125,7 +125,7 @@ class Maps(PictureCase):
         self.forests_rows("queen5_5", QUEEN, range(4, 10), "--forest", "4..9")
 
     def forests_rows(self, name, network, kept, *options):
-        facts, root = Facts(network_of(network)), parsed(self.drawn("forests", network, *options))
+        facts, root = Rounds(network_of(network)), parsed(self.drawn("forests", network, *options))
         above, below = ({title(group): group for group in marks(root, mark)} for mark in ("forest", "merged"))
         self.facts(f"forests of {name}", {"those drawn": (
             ([*above], [*below]), ([f"forest {f}" for f in kept], [f"after forest {f}" for f in kept]))})
@@ -135,7 +135,7 @@ class Maps(PictureCase):
     def forest_rows(self, name, facts, f, above, below):
         """The colours and parents of a forest, and the plan after its merge. Of more than 40 vertices an arrow may be
         nearer to another vertex than to its own."""
-        net, parents = facts.net, parents_in(facts.net, f)
+        net, parents = facts.network, parents_in(facts.network, f)
         is_small, ended = len(net.neighbours) <= 40, {*parents, *parents.values()}
         places = dict(zip(sorted(net.neighbours), map(centre, marks(above, "colour", "alone"))))
         arrows = {}
@@ -162,8 +162,8 @@ class Maps(PictureCase):
             self.rounds_rows("queen5_5", QUEEN, forests, *options)
 
     def rounds_rows(self, name, network, drawn, *options):
-        facts, root = Facts(network_of(network)), parsed(self.drawn("rounds", network, *options))
-        net, width = facts.net, facts.net.span + 1
+        facts, root = Rounds(network_of(network)), parsed(self.drawn("rounds", network, *options))
+        net, width = facts.network, facts.network.span + 1
         left, right = marks(root, "colours"), marks(root, "choices")
         turns = [{v: (facts.colours[f][12][v], facts.merged[f][v]) for v in sorted(net.neighbours)} for f in drawn]
         # Over the merge columns is the pair whose turn it is: all pairs, or, if they are many, those that a node has.
@@ -226,8 +226,8 @@ class Maps(PictureCase):
             "three with bars": b"p edge 3 0\nb 1 1\nb 1 2\nb 3 2\n"}
         turn = r"colour (\d+) in forest (\d+), colour (\d+) \(channel (\d+)\) so far"
         for name, network in networks.items():
-            facts, data = Facts(network_of(network)), data_of(self.drawn("player", network))
-            net, film, last = facts.net, data["film"], last_pulse(facts.net)
+            facts, data = Rounds(network_of(network)), data_of(self.drawn("player", network))
+            net, film, last = facts.network, data["film"], last_pulse(facts.network)
             vertices, forests, steps = sorted(net.neighbours), range(net.forest_count), range(FIRST_MERGE, last + 1)
 
             def shown(key):
@@ -238,12 +238,11 @@ class Maps(PictureCase):
                                               if net.parent(f, v)]),
                 "the first colours": (film["first"], [facts.merged[0][v] for v in vertices]),
                 "its edges": (sorted(map(tuple, data["net"]["edges"])), net.edges),
-                "messages": (shown("puts"), [[[v, *sent] for v in facts.at_work(p) for sent in facts.sent(p, v)]
-                                             for p in range(last + 1)]),
+                "messages": (shown("puts"), [[[*put] for put in pulse.puts] for pulse in facts.pulses]),
                 "colours": (shown("colours"), [[[facts.colours[f][p][v] for f in forests] for v in vertices]
                                                if 2 <= p < FIRST_MERGE and forests else None for p in range(last + 1)]),
-                "choices": (shown("chosen"), [{str(v): facts.choice(p, v) for v in facts.choosing.get(p, [])}
-                                              for p in range(last + 1)]),
+                "choices": (shown("chosen"), [{str(v): colour for v, colour in pulse.chosen.items()}
+                                              for pulse in facts.pulses]),
                 "whose turn it is": (shown("step")[FIRST_MERGE:], [[*merge_step(net, p)] for p in steps]),
                 "the turn in words": ([re.findall(turn, said) for said in shown("said")[FIRST_MERGE:]],
                                       [[(str(k), str(f), str(j), str(j + 1))]

@@ -8,8 +8,7 @@ import re
 from itertools import pairwise
 
 from lab.definitions.colours import three
-from lab.definitions.pulses import Rounds
-from lab.definitions.rounds import rounds_text
+from lab.definitions.rounds import Rounds, rounds_text
 from lab.network import Network
 from lab.networks.network_text import network_of
 from lab.pictures.why_picture import Cone
