@@ -32,10 +32,9 @@ from collections import Counter
 from lab.networks.network_text import network_of
 from lab.transcripts.check import Wrong, in_order, whole_run
 from lab.workshop.cases import cases_of
-from tests.cases import called
 from tests.faults.falling_limits import CIRCLE, TRIANGLE
-from tests.faults.refused_memory import build_front
-from tests.faults.refused_threads import MEMORY, is_right, numbers_in
+from tests.faults.refused_memory import build_front, under
+from tests.faults.refused_threads import MEMORY, is_right
 from tests.programs.plain_networks import some_bars, text_of
 from tests.programs.transcripts import is_counted, networks_of_runs, said_by
 from tests.settings import PLAN
@@ -113,24 +112,21 @@ def threads(_, source):
     return counts, fault and f"{workers} workers, capacity {capacity}: {fault}; network {data!r}"
 
 
-def memory(folder, source):
+def memory(front, source):
     """The same."""
     data = source.choice((TRIANGLE, CIRCLE, CIRCLE, EIGHT, EIGHT, TWELVE))
     command, workers = source.choice(("plan", "transcript", "transcript", "transcript")), source.choice((2, 4, 8, 64))
-    counts = os.path.join(folder, f"threads{os.getpid()}")
     given = {
-        "LD_PRELOAD": ":".join(os.path.join(folder, f"{name}.so") for name in FRONTS), "COUNT_THREADS": counts,
-        "THREADS": str(workers), "KIND": source.choice(("VmSize", "VmData", "VmData")),
-        "MORE": str(source.choice((0, 0, 0, *(source.randrange(most) for most in (64 * KIB, MIB, 70 * MIB))))),
-        "AFTER": str(source.choice((0, source.randrange(40), source.randrange(400)))),
+        "THREADS": workers, "KIND": source.choice(("VmSize", "VmData", "VmData")),
+        "MORE": source.choice((0, 0, 0, *(source.randrange(most) for most in (64 * KIB, MIB, 70 * MIB)))),
+        "AFTER": source.choice((0, source.randrange(40), source.randrange(400))),
     }
     with open(os.devnull, "wb") as mark:
         try:
-            answer = called(PLAN, command, "--workers", workers, data=data, limit=60, pass_fds=(mark.fileno(),),
-                            env=given | {"LIMITED": str(mark.fileno())})
+            answer, (_, started, ended) = under(front, [PLAN, command, "--workers", str(workers)], data,
+                                                {"pass_fds": (mark.fileno(),)}, LIMITED=mark.fileno(), **given)
         except subprocess.TimeoutExpired:
             return {}, f"no end of {command} with {workers} workers, network {data!r}"
-    _, started, ended = numbers_in(counts)
     good = (answer == MEMORY or is_right(command, answer, data)) and started == ended
     return {"refused memory": answer == MEMORY}, None if good else (
         f"{command} with {workers} workers, {given}: {answer}, {started} threads started and {ended} ended")
@@ -151,8 +147,8 @@ def nodes(_, source):
     return {}, case.finding and "\n".join([f"{kind} on {case.network.name} {case.policy}", *case.finding.text()])
 
 
-def one_run(kind, folder, seed, number):
-    counts, fault = kind(folder, random.Random(f"{seed} {number}"))
+def one_run(kind, front, seed, number):
+    counts, fault = kind(front, random.Random(f"{seed} {number}"))
     return counts, fault and f"{number}: {fault}"
 
 
@@ -169,9 +165,8 @@ def main():
     end, runs = time.monotonic() + 60 * given.minutes, range(given.first, given.first + given.runs)
     counts = Counter(passed=0, failed=0)
     with tempfile.TemporaryDirectory() as folder, multiprocessing.Pool(given.jobs) as pool:
-        for name in FRONTS if given.kind == "memory" else ():
-            build_front(folder, name)
-        run = functools.partial(one_run, KINDS[given.kind], folder, given.seed)
+        front = build_front(folder, *FRONTS) if given.kind == "memory" else None
+        run = functools.partial(one_run, KINDS[given.kind], front, given.seed)
         while runs and time.monotonic() < end:
             batch, runs = runs[:BATCH], runs[BATCH:]
             for found, fault in pool.imap(run, batch):

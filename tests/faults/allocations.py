@@ -5,7 +5,7 @@ No contract says that: a list in working space can grow without an allocator in 
 runs that differ in their pulses alone are compared; and the bytes of runs that differ in their capacity alone."""
 from tests.cases import Case, text
 from tests.commands import EDGE, TRIANGLE
-from tests.faults.refused_memory import build_front, count, count_and_bytes
+from tests.faults.refused_memory import build_front, under
 from tests.settings import CRATE_TESTS, PLAN, PLAY
 
 # Six nodes, five edges and the degrees 1 and 5 each. With the greatest vertex in the middle there is one forest, and 30
@@ -20,28 +20,29 @@ CAPACITIES = (1, 2, 3, 4, 32, 63, 64)
 
 class Allocations(Case):
     def setUp(self):
-        self.front = build_front(self.folder)
+        self.front = build_front(self.folder, "refuse_growth")
 
-    def as_often(self, name, first, second):
-        """The row of two runs, (words, input), that take memory equally often."""
-        counts = [count(self.front, self.folder, *run) for run in (first, second)]
-        self.note(name, None not in counts and 0 < counts[0] == counts[1], f"allocations: {counts}")
+    def asked(self, words, data=b"", status=0):
+        """How often a run asks for memory, and for how many bytes in all."""
+        answer, counts = under(self.front, words, data)
+        self.assertEqual(answer[0], status, answer)
+        return counts
 
     def test_pulses(self):
-        for name, words in (("plain", [PLAN, "plain"]), *((f"{words[1]} with one worker", words) for words in RUNS)):
-            self.as_often(f"{name}: 30 rounds and 102", (words, STAR_AT_6), (words, STAR_AT_1))
-        for name, tests in (("run_rounds", "sync_rounds_checks::greatest_within_{}_link{}"),
-                            ("a node under the synchroniser", "alpha_core_checks::runs::a_node_of_{}_pulse{}")):
-            one, fifty = ([CRATE_TESTS, tests.format(*which)] for which in ((1, ""), (50, "s")))
-            self.as_often(f"{name}: 1 pulse and 50", (one,), (fifty,))
+        for words in ([PLAN, "plain"], *RUNS):
+            few, more = (self.asked(words, star)[0] for star in (STAR_AT_6, STAR_AT_1))
+            self.same(f"{words[1]}: allocations of 30 rounds and 102", few, more)
+        for test in ("sync_rounds_checks::greatest_within_{}_link{}", "alpha_core_checks::runs::a_node_of_{}_pulse{}"):
+            one, fifty = (self.asked([CRATE_TESTS, test.format(*which)])[0] for which in ((1, ""), (50, "s")))
+            self.same(f"{test}: allocations of 1 pulse and 50", one, fifty)
 
     def test_capacity(self):
         """Each direction of a link takes the same memory for each wire of the capacity. No node is looked at."""
         for words in RUNS:
             sizes = set()
             for directions, network in ((2, text(EDGE)), (6, text(TRIANGLE))):
-                asked = [count_and_bytes(self.front, self.folder, [*words, "--turns", "0", "--capacity", str(capacity)],
-                                         network, status=3) for capacity in CAPACITIES]
+                asked = [self.asked([*words, "--turns", "0", "--capacity", str(capacity)], network, status=3)
+                         for capacity in CAPACITIES]
                 self.same(f"{words[1]}: calls by {directions} directions", len({calls for calls, _ in asked}), 1)
                 sizes |= {(more - asked[0][1]) / (directions * (capacity - 1))
                           for capacity, (_, more) in zip(CAPACITIES, asked) if capacity > 1}

@@ -6,13 +6,11 @@ one, the status is 4 with the line `stream`, and standard output has just the by
 standard error changes no status. Help and refused words read nothing. Answers are worked by hand. It needs a C
 compiler, `cc`."""
 import itertools
-import os
 import tempfile
 
 from tests.cases import Case, text
 from tests.commands import APART, COMMANDS, PULSES, TRIANGLE
 from tests.faults.refused_memory import build_front, under
-from tests.faults.refused_threads import numbers_in
 from tests.settings import PATHS
 
 PIECE = 3
@@ -35,32 +33,22 @@ def pieces(data):
     return -(-len(data) // PIECE)
 
 
-class Broken:
-    """The programs under the library that breaks a stream."""
-
-    def __init__(self, folder):
-        self.counts, self.front = os.path.join(folder, "counts"), build_front(folder, "broken_streams")
-
-    def run(self, name, words, data, stream=None, call=0, takes_none=False):
-        """The answer; and how many reads, writes to output and writes to errors there were."""
-        given = {"BROKEN": str(stream), "BREAKS_AT": str(call)} if stream is not None else {}
-        given |= {"TAKES_NONE": "1"} if takes_none else {}
-        answer = under(self.front, [PATHS[name], *words], data, COUNTS=self.counts, **given)
-        # None if it was killed, or isn't under the library.
-        return answer, numbers_in(self.counts) if os.path.exists(self.counts) else [-1, -1, -1]
-
-
 class Streams(Case):
     @classmethod
     def setUpClass(cls):
-        cls.broken = Broken(cls.enterClassContext(tempfile.TemporaryDirectory()))
+        cls.front = build_front(cls.enterClassContext(tempfile.TemporaryDirectory()), "broken_streams")
+
+    def broken(self, name, words, data, stream=-1, call=0, takes_none=False):
+        """The answer; and how many reads, writes to output and writes to errors there were."""
+        given = {"TAKES_NONE": 1} if takes_none else {}
+        return under(self.front, [PATHS[name], *words], data, BROKEN=stream, BREAKS_AT=call, **given)
 
     def test_reads(self):
         """One read more than the input has pieces meets its end, and the one after that never comes."""
         for name, words, data, answer in CALLS:
             reads, wrong = pieces(text(data)) + 1, []
             for call in range(reads + 1):
-                got, counts = self.broken.run(name, words, text(data), INPUT, call)
+                got, counts = self.broken(name, words, text(data), INPUT, call)
                 wanted = (4, b"", f"{name}: stream\n".encode()) if call < reads else (0, text(answer), b"")
                 if got != wanted or counts[INPUT] != min(call + 1, reads):
                     wrong.append((call, got, counts))
@@ -72,7 +60,7 @@ class Streams(Case):
             answer, wrong = text(answer), []
             writes = pieces(answer)
             for call in range(writes + 1):
-                got, counts = self.broken.run(name, words, text(data), OUTPUT, call, takes_none)
+                got, counts = self.broken(name, words, text(data), OUTPUT, call, takes_none)
                 fault = (4, answer[:PIECE * call], f"{name}: stream\n".encode())
                 if got != (fault if call < writes else (0, answer, b"")) or counts[OUTPUT] != min(call + 1, writes):
                     wrong.append((call, got, counts))
@@ -84,14 +72,14 @@ class Streams(Case):
         text is there."""
         for words, data, status, line in REFUSALS:
             data, name = text(data), f"the refusal of {words} on {data!r}"
-            whole, counts = self.broken.run("forestplan", words, data)
+            whole, counts = self.broken("forestplan", words, data)
             told = whole[2] if line is None else text(line)
             self.note(f"{name} is written, whole", whole == (status, b"", told) and counts[OUTPUT] == 0 and told, whole)
             self.same(f"{name}: reads", counts[INPUT], pieces(data) + 1 if status == 1 else 0)
             for takes_none in (False, True):
                 wrong = []
                 for call in range(pieces(told)):
-                    got, counts = self.broken.run("forestplan", words, data, ERRORS, call, takes_none)
+                    got, counts = self.broken("forestplan", words, data, ERRORS, call, takes_none)
                     if got != (status, b"", told[:PIECE * call]) or counts[ERRORS] != call + 1:
                         wrong.append((call, got, counts))
                 how = "takes nothing" if takes_none else "fails"
@@ -100,10 +88,10 @@ class Streams(Case):
     def test_help(self):
         """Help reads nothing; if output breaks, it is a stream that failed."""
         for words in HELP:
-            (status, helped, errors), counts = self.broken.run("forestplan", words, text(TRIANGLE))
+            (status, helped, errors), counts = self.broken("forestplan", words, text(TRIANGLE))
             self.note(f"help by {words} reads nothing", (status, errors, counts[INPUT]) == (0, b"", 0) and helped,
                       (status, errors, counts))
             for takes_none in (False, True):
-                got, counts = self.broken.run("forestplan", words, text(TRIANGLE), OUTPUT, 2, takes_none)
+                got, counts = self.broken("forestplan", words, text(TRIANGLE), OUTPUT, 2, takes_none)
                 self.same(f"help by {words} into a stream that breaks", (got, counts[OUTPUT]),
                           ((4, helped[:2 * PIECE], b"forestplan: stream\n"), 3))
