@@ -31,6 +31,7 @@ class Command(Played):
             (["alpha", "two", "--program", "my.py", "--", *ALPHA], 2, "invalid choice: 'my.py'"),
             (["open", "two", "--program", "layers", "--", *ALPHA], 2, "--program is of rounds and alpha"),
             (["rounds", "two", "--runs", "0", "--", *ROUNDS], 2, "0 is no number from 1 to 999,999,999"),
+            (["rounds", "two", "--timeout", "0", "--", *ROUNDS], 2, "0 is no number of seconds"),
             (["rounds", "two", "--", "/nonexistent/node"], 2, "can't be started: No such file"),
             (["rounds", "two", "--", self.file("node", "x")], 2, "Permission denied; is it `chmod +x`"),
         ):

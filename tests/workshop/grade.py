@@ -30,7 +30,7 @@ MUTE = "import sys\nfor line in sys.stdin:\n    if line == 'end\\n':\n        pr
 class Grades(Case):
     def setUp(self):
         os.chmod(self.folder, 0o755)
-        self.subs = os.path.join(self.folder, "submissions")
+        self.subs = os.path.join(self.folder, "home", "submissions")
 
     def tearDown(self):
         self.assertEqual(left_at_last(), [])
@@ -91,7 +91,7 @@ class Grades(Case):
         self.addCleanup(server.close)
         names = {"subs": self.subs, "other": os.path.join(self.subs, "ben", "rounds_node.py"),
                  "right": os.path.join(RIGHT, "rounds_node.py"), "loot": os.path.join(self.folder, "loot"),
-                 "port": server.getsockname()[1], "home": self.file("secret", "x")}
+                 "port": server.getsockname()[1], "home": self.file("home/secret", "x")}
         os.symlink(self.subs, os.path.join(self.folder, "beside"))      # what leads there isn't open, either
         attacks = {name: attack.format(**names) for name, attack in OUTSIDE.items()}
         own = {"own": "open('kept', 'w').write('x')",
@@ -99,7 +99,7 @@ class Grades(Case):
         self.submit("anna", rounds_node_py=program(attacks | own, f"away({MARK})\n"))
         self.submit("ben", rounds_node_py=program({}))
         done = call("grade", self.subs, "--runs", "1", "--timeout", "30", "--reports", os.path.join(self.folder, "to"),
-                    env={**os.environ, "HOME": self.folder})
+                    env={**os.environ, "HOME": os.path.dirname(self.subs)})
         self.assertEqual(done.returncode, 0, done)
         found = got(text_in(self.folder, "to", "anna.txt"))
         self.assertEqual({name: found.pop(name) for name in own}, {"own": "1", "names": "True"}, found)

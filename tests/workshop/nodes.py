@@ -7,6 +7,8 @@ forest 0 node 1 is below 2, and 2 below 3, and in forest 1 node 1 is below 3. Th
 forest 0, and 1, 2, 0 in the plan, after pulse 30. So node 3 takes node 2 in pulse 14. Node 3 joins the set in pulse 31,
 and the others hear of it. Node 2 chooses anew in pulse 31 and takes 0, node 1 in pulse 32 and takes 1, node 3 in
 pulse 33."""
+import re
+
 from lab.network import Network
 from lab.schedules.policies import POLICIES
 from lab.workshop.cases import cases_of
@@ -176,7 +178,8 @@ class Mistakes(Played):
                                policy="newest", one_process=name != "leaves")
             if row:
                 text = "\n".join(found.text())
-                self.note(name, all(words in text for words in row[3:]), text)
+                is_early = not re.search(r"came at pulse (\d+), and is to be kept until pulse \1 ", text)
+                self.note(name, is_early and all(words in text for words in row[3:]), text)
 
     def test_of_other_programs(self):
         for program, names in OTHERS.items():
@@ -235,6 +238,7 @@ class Lines(Played):
             ("colouring", "alpha", "colour 0 3", "`colour 0 3` is no line of an answer, which are `put PORT WIRE`"),
             ("colouring", "rounds", "put 0 hello 1\nput 0 hello 1", "is a second payload by this port in one pulse"),
             ("colouring", "rounds", "put 7 hello 1", "there is no port 7; the node has port 0 alone"),
+            ("colouring", "open", f"put 0 {'x' * 1001}", "x ..` is no line of an answer, which are `put PORT WORDS..`"),
             ("colouring", "rounds", "my colours: [3, 1]", "`my colours: [3, 1]` is no line of an answer"),
         ):
             found = played(assignment, "two", answering(line), program=program).finding

@@ -11,13 +11,15 @@ FOLDER = os.path.join(EXAMPLES, "skeletons")
 # Two nodes in one process: after both have started, each is asked for its own identifier.
 OWN = "to {0}\nworkshop 1 {1}\nidentifier {2}\ndegree 1\nnodes 2\ndelta 1\nbars 0\nforests 1\nlast 18\nbarred 0\nend\n"
 PULSE, TAKE = (f"return []           # yours: `put PORT {what}" for what in ("WORD", "WIRE"))
-PYTHON = "return [f\"put 0 label {self.own['identifier']}\"]  #"
+PYTHON = "return [f\"put 0 {'.'.join(%s)} {self.own['identifier']}\"]  #"
 LABEL = ["label {}"] * 2
-# A skeleton, its kind, what stands in it in one place, what is put there, and what it then says twice. In one in C what
-# comes is printed whole, a field that a wire hasn't as nothing, and in one in Java what is in the inbox of port 0.
+# A skeleton, its kind, what stands in it in one place, what is put there, and what it then says twice. In Python what
+# comes is printed whole, and in one in C, a field that a wire hasn't as nothing; in one in Java what is in the inbox of
+# port 0.
 ROWS = (
-    ("node.py", "rounds", PULSE, PYTHON, LABEL), ("node.py", "open", PULSE, PYTHON, LABEL),
-    ("node.py", "alpha", TAKE, PYTHON, LABEL),
+    *(("node.py", kind, PULSE, PYTHON % "inbox.get(0, ['none'])", ["hops.12 {}", "none {}"])
+      for kind in ("rounds", "open")),
+    ("node.py", "alpha", TAKE, PYTHON % "wire", ["payload.3.hops.12 {}", "safe.4 {}"]),
     ("rounds_node.c", "rounds", "/* yours:", 'if (pulse > 0) printf("put 0 label %s\\n", me->identifier); /*', LABEL),
     ("alpha_node.c", "alpha", "/* yours:",
      'printf("put 0 %d %s %d %s.%s. %d %s\\n", port, wire->kind, wire->pulse, wire->word, wire->number, me->last, '

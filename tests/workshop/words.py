@@ -87,9 +87,9 @@ class StandardError(Case):
 
     def test_how_far_it_is_is_said_now_and_then(self):
         errors = io.StringIO()
-        with mock.patch("time.monotonic", side_effect=[0, 1, PROGRESS_SECONDS + 1, PROGRESS_SECONDS + 1]), \
-                contextlib.redirect_stderr(errors):
+        times = [0, 1, PROGRESS_SECONDS + 1, PROGRESS_SECONDS + 1, PROGRESS_SECONDS + 2]
+        with mock.patch("time.monotonic", side_effect=times), contextlib.redirect_stderr(errors):
             player = Player(options_of("rounds"), is_shown=True)
-            player.say("run 1 of 9")
-            player.say("run 2 of 9")
+            for number in (1, 2, 3):
+                player.say(f"run {number} of 9")
         self.assertEqual(errors.getvalue(), "workshop: run 2 of 9\n")
