@@ -10,35 +10,38 @@ from lab.pictures.marks import colour_square
 from lab.pictures.palette import INK, PAPER, SOFT, WRONG
 from lab.pictures.program_rounds import ProgramRounds
 from lab.pictures.results_picture import draw_chosen, found_in, legend
-from lab.pictures.rounds_picture import draw_heads
-from lab.pictures.schedules_space import broken_rounds, left_out_words
+from lab.pictures.rounds_picture import COLUMN, LEFT, ROW, SQUARE, draw_rows, place_of
+from lab.pictures.schedules_space import left_out_words
 from lab.pictures.svg import Svg, text_width, wrapped
-from lab.schedules.ruled_rounds import RuledRounds, RuledSequel
-from lab.schedules.rules import OF_FORESTS
-from lab.words import counted, in_words
-from lab.wrong import at_most
+from lab.schedules.ruled_rounds import RuledSequel, looked_at, ruled
+from lab.words import in_words
+from lab.wrong import Wrong, at_most
 
-LEFT, ROW, COLUMN, HALF, HEAD, GAP, RIGHT = 100, 38, 34, 12, 62, 40, 24
-OVER, MOST_MERGED = 48, 40
-LEAST_WIDTH, START = 620, 2
+MOST_DRAWN, OVER, LEAST_WIDTH = 40, 48, 620
 
 
 def draw(network, without, program=Colouring):
     """Of a network, or of a smallest one on which the rounds of a program go wrong."""
-    rounds, smaller = broken_rounds(network, without, program)
-    drawn = network or rounds.net
-    if isinstance(rounds, RuledSequel):
-        picture = OfEnd(rounds, without, drawn, program)
-    else:
-        picture = OfForest(rounds, without) if rounds.clash.pulse else OfMerge(rounds, without, drawn)
-    width = max(picture.width(), LEAST_WIDTH)
-    lines = [line for words in told(rounds, without, network, smaller) for line in in_lines(words, width)]
-    legend = in_lines(picture.legend(), width)
+    rounds, where = looked_at(network, without, program)
+    left_out = " and ".join(f"‘{rule}’" for rule in without)
+    if rounds is None:
+        raise Wrong(f"{where} without {','.join(without)}")
+    kind = OfEnd if isinstance(rounds, RuledSequel) else OfForest if rounds.clash.pulse else OfMerge
+    picture = kind(rounds, ruled(program)(rounds.net, ()))
+    width, (right, down) = max(picture.width, LEAST_WIDTH), picture.step
+    said = [f"{line[0].upper()}{line[1:]}.".replace("'", "’") for line in [where, *rounds.words().split("\n")]]
+    lines = [line for words in [left_out_words(without), *said] for line in in_lines(words, width)]
+    legend = in_lines(picture.legend, width)
     top = 48 + 16 * len(lines)
-    bottom = top + picture.height()
+    bottom = top + picture.height
     svg = Svg(width, bottom + 16 * len(legend) + 10, f"Broken without {' and '.join(without)}")
-    svg.heading(title(rounds, without, network), *lines)
-    picture.draw(svg, top)
+    svg.heading(("W" if network is None else f"{network.name} w") + f"ithout {left_out}: {title(rounds)}", *lines)
+    for number, (mark, words, hue) in enumerate((("without", f"without {left_out}", WRONG),
+                                                 ("with", "with all rules", INK))):
+        with svg.group(mark, words):
+            x, y = number * right, top + number * down
+            svg.text(x + 20, y + 16, words, 12.5, hue, bold=True)
+            picture.draw(svg, x, y + OVER, number)
     for number, line in enumerate(legend, 1):
         svg.text(20, bottom + 16 * number, line, 11.5, SOFT)
     return svg.document()
@@ -49,174 +52,87 @@ def in_lines(words, width):
     return wrapped(words, (width - 40) * 1.1)
 
 
-def left_out(without):
-    return " and ".join(f"‘{rule}’" for rule in without)
-
-
-def title(rounds, without, network):
+def title(rounds):
     clash = rounds.clash
-    name = "W" if network is None else f"{network.name} w"
     if not isinstance(rounds, RuledSequel):
-        said = f"nodes {clash.v} and {clash.w} get the same colour"
-    elif len(clash.nodes) == 1:
-        said = f"node {clash.nodes[0]} goes wrong"
-    else:
-        said = f"nodes {in_words(clash.nodes)} go wrong"
-    return f"{name}ithout {left_out(without)}: {said}"
+        return f"nodes {clash.v} and {clash.w} get the same colour"
+    return f"node {clash.nodes[0]} goes wrong" if len(clash.nodes) == 1 else f"nodes {in_words(clash.nodes)} go wrong"
 
 
-def told(rounds, without, network, smaller):
-    """The rule, the network, and what comes of it."""
-    nodes, edges = rounds.net.nodes, rounds.net.edges
-    said = [left_out_words(without)]
-    if network is None:
-        joined = {v for edge in edges for v in edge}
-        others = [v for v in rounds.net.neighbours if v not in joined]
-        apart = f" ({in_words(others)} {'has' if len(others) == 1 else 'have'} none)"
-        # Of forests' rules rows alone are tried.
-        what = "rows" if set(without) <= set(OF_FORESTS) else "networks"
-        said.append(f"A smallest network that goes wrong: {counted(nodes, 'node')} with the edges "
-                    f"{', '.join(f'{v}-{w}' for v, w in edges)}{apart * bool(others)}"
-                    + ", channel 1 barred at node 1" * bool(rounds.net.greatest_bars)
-                    + (f"; {smaller} smaller {what} go right." if smaller else "."))
-    said += [f"{words[0].upper()}{words[1:]}." for words in rounds.words().split("\n")]
-    return [words.replace("'", "’") for words in said]
+def check_size(rounds):
+    at_most("broken", rounds.net.nodes, "nodes of a merge or of another program", MOST_DRAWN,
+            "`forestlab explore NETWORK --without RULES`, which says it in words")
 
+
+# How each kind is drawn: `both` are the rounds without the rules and with all, of which the second ones are drawn a
+# `step` further.
 
 class OfForest:
     """A row for the node that goes wrong and for each one above it, the highest on top; a column for each pulse."""
 
-    def __init__(self, rounds, without):
-        clash, net = rounds.clash, rounds.net
-        self.clash, self.last = clash, clash.pulse
-        self.blocks = [(f"without {left_out(without)}", rounds), ("with all rules", RuledRounds(net, ()))]
-        self.row, v = [clash.v], clash.v
+    def __init__(self, *both):
+        self.both, self.clash, net = both, both[0].clash, both[0].net
+        v, above = self.clash.v, []
         # A colour after pulse P hangs on P - 2 nodes above it.
-        while len(self.row) < self.last - 1 and net.parent(clash.forest, v) is not None:
-            v = net.parent(clash.forest, v)
-            self.row.append(v)
-        self.row.reverse()
-        self.is_cut = net.parent(clash.forest, v) is not None
+        while v and len(above) < self.clash.pulse - 1:
+            above.append((v, net.parent(self.clash.forest, v)))
+            v = above[-1][1]
+        self.parents = dict(reversed(above))
+        block = LEFT + max(self.clash.pulse - 1, 5) * COLUMN + 24
+        self.width, self.height, self.step = 2 * block, OVER + 32 + len(above) * ROW, (block, 0)
+        self.legend = (f"Square: the node’s colour in forest {self.clash.forest} after the pulse; grey: still a name. "
+                       "An arrow leads to the parent.")
 
-    def width(self):
-        return LEFT + 2 * self.block() + GAP + RIGHT
+    def draw(self, svg, left, top, number):
+        lists = self.both[number].colours[self.clash.forest]
 
-    def block(self):
-        """The width of the columns of one block."""
-        return max((self.last - START + 1) * COLUMN, 150)
-
-    def height(self):
-        return HEAD + len(self.row) * ROW + 12
-
-    def draw(self, svg, top):
-        left = LEFT + max(0, (svg.width - self.width()) / 2)
-        self.nodes(svg, left - 44, top)
-        for number, (words, rounds) in enumerate(self.blocks):
-            x = left + number * (self.block() + GAP)
-            with svg.group("without" if number == 0 else "with", words):
-                svg.text(x + 2, top + 18, words, 12.5, WRONG if number == 0 else INK, bold=True)
-                draw_heads(svg, x, top + HEAD - 26, COLUMN, self.last)
-                for at, v in enumerate(self.row):
-                    self.colours(svg, x, self.y(top, at), v, rounds)
-                if number == 0:
-                    self.wrong(svg, x, top)
-
-    def y(self, top, at):
-        """The middle of a row."""
-        return top + HEAD + at * ROW + ROW / 2
-
-    def x(self, left, pulse):
-        return left + (pulse - START + 0.5) * COLUMN
-
-    def nodes(self, svg, x, top):
-        """The nodes, each with an arrow to its parent."""
-        for at, v in enumerate(self.row):
-            y = self.y(top, at)
-            if at or self.is_cut:
-                is_wrong = v == self.clash.v
-                tip = y - ROW + HALF + 2 if at else y - 0.7 * ROW
-                svg.line(x, y, x, tip + 5, WRONG if is_wrong else INK, 2.4 if is_wrong else 1.8, mark="arrow")
-                svg.head(x, tip, 0, -1, 8, WRONG if is_wrong else INK)
-            hue = WRONG if v in (self.clash.v, self.clash.w) else INK
-            svg.circle(x, y, HALF, PAPER, hue, 1.8, mark="node")
-            svg.text(x, y + 4, v, 11.5 if v < 100 else 9, hue, "middle", bold=True)
-        if not self.is_cut:
-            svg.text(x, top + HEAD - 8, "node", 9, SOFT, "middle")
-            svg.text(x - HALF - 6, self.y(top, 0) + 3.5, "root", 10, SOFT, "end")
-
-    def colours(self, svg, left, y, v, rounds):
-        for pulse in range(START, self.last + 1):
-            colour_square(svg, self.x(left, pulse), y, HALF, rounds.colours[self.clash.forest][pulse - START][v],
-                          is_name=pulse == START)
-
-    def wrong(self, svg, left, top):
-        """A red frame around the two squares with one colour."""
-        y, x = self.y(top, len(self.row) - 2), self.x(left, self.last)
-        svg.rect(x - HALF - 4, y - HALF - 4, 2 * HALF + 8, ROW + 2 * HALF + 8, "none", WRONG, 2.4, 4, mark="wrong")
-
-    def legend(self):
-        return (f"Square: the node’s colour in forest {self.clash.forest} after the pulse; grey: still a name. "
-                "An arrow leads to the parent.")
+        def square(v, pulse, x, y):
+            colour_square(svg, x, y, SQUARE, lists[pulse - 2][v], is_name=pulse == 2)
+        draw_rows(svg, left, top, self.parents, self.clash.pulse, square)
+        if number == 0:
+            # Around the two squares with one colour.
+            x, y = place_of(left, top, len(self.parents) - 2, self.clash.pulse)
+            svg.rect(x - SQUARE - 3, y - SQUARE - 3, 2 * SQUARE + 6, ROW + 2 * SQUARE + 6, "none", WRONG, 2.4, 4,
+                     mark="wrong")
 
 
 class OfMerge:
     """Three panels in a row: the channels before the merge, the colours in the forest, the channels after it."""
 
-    def __init__(self, rounds, without, network):
-        at_most("broken", network.nodes, "nodes of a merge", MOST_MERGED,
-                "`forestlab explore NETWORK --without RULES`, which says it in words")
-        self.clash, self.network, self.without = rounds.clash, network, without
-        self.blocks = [
-            (f"without {left_out(without)}", rounds, set(without)),
-            ("with all rules", RuledRounds(rounds.net, ()), set()),
-        ]
-        self.panel = Panel(network)
-        self.forest_of = {e: rounds.net.number[frozenset(e)] for e in network.edges}
+    legend = ("Circle: the channel so far; square: the colour in this forest, with arrows to the parents, and pale at "
+              "a node without an edge in it. Nodes choose in the order of their turns: the colour in this forest, and "
+              "with all rules the colour so far, too, which is the channel less 1.")
 
-    def width(self):
-        words = max(text_width(line, 11) for block in self.blocks for line in self.chooses(block)) * 0.95 + 10
-        return 40 + 3 * PANEL + words
+    def __init__(self, *both):
+        check_size(both[0])
+        self.both, self.clash, self.net = both, both[0].clash, both[0].net
+        self.panel = Panel(self.net)
+        self.forest_of = {e: self.net.number[frozenset(e)] for e in self.net.edges}
+        words = max(text_width(line, 11) for rounds in both for line in self.chooses(rounds)) * 0.95 + 10
+        block = self.panel.height + OVER
+        self.width, self.height, self.step = 40 + 3 * PANEL + words, 2 * block, (0, block)
 
-    def height(self):
-        return 2 * (self.panel.height + OVER)
-
-    def draw(self, svg, top):
-        for number, block in enumerate(self.blocks):
-            y = top + number * (self.panel.height + OVER)
-            with svg.group("without" if number == 0 else "with", block[0]):
-                svg.text(20, y + 16, block[0], 12.5, WRONG if number == 0 else INK, bold=True)
-                self.draw_block(svg, y + OVER, block)
-
-    def legend(self):
-        return (
-            "Circle: the channel so far; square: the colour in this forest, with arrows to the parents, and pale at a "
-            "node without an edge in it. Nodes "
-            "choose in the order of their "
-            "turns: the colour in this forest, and with all rules the colour so far, too, which is the channel less 1."
-        )
-
-    def draw_block(self, svg, top, block):
-        f, (_, rounds, _) = self.clash.forest, block
-        parents = {v: rounds.net.parent(f, v) for v in self.network.vertices if rounds.net.parent(f, v)}
+    def draw(self, svg, left, top, number):
+        rounds, f, left = self.both[number], self.clash.forest, left + 20
+        parents = {v: parent for v in self.net.vertices if (parent := self.net.parent(f, v))}
         titles = "channels before this merge", f"colours in forest {f}", "channels after this merge"
         for at, words in enumerate(titles):
-            svg.text(20 + (at + 0.5) * PANEL, top - 8, words, 11, INK, "middle", mark="group")
-        self.panel.channels(svg, 20, top, self.forest_of, f - 1, f, rounds.merged[f])
-        self.panel.colours(svg, 20 + PANEL, top, parents, rounds.colours[f][-1])
-        self.panel.channels(svg, 20 + 2 * PANEL, top, self.forest_of, f, f, rounds.merged[f + 1])
-        for at, line in enumerate(self.chooses(block)):
-            svg.text(20 + 3 * PANEL, top + self.panel.height / 2 - 20 + 17 * at, line, 11, INK if at % 2 == 0 else SOFT,
-                     mark="chooses")
+            svg.text(left + (at + 0.5) * PANEL, top - 8, words, 11, INK, "middle", mark="group")
+        self.panel.channels(svg, left, top, self.forest_of, f - 1, f, rounds.merged[f])
+        self.panel.colours(svg, left + PANEL, top, parents, rounds.colours[f][-1])
+        self.panel.channels(svg, left + 2 * PANEL, top, self.forest_of, f, f, rounds.merged[f + 1])
+        for at, line in enumerate(self.chooses(rounds)):
+            svg.text(left + 3 * PANEL, top + self.panel.height / 2 - 20 + 17 * at, line, 11,
+                     INK if at % 2 == 0 else SOFT, mark="chooses")
 
-    def chooses(self, block):
+    def chooses(self, rounds):
         """How the two nodes that go wrong choose: in words, two lines for each."""
-        _, rounds, without = block
-        f = self.clash.forest
+        f, without = self.clash.forest, rounds.without
         three, old, new = rounds.colours[f][-1], rounds.merged[f], rounds.merged[f + 1]
         turn = {v: (three[v],) if "pair" in without else (three[v], old[v]) for v in three}
         lines = []
         for v in sorted((self.clash.v, self.clash.w), key=lambda v: (turn[v], v)):
-            forests = {w: self.forest_of[min(v, w), max(v, w)] for w in self.network.neighbours[v]}
+            forests = {w: self.forest_of[min(v, w), max(v, w)] for w in self.net.neighbours[v]}
             said = [f"{new[w] + 1} of {w}" for w, of in forests.items()
                     if turn[w] < turn[v] and (of == f if "earlier" in without else of <= f)]
             lines.append(f"node {v}, turn {', '.join(map(str, turn[v]))}: takes channel {new[v] + 1}")
@@ -225,34 +141,20 @@ class OfMerge:
 
 
 class OfEnd:
-    """Two maps, side by side: what the nodes of a program have found at the end without the rules, and with all."""
+    """Maps: what the nodes of a program have found at the end."""
 
-    def __init__(self, rounds, without, network, program):
-        at_most("broken", network.nodes, "nodes of this program", MOST_MERGED,
-                "`forestlab explore NETWORK --without RULES`, which says it in words")
-        self.network, self.faults = network, rounds.faults
-        self.blocks = [(words, found_in(ProgramRounds(network, played))) for words, played in (
-            (f"without {left_out(without)}", rounds.program), ("with all rules", program))]
-        self.box = box_of(network, [one for _, found in self.blocks for one in found.values()], LEAST_WIDTH / 2, 0)
+    def __init__(self, *both):
+        check_size(both[0])
+        self.net, self.faults = both[0].net, [rounds.faults for rounds in both]
+        self.found = [found_in(ProgramRounds(self.net, rounds.program)) for rounds in both]
+        self.box = box_of(self.net, [one for found in self.found for one in found.values()], LEAST_WIDTH / 2, 0)
+        self.width, self.height, self.step = 2 * self.box[0], self.box[1] + OVER, (self.box[0], 0)
+        self.legend = f"What each node has found at the end{legend(self.found[1])}. Red: what isn’t right."
 
-    def width(self):
-        return 2 * self.box[0]
-
-    def height(self):
-        return self.box[1] + OVER
-
-    def legend(self):
-        return f"What each node has found at the end{legend(self.blocks[1][1])}. Red: what isn’t right."
-
-    def draw(self, svg, top):
-        _, height, beside, _ = self.box
-        width = svg.width / 2
-        for number, (words, found) in enumerate(self.blocks):
-            left, is_wrong = number * width, number == 0
-            with svg.group("without" if is_wrong else "with", words):
-                svg.text(left + 20, top + 16, words, 12.5, WRONG if is_wrong else INK, bold=True)
-                draw_map(svg, self.network, found, (width, height, beside, top + OVER / 2), ("#9A9A9A", 1.2),
-                         partial(draw_end, svg, found, self.faults if is_wrong else ()), left)
+    def draw(self, svg, left, top, number):
+        width, height, beside, _ = self.box
+        draw_map(svg, self.net, self.found[number], (width, height, beside, top - OVER / 2), ("#9A9A9A", 1.2),
+                 partial(draw_end, svg, self.found[number], self.faults[number]), left)
 
 
 def draw_end(svg, found, faults, drawn):

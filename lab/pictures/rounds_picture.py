@@ -8,7 +8,7 @@ from lab.wrong import at_most
 
 MOST_ROWS, USUAL_ROWS = 400, 40
 COLUMN, ROW, LEFT, TOP = 27, 27, 112, 100
-FULL_STEPS = 40
+FULL_STEPS, SQUARE = 40, COLUMN / 2 - 2.5
 HEAD, FOOT = 68, 30
 BAR = 12
 GROUPS = [(2, 2, "start"), (3, 6, "bit steps"), (7, 7, "shift"), (8, 8, "drop 5"), (9, 9, "shift"), (10, 10, "drop 4"),
@@ -99,6 +99,24 @@ def draw_heads(svg, left, y, column, last):
         svg.text(left + (pulse - 1.5) * column, y + 18, pulse, 9, SOFT, "middle")
 
 
+def place_of(left, top, row, pulse):
+    """The middle of a square."""
+    return left + LEFT + (pulse - 1.5) * COLUMN, top + 23 + (row + 0.5) * ROW
+
+
+def draw_rows(svg, left, top, parents, last, square):
+    """The heads of the pulses 2 to `last`, and a row for each vertex of `parents`: its number, its parent, and what
+    `square` draws of it, given the vertex, the pulse and a place."""
+    draw_heads(svg, left + LEFT, top, COLUMN, last)
+    svg.text(left + LEFT - 4, top + 18, "pulse", 9, SOFT, "end")
+    for row, (v, parent) in enumerate(parents.items()):
+        y = place_of(left, top, row, 2)[1] + 4.5
+        svg.text(left + 46, y, v, 12, INK, "end", bold=True, mark="node")
+        svg.text(left + 54, y, f"→ {parent}" if parent else "root", 10, SOFT)
+        for pulse in range(2, last + 1):
+            square(v, pulse, *place_of(left, top, row, pulse))
+
+
 class Strip:
     """The block of one forest, with its upper edge at `top`; what isn't in the `cone` is faded, if there is one."""
 
@@ -115,29 +133,21 @@ class Strip:
         """Left: the colour of each node after each of the pulses 2 to 12."""
         svg = self.svg
         svg.text(20, self.top + 20, f"forest {self.forest}", 13.5, INK, bold=True)
-        draw_heads(svg, LEFT, self.top + 45, COLUMN, LAST_COLOUR)
-        svg.text(LEFT - 4, self.top + 63, "pulse", 9, SOFT, "end")
-        for v in self.rounds.network.vertices:
-            y, parent = self.row(v), self.rounds.parents.get((v, self.forest))
-            if v % 2 == 1:
-                svg.rect(16, y - ROW / 2, self.right - 16, ROW, "#FAF8F2")
-            svg.text(46, y + 4.5, v, 12, INK, "end", bold=True)
-            svg.text(54, y + 4.5, f"→ {parent}" if parent else "root", 10, SOFT)
+        vertices = self.rounds.network.vertices
+        for v in vertices[::2]:
+            svg.rect(16, self.row(v) - ROW / 2, self.right - 16, ROW, "#FAF8F2")
         with svg.group("colours", f"forest {self.forest}"):
-            for v in self.rounds.network.vertices:
-                self.colours_of(v)
+            draw_rows(svg, 0, self.top + 45, {v: self.rounds.parents.get((v, self.forest)) for v in vertices},
+                      LAST_COLOUR, self.square)
 
-    def colours_of(self, v):
-        is_alone = not self.rounds.in_forest(v, self.forest)
-        for number in range(2, LAST_COLOUR + 1):
-            colour = self.rounds.pulses[number].colours[v, self.forest]
-            x, y = LEFT + (number - 1.5) * COLUMN, self.row(v)
-            if number > 2 and is_alone:
-                alone_chip(self.svg, x, y, COLUMN / 2 - 6, colour)
-            else:
-                colour_square(self.svg, x, y, COLUMN / 2 - 2.5, colour, is_name=number == 2)
-            if self.cone and ("colour", v, self.forest, number) not in self.cone.facts:
-                self.fade(x, y, COLUMN, short(colour))
+    def square(self, v, pulse, x, y):
+        colour = self.rounds.pulses[pulse].colours[v, self.forest]
+        if pulse > 2 and not self.rounds.in_forest(v, self.forest):
+            alone_chip(self.svg, x, y, COLUMN / 2 - 6, colour)
+        else:
+            colour_square(self.svg, x, y, SQUARE, colour, is_name=pulse == 2)
+        if self.cone and ("colour", v, self.forest, pulse) not in self.cone.facts:
+            self.fade(x, y, COLUMN, short(colour))
 
     def fade(self, x, y, side, number):
         """Makes a mark pale, and writes its number anew: white on a pale ground can't be read."""

@@ -1,10 +1,8 @@
 """All states of a tiny network and the steps between them, as lab/schedules/space.py finds them, for the kinds that
-draw every schedule; and the rounds without a rule, as ruled_rounds.py there has them. What is too large for a picture
-is refused here, in a sentence."""
+draw every schedule. What is too large for a picture is refused here, in a sentence."""
 import re
 
 from lab.definitions.nodes import Colouring
-from lab.schedules.ruled_rounds import ruled, smallest_wrong
 from lab.schedules.rules import ALL
 from lab.schedules.space import Space
 from lab.wrong import Wrong
@@ -29,24 +27,6 @@ def space_of(network, kind, without=(), beyond=False, program=Colouring, progres
             f"{kind} draws at most {MAX_STATES:,} states, and {network.name} has more: leave out an edge or a node"
         )
     return space
-
-
-def broken_rounds(network, without, program=Colouring):
-    """(rounds, how many networks go right that are smaller) of a network that was read, or of a smallest one, on which
-    the rounds of a program go wrong without these rules. Networks that go right are refused."""
-    said = " and ".join(f"`{rule}`" for rule in without)
-    if network is not None:
-        rounds = ruled(program)(network, without)
-        if rounds.clash is None:
-            raise Wrong(
-                f"not broken: the rounds of {network.name} go right without {said}; without NETWORK, broken draws a "
-                "smallest one that goes wrong"
-            )
-        return rounds, 0
-    rounds, tried, what, most = smallest_wrong(without, program)
-    if rounds is None:
-        raise Wrong(f"not broken: {tried:,} {what} of up to {most} nodes go right without {said}")
-    return rounds, tried - 1
 
 
 def fault_words(space, key=None):

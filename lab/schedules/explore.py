@@ -9,7 +9,7 @@ from typing import NamedTuple
 from lab.definitions.own_program import AGAIN, check_repeats
 from lab.definitions.programs import add_program, program_asked
 from lab.networks.named import network_at
-from lab.schedules.ruled_rounds import ruled, smallest_wrong
+from lab.schedules.ruled_rounds import looked_at
 from lab.schedules.rules import ALL, OF_SCHEDULES, program_of, table, unknown_to
 from lab.schedules.space import Space
 from lab.words import add_output, count, counted, parser_of, write
@@ -124,21 +124,10 @@ class Found(NamedTuple):
 
 def rounds_found(given):
     """What the rounds of the network do without the rules, or a smallest network on which they go wrong."""
-    net, refused = None if given.network is None else network_at(given.network), refused_words(given.without)
-    program = program_asked("explore", given, net)
-    if net is not None:
-        rounds = ruled(program)(net, given.without)
-        if not rounds.clash:
-            return Found(False, f"not broken: the rounds of {net.name} go right\n{refused}")
-        return Found(True, f"broken on {net.name}\n{rounds.words()}\n{refused}")
-    rounds, tried, what, most = smallest_wrong(given.without, program)
-    if rounds is None:
-        return Found(False, f"not broken: {tried:,} {what} of up to {most} nodes go right\n")
-    edges = ", ".join(f"{v}-{w}" for v, w in rounds.net.edges)
-    bar = ", channel 1 barred at node 1" if rounds.net.greatest_bars else ""
-    smaller = f"; {tried - 1} smaller {what} go right" if tried > 1 else ""
-    return Found(True, f"broken on {rounds.net.nodes} nodes with the edges {edges}{bar}{smaller}\n"
-                       f"{rounds.words()}\n{refused}")
+    net = None if given.network is None else network_at(given.network)
+    rounds, said = looked_at(net, given.without, program_asked("explore", given, net))
+    words = f"{said}\n{rounds.words()}\n" if rounds else f"{said}\n"
+    return Found(rounds is not None, words + refused_words(given.without))
 
 
 def refused_words(without):

@@ -204,3 +204,19 @@ def smallest_wrong(without, program=Colouring):
             if rounds.clash:
                 return rounds, tried, what, most
     return None, tried, what, most
+
+
+def looked_at(network, without, program=Colouring):
+    """The rounds of a program on a network, or on a smallest one, if they go wrong without these rules, or None; and in
+    words whether they do, and where."""
+    if network is not None:
+        rounds = ruled(program)(network, without)
+        return (rounds, f"broken on {network.name}") if rounds.clash else (
+            None, f"not broken: the rounds of {network.name} go right")
+    rounds, tried, what, most = smallest_wrong(without, program)
+    if rounds is None:
+        return None, f"not broken: {tried:,} {what} of up to {most} nodes go right"
+    edges = ", ".join(f"{v}-{w}" for v, w in rounds.net.edges)
+    bar = ", channel 1 barred at node 1" if rounds.net.greatest_bars else ""
+    smaller = f"; {tried - 1} smaller {what} go right" if tried > 1 else ""
+    return rounds, f"broken on {rounds.net.nodes} nodes with the edges {edges}{bar}{smaller}"

@@ -54,7 +54,7 @@ class Broken(PictureCase):
         status, picture, fault = painter("broken", *options)
         self.same(f"broken {options} is drawn", (status, fault), (0, b""))
         root = parsed(picture.decode())
-        shown, said = " ".join(texts(root)), said_by("explore", *options, cwd=TOP)[1].split("\n")[1:]
+        shown, said = " ".join(texts(root)), said_by("explore", *options, cwd=TOP)[1].split("\n")
         missing = [line for line in said
                    if not line.startswith("wrong body") and line[1:].replace("'", "’") not in shown]
         self.same(f"broken {options}: sentences that it hasn't", missing, [])
@@ -77,13 +77,11 @@ class Broken(PictureCase):
         chain, v = [clash.v], clash.v
         while len(chain) < clash.pulse - 1 and (v := net.parent(clash.forest, v)):
             chain.insert(0, v)
-        nodes = sorted((centre(mark)[1], int(said))
-                       for mark, (_, _, said) in zip(marks(root, "node"), numbered(root, "node")))
         (frame,) = [shape for mark, shape in shapes(without) if mark.get("class") == "wrong"]
         squares = [shape for mark, shape in shapes(without) if mark.get("class") == "colour"]
         lists = rounds.colours[clash.forest], [*Rounds(net).colours[clash.forest].values()][:clash.pulse - 1]
         self.facts(name, {
-            "its nodes": ([v for _, v in nodes], chain),
+            "its nodes": (words(root, "node"), 2 * [str(v) for v in chain]),
             "the colours": ([squares_of(group) for group in (without, with_all)],
                             [[[c[v] for c in row] for v in chain] for row in lists]),
             "in the red frame": ([said for square, (_, _, said) in zip(squares, numbered(without, "colour"))
