@@ -1,5 +1,5 @@
 """Where the vertices of a network are drawn: at given places, on a circle, or laid out by the edges (layout.py)."""
-from math import sqrt
+from math import cos, pi, sin, sqrt
 
 from lab.pictures.layout import laid_out
 
@@ -7,10 +7,9 @@ LARGEST_CIRCLE = 6
 # How far apart two vertices are at least, in radii: circles don't touch then; and neither do squares of twice that
 # width.
 OF_CIRCLES, OF_SQUARES = 2.3, 2.95
-PUSHES, REFITS = 200, 12
+PUSHES = 200
 # A text of about this half width is as near to its vertex at the side as above it; a wider one is moved aside.
 SHORT, LITTLE = 5, 1.5
-FULL_TURN = 6.283185307179586
 
 
 def places_of(network):
@@ -30,13 +29,8 @@ def unused_places(network):
 
 
 def turned(turn):
-    """The unit vector turned from the top clockwise. A power series, since `sin` may differ from machine to machine."""
-    angle = FULL_TURN * (turn - 1 if turn > 0.5 else turn)
-    point = term = 1 + 0j
-    for k in range(1, 40):
-        term = term * 1j * angle / k
-        point += term
-    return point.imag, -point.real
+    """The unit vector turned from the top clockwise; rounded, since `sin` may differ from machine to machine."""
+    return round(sin(2 * pi * turn), 9), -round(cos(2 * pi * turn), 9)
 
 
 def circle(nodes):
@@ -63,11 +57,13 @@ def spaced(places, width, height, margin, radius, least, apart=OF_CIRCLES):
     """The places fitted into a box, and the radius that they leave: at most `radius`. Vertices too near for `least` are
     pushed apart, as far as the box allows; no two of the radius overlap in any case."""
     places = fit(places, width, height, margin)
-    for _ in range(REFITS):
-        if least_gap(places) >= apart * least:
+    for _ in range(PUSHES):
+        near = list(near_pairs(places, apart * least))
+        if not near:
             break
-        places = fit(pushed_apart(places, 1.02 * apart * least), width, height, margin)
-    return places, max(0.1, min(radius, least_gap(places) / apart))
+        places = fit(pushed_apart(places, near, 1.02 * apart * least), width, height, margin)
+    gaps = (gap(places[v], places[w]) for v, w in near_pairs(places, apart * radius))
+    return places, max(0.1, min(gaps, default=apart * radius) / apart)
 
 
 def moved(places, left, top):
@@ -85,32 +81,15 @@ def near_pairs(places, least):
                 yield v, w
 
 
-def least_gap(places):
-    """The distance of the two vertices that are nearest to each other."""
-    wide, high = extent(places)
-    guess = (wide + high) / len(places) + 1e-6
-    while len(places) > 1:
-        found = [gap(places[v], places[w]) for v, w in near_pairs(places, guess)]
-        if found:
-            return min(found)
-        guess *= 2
-    return 1e9
-
-
-def pushed_apart(places, least):
-    """Moves each pair that is too near apart, along its line, again and again; a pair on one point in a direction of
-    its own."""
+def pushed_apart(places, near, least):
+    """Moves each of the near pairs apart, along its line; a pair on one point in a direction of its own."""
     places = dict(places)
-    for _ in range(PUSHES):
-        near = list(near_pairs(places, least))
-        for v, w in near:
-            (x1, y1), (x2, y2) = places[v], places[w]
-            far = gap(places[v], places[w])
-            dx, dy = ((x2 - x1) / far, (y2 - y1) / far) if far > 1e-6 else turned((5 * v + 3 * w) % 16 / 16)
-            push = max(0, (least - far) / 2 + 0.01)
-            places[v], places[w] = (x1 - dx * push, y1 - dy * push), (x2 + dx * push, y2 + dy * push)
-        if not near:
-            break
+    for v, w in near:
+        (x1, y1), (x2, y2) = places[v], places[w]
+        far = gap(places[v], places[w])
+        dx, dy = ((x2 - x1) / far, (y2 - y1) / far) if far > 1e-6 else turned((5 * v + 3 * w) % 16 / 16)
+        push = max(0, (least - far) / 2 + 0.01)
+        places[v], places[w] = (x1 - dx * push, y1 - dy * push), (x2 + dx * push, y2 + dy * push)
     return places
 
 
@@ -171,12 +150,11 @@ def label_places(places, edges, bend, distance, boxes, radius):
             spot = x + dx * distance + aside * max(-1, min(1, 2 * dx)), y + dy * distance
             room = min([gap(spot, p) for p in points]
                        + [gap(spot, p) - 0.45 * distance for p in others + [at for at, _ in taken]] + [near])
-            circles = [*others, (x, y)] if aside else others
-            covered = covers((spot, boxes[v]), circles, radius, taken)
-            if best is None or covered < best[0] - 0.5 or covered <= best[0] + 0.5 and room > best[1] + 1:
-                best = covered, room, spot
-        found[v] = best[2]
-        taken.append((best[2], boxes[v]))
+            room -= 100 * covers((spot, boxes[v]), [*others, (x, y)] if aside else others, radius, taken)
+            if best is None or room > best[0] + 1:
+                best = room, spot
+        found[v] = best[1]
+        taken.append((best[1], boxes[v]))
     return found
 
 

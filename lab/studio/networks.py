@@ -8,9 +8,8 @@ from lab.networks.kinds import KINDS
 from lab.networks.network_text import read_network, stem
 from lab.networks.reading import read_any
 from lab.networks.texts import text_of
-from lab.pictures.layout import laid_out
 from lab.pictures.pages import net_of
-from lab.pictures.places import LARGEST_CIRCLE, circle
+from lab.pictures.places import places_of
 from lab.programs import TOP
 from lab.schedules.policies import POLICIES
 from lab.schedules.rules import OF_PROGRAMS, OF_SCHEDULES
@@ -84,5 +83,6 @@ def by_shape(kind, nodes, *_):
 
 def tidy(asked, _tell):
     network = network_asked(asked)
-    network.places = circle(network.nodes) if network.nodes <= LARGEST_CIRCLE else laid_out(network)
+    network.places = {}
+    network.places = places_of(network)
     return shown(network)
