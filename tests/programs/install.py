@@ -150,27 +150,24 @@ class Install(Case):
 
     def test_manual(self):
         """A page for each of the three, with the help of each of its commands; that of the programs is stored."""
-        pages = os.path.join(self.target, "share", "man", "man1")
+        pages, there = os.path.join(self.target, "share", "man", "man1"), os.path.join(self.target, "bin")
         self.same("a manual page for each", sorted(os.listdir(pages)), sorted(f"{name}.1" for name in NAMES))
-        stored = {" ".join(words): contents(os.path.join(TOP, "lab", "help", f"{file}.txt")) for words, file in HELPS}
+        for words, file in HELPS:
+            got, stored = run([os.path.join(there, words[0]), *words[1:], "--help"]), f"lab/help/{file}.txt"
+            self.same(f"the help of {words}", got, (0, contents(os.path.join(TOP, stored)), b""))
         for name in NAMES:
             page = contents(os.path.join(pages, f"{name}.1")).decode()
             blocks = {name if title == "DESCRIPTION" else title.lower(): said
                       for title, said in lines_of_page(page).items()}
-            texts = {words: run([os.path.join(self.target, "bin", name), *words.split()[1:], "--help"])[1]
-                     for words in blocks}
-            wanted = {words: said for words, said in stored.items() if words.split()[0] == name} or texts
-            self.same(f"the help of {name}", texts, wanted)
-            self.same(f"the manual page of {name}", blocks, {words: said.decode() for words, said in texts.items()})
+            wanted = {" ".join(words): said for words, said, _ in completion.helps(there, name)}
+            self.same(f"the manual page of {name}", blocks, wanted)
             purpose = re.search(rf"^\.SH NAME\n{name} \\- [a-z][^\n]*[a-z]$", page, re.M)
             self.note(f"the purpose of {name}", purpose, page)
             if shutil.which("groff"):
                 got = run(["groff", "-man", "-Tutf8", "-ww", os.path.join(pages, f"{name}.1")])
                 self.note(f"groff sets the page of {name}", got[::2] == (0, b""), got)
-        wanted = {"forestlab", *(f"forestlab {it.name}" for it in OF_BIN)}
-        wanted |= {f"{words} {below}" for words in wanted - {"forestlab"}
-                   for below in completion.commands_in(tuple(words.split()), texts.get(words, b"").decode())}
-        self.same("the commands of forestlab", set(blocks), wanted)
+        missing = {f"forestlab {it.name}" for it in OF_BIN} - blocks.keys()
+        self.note("the commands of forestlab", not missing, missing)
 
     def test_again(self):
         """Once more, while a program of the folder runs: what is there besides stays, and what an earlier install put
@@ -261,15 +258,12 @@ class Install(Case):
         self.same("each sum is its file's", run(["sha256sum", "-c", "--quiet", "SHA256SUMS"], cwd=self.target)[0], 0)
 
     def test_readme(self):
-        """README there has the claim and the links of the repository's, and names nothing that it alone has."""
-        here, there = (contents(os.path.join(top, "README.md")).decode() for top in (TOP, self.target))
+        """README there has the links of the repository's, and names nothing that it alone has."""
+        there = contents(os.path.join(self.target, "README.md")).decode()
         links = {link.partition("#")[0] for link in re.findall(r"\]\(([^)]+)\)", there)}
         lost = {link for link in links if not os.path.isfile(os.path.join(self.target, link))}
         self.note("each page that it links is there", len(links) > 10 and not lost, lost)
         self.note("nothing of the repository alone", not re.findall(r"\./\w+|\brt\b|wrong-bodies", there), there)
-        parts = re.findall(r"^## The claim\n.*?(?=^## )|^## What is.*", here, re.M | re.S)
-        good = len(parts) == 2 and all(part in there for part in parts)
-        self.note("the claim is that of the repository", good, there)
         shown = re.search(r"\$ (forestplan plan < \S+)", there)
         self.same("its first command", self.line(shown[1]), (0, b"plan\n1 2\n2 3\n3 1\n", b""))
 
@@ -308,12 +302,9 @@ class Install(Case):
         self.same("their lines", re.findall(rb"(?m)^[^#\n].*$", contents(lines)),
                   [b"colour_base:", b"cole_vishkin: colour_base"])
         for crate in ("colour_base", "cole_vishkin"):
-            parts = sorted(os.listdir(os.path.join(crates, crate)))
-            good = {"src", "specs"} <= set(parts) <= {"src", "specs", "proofs", "must-fail"}
-            self.note(f"parts of {crate}", good, parts)
-            for part in parts:
-                folders = [os.path.join(top, "crates", crate, part) for top in (TOP, there)]
-                self.same(f"{part} of {crate}", run(["diff", "-r", *folders]), (0, b"", b""))
+            folders = [os.path.join(top, "crates", crate) for top in (TOP, there)]
+            got = run(["diff", "-r", "-x", "out", "-x", "wrong-bodies", *folders])
+            self.note(crate, got == (0, b"", b"") and not {"out", "wrong-bodies"} & set(os.listdir(folders[1])), got)
         self.file(lines, b"mine: cole_vishkin\n", "ab")
         changed = self.file(os.path.join(crates, "colour_base", "src", "lib.rt"), b"// changed\n", "ab")
         before = all_of(there)
