@@ -7,14 +7,13 @@ the program.
 import os
 
 from lab.definitions.colours import forests_text, plan_text
+from lab.definitions.rounds import rounds_text
 from lab.networks.network_text import network_of
 from tests import TOP
-from tests.cases import Case, called, contents, example, examples, text
+from tests.cases import Case, called, contents, examples, text
 from tests.commands import COMMANDS, EDGE, HELPS, PROGRAMS, TRIANGLE, commands_of
 from tests.programs.slow_reader import answer_to
-from tests.settings import PATHS, PLAN, SECOND_PLAN
-
-LIMIT = 300
+from tests.settings import PATHS, PLAN, PLAY, SECOND_PLAN
 
 # The last line of a refusal of a word that isn't known.
 READS = {name: f"{name} reads the network from standard input: {name} {command} < FILE|"
@@ -41,23 +40,14 @@ NETWORKS = [
      "forests 3 1|0 2 1|0 3 2|"),
     ("the greatest identifier, and one with zeros before it",
      f"p edge 3 2|e 1 2|e 1 3|i 3 {GREATEST} x\r|\ti 01  0007|", None, "forests 3 1|0 1 3|0 2 1|"),
-    ("two nodes alone", "p col 2 0|", [1, 1], "forests 2 0|"),
-    ("no node", "p edge 0 0|", [], "forests 0 0|"),
     ("four-cycle", RING, [1, 2, 1, 2], "forests 4 2|0 1 2|0 2 3|0 3 4|1 1 4|"),
     ("complete graph on four", FOUR, [2, 3, 1, 4], "forests 4 3|0 1 2|0 2 3|0 3 4|1 1 3|1 2 4|2 1 4|"),
     ("the greatest star", STAR, [1] * 1023 + [2], "forests 1024 1|" + "".join(f"0 {v} 1024|" for v in range(1, 1024))),
     ("a path of seven, one node alone", "p edge 8 6|e 1 2|e 2 4|e 4 5|e 5 6|e 6 7|e 7 8|",
      [2, 1, 1, 2, 1, 2, 1, 2], None),
-    ("a path of six, three nodes alone", "p edge 9 5|e 3 4|e 4 5|e 5 6|e 6 7|e 7 9|",
-     [1, 1, 1, 3, 2, 1, 2, 1, 1], None),
-    ("a path of seven, three nodes alone", "p edge 10 6|e 2 3|e 3 5|e 5 6|e 6 7|e 7 8|e 8 10|",
-     [1, 2, 1, 1, 2, 1, 2, 1, 1, 2], None),
     ("the triangle, with 1 barred at vertex 3", TRIANGLE + "b 3 1|", [1, 3, 2], None),
     ("bars that come again", "p edge 2 0|b 1 1|b 1 2|b 2 2|b 1 1|b 2 2 x|", [3, 1], None),
-    ("an edge, with 1 barred at vertex 1", EDGE + "b 1 1|", [2, 1], None),
-    ("an edge, with 2 barred at vertex 2", EDGE + "b 2 2|", [1, 3], None),
     ("an edge, with the next channel barred at each end", EDGE + "b 1 1|b 2 2|", [2, 1], None),
-    ("an edge, with 1 and 3 barred at both ends", EDGE + "b 1 1|b 2 1|b 1 3|b 2 3|", [2, 4], None),
     ("a bar of the greatest channel, before the edges", "p edge 2 1|\tb 02 02048 further|e 1 2|", [1, 2], None),
     ("as many bars of a vertex as the limit, each twice", "p edge 1 0|" + 2 * bars_of(1, 1, 1024), [1025], None),
     ("all channels barred, at one of two vertices each",
@@ -67,39 +57,16 @@ NETWORKS = [
     ("the greatest span", STAR + bars_of(1024, 1, 1024), [1] * 1023 + [1025], None),
     ("the greatest span, with 1 free", STAR + bars_of(1024, 2, 1025), [1] * 1023 + [1026], None),
 ]
-GOOD, BARRED_THREE = TRIANGLE + "plan|1 2|2 3|3 1|", TRIANGLE + "b 3 1|"
 # Of each option the name, the least and the greatest of its value.
 OPTIONS = {"workers": ("N", 1, 64), "capacity": ("N", 1, 64), "turns": ("N", 0, 10**12), "edition": ("N", 1, 2),
            "root": ("V", 1, 20_000), "passes": ("N", 1, 3)}
-# A text, and what `check` says of it; codes.py has one of each fault, hostile.py plans by chance.
-WORKED_VERDICTS = [
-    (GOOD, "proper 3"), (TRIANGLE, "C6 line 1"), ("p edge 0 0|plan|", "proper 0"), ("plan|1 2|", "F1"),
-    # a row with several faults: the vertex, then the second row, then the channel
-    (TRIANGLE + "plan|4 9|", "C2 vertex 4"), (TRIANGLE + "plan|1 2|1 9|3 1|", "C3 vertex 1"),
-    # rows before missing vertices, missing vertices before clashes, the first of each
-    (TRIANGLE + "plan|3 1|2 1|", "C1 vertex 1"), (TRIANGLE + "plan|3 1|2 1|1 1|", "C4 vertices 1 2"),
-    (TRIANGLE + "plan|1 1|1 2|9 9|x|", "C6 line 5"),
-    # layout, and a network that doesn't end in a line feed: the plan's first line is fields past the last that it needs
-    (TRIANGLE + "\t plan \r|\r||3 01|1 2\t|2  3", "proper 3"), (TRIANGLE[:-1] + "plan|1 2|", "F4 line 4"),
-    # row by row: a barred channel before a later row's fault, after an earlier one's, and before missing vertices
-    (BARRED_THREE + "plan|3 1|1 5|", "C8 vertex 3"), (BARRED_THREE + "plan|1 5|3 1|", "C5 vertex 1"),
-    (BARRED_THREE + "plan|1 1|2 4|3 2|", "proper 4"),
-    # a channel that is barred and above the greatest that is allowed
-    ("p edge 2 0|b 1 9|plan|1 9|2 1|", "C5 vertex 1"),
-]
-
-
-def closed_pipe():
-    """The writing end of a pipe that nobody reads."""
-    reading, writing = os.pipe()
-    os.close(reading)
-    return os.fdopen(writing, "wb")
 
 
 class BlackBox(Case):
     def test_networks(self):
-        """Of each network by hand, and of each example, all by the definitions, and these by hand. What a text may be
-        besides is for hostile.py, each fault for codes.py."""
+        """Of each network by hand, and of each example, all by the definitions, and these by hand; by the program as
+        both compilers build it (the gate leaves that of Rattle's own beside the other). What a text may be besides is
+        for hostile.py, each fault for codes.py."""
         rows = [(name, text(network), *wanted) for name, network, *wanted in NETWORKS]
         rows += [(f"example {name}", network, None, None) for name, network in examples().items()]
         for name, network, channels, forests in rows:
@@ -112,8 +79,12 @@ class BlackBox(Case):
                 self.same(f"the forests of {name} by the definition", split, text(forests))
             # On the greatest stars threads that have no processor would have the others wait for minutes.
             alone = ["--workers", "1"] if len(network) > 9000 else []
-            for words, answer in ((["forests"], split), (["plain"], plan), (["plan", *alone], plan)):
-                self.same(f"{' '.join(words)} of {name}", called(PLAN, *words, data=network), (0, answer, b""))
+            for program, words, answer in (
+                (PLAN, ["forests"], split), (PLAY, ["rounds"], rounds_text(net)),
+                *((program, words, plan) for program in (PLAN, SECOND_PLAN) for words in (["plain"], ["plan", *alone])),
+            ):
+                self.same(f"{program} {' '.join(words)} of {name}", called(program, *words, data=network),
+                          (0, answer, b""))
             self.says(f"check of {name}", network.rstrip() + b"\n" + plan,
                       f"proper {max(map(int, plan.split()[2::2]), default=0)}")
             self.note(f"comment of {name}", network.startswith(b"c ") or not name.startswith("example"))
@@ -124,10 +95,6 @@ class BlackBox(Case):
             1, b"", f"forestplan: {said}\n".encode())
         self.same(name, called(PLAN, "check", data=data), wanted)
         self.same(f"{name} by the slow reader", answer_to("check", data), wanted)
-
-    def test_verdicts(self):
-        for data, said in WORKED_VERDICTS:
-            self.says(f"verdict {said} of {data[-40:]!r}", text(data), said)
 
     def test_limits(self):
         """20,000 vertices in blocks of 22, each joined to the next ones, and 400,000 different edges are read and
@@ -168,14 +135,12 @@ class BlackBox(Case):
                 (["--workers", "1", "plan"],
                  "unexpected argument '--workers' found||  tip: 'plan --workers' exists", ""),
                 (["--version"], "unexpected argument '--version' found", ""),
-                (["plan", "--workers", "1", "2"], "unexpected argument '2' found", plan),
                 (["plan", "-w", "1"], "unexpected argument '-w' found", plan),
-                (["plan", "--edition", "1"], "unexpected argument '--edition' found", plan),
                 (["plan", "--worker", "1"],
                  "unexpected argument '--worker' found||  tip: a similar argument exists: '--workers'",
                  "forestplan plan --workers <N>"),
                 (["plan", "--turns=1", "--turns=2"], "the argument '--turns <N>' cannot be used multiple times", plan),
-                (["plan", "net.col"], "unexpected argument 'net.col' found", plan))),
+            )),
             *((it.program, [it.name, "extra"], "unexpected argument 'extra' found", it.usage) for it in COMMANDS),
         ]
         for name in PROGRAMS:
@@ -213,27 +178,15 @@ class BlackBox(Case):
         done = called(PATHS[program], *words, data=text(TRIANGLE))
         self.same(f"refused words {words} of {program}", done, (2, b"", wanted.encode()))
 
-    def test_second_compiler(self):
-        """The program as Rattle's own compiler builds it, which the gate leaves beside the other."""
-        self.note("the second compiler built the program", os.path.isfile(SECOND_PLAN), SECOND_PLAN)
-        for name, network in [("queen5_5.col", example("queen5_5")), ("a graph without edges", b"p edge 4 0\n")]:
-            for command in ("plain", "plan"):
-                done = called(SECOND_PLAN, command, data=network)
-                self.same(f"{command} of {name}, built by the second compiler", done,
-                          (0, plan_text(network_of(network)), b""))
-
     def test_streams(self):
-        """Each command writes to a full device and to a closed pipe, and reads a folder and a closed stream; and a full
-        device for errors changes no status."""
+        """Each command writes to a full device and to a pipe that nobody reads, and reads a folder and a closed stream;
+        and a full device for errors changes no status."""
         for it in COMMANDS:
-            path, line = PATHS[it.program], f"{it.program}: stream\n".encode()
-            for words, data in ((it.line, text(it.data)), ([it.name, "--help"], b"")):
-                with open("/dev/full", "wb") as full, closed_pipe() as pipe:
-                    for where, stream in (("a full device", full), ("a closed pipe", pipe)):
-                        status, _, fault = called(path, *words, data=data, stdout=stream)
-                        self.same(f"{words} to {where}", (status, fault), (4, line))
-            for redirected in (f"<{TOP}", "<&-"):
-                done = called("bash", "-c", f'"$0" "$@" {redirected}', path, *it.line, limit=LIMIT)
-                self.same(f"{it.line} {redirected}", done, (4, b"", line))
-        with open("/dev/full", "wb") as full:
-            self.same("a full device for errors changes no status", called(PLAN, "forests", stderr=full)[:2], (1, b""))
+            rows = [(words, how) for words in (it.line, [it.name, "--help"])
+                    for how in ('"$0" "$@" >/dev/full', 'exec > >(:); wait $!; exec "$0" "$@"')]
+            rows += [(it.line, f'"$0" "$@" <{stream}') for stream in (TOP, "&-")]
+            for words, how in rows:
+                done = called("bash", "-c", how, PATHS[it.program], *words, data=text(it.data))
+                self.same(f"{words}: {how}", done, (4, b"", f"{it.program}: stream\n".encode()))
+        done = called("bash", "-c", '"$0" forests 2>/dev/full', PLAN)
+        self.same("a full device for errors changes no status", done[:2], (1, b""))

@@ -4,15 +4,16 @@ is written of a text that has no fault comes from the definitions. An answer is 
 error)."""
 import functools
 import re
+from collections import Counter
 
 from lab.definitions.colours import forests_text, plan_text
-from lab.definitions.nodes import NetState, Refused, entry_words, make
+from lab.definitions.nodes import Colouring, Refused, entry_words
 from lab.definitions.rounds import rounds_text
 from lab.networks.network_text import network_of, read_network
 from lab.networks.plan_text import clashes, read_plan
 from lab.networks.texts import plain_text
+from lab.transcripts.check import Found
 from lab.transcripts.reading import Wrong, read
-from lab.transcripts.stamps import Clock, unfinished
 from lab.wrong import Wrong as Refusal
 from tests.commands import PROGRAM_OF
 from tests.programs.events import answer_of, state_text
@@ -120,22 +121,17 @@ def replay(rows):
         head, entries = read(b"".join(b" ".join(fields) + b"\r\n" for fields in behind))
     except Wrong as wrong:
         raise Fault(f"X1 line {wrong.line + len(before) if behind else 1}") from None
-    state, clock, before_it = NetState(net), Clock(net.neighbours), (0, 0)
-    taken = dict.fromkeys(state.link, 0)
+    found = Found(net, entries, Colouring)
     for entry in entries:
-        try:
-            make(state, entry)
-        except Refused as refused:
-            raise Fault(f"{refused} line {entry.line + len(before)}{entry_words(state, entry, refused)}") from None
-        due = clock.next(entry.kind, entry.vertex, entry.neighbour), entry.vertex
-        if head.edition == 2 and (due != (entry.stamp, entry.vertex) or due < before_it):
-            raise Fault(f"WrongStamp line {entry.line + len(before)}")
-        before_it = due
-        if entry.kind == "Take":
-            taken[entry.neighbour, state.port_to[entry.neighbour, entry.vertex]] += 1
-    if head.edition == 2 and any(unfinished(state)):
+        found.make_next(entry.vertex)
+        if code := found.refusals.get(entry.vertex):
+            more = entry_words(found.state, entry, Refused(code)) if code != "WrongStamp" else ""
+            raise Fault(f"{code} line {entry.line + len(before)}{more}")
+    if head.edition == 2 and not found.is_whole():
         raise Fault(f"NotWhole line {(entries or [head])[-1].line + len(before)}")
-    return state_text(net, state, taken)
+    taken = Counter((entry.neighbour, found.state.port_to[entry.neighbour, entry.vertex])
+                    for entry in entries if entry.kind == "Take")
+    return state_text(net, found.state, taken)
 
 
 def plain(rows):
