@@ -4,12 +4,10 @@ by chance."""
 import re
 from itertools import product
 
-from lab.definitions.layers import Layers
-from lab.definitions.leader import Leader
 from lab.definitions.nodes import synchronous_run
 from lab.definitions.programs import program_at
 from lab.networks.network_text import network_of
-from tests.cases import Case, called, forestlab, text
+from tests.cases import Case, called, text
 from tests.commands import EDGE
 from tests.settings import PLAN, PLAY
 
@@ -62,9 +60,29 @@ ENDS = [
     ("recolouring --passes 3", NONE, 15, ""),
     ("matching", NONE, 13, ""),
 ]
+# The colouring's rounds of an edge. Node 2 is the root of the forest: from 2 it steps to 0 and stays there, shifts to
+# 1, then to 0, then to 1, and is never dropped. Node 1 steps to 1 and stays there, and shifts to its parent's colour
+# before. So node 1 ends with 0 and chooses at step 0, node 2 ends with 1 and chooses at step 2. With channel 1 barred
+# at node 1 the merge has nine pulses: node 1 begins with colour 1, so it chooses at step 1, and again 1; node 2 begins
+# with 0, so it chooses at step 3, and 0 is neither barred nor taken.
+EDGE_NAMES = ["seed"] + ["step"] * 4 + ["shift", "drop"] * 3
+EDGE_COLOURS = [(1, 2), (1, 0), (1, 0), (1, 0), (1, 0), (0, 1), (0, 1), (1, 0), (1, 0), (0, 1), (0, 1)]
+EDGE_BEGINNING = (
+    "pulse 0 greet|1 put 2 payload 0 hello 1|2 put 1 payload 0 hello 2|pulse 1 orient|1 put 2 payload 1 label 0|"
+    + "".join(f"pulse {p} {name}|1 colour 0 {own}|2 colour 0 {parent}|"
+              + (f"2 put 1 payload {p} colour {parent}|" if p < 12 else "")
+              for p, (name, (own, parent)) in enumerate(zip(EDGE_NAMES, EDGE_COLOURS), 2))
+)
 # The rounds of programs. Of an edge, node 2 has the greater identifier, and node 1 is the root. No node sends at the
 # last pulse. A node alone hears and sends nothing: 13 is 13 + 6 U of the matching, and R + D + B + 1 of the others.
 ROUNDS = [
+    ("colouring", EDGE, "rounds 1 2 1 1 18|" + EDGE_BEGINNING
+     + "pulse 13 merge 0 0 0|1 chose 0|1 put 2 payload 13 chosen 0|pulse 14 merge 0 0 1|pulse 15 merge 0 1 0|2 chose 1|"
+     "2 put 1 payload 15 chosen 1|pulse 16 merge 0 1 1|pulse 17 merge 0 2 0|pulse 18 merge 0 2 1|"),
+    ("colouring", BARRED, "rounds 2 2 1 1 1 21|" + EDGE_BEGINNING
+     + "pulse 13 merge 0 0 0|pulse 14 merge 0 0 1|1 chose 1|1 put 2 payload 14 chosen 1|pulse 15 merge 0 0 2|"
+     "pulse 16 merge 0 1 0|2 chose 0|2 put 1 payload 16 chosen 0|pulse 17 merge 0 1 1|pulse 18 merge 0 1 2|"
+     "pulse 19 merge 0 2 0|pulse 20 merge 0 2 1|pulse 21 merge 0 2 2|"),
     ("leader", EDGE, "rounds 3 leader 2 1 2|pulse 0|1 put 2 payload 0 leader 1|2 put 1 payload 0 leader 2|pulse 1|"
                      "1 put 2 payload 1 leader 2|pulse 2|1 leader 2|2 leader 2|"),
     ("layers", EDGE, "rounds 3 layers 2 1 1|pulse 0|1 put 2 payload 0 hops 0|pulse 1|1 layer 0|2 layer 1 by 0|"),
@@ -209,20 +227,6 @@ class Programs(Case):
                           and fault.startswith(f"forestplay: {code} line ".encode() if code else b"")
                           and bool(fault) == bool(code), (run[:80], fault))
 
-    def test_illegal_inboxes(self):
-        """Which inboxes no round has, by the definitions' pages: the first rule of the election, and of the layers that
-        a distance is the pulse before, and that nothing comes after the last pulse, one before the number of nodes."""
-        edge, row = network_of(b"p edge 2 1\ne 1 2\n"), network_of(b"p edge 3 2\ne 1 2\ne 2 3\n")
-        for program, net, pulse, payload, wanted in (
-            (Leader, edge, 1, ("Leader", 1), False), (Leader, edge, 1, ("Leader", 2), False),
-            (Leader, edge, 2, ("Leader", 1), False), (Leader, edge, 3, ("Leader", 1), True),
-            (Leader, edge, 3, None, False), (Layers, row, 1, ("Hops", 0), False), (Layers, row, 1, ("Hops", 1), True),
-            (Layers, row, 2, ("Hops", 1), False), (Layers, row, 2, None, False), (Layers, row, 3, ("Hops", 2), True),
-            (Layers, edge, 2, ("Hops", 1), True),
-        ):
-            got = program(net, len(net.neighbours)).refuses(pulse, [payload])
-            self.note(f"{program.name} at pulse {pulse}: {payload}", got is wanted, got)
-
     def test_refused(self):
         first = EDGE + "transcript 1 2|1 put 2 payload 0 "
         for command, asked, data, fault in (
@@ -250,40 +254,3 @@ class Programs(Case):
             self.refusal(f"forestplan {command} {option}", called(PLAN, command, option, "1"), 2, b"")
         self.same("no turns", play("run", "leader", "--turns", 0, data=EDGE), (3, b"", b"forestplay: stopped\n"))
         self.same("turns of no node", play("run", "leader", "--turns", 0, data=NONE), (0, b"", b""))
-
-
-class ByDefinition(Case):
-    needs_programs = False
-
-    def test_commands(self):
-        """Each command of forestlab that takes a program takes both options, and refuses a root that isn't there and
-        another number of passes."""
-        layers, passes = ["path3", "--program", "layers", "--root"], ["path2", "--program", "recolouring", "--passes"]
-        of_layers = forestlab("simulate", *layers, "3", "--seed", "2")[1]
-        of_passes = forestlab("simulate", *passes, "2", "--seed", "2")[1]
-        self.note("simulate with a root", of_layers.startswith(b"transcript 3 layers 3\n"), of_layers[:60])
-        self.note("simulate with passes", of_passes.startswith(b"transcript 3 recolouring 2\n"), of_passes[:60])
-        for words, data, status, said in (
-            (["explore", *layers, "3"], b"", 0, b"1 layer 2 by 0, 2 layer 1 by 1, 3 layer 0\n"),
-            (["transcript", "check", "path3", "-", *layers[1:], "3"], of_layers, 0, b"whole run of 3 nodes"),
-            (["transcript", "check", "path3", "-", *layers[1:], "2"], of_layers, 1, b"WrongWire"),
-            (["picture", "rounds", *layers, "3"], b"", 0, b"layer 2 by 0"),
-            (["explore", *layers, "4"], b"", 1,
-             b"explore: there is no node 4 that could be the root: the network has 3\n"),
-            (["simulate", *layers, "0"], b"", 1, b"there is no node 0"),
-            (["picture", "player", *layers, "9"], b"", 1, b"there is no node 9"),
-            (["explore", "path3", "--root", "1"], b"", 1,
-             b"explore: --root is for --program layers, not for colouring\n"),
-            (["explore", *passes, "2"], b"", 0, b"1 channel 1, 2 channel 2\n"),
-            (["transcript", "check", "path2", "-", *passes[1:], "2"], of_passes, 0, b"whole run of 2 nodes"),
-            (["transcript", "check", "path2", "-", *passes[1:], "1"], of_passes, 1, b"WrongWire"),
-            (["picture", "results", *passes, "2"], b"", 0, b"pulse 22"),
-            (["picture", "player", *passes, "3"], b"", 0, b'"last":24'),
-            (["explore", *passes, "4"], b"", 2, b"--passes"), (["simulate", *passes, "0"], b"", 2, b"--passes"),
-            (["picture", "run", *passes, "1x"], b"", 2, b"--passes"),
-            (["picture", "plan", "path2", "--passes", "2"], b"", 2, b"--passes"),
-            (["simulate", *layers, "1", "--passes", "2"], b"", 1, b"not for layers"),
-            (["simulate", *passes, "2", "--root", "1"], b"", 1, b"--root is for --program layers"),
-        ):
-            done = forestlab(*words, data=data)
-            self.note(" ".join(words), done[0] == status and said in done[1] + done[2], done)

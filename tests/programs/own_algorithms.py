@@ -1,24 +1,15 @@
-"""Tests of programs of one's own, from a Python file, and of the two definitions beside the colouring: in `explore`,
-`simulate`, `transcript` and `picture`.
-
-What nodes of the samples find is worked out here from the network (independent sets, trees)."""
-import os
-import random
+"""Tests of programs of one's own, from a Python file, and of those that have a name, in `explore`, `simulate`,
+`transcript` and `picture`. sequels.py has what nodes find."""
 import textwrap
 
 from lab.definitions.nodes import synchronous_run
 from lab.definitions.programs import program_at
 from lab.network import Network
-from lab.networks.named import network_at
-from lab.networks.network_text import network_of
-from tests import TOP
-from tests.cases import Case, examples, forestlab, said_by, text_in
+from tests.cases import Case, forestlab, said_by, text_in
 from tests.pictures.marks import data_of
-from tests.programs.plain_networks import random_of, tree
+from tests.programs.sequels import SAMPLES
 
-SEED = 2026
-MOST_NODES = 30
-SET, COUNT = (os.path.join(TOP, "examples", "algorithms", name) for name in ("independent_set.py", "tree_count.py"))
+SET, COUNT = SAMPLES
 GOOD = """\
 def greet(me):
     return None
@@ -85,45 +76,45 @@ def keeping(what):
     return FLOOD.replace("me.best = me.id", f"me.kept = {what}\n    me.best = me.id")
 
 
-def some_networks():
-    """The examples, and random networks with identifiers in any order."""
-    for name, net in ((name, network_of(data)) for name, data in examples().items()):
-        if len(net.neighbours) <= MOST_NODES:
-            yield name, net
-    source = random.Random(SEED)
-    for k, (nodes, edges) in enumerate(random_of(20, 1, 9)(source)):
-        yield f"random {k}", Network(nodes, edges, dict(enumerate(source.sample(range(1, 40), nodes), 1)))
-
-
 class OwnAlgorithms(Case):
-    def test_samples(self):
-        """The set is independent and can't grow; a tree is counted, and nothing is where a ring is in the way."""
-        for name, net in some_networks():
-            nodes = synchronous_run(net, program_at(SET))
-            inside = {v for v in nodes if nodes[v].result() == "set in"}
-            good = all(bool(inside.intersection(net.neighbours[v])) != (v in inside) for v in nodes)
-            self.note(f"a maximal independent set of {name}", good, inside)
-        source = random.Random(SEED)
-        for count in (1, 2, 3, 7, 12):
-            net = Network(count, tree(source, list(range(1, count + 1))))
-            found = {node.result() for node in synchronous_run(net, program_at(COUNT)).values()}
-            self.note(f"a tree of {count} nodes counted", found == {f"nodes {count}"}, found)
-        found = {node.result() for node in synchronous_run(network_at("four_cycle"), program_at(COUNT)).values()}
-        self.note("a ring isn't counted", found == {"nodes unknown"}, found)
+    needs_programs = False
 
-    def test_schedules(self):
-        """Every order on two nodes leads to what the rounds find; a run by seed is checked, and drawn."""
-        for program in ("leader", "layers", SET, COUNT):
-            status, text, fault = said_by("explore", "two", "--program", program)
-            nodes = synchronous_run(network_at("two"), program_at(program))
-            end = "one end: " + ", ".join(f"{v} {node.result()}" for v, node in nodes.items())
-            self.same(f"every order of {program}", (status, text.splitlines()[-1:], fault), (0, [end], ""))
-            _, run, _ = forestlab("simulate", "chain6", "--program", program, "--seed", "3")
-            done, wrong = (forestlab("transcript", "check", "chain6", "-", "--program", program, data=data)
-                           for data in (run, run.replace(b" safe 0", b" safe 1", 1)))
-            good = done[::2] == (0, b"") and done[1].startswith(b"whole run of 6 nodes, ")
-            self.note(f"a run of {program}", good, done)
-            self.refusal(f"a wrong run of {program}", wrong, 1, b"WrongWire")
+    def test_commands(self):
+        """Every order on a few nodes ends, by hand, as the rounds do; a run by seed is checked, and with another wire
+        refused; and pictures say the end."""
+        for asked, name, ends in (
+            ("leader", "path2", "1 leader 2, 2 leader 2"),
+            ("layers --root 3", "path3", "1 layer 2 by 0, 2 layer 1 by 1, 3 layer 0"),
+            ("recolouring --passes 2", "path2", "1 channel 1, 2 channel 2"),
+            (SET, "path2", "1 set out, 2 set in"), (COUNT, "path2", "1 nodes 2, 2 nodes 2"),
+        ):
+            words = ["--program", *asked.split()]
+            status, text, fault = said_by("explore", name, *words)
+            self.same(f"every order of {asked}", (status, text.splitlines()[-1:], fault), (0, [f"one end: {ends}"], ""))
+            run = said_by("simulate", name, *words, "--seed", "3")[1]
+            self.note(f"a run of {asked}", run.startswith("transcript 3 "), run[:60])
+            for data, *wanted in ((run, 0, "whole run of "), (run.replace(" safe 0", " safe 1", 1), 1, "WrongWire")):
+                done = said_by("transcript", "check", name, "-", *words, data=data.encode())
+                self.note(f"{wanted} of {asked}", done[0] == wanted[0] and wanted[1] in done[1] + done[2], done)
+            for kind in ("results", "player"):
+                done = said_by("picture", kind, name, *words)
+                good = done[::2] == (0, "") and ends.split(", ")[-1][2:] in done[1]
+                self.note(f"picture {kind} of {asked}", good, done)
+        _, run, _ = forestlab("simulate", "path3", "--program", "layers", "--root", "3")
+        self.refusal("a run with another root", forestlab("transcript", "check", "path3", "-", "--program", "layers",
+                                                          "--root", "2", data=run), 1, b"WrongWire")
+        for line, status, said in (
+            ("explore path3 --program layers --root 4", 1,
+             "explore: there is no node 4 that could be the root: the network has 3\n"),
+            ("picture player path3 --program layers --root 9", 1, "there is no node 9"),
+            ("explore path3 --root 1", 1, "explore: --root is for --program layers, not for colouring\n"),
+            ("simulate path3 --program layers --passes 2", 1, "not for layers"),
+            ("simulate path2 --program recolouring --passes 0", 2, "--passes"),
+            ("picture plan path2 --passes 2", 2, "--passes"),
+            ("simulate two --program tree", 1, "simulate: there is no program tree: there are "),
+            ("simulate two --program nowhere.py", 1, "simulate: nowhere.py: No such file or directory\n"),
+        ):
+            self.refusal(line, said_by(*line.split()), status, said)
 
     def test_what_me_knows(self):
         """By hand: a row of three whose middle is the greatest has one forest, and two channels are barred at node
@@ -251,6 +242,3 @@ class OwnAlgorithms(Case):
             for name in ("explore",) if "`result`" in said else ("simulate", "explore"):
                 done = forestlab(name, "two", "--program", path)
                 self.same(f"{name}{said}", done, (1, b"", f"{name}: {path}{said}\n".encode()))
-        for name, said in (("tree", b"simulate: there is no program tree: there are "),
-                           ("nowhere.py", b"simulate: nowhere.py: No such file or directory\n")):
-            self.refusal(f"no program {name}", forestlab("simulate", "two", "--program", name), 1, said)

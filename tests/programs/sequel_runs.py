@@ -1,27 +1,26 @@
-"""The built programs other than the colouring, on networks by chance: `forestplay rounds` is, byte for byte, what the
-slow definitions of lab/ give, and each run by some workers and capacity ends with the same results. In those of the
-programs that go on after the colouring a checker that has nothing but the edges and the bars finds what the theorems
-say.
+"""The programs that nodes run, on networks by chance: `forestplay rounds` is, byte for byte, what the slow definitions
+of lab/ give, and each run by some workers and capacity ends as their nodes do. A checker that has nothing but the edges
+and the bars finds what the theorems say of those that go on after the colouring.
 
   ./test programs.sequel_runs                              a few networks
   TESTS_SEQUELS=1000 python3 -m tests programs.sequel_runs     many of them"""
 import itertools
 import re
 
-from lab.definitions.nodes import ports_of
-from lab.definitions.programs import program_at, program_words
+from lab.definitions.colours import colours, text_of
+from lab.definitions.nodes import ports_of, synchronous_run
 from lab.networks.network_text import network_of
-from lab.pictures.program_rounds import ProgramRounds
-from tests.cases import Case, called
-from tests.programs.sequels import CHECKERS, networks_by_chance
-from tests.settings import PLAN, PLAY, setting
+from lab.pictures.program_rounds import rounds_of
+from tests.cases import Case
+from tests.programs.node_programs import play, program_of
+from tests.programs.sequels import CHECKERS, last_of, networks_by_chance
+from tests.settings import setting
 
 NODES, SEED = 14, 79
 # Workers and capacity, one after the other over the networks.
 THREADS = [(1, 4), (2, 1), (3, 2), (4, 4), (2, 3), (8, 1)]
-# What is played: a program, the root of the layers, and how often recolouring chooses anew.
-PLAYED = [("leader", None, None), ("layers", None, None), ("layers", 1, None), ("matching", None, None),
-          ("independent-set", None, None), *(("recolouring", None, passes) for passes in (None, 2, 3))]
+PLAYED = ("colouring", "leader", "layers", "layers --root 1", "matching", "independent-set", "recolouring",
+          "recolouring --passes 2", "recolouring --passes 3")
 
 
 def ended(net, v, result):
@@ -36,22 +35,17 @@ class SequelRuns(Case):
         threads = itertools.cycle(THREADS)
         for k, data in enumerate(networks_by_chance(int(setting("sequels")), NODES, SEED)):
             net = network_of(data)
-            rows = called(PLAN, "plain", data=data)[1].decode().split("\n")[1:-1]
-            plan = dict(tuple(map(int, row.split())) for row in rows)
-            for program, root, passes in PLAYED:
-                made = program_at(program, root=root, passes=passes)
-                asked = program_words(made)
-                name = f"{asked} on network {k}"
-                rounds = ProgramRounds(net, made)
-                wanted = "".join(f"{line}\n" for line in rounds.lines()).encode()
-                self.same(f"rounds of {name}", called(PLAY, "rounds", *asked, data=data), (0, wanted, b""))
-                results = rounds.pulses[-1].results
-                if program in CHECKERS:
-                    last = {v: results[v].split()[-1] for v in net.vertices}
-                    said = list(CHECKERS[program](net, last, plan))
-                    self.note(f"what {name} has found", not said, said)
-                ends = [f"node {v} pulse {rounds.last} {ended(net, v, results[v])}\n" for v in net.vertices]
+            plan = {v: colour + 1 for v, colour in colours(net).items()}
+            for asked in PLAYED:
+                program, name = program_of(asked), f"{asked} on network {k}"
+                wanted = text_of(rounds_of(net, program).lines())
+                self.same(f"rounds of {name}", play("rounds", asked, data=data), (0, wanted, b""))
+                nodes = synchronous_run(net, program)
+                said = [*CHECKERS[program.name](net, last_of(nodes), plan)] if program.name in CHECKERS else []
+                self.note(f"what {name} has found", not said, said)
+                ends = [f"node {v} pulse {program.last_pulse(net)} {ended(net, v, node.result())}"
+                        for v, node in nodes.items()]
                 for workers, capacity in (next(threads), next(threads)):
-                    done = called(PLAY, "run", *asked, "--workers", workers, "--capacity", capacity, data=data)
+                    done = play("run", asked, "--workers", workers, "--capacity", capacity, data=data)
                     self.same(f"run of {name} by {workers} workers, capacity {capacity}", done,
-                              (0, "".join(ends).encode(), b""))
+                              (0, text_of(ends), b""))
