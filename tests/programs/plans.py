@@ -5,7 +5,6 @@ That the bytes are the right ones is shown of `plain`, by plain_networks.py."""
 import itertools
 
 from lab.definitions.colours import plan_text
-from lab.definitions.nodes import wire_words
 from lab.networks.network_text import network_of
 from tests.cases import Case, called, text
 from tests.commands import TRIANGLE as THREE
@@ -23,29 +22,11 @@ LONG = {"random on 20 to 40 nodes": len(PAIRS), "bars on 20 to 40 nodes": len(PA
 
 TRIANGLE, TRIANGLE_PLAN = text(THREE), b"plan\n1 2\n2 3\n3 1\n"
 STOPPED = b"forestplan: stopped\n"
-
-# Capacity, looks, the entries of the triangle's nodes after these looks of one worker, and what the links then hold,
-# by hand: node 1 greets both neighbours, and node 2 takes that greeting. On a link that holds one wire its
-# acknowledgement has no place.
-GREETED = ["1 put 2 payload 0 hello 1", "1 put 3 payload 0 hello 1"]
-TAKEN = ["2 take 1 payload 0 hello 1", "2 put 1 payload 0 hello 2"]
-FIRST_LOOKS = [
-    *((capacity, 1, GREETED, {(1, 0): ["payload 0 hello 1"], (1, 1): ["payload 0 hello 1"]}) for capacity in (4, 1)),
-    (4, 2, GREETED + TAKEN + ["2 put 1 ack 0", "2 put 3 payload 0 hello 2"],
-     {(1, 1): ["payload 0 hello 1"], (2, 0): ["payload 0 hello 2", "ack 0"], (2, 1): ["payload 0 hello 2"]}),
-    (1, 2, GREETED + TAKEN + ["2 put 3 payload 0 hello 2"],
-     {(1, 1): ["payload 0 hello 1"], (2, 0): ["payload 0 hello 2"], (2, 1): ["payload 0 hello 2"]}),
-]
-
 # (words after `plan`, input, status, standard output, standard error); codes.py has a run that stops at once.
 WORKED_RUNS = [
     (["--turns", "0"], b"p edge 0 0\n", 0, b"plan\n", b""),
-    (["--turns=0", "--workers=64", "--capacity=64"], b"p edge 0 0\n", 0, b"plan\n", b""),
     (["--turns", "1", "--workers", "64"], TRIANGLE, 3, b"", STOPPED),
-    # a look makes at most one pulse, and each of the three nodes makes 30
-    (["--turns", "89", "--workers", "1"], TRIANGLE, 3, b"", STOPPED),
     (["--turns", "1000000000000"], TRIANGLE, 0, TRIANGLE_PLAN, b""),
-    (["--turns", "0"], b"p edge 2 1\ne 1 1\n", 1, b"", b"forestplan: F6 line 2\n"),
 ]
 
 
@@ -57,10 +38,6 @@ def of_one(data, capacity, turns, command="plan"):
     """The answer of one worker."""
     words = ["--workers", 1, "--capacity", capacity, "--turns", turns] + ["--edition", 1] * (command == "transcript")
     return answer_of(command, *words, data=data)
-
-
-def of_node(v, lines):
-    return [line for line in lines if line.startswith(v + " ")]
 
 
 class Plans(Case):
@@ -80,17 +57,6 @@ class Plans(Case):
                 if got != answer_of("plain", data=network) or got[0] != 0:
                     different.append((count, workers, capacity, got, network))
             self.note(f"plan is plain, {count} networks, {family[0]}", count > 0 and not different, different[:1])
-
-    def test_first_looks(self):
-        """What the first looks leave by the definition of a turn, and that each node's entries in the program's
-        transcript begin so."""
-        for capacity, looks, entries, held in FIRST_LOOKS:
-            left = Run(network_of(TRIANGLE), capacity, looks)
-            links = {at: [wire_words(wire) for wire in wires] for at, wires in left.player.state.link.items() if wires}
-            whole = of_one(TRIANGLE, capacity, 10**9, "transcript")[1].decode().splitlines()
-            begun = [line for v in "123" for line in of_node(v, whole)[:len(of_node(v, entries))]]
-            got = left.text().decode().splitlines()[1:], links, begun
-            self.same(f"the first {looks} looks of one worker with capacity {capacity}", got, (entries, held, entries))
 
     def test_turns(self):
         """One worker stops with one turn less than its run needs, by the definition of a turn, and with as many it has
