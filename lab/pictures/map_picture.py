@@ -6,7 +6,7 @@ from lab.pictures.places import box_height, places_of
 from lab.pictures.svg import Svg, text_width
 from lab.words import counted
 
-MARGIN, GAP = 48, 8
+MARGIN, BAR, GAP = 48, 9, 3
 # The colour and the width of an edge.
 EDGE = SOFT, 1.4
 
@@ -27,7 +27,7 @@ class Vertex:
 
     def room(self):
         """How wide its words and bars are."""
-        return text_width(self.words, self.size) + (GAP + bars_width(self.bars, self.size) if self.bars else 0)
+        return text_width(self.words, self.size) + (GAP + bars_width(self.bars, BAR) if self.bars else 0)
 
     def draw(self, svg, x, y, radius, spot):
         with svg.group("vertex", self.title):
@@ -41,7 +41,7 @@ class Vertex:
         if self.words:
             svg.text(left + width / 2, spot[1] + 0.37 * self.size, self.words, self.size, INK, "middle", halo=3,
                      mark=self.mark)
-        bar_row(svg, left + width + GAP, spot[1], self.bars, self.size)
+        bar_row(svg, left + width + GAP, spot[1], self.bars, BAR)
 
 
 def draw(network):
@@ -80,6 +80,6 @@ def draw_map(svg, network, vertices, box, edge, draw_more=None, left=0):
     if draw_more:
         draw_more(drawn)
     drawn.label(drawn.radius + (7 if network.nodes > LARGE else 11),
-                {v: (one.room() / 2, 0.45 * one.size) for v, one in vertices.items()})
+                {v: (one.room() / 2, BAR if one.bars else 0.45 * one.size) for v, one in vertices.items()})
     for v, (x, y) in sorted(drawn.places.items()):
         vertices[v].draw(svg, x, y, drawn.radius, drawn.labels[v])

@@ -28,24 +28,27 @@ def channel_circle(svg, x, y, radius, channel, mark="channel"):
     svg.text(x, y + size * 0.36, channel, round(size, 1), fill, "middle", bold=True)
 
 
-# The most barred channels of a vertex that are written; an ellipsis stands for more.
+# The most barred channels of a vertex that are drawn; an ellipsis stands for more.
 MOST_BARS = 4
 
 
-def bar_words(channels):
-    return " ".join(map(str, channels[:MOST_BARS])) + " …" * (len(channels) > MOST_BARS)
+def bars_width(channels, radius):
+    """How much room a row of barred channels takes."""
+    return min(len(channels), MOST_BARS) * (2 * radius + 2) + (len(channels) > MOST_BARS) * 1.5 * radius
 
 
-def bars_width(channels, size):
-    """How much room the barred channels of a vertex take."""
-    return text_width(bar_words(channels), size)
-
-
-def bar_row(svg, x, y, channels, size):
-    """The barred channels of a vertex, lowest first, crossed out, to the right of a place."""
-    if channels:
-        svg.text(x, y + 0.37 * size, bar_words(channels), size, INK, bold=True, halo=3, mark="bar")
-        svg.line(x - 3, y - 0.5 * size, x + bars_width(channels, size) + 3, y + 0.5 * size, WRONG, 1.2)
+def bar_row(svg, x, y, channels, radius):
+    """The barred channels of a vertex, lowest first, to the right of a place: each in a ring of its hue, crossed
+    out."""
+    for at, channel in enumerate(channels[:MOST_BARS]):
+        middle_x = x + radius + at * (2 * radius + 2)
+        svg.circle(middle_x, y, radius, PAPER, channel_hue(channel), 1, mark="bar")
+        size = round(radius * (1.2, 1.0, 0.8, 0.62)[len(str(channel)) - 1], 1)
+        svg.text(middle_x, y + size * 0.36, channel, size, INK, "middle", bold=True)
+        svg.line(middle_x - 0.9 * radius, y + 0.9 * radius, middle_x + 0.9 * radius, y - 0.9 * radius, WRONG, 1.5,
+                 opacity="0.9")
+    if len(channels) > MOST_BARS:
+        svg.text(x + MOST_BARS * (2 * radius + 2), y + 0.4 * radius, "…", 1.5 * radius, SOFT, halo=2, mark="more")
 
 
 def colour_square(svg, x, y, half, colour, mark="colour", is_name=False, opacity=None):

@@ -10,7 +10,7 @@ MOST_ROWS, USUAL_ROWS = 400, 40
 COLUMN, ROW, LEFT, TOP = 27, 27, 112, 100
 FULL_STEPS, SQUARE = 40, COLUMN / 2 - 2.5
 HEAD, FOOT = 68, 30
-BAR = 12
+BAR = 8
 GROUPS = [(2, 2, "start"), (3, 6, "bit steps"), (7, 7, "shift"), (8, 8, "drop 5"), (9, 9, "shift"), (10, 10, "drop 4"),
           (11, 11, "shift"), (12, 12, "drop 3")]
 MERGES = LEFT + 11 * COLUMN + 34
@@ -75,7 +75,7 @@ def legend(svg, y, has_bars):
     alone_chip(svg, 574, y, COLUMN / 2 - 6, 1)
     svg.text(588, y + 4, "no edge in this forest: its colour there", 11.5, SOFT)
     if has_bars:
-        bar_row(svg, 836, y, [1], BAR)
+        bar_row(svg, 830, y, [1], BAR)
         svg.text(852, y + 4, "barred at the node", 11.5, SOFT)
     y += 22
     channel_circle(svg, 28, y, 8, 1, mark="legend")

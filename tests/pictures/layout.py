@@ -54,7 +54,7 @@ class Layout(PictureCase):
         self.same(f"{name}: nothing is cut", [(one.get("class"), one.text) for one in cut], [])
         texts, others = ([pair for pair in found if (pair[0].tag == f"{SVG}text") == is_text]
                          for is_text in (True, False))
-        beside = [pair for pair in texts if pair[0].get("class") in ("number", "found", "bar")]
+        beside = [pair for pair in texts if pair[0].get("class") in ("number", "found", "more")]
         on = [(a.get("class") or a.text, b.get("class") or b.text)
               for pairs, most in ((combinations(texts, 2), 1), (combinations(others, 2), 0.2),
                                   (((a, b) for a in beside for b in others), 0.5))

@@ -35,8 +35,13 @@ def words_of_bars(net, v):
 
 def bars_of(net):
     """What is crossed out: of each vertex the lowest four barred channels, with an ellipsis for more."""
-    rows = [[str(c + 1) for c in sorted(net.barred[v])] for v in sorted(net.barred)]
-    return [" ".join(bars[:4] + ["…"] * (len(bars) > 4)) for bars in rows if bars]
+    rows = [sorted(net.barred[v]) for v in sorted(net.barred)]
+    return ([("bar", CHANNELS[c % 8], str(c + 1)) for bars in rows for c in bars[:4]],
+            ["…" for bars in rows if len(bars) > 4])
+
+
+def bars_in(root):
+    return numbered(root, "bar"), words(root, "more")
 
 
 def seen_from_1(places):
@@ -73,7 +78,7 @@ class Maps(PictureCase):
                 "edges end in circles": ([end for mark in marks(root, "edge") for end in ends(mark)
                                           if gap(places[nearest(places, end)], end) > 0.3], []),
                 "labels": (sorted(map(int, words(root, "number"))), [*plan] * is_small),
-                "crossed out": (words(root, "bar"), bars_of(net) if is_small else []),
+                "crossed out": (bars_in(root), bars_of(net) if is_small else ([], [])),
                 "it says what is crossed out": ("barred" in said, net.greatest_bars > 0),
                 "it says how many are used": (f"{len({*plan.values()})} of the {net.span + 1} allowed" in said, True),
             })
@@ -190,7 +195,7 @@ class Maps(PictureCase):
                     strip_mark(column, row[v], v in {*parents, *parents.values()}) for v in turn
                     for column, row in enumerate(facts.colours[f].values())]),
                 **{mark: (numbered(choices, mark), circles(mark, facts.merged[f + 1])) for mark in ("choice", "after")},
-                "crossed out": (words(choices, "bar"), bars_of(net)),
+                "crossed out": (bars_in(choices), bars_of(net)),
                 "who chooses first": ([(v, w) for v in xs for w in xs if (xs[v] < xs[w]) != (turn[v] < turn[w])], []),
             })
 
