@@ -82,14 +82,13 @@ class Pulse:
 class Rounds:
     """A synchronous run. `colours[f][p]` are the colours in forest f after pulse p, 2 to 12, and `merged[f]` the merged
     colours once the forests below f are merged; `choosing[p]` are the vertices that choose at pulse p, if some do, and
-    `pulses` are those from 0 to `last`. `parents[v, f]` is v's parent in forest f; `allowed[v]` are the colours that
-    aren't barred at v, and `first[v]` the least of them, which v has before it chooses."""
+    `pulses` are those from 0 to `last`. `parents[v, f]` is v's parent in forest f; `first[v]` is the least colour that
+    isn't barred at v, which it has before it chooses."""
 
     def __init__(self, network: Network):
         self.network, self.forests, self.width = network, network.forest_count, network.channels
         self.parents = {(v, f): w for v, ws in network.higher.items() for f, w in enumerate(ws)}
         self.forest_of = {pair: f for (v, f), w in self.parents.items() for pair in ((v, w), (w, v))}
-        self.allowed = {v: set(range(self.width)) - network.barred[v] for v in network.vertices}
         self.first, self.last = first_colours(network), last_pulse(network)
         self.colours = [forest_colours(network, f) for f in range(self.forests)]
         self.merged, self.choosing = [self.first], {}

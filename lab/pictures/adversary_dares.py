@@ -11,60 +11,49 @@ from lab.pictures.schedules_space import fault_words
 
 def dares_of(space):
     """The dares of a space; those of links only if there is one."""
-    seen, ways = Seen(space), {v: distances(space.ports, v) for v in space.vertices}
-    pairs = [link for link in space.links if link[0] < link[1]]
+    made = [[value.pulse_number for value in values] for values in space.locals]
+    pulses = [{v: made[a][state[a]] for a, v in enumerate(space.vertices)} for state in space.states]
+    pairs, ways = space.net.edges, {v: distances(space.ports, v) for v in space.vertices}
     # The first two nodes that are farthest apart.
-    v, w = ends = max(((v, w) for v in ways for w in sorted(ways[v])), key=lambda pair: ways[pair[0]][pair[1]])
-    dares = [wrong_dare(seen), apart_dare(seen, pairs)] if pairs else []
-    dares.append(plan_dare(seen))
+    v, w = max(((v, w) for v in ways for w in sorted(ways[v])), key=lambda pair: ways[pair[0]][pair[1]])
+    dares = [wrong_dare(space), apart_dare(space, pulses, pairs)] if pairs else []
+    dares.append(plan_dare(space))
     if ways[v][w] > 1:
-        dares.append(ends_dare(seen, ends, ways[v][w]))
-    return dares + ([few_dare(seen, space.vertices[1])] if pairs else [])
-
-
-class Seen:
-    """A space, with the pulses of its states at hand."""
-
-    def __init__(self, space):
-        self.space, self.is_all = space, space.expanded == space.count
-        self.pulses = {v: [value.pulse_number for value in values] for v, values in zip(space.vertices, space.locals)}
-
-    def pulse(self, state, v):
-        return self.pulses[v][state[self.space.vertices.index(v)]]
-
-    def apart(self, state, pairs):
-        return max(abs(self.pulse(state, v) - self.pulse(state, w)) for v, w in pairs)
-
-    def fewest(self, holds):
-        """The fewest events after which something holds of the state, or None."""
-        return next((depth for state, depth in zip(self.space.states, self.space.depth) if holds(state)), None)
-
-    def none(self, what):
-        """That no state is so; of a table that ends early, only that it has none."""
-        if self.is_all:
-            return f"No: in none of the {self.space.count:,} states {what}."
-        return f"Not in this table, which goes as far as {events(self.space.depth[self.space.expanded - 1])}."
+        dares.append(ends_dare(space, pulses, v, w, ways[v][w]))
+    return dares + ([few_dare(space, pulses, space.vertices[1])] if pairs else [])
 
 
 def events(count):
     return f"{count} take or pulse" if count == 1 else f"{count} takes and pulses"
 
 
-def wrong_dare(seen):
-    faults = seen.space.faults
-    answer = seen.none("can a node do so")
-    if faults:
-        s, e = next(iter(faults))
-        answer = f"Yes, with {events(seen.space.depth[s] + (e is not None))}: {fault_words(seen.space)}."
+def fewest(space, are):
+    """The fewest events that lead to a state of those that are meant, or None."""
+    return min((depth for depth, is_meant in zip(space.depth, are) if is_meant), default=None)
+
+
+def answer(space, least, what, more=""):
+    """With how few events a dare is won; or that no state is so, of a table that ends early, that it has none."""
+    if least is not None:
+        return f"Yes, with {events(least)}{more}."
+    if space.expanded == space.count:
+        return f"No: in none of the {space.count:,} states {what}."
+    return f"Not in this table, which goes as far as {events(space.depth[space.expanded - 1])}."
+
+
+def wrong_dare(space):
+    least, more = None, ""
+    if space.faults:
+        s, e = space.first_fault()
+        least, more = space.depth[s] + (e is not None), f": {fault_words(space)}"
     return {"kind": "wrong", "words": "Have a node make a pulse without its round’s messages, or refuse a message.",
-            "answer": answer}
+            "answer": answer(space, least, "can a node do so", more)}
 
 
-def apart_dare(seen, pairs):
-    fewest = seen.fewest(lambda state: seen.apart(state, pairs) >= 2)
-    answer = seen.none("are neighbours more than one pulse apart") if fewest is None else f"Yes, with {events(fewest)}."
+def apart_dare(space, pulses, pairs):
+    least = fewest(space, (any(abs(at[v] - at[w]) > 1 for v, w in pairs) for at in pulses))
     return {"kind": "apart", "pairs": pairs, "least": 2, "words": "Bring two neighbours two pulses apart.",
-            "answer": answer}
+            "answer": answer(space, least, "are neighbours more than one pulse apart")}
 
 
 def plan_in(space):
@@ -73,26 +62,28 @@ def plan_in(space):
             for v in space.vertices]
 
 
-def plan_dare(seen):
-    space, plan = seen.space, plan_in(seen.space)
-    other = [space.depth[s] for s in space.ends if space.is_whole(space.states[s])
-             and [found(node) for node in space.nodes(s).values()] != plan]
+def plan_dare(space):
+    plan, ends = plan_in(space), (s for s in space.ends if space.is_whole(space.states[s]))
+    least = min((space.depth[s] for s in ends if [found(node) for node in space.nodes(s).values()] != plan),
+                default=None)
     what = "channels" if space.program is Colouring else "results"
-    answer = f"Yes, with {events(min(other))}." if other else seen.none(f"have all halted with other {what}")
     return {"kind": "plan", "plan": plan,
-            "words": f"Have them all halt with other {what} than {', '.join(map(str, plan))}.", "answer": answer}
+            "words": f"Have them all halt with other {what} than {', '.join(map(str, plan))}.",
+            "answer": answer(space, least, f"have all halted with other {what}")}
 
 
-def ends_dare(seen, ends, distance):
-    most = max(seen.apart(state, [ends]) for state in seen.space.states)
-    fewest = seen.fewest(lambda state: seen.apart(state, [ends]) == most)
-    answer = f"{most} pulses, with {events(fewest)}" + ("." if seen.is_all else ", as far as this table goes.")
-    return {"kind": "apart", "pairs": [ends], "least": most, "answer": answer,
-            "words": f"Bring {ends[0]} and {ends[1]}, {distance} links apart, as many pulses apart as can be."}
+def ends_dare(space, pulses, v, w, distance):
+    apart = [abs(at[v] - at[w]) for at in pulses]
+    most = max(apart)
+    least = fewest(space, (far == most for far in apart))
+    more = "." if space.expanded == space.count else ", as far as this table goes."
+    return {"kind": "apart", "pairs": [(v, w)], "least": most,
+            "words": f"Bring {v} and {w}, {distance} links apart, as many pulses apart as can be.",
+            "answer": f"{most} pulses, with {events(least)}{more}"}
 
 
-def few_dare(seen, v):
-    best = seen.fewest(lambda state: seen.pulse(state, v) >= 1)
+def few_dare(space, pulses, v):
+    best = fewest(space, (at[v] >= 1 for at in pulses))
     return {"kind": "few", "node": v, "best": best,
             "words": f"Use as few takes and pulses as you can until node {v} has made pulse 1.",
             "answer": f"{events(best).capitalize()}; puts make themselves."}

@@ -1,6 +1,6 @@
 """The adversary's page: whoever opens it chooses which message comes next. It needs no library and has no algorithm in
 it: it holds the table of adversary_table.py, and follows it. page/adversary.js follows it."""
-from lab.definitions.nodes import Colouring, wire_words
+from lab.definitions.nodes import Colouring
 from lab.definitions.own_program import OwnNode
 from lab.definitions.programs import program_words
 from lab.pictures.adversary_dares import dares_of, plan_in
@@ -11,7 +11,7 @@ from lab.pictures.schedules_space import left_out_words, title_of
 
 
 def draw(network, space):
-    data = {"table": table_of(space, wire_words), "net": net_of(network), "dares": dares_of(space),
+    data = {"table": table_of(space), "net": net_of(network), "dares": dares_of(space),
             "events": space.depth[space.ends[0]] if not space.without else 0}
     return page("adversary.html", "adversary", data,
                 title=f"{title_of(network, space)}: you are the network", about=about(space),
@@ -21,7 +21,7 @@ def draw(network, space):
 
 def draw_table(space):
     """The table alone, as JSON."""
-    return compact(table_of(space, wire_words)) + "\n"
+    return compact(table_of(space)) + "\n"
 
 
 def about(space):

@@ -16,7 +16,9 @@ number.
   states    how many states there are; those from `followed` on have no steps here, as the table ends
 
 A column is [width, text]: numbers of this width in `digits` of base 64, the highest first."""
+from lab.definitions.nodes import wire_words
 from lab.pictures.schedules_space import quoted
+from lab.schedules.space import Numbered
 from lab.words import in_words
 
 DIGITS = "0123456789ABCDEFGHIJKLMNOPQRSTUVWXYZabcdefghijklmnopqrstuvwxyz-_"
@@ -25,17 +27,9 @@ DIGITS = "0123456789ABCDEFGHIJKLMNOPQRSTUVWXYZabcdefghijklmnopqrstuvwxyz-_"
 def column(numbers):
     """(width, text) of numbers from 0."""
     numbers = list(numbers)
-    width, most = 1, max(numbers, default=0)
-    while most >= 64 ** width:
-        width += 1
+    width = max(1, -(-max(numbers, default=0).bit_length() // 6))
     places = range(6 * (width - 1), -1, -6)
     return [width, "".join(DIGITS[number >> place & 63] for number in numbers for place in places)]
-
-
-def numbered(values):
-    """The different values in their first order, and for each value which of them it is."""
-    known = {}
-    return list(dict.fromkeys(values)), [known.setdefault(value, len(known)) for value in values]
 
 
 def waiting(waits):
@@ -92,31 +86,30 @@ def row_of_value(space, v, value):
 
 def nodes_of(space):
     for a, v in enumerate(space.vertices):
-        rows, row_of = numbered([row_of_value(space, v, value) for value in space.locals[a]])
+        rows = Numbered()
+        row_of = [rows.number(row_of_value(space, v, value)) for value in space.locals[a]]
         yield {"values": rows, "column": column(row_of[state[a]] for state in space.states)}
 
 
 def links_of(space, wires):
     for v, w in space.links:
-        contents, which = numbered([state[space.slot[v, w]] for state in space.states])
-        held = [[wires.setdefault(wire, len(wires)) for wire in space.contents[c]] for c in contents]
+        contents, slot = Numbered(), space.slot[v, w]
+        which = [contents.number(state[slot]) for state in space.states]
+        held = [[wires.number(wire) for wire in space.contents[c]] for c in contents]
         yield {"from": v, "to": w, "put": space.ports[v].index(w), "take": space.ports[w].index(v), "contents": held,
                "column": column(which)}
 
 
-def table_of(space, words):
-    """The table; `words` writes a wire of the space in words."""
-    wires = {}
+def table_of(space):
+    wires, events, sentences, faults = Numbered(), Numbered(), Numbered(), {}
     nodes, links = list(nodes_of(space)), list(links_of(space, wires))
-    events = {}
-    steps = [[(events.setdefault((int(event.kind == "take"), event.v, event.port or 0, event.place), len(events)),
+    steps = [[(events.number((int(event.kind == "take"), event.v, event.port or 0, event.place)),
                0 if target is None else target - s) for event, target in space.steps(s)]
              for s in range(space.expanded)]
     flat = [step for row in steps for step in row]
     least = min((by for _, by in flat), default=0)
-    sentences, faults = {}, {}
     for (s, e), sentence in space.faults.items():
-        faults.setdefault(s, {})[-1 if e is None else e] = sentences.setdefault(sentence, len(sentences))
+        faults.setdefault(s, {})[-1 if e is None else e] = sentences.number(quoted(sentence))
     return {
         "digits": DIGITS,
         "phases": [phase_words(space.phase(p)) for p in range(space.last + 1)],
@@ -125,12 +118,12 @@ def table_of(space, words):
         "followed": space.expanded,
         "nodes": nodes,
         "links": links,
-        "wires": [words(wire) for wire in wires],
-        "events": [list(event) for event in events],
+        "wires": [wire_words(wire) for wire in wires],
+        "events": events,
         "counts": column(len(row) for row in steps),
         "chosen": column(e for e, _ in flat),
         "targets": column(by - least for _, by in flat),
         "least": least,
         "faults": faults,
-        "sentences": [quoted(sentence) for sentence in sentences],
+        "sentences": sentences,
     }

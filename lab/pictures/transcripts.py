@@ -10,9 +10,9 @@ from lab.transcripts.check import find_order
 from lab.transcripts.reading import Wrong as WrongEntry, read_to_fault
 from lab.wrong import Wrong, wrong_line
 
-# Texts of more lines are read only as far as the pulses that are drawn depend on them: AHEAD pulses further at first,
-# and further still if nodes ran ahead of each other by more.
-LONG_TEXT, AHEAD = 100_000, 8
+# Texts of more lines are read only as far as the pulses that are drawn may depend on them: a pulse of a node depends on
+# the next ones of its neighbours, and so on.
+LONG_TEXT = 100_000
 # Above MOST_READABLE pulses a band or bar is too narrow to be followed; USUAL are drawn of a run that has more.
 MOST_READABLE, USUAL = 100, 40
 # How many steps of time a pulse of the rounds takes.
@@ -91,12 +91,9 @@ def read_transcript(text, name, network, until=None, program=Colouring, is_wrong
     """The run of a program that a transcript records, or what is wrong with it, unless that is drawn. Of a long text,
     with `until`, only what the pulses up to that one depend on is read."""
     if until is not None and text.count("\n") > LONG_TEXT:
-        ahead = AHEAD
-        while ahead <= network.nodes + AHEAD:
-            run = Run(name, network, program, *ordered(text, name, network, program, until + 1 + ahead))
-            if all(until + 1 in ticks or until >= run.last for ticks in run.ticks.values()):
-                return run
-            ahead *= 4
+        run = Run(name, network, program, *ordered(text, name, network, program, until + 1 + network.nodes))
+        if all(until + 1 in ticks or until >= run.last for ticks in run.ticks.values()):
+            return run
     return Run(name, network, program, *ordered(text, name, network, program, None, is_wrong_drawn))
 
 

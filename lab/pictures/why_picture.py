@@ -22,9 +22,7 @@ class Cone:
         self.rounds, self.network, self.vertex = rounds, rounds.network, vertex
         if vertex not in self.network.vertices:
             raise Wrong(f"{self.network.name} has no vertex {vertex}")
-        self.choices = {(v, pulse.step[0]): (pulse.number, colour)
-                        for pulse in rounds.pulses for v, colour in pulse.chosen.items()}
-        self.messages, self.taken = set(), {}
+        self.messages = set()
         self.facts = self.behind(("merged", vertex, rounds.forests - 1)) if rounds.forests else set()
 
     def behind(self, fact):
@@ -41,21 +39,21 @@ class Cone:
 
     def causes_of_choice(self, v, f):
         """Its pair, which is its turn; and, for each lower colour, who had taken it first, if it isn't barred."""
-        pulse, colour = self.choices[v, f]
         yield "colour", v, f, LAST_COLOUR
         if f:
             yield "merged", v, f - 1
-        self.taken[v, f] = []
-        for lower in range(colour):
-            if lower not in self.rounds.allowed[v]:
-                self.taken[v, f].append((lower, None, None))
-                continue
-            when, w = min((self.choices[w, f][0], w) for w in self.network.neighbours[v]
-                          if self.rounds.forest_of[v, w] <= f and self.choices[w, f][1] == lower
-                          and self.choices[w, f][0] < pulse)
-            self.taken[v, f].append((lower, w, when))
-            self.messages.add((when, w, v, f"chosen {lower}"))
-            yield "merged", w, f
+        for lower, when, w in self.takers(v, f):
+            if w:
+                self.messages.add((when, w, v, f"chosen {lower}"))
+                yield "merged", w, f
+
+    def takers(self, v, f):
+        """(lower colour, pulse, neighbour that took it first) of v's choice; no neighbour of one that is barred."""
+        rounds, merged = self.rounds, self.rounds.merged[f + 1]
+        near = [(rounds.turn(f, w), w) for w in self.network.neighbours[v] if rounds.forest_of[v, w] <= f]
+        for lower in range(merged[v]):
+            yield lower, *((None, None) if lower in self.network.barred[v] else
+                           min((turn, w) for turn, w in near if merged[w] == lower and turn < rounds.turn(f, v)))
 
     def causes_of_colour(self, v, f, p):
         if p == SEED:
@@ -98,17 +96,13 @@ def summary(cone):
 
 
 def channel_of(cone):
-    rounds = cone.rounds
-    if not rounds.forests:
-        return rounds.first[cone.vertex] + 1
-    return cone.choices[cone.vertex, rounds.forests - 1][1] + 1
+    return cone.rounds.merged[-1][cone.vertex] + 1
 
 
 def text(cone):
     """In words: each choice that mattered, the last one first, and the colours that gave the turns."""
     lines = [f"why node {cone.vertex} of {cone.network.name} has channel {channel_of(cone)}", summary(cone)]
-    choices = sorted((fact for fact in cone.facts if fact[0] == "merged"),
-                     key=lambda fact: (-cone.choices[fact[1:]][0], fact[1]))
+    choices = sorted((-cone.rounds.turn(f, v), v, f) for kind, v, *of in cone.facts if kind == "merged" for f in of)
     lines += [line for _, v, f in choices for line in choice_lines(cone, v, f)]
     lines += [colour_line(cone, v, f) for f in cone.forests() for v in cone.network.vertices
               if any(("colour", v, f, p) in cone.facts for p in range(SEED, LAST_COLOUR + 1))]
@@ -129,11 +123,11 @@ def message_words(cone, pulse, v, w, said):
 
 
 def choice_lines(cone, v, f):
-    pulse, colour = cone.choices[v, f]
+    pulse, colour = cone.rounds.turn(f, v), cone.rounds.merged[f + 1][v]
     _, three, old = cone.rounds.pulses[pulse].step
     yield (f"pulse {pulse}, merge of forest {f}: the turn of node {v}, with colour {three} in the forest and {old} so "
            f"far; it chooses colour {colour}, channel {colour + 1}")
-    for lower, w, when in cone.taken[v, f]:
+    for lower, when, w in cone.takers(v, f):
         yield (f"  channel {lower + 1} is barred at it" if w is None else
                f"  channel {lower + 1} is taken: node {w} told it so in pulse {when}")
 
