@@ -34,13 +34,11 @@ def run(name, load):
         status, line = 0, ""
     except KeyboardInterrupt:
         status, line = 130, "interrupted"
-    except Wrong as why:
-        status, line = 1, why
+    except (Wrong, MemoryError) as why:
+        status, line = 1, str(why) or "out of memory"
     except OSError as why:
         where = why.filename or "the output can't be written"
         status, line = 1, f"{where}: {why.strerror or why}"
-    except MemoryError:
-        status, line = 1, "out of memory"
     except Exception as why:
         at = traceback.extract_tb(why.__traceback__)[-1]
         status, line = 70, (f"a fault of this command itself, please report it: {type(why).__name__}: "
