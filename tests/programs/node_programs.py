@@ -9,7 +9,8 @@ from lab.definitions.programs import program_at
 from lab.networks.network_text import network_of
 from tests.cases import Case, called, text
 from tests.commands import EDGE
-from tests.settings import PLAN, PLAY
+from tests.programs.slow_reader import answer_to
+from tests.settings import PLAY
 
 ROW, ALONE, NONE = "p edge 3 2|e 1 2|e 2 3|", "p edge 1 0|", "p edge 0 0|"
 # Node 1 has the identifier 9 and no neighbour, and nobody the identifier 1; a path of five with the identifier 1 at
@@ -105,20 +106,9 @@ EVENTS = [
 # First lines that no transcript has, after the word `transcript`.
 NO_HEADS = ("3 leader x", "3 leader", "3 2", "3 leader 2 2", "2 leader 2", "4 leader 2", "3 -set 2", "3 set- 2",
             "3 - 2", "3 independent_set 2", "3 Leader 2", "3 lead\x1ber 2")
-# Payloads that no node of a program sends: words of another one, and numbers out of range. Those of a sequel are its
-# own and the colouring's, each within its bound.
-NO_PAYLOADS = {
-    "colouring": ("leader 1", "hops 0", "anew 0", f"hello {2**128}", f"label {2**16}", f"colour {2**128}",
-                  f"chosen {2**16}"),
-    "leader": (f"leader {2**128}", "leader", "hello 1"),
-    "layers": ("hello 1", "leader 1", f"hops {2**32}", "hop 0"), "matching": ("joined 0", f"take {2**16}"),
-    "independent-set": ("take 0", f"joined {2**16}"), "recolouring": ("free 0", f"anew {2**16}"),
-}
-# What node 1 of an edge doesn't send first, and what it sends.
-NOT_DUE = [*(("colouring", payload, "hello 1") for payload in (
-               f"hello {2**128 - 1}", f"label {2**16 - 1}", f"colour {2**128 - 1}", f"chosen {2**16 - 1}")),
-           ("leader", "leader 2", "leader 1"), ("layers", "hops 1", "hops 0"), ("matching", "free 0", "hello 1"),
-           ("independent-set", "joined 0", "hello 1"), ("recolouring", "anew 0", "hello 1")]
+# Payloads, of programs and of none, within the bounds of numbers and above.
+PAYLOADS = [*product(("hello", "label", "colour", "chosen", "leader", "hops", "hop", "free", "take", "joined", "anew"),
+                     ("", 0, 1, 2**16 - 1, 2**16, 2**32 - 1, 2**32, 2**128 - 1, 2**128))]
 NAMED = "transcript 3 leader 2||1 1 put 2 payload 0 "
 # A command, its program, its input and the fault. The text comes first, then the root, then what is wrong in later
 # lines, and the network last.
@@ -228,16 +218,18 @@ class Programs(Case):
                           and bool(fault) == bool(code), (run[:80], fault))
 
     def test_refused(self):
-        first = EDGE + "transcript 1 2|1 put 2 payload 0 "
         for command, asked, data, fault in (
             *REFUSED, *(("replay", "leader", f"{EDGE}transcript {head}|", "X1 line 3") for head in NO_HEADS),
-            *(("replay", program, f"{first}{payload}|", "X1 line 4")
-              for program, payloads in NO_PAYLOADS.items() for payload in payloads),
-            *(("replay", program, f"{first}{payload}|", f"WrongWire line 4: expected payload 0 {due}")
-              for program, payload, due in NOT_DUE),
         ):
             self.same(f"{command} {asked} {data}", play(command, asked, data=data),
                       (1, b"", f"forestplay: {fault}\n".encode()))
+
+    def test_payloads(self):
+        """What node 1 of an edge puts first, by the slow reader: a payload is of the program, or none at all."""
+        for asked, (word, number) in product((*PLAIN, *SEQUELS), PAYLOADS):
+            data = text(f"{EDGE}transcript 1 2|1 put 2 payload 0 {word} {number}|")
+            self.same(f"{asked}: {word} {number}", play("replay", asked, data=data),
+                      answer_to("replay", data, program_of(asked)))
 
     def test_words(self):
         """Only one program takes each option, given once."""
@@ -250,7 +242,5 @@ class Programs(Case):
                               (2, b"", text(wanted)))
             for words, said in WRONG:
                 self.refusal(f"{command} {words}", called(PLAY, command, *words.split()), 2, said.encode())
-        for command, option in product(("plan", "plain", "transcript", "forests", "check"), ("--root", "--passes")):
-            self.refusal(f"forestplan {command} {option}", called(PLAN, command, option, "1"), 2, b"")
         self.same("no turns", play("run", "leader", "--turns", 0, data=EDGE), (3, b"", b"forestplay: stopped\n"))
         self.same("turns of no node", play("run", "leader", "--turns", 0, data=NONE), (0, b"", b""))

@@ -29,9 +29,10 @@ class Stopped(Exception):
     """The workers had made all their looks before all nodes were done."""
 
 
-def answer_to(command, data):
+def answer_to(command, data, *program):
+    """Of `replay`, a program may be given."""
     try:
-        return 0, ANSWERS[command](rows_of(data)), b""
+        return 0, ANSWERS[command](rows_of(data), *program), b""
     except Fault as fault:
         return 1, b"", f"{PROGRAM_OF[command]}: {fault}\n".encode()
     except Stopped:
@@ -114,14 +115,14 @@ def event_in(line, fields):
     return line, fields[0].decode().title(), vertex, port
 
 
-def replay(rows):
+def replay(rows, program=Colouring):
     before, behind = split(rows, lambda first: first == b"transcript")
     net = network_in(before)
     try:
-        head, entries = read(b"".join(b" ".join(fields) + b"\r\n" for fields in behind))
+        head, entries = read(b"".join(b" ".join(fields) + b"\r\n" for fields in behind), program.name)
     except Wrong as wrong:
         raise Fault(f"X1 line {wrong.line + len(before) if behind else 1}") from None
-    found = Found(net, entries, Colouring)
+    found = Found(net, entries, program)
     for entry in entries:
         found.make_next(entry.vertex)
         if code := found.refusals.get(entry.vertex):
