@@ -10,14 +10,6 @@ from tests.pictures.marks import data_of
 from tests.programs.sequels import SAMPLES
 
 SET, COUNT = SAMPLES
-GOOD = """\
-def greet(me):
-    return None
-def next(me, pulse, inbox):
-    return None
-def result(me):
-    return 'x'
-"""
 FLOOD = """\
 def greet(me):
     me.best = me.id
@@ -51,29 +43,46 @@ def drawn(me):
 def right(results, neighbours):
     return RIGHT
 """
-# (what the file has, what is said of it, after its name)
-WRONG = [
-    ("def greet(me:\n", " line 1: '(' was never closed"),
-    ("x = 1 / 0\n", " line 1: ZeroDivisionError: division by zero"),
-    (GOOD.replace("def result", "def results"), " has no function result"),
-    ("greet = 1\n", " has no function greet and no function next and no function result"),
-    (GOOD.replace("return None\ndef next", "return me.colour\ndef next"),
-     " line 2: AttributeError: `me` has no `colour`"),
-    (GOOD.replace("return None\ndef next", "return ('Word', 1)\ndef next"),
-     ": `greet` at pulse 0 of the node of identifier 1 sends ('Word', 1): a payload is a pair, a word of small letters "
-     "and a number from 0"),
-    (GOOD.replace("return None\ndef next", "return [None] * 9\ndef next"),
-     ": `greet` at pulse 0 of the node of identifier 1 returns a list of 9 for 1 ports"),
-    (GOOD.replace("return None\ndef result", "return ('word', 1)\ndef result"),
-     ": `next` at pulse 2 of the node of identifier 1 sends something, and 2 is the last pulse"),
-    (GOOD.replace("'x'", "7"), ": `result` returns 7: it must be words on one line"),
-    (GOOD + "def last_pulse(nodes, degree):\n    return -1\n", ": `last_pulse` returns -1, which is no pulse"),
-]
+TWICE = "does something else the second time: does it use chance other than `me.random`, or a variable"
+LATE = "CALLS = []\n" + FLOOD.replace("    if heard", "    CALLS.append(pulse)\n    if heard")
 
 
 def keeping(what):
     """The flood, whose nodes keep something besides."""
     return FLOOD.replace("me.best = me.id", f"me.kept = {what}\n    me.best = me.id")
+
+
+def sending(what):
+    """The flood, whose nodes send something else first."""
+    return FLOOD.replace('("best", me.id)', what)
+
+
+# What the file has, and parts of the one line that is said of it.
+WRONG = [
+    ("def greet(me:\n", " line 1: '(' was never closed"),
+    ("x = 1 / 0\n", " line 1: ZeroDivisionError: division by zero"),
+    (keeping("__import__('sys').exit(0)"), " line 2: SystemExit: 0"),
+    (keeping("me.colour"), " line 2: AttributeError: `me` has no `colour`"),
+    (FLOOD.replace("def result", "def results"), " has no function result"),
+    ("greet = 1\n", " has no function greet and no function next and no function result"),
+    (sending("('Word', 1)"), ": `greet` at pulse 0 of the node of identifier 1 sends ('Word', 1): a payload is a pair, "
+                             "a word of small letters and a number from 0"),
+    (sending("[None] * 9"), ": `greet` at pulse 0 of the node of identifier 1 returns a list of 9 for 1 ports"),
+    (FLOOD.replace("return None", "return ('best', 1)"),
+     ": `next` at pulse 2 of the node of identifier 1 sends something, and 2 is the last pulse"),
+    (FLOOD.replace('f"best {me.best}"', "7"), ": `result` returns 7: it must be words on one line"),
+    (FLOOD + "def last_pulse(nodes, degree):\n    return -1\n", ": `last_pulse` returns -1, which is no pulse"),
+    *((keeping(what), "what `me` keeps can't be copied and compared", named) for what, named in (
+        ("(n for n in [1])", "generator"), ("open(__file__)", "TextIOWrapper"),
+        ("{1: [lambda: 0, (n for n in [1])]}", "generator"))),
+    # A place for each node in one variable.
+    ("KEPT = {}\n" + FLOOD.replace("me.best", "KEPT[me.id]"), TWICE),
+    # The rounds, twice, have 12 calls, so they can't show this one.
+    (LATE.replace('("best", heard)', '("best", heard + (len(CALLS) > 12))'),
+     "does something else in another order of events: "),
+    *((FLOOD + f"def right(results, neighbours):\n    return {returned}\n",
+       "it must be True, False, or what isn't right in words") for returned in ("None", "7", "''")),
+]
 
 
 class OwnAlgorithms(Case):
@@ -119,7 +128,7 @@ class OwnAlgorithms(Case):
     def test_what_me_knows(self):
         """By hand: a row of three whose middle is the greatest has one forest, and two channels are barred at node
         1."""
-        text = GOOD.replace("'x'", "f'{me.id} {me.degree} {me.nodes} {me.greatest_degree} {me.forests} "
+        text = FLOOD.replace('f"best {me.best}"', "f'{me.id} {me.degree} {me.nodes} {me.greatest_degree} {me.forests} "
                                    "{me.greatest_bars} {me.barred} {last(me)}'")
         text += "def last_pulse(nodes, degree, forests, bars):\n    return 10 * nodes + degree + forests + bars\n" \
                 "def last(me):\n    return last_pulse(me.nodes, me.greatest_degree, me.forests, me.greatest_bars)\n"
@@ -147,30 +156,17 @@ class OwnAlgorithms(Case):
         self.note("whose draws", says == [True, True] and "draws" not in self.told(FLOOD)[1], (first, other))
 
     def test_refused(self):
-        """What can't be copied or isn't the same the second time, in one line; other chance and shared variables are
-        named."""
-        twice = "does something else the second time: does it use chance other than `me.random`, or a variable"
-        chance, late = "import random\n" + DRAWS.replace("me.random", "random"), "CALLS = []\n" + FLOOD.replace(
-            "    if heard", "    CALLS.append(pulse)\n    if heard")
-        for name, text, *said in (
-            *((what, keeping(what), "what `me` keeps can't be copied and compared", named) for what, named in (
-                ("(n for n in [1])", "generator"), ("open(__file__)", "TextIOWrapper"),
-                ("{1: [lambda: 0, (n for n in [1])]}", "generator"))),
-            ("a place for each node in one variable", "KEPT = {}\n" + FLOOD.replace("me.best", "KEPT[me.id]"), twice),
-            # The rounds, twice, have 12 calls, so they can't show this one.
-            ("a late one", late.replace('("best", heard)', '("best", heard + (len(CALLS) > 12))'),
-             "does something else in another order of events: "),
-            *((f"right returns {returned}", FLOOD + f"def right(results, neighbours):\n    return {returned}\n",
-               "it must be True, False, or what isn't right in words") for returned in ("None", "7", "''")),
-            ("exit", FLOOD.replace("me.best = me.id", "__import__('sys').exit(0)"), " line 2: SystemExit: 0"),
-        ):
-            got = self.told(text)
-            good = got[:2] == (1, "") and got[2].count("\n") == 1 and all(part in got[2] for part in said)
-            self.note(name, good, got)
+        """What is no program, can't be copied or isn't the same the second time, in one line; other chance and shared
+        variables are named."""
+        for text, *said in WRONG:
+            status, out, fault = self.told(text)
+            is_line = (status, out, fault.count("\n")) == (1, "", 1) and fault.startswith(f"explore: {self.folder}/")
+            self.note(f"{said} of {text}", is_line and all(part in fault for part in said), fault)
+        chance = "import random\n" + DRAWS.replace("me.random", "random")
         for text, where in ((chance, "`greet` at pulse 0 of the node of "), (SHARED, "`next` at pulse 1 of the node ")):
             for command, network in (("explore", "path"), ("simulate", "chain6")):
                 got = self.told(text, command=command, network=network)
-                self.note(f"{where} in {command}", got[0] == 1 and where in got[2] and twice in got[2], got)
+                self.note(f"{where} in {command}", got[0] == 1 and where in got[2] and TWICE in got[2], got)
 
     def test_what_has_to_hold(self):
         """`right` is asked at the end and `always` in each state; the list is as short as there is one. By hand: node 1
@@ -234,11 +230,3 @@ class OwnAlgorithms(Case):
             text = TREE.replace("return (me.layer - 1 if me.layer else None), me.by", f"return {returned}")
             done = forestlab("picture", "player", "chain6", "--program", self.file("tree.py", text))
             self.refusal(f"drawn returns {returned}", done, 1, why.encode())
-
-    def test_wrong_files(self):
-        for lines, said in WRONG:
-            path = self.file("mine.py", lines)
-            # A run by seed has no need of what is found.
-            for name in ("explore",) if "`result`" in said else ("simulate", "explore"):
-                done = forestlab(name, "two", "--program", path)
-                self.same(f"{name}{said}", done, (1, b"", f"{name}: {path}{said}\n".encode()))
