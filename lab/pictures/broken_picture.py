@@ -30,8 +30,8 @@ def draw(network, without, program=Colouring):
     picture = kind(rounds, ruled(program)(rounds.net, ()))
     width, (right, down) = max(picture.width, LEAST_WIDTH), picture.step
     said = [f"{line[0].upper()}{line[1:]}.".replace("'", "’") for line in [where, *rounds.words().split("\n")]]
-    lines = [line for words in [left_out_words(without), *said] for line in in_lines(words, width)]
-    legend = in_lines(picture.legend, width)
+    lines = [line for words in [left_out_words(without), *said] for line in wrapped(words, width - 40)]
+    legend = wrapped(picture.legend, width - 40)
     top = 48 + 16 * len(lines)
     bottom = top + picture.height
     svg = Svg(width, bottom + 16 * len(legend) + 10, f"Broken without {' and '.join(without)}")
@@ -45,11 +45,6 @@ def draw(network, without, program=Colouring):
     for number, line in enumerate(legend, 1):
         svg.text(20, bottom + 16 * number, line, 11.5, SOFT)
     return svg.document()
-
-
-def in_lines(words, width):
-    """A text over as many lines as it needs; letters are a little narrower than they are reckoned."""
-    return wrapped(words, (width - 40) * 1.1)
 
 
 def title(rounds):

@@ -2,6 +2,7 @@
 and what goes wrong is red."""
 from bisect import bisect_right
 from itertools import accumulate
+from statistics import mean
 
 from lab.pictures.palette import BAND, BORDER, INK, PAPER, PULSE, SOFT, WIRES, WRONG
 from lab.pictures.schedules_space import fault_words, left_out_words, title_of
@@ -12,8 +13,7 @@ from lab.schedules.simulate import events_of
 from lab.wrong import at_most, wrong_line
 
 COLUMNS, MOST_COLUMNS, STEPS, MOST_STEPS = 36, 108, 6_000, 12_000
-LEFT, HIGH, WIDE, LEAST_WIDTH = 44, 560, 1150, 780
-SWEEPS = 6
+LEFT, HIGH, WIDE, LEAST_WIDTH = 44, 560, 1150, 860
 APART = [BAND, "#CFE3F1", "#8FBBDD", "#56B4E9"]
 
 
@@ -109,22 +109,14 @@ class Lattice:
         self.place()
 
     def place(self):
-        """Rows by the mean of a mark's neighbours, first to the left and then to the right, so that lines cross
-        little."""
-        before, after = {}, {}
+        """Rows by the mean of a mark's neighbours to the left, so that lines cross little."""
+        before, self.row = {}, {}
         for s, _, _, end in self.steps:
             before.setdefault(end, []).append(s)
-            after.setdefault(s, []).append(end)
-        self.row = {}
         for column in self.columns:
-            self.spread(column)
-        for sweep in range(SWEEPS):
-            columns, beside = (self.columns, before) if sweep % 2 == 0 else (self.columns[::-1], after)
-            for column in columns:
-                mean = {s: sum(self.row[t] for t in beside[s]) / len(beside[s]) if s in beside else self.row[s]
-                        for s in column}
-                column.sort(key=lambda s: (self.lead(s), mean[s], self.row[s]))
-                self.spread(column)
+            column.sort(key=lambda s: (self.lead(s), mean([self.row[t] for t in before.get(s, [])] or [0])))
+            for place, s in enumerate(column):
+                self.row[s] = place - (len(column) - 1) / 2
         self.widest = max(map(len, self.columns))
         self.gap = min(50, max(4, HIGH / self.widest))
         self.step = min(320, max(10, WIDE / max(1, len(self.columns) - 1)))
@@ -138,10 +130,6 @@ class Lattice:
     def pulses(self, s):
         return [node.pulse for node in self.space.nodes(s[0] if isinstance(s, tuple) else s).values()]
 
-    def spread(self, column):
-        for place, s in enumerate(column):
-            self.row[s] = place - (len(column) - 1) / 2
-
     def x(self, s):
         depth = self.space.depth[s[0]] + 1 if isinstance(s, tuple) else self.space.depth[s]
         return LEFT + (depth - self.low) * self.step
@@ -150,8 +138,7 @@ class Lattice:
         return self.middle + self.row[s] * self.gap
 
     def drawn(self):
-        said = 40 + text_width(self.fact(), 17) * 1.1
-        width = max(LEAST_WIDTH, LEFT + (len(self.columns) - 1) * self.step + 44, said)
+        width = max(LEAST_WIDTH, LEFT + (len(self.columns) - 1) * self.step + 44)
         lines = self.lines(width)
         top = 48 + 16 * len(lines)
         self.middle = top + self.radius + self.gap * (self.widest - 1) / 2

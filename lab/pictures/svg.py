@@ -36,8 +36,8 @@ def text_width(text, size):
 
 
 def wrapped(text, width, size=11.5):
-    """The text in lines that are no wider."""
-    return wrap(text, int(width / text_width("a", size)), break_long_words=False, break_on_hyphens=False)
+    """The text in lines that are no wider; letters are a little narrower than they are reckoned."""
+    return wrap(text, int(width / text_width("a", 0.9 * size)), break_long_words=False, break_on_hyphens=False)
 
 
 def stretches(values):
