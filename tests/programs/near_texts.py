@@ -1,6 +1,5 @@
 """Texts that look nearly like a form that `network read` takes, as another program or a tired person writes them, each
 with the network that it means: it is read as that one, or refused, or what is left out is counted."""
-import json
 import random
 
 from lab.networks import sites
@@ -8,7 +7,7 @@ from lab.networks.edge_list import Listed
 from lab.networks.reading import listed_of, made_of
 from lab.wrong import Wrong
 from tests.cases import Case
-from tests.programs.foreign_texts import (as_csv, as_dot, as_gml, as_graphml, as_json, beside, excuses, found_in)
+from tests.programs.foreign_texts import as_dot, as_gml, as_graphml, as_json, excuses, found_in
 from tests.programs.foreign_forms import named_pairs
 from tests.programs.foreign_texts import graph_of as any_graph
 
@@ -17,10 +16,8 @@ TOWNS = ("Ulm", "Aue", "Hof", "Köln", "Mörs", "Bonn", "Kiel", "Jena")
 BLANKS = ("Bad Tölz", "New York", "New Haven", "Ulm", "Upper Hill", "Mill", "Hof", "Old Dam")
 CELLS = ("A1", "A2", "B1", "B2", "C-1", "C-2", "x.y", "D4")
 ONES, ZEROS, GAPS = tuple("12345678"), tuple("01234567"), ("10", "20", "21", "5", "7", "101", "33", "8")
-MARKS, NUMBERS, WORDS = ("#1", "#2", "#12", "%3", "#4", "#5"), (ONES, ZEROS, GAPS), (TOWNS, BLANKS, CELLS)
-ALL, BARE, PLAIN = WORDS + NUMBERS, (TOWNS, CELLS), (TOWNS, CELLS, *NUMBERS)
-HEADINGS = (("source", "target"), ("von", "nach"), ("from", "to"), ("site_a", "site_b"))
-WEIGHT = '"weight": 2'
+NUMBERS = (ONES, ZEROS, GAPS)
+PLAIN, ALL = (TOWNS, CELLS, *NUMBERS), (TOWNS, BLANKS, CELLS, *NUMBERS)
 
 
 def graph_of(source, names):
@@ -29,113 +26,49 @@ def graph_of(source, names):
     return next((nodes, pairs) for nodes, pairs in graphs if len(nodes) > 3 and len(pairs) > 2)
 
 
-# Writers: functions of the nodes, the pairs and chance. A text is one, too, in which {0}, {1}, .. are nodes, {n}, {m}
-# and {m2} the numbers of nodes and of pairs, once and twice, {x} is the greatest number, and others are pairs: {comma},
-# {blank} and {dashes} by what is between their ends, {head} the first one and {rest} those after it.
-
-def lines(pairs, mark):
-    return "".join(f"{a}{mark}{b}\n" for a, b in pairs)
-
-
-def filled(form, nodes, pairs):
-    numbers = [int(node) for node in nodes if node.isdigit()]
-    return form.format(*nodes, n=len(nodes), m=len(pairs), m2=2 * len(pairs), x=max(numbers, default=0),
-                       comma=lines(pairs, ","), blank=lines(pairs, " "), dashes=lines(pairs, " -- "),
-                       head=lines(pairs[:1], " "), rest=lines(pairs[1:], " "))
+def filled(before, form, nodes, pairs):
+    """A text before them, in which {n}, {m} and {m2} are the numbers of nodes and of pairs, once and twice, and {x} is
+    the greatest number; and a line for each pair, of its ends {a} and {b}."""
+    most = max((int(node) for node in nodes if node.isdigit()), default=0)
+    return before.format(n=len(nodes), m=len(pairs), m2=2 * len(pairs), x=most) + "".join(
+        form.format(a=a, b=b) + "\n" for a, b in pairs)
 
 
-def each(form, before="", after=""):
-    """A line, or two, for each pair: a and b are its ends, i is its number."""
-    return lambda nodes, pairs, source: before + "".join(
-        form.format(a=a, b=b, i=i) + "\n" for i, (a, b) in enumerate(pairs, 1)) + after
-
-
-def all_pairs(nodes, pairs):
-    """Each pair of nodes, and whether it is one of the network's."""
-    there = set(map(frozenset, pairs))
-    return [((a, b), {a, b} in there) for at, a in enumerate(nodes) for b in nodes[at + 1:]]
-
-
-def beside_others(word, other, heading=""):
-    """All pairs, those of the network with a word and the others with another."""
-    return lambda nodes, pairs, source: heading + "".join(
-        f"{a},{b},{word if is_there else other}\n" for (a, b), is_there in all_pairs(nodes, pairs))
-
-
-def of_all(writer, mark, there, other, key="weight"):
-    """All pairs, each of which says in place of a mark whether it is one of the network's; GraphML has a key for it."""
-    def text(nodes, pairs, source):
-        found = all_pairs(nodes, pairs)
-        first, *parts = writer(nodes, [pair for pair, _ in found]).replace('"weight" ', f'"{key}" ').split(mark)
-        return first + "".join((there if is_there else other) + part for (_, is_there), part in zip(found, parts))
-    return text
-
-
-def second_heading(nodes, pairs, source):
-    at, head, mark = source.randrange(1, len(pairs)), source.choice(HEADINGS), source.choice(",;\t")
-    return lines([head] * source.randrange(2) + pairs[:at] + [head] + pairs[at:], mark)
-
-
-def more_columns(nodes, pairs, source):
-    """The neighbours of each node that has some, both ways or one way, below a heading of two of them."""
-    rows = [[node, *ones] for node, ones in beside(nodes, pairs, source.random() < 0.6).items() if ones]
-    (one, other), most = source.choice(HEADINGS), max(map(len, rows))
-    return as_csv([[one, other] + [source.choice((other, f"{other}.1", "", f"{other} 2"))] * (most - 2), *rows])
-
-
-# (what it is, the names that it can have, its writer).
-NEAR = (
-    ("more columns of neighbours", ALL, more_columns),
-    ("a second heading", ALL, second_heading),
-    *((f"pairs as {form!r}", names, form) for names, form in (
-        (BARE, "{comma}except,{0}\n"), ((ONES, GAPS), "{blank}0\n"), ((TOWNS,), "{0} Network\n{blank}"),
-        ((TOWNS,), "{head}Sector South\n{rest}"), (ALL, "source,target\nString,Text\n{comma}"),
-        (NUMBERS, "{m} {n}\n{blank}"), (NUMBERS, "{n} {m2}\n{blank}"), (NUMBERS, "{m} {x}\n{blank}"),
-        (NUMBERS, "1\n{n} {m}\n{blank}"), (NUMBERS, "# Nodes: {n} Edges: {m}\n{rest}"),
-        ((("a-1", "a-2", "b-1", "c-3", "d-4"),), "graph {{\n{dashes}}}\n"))),
-    *((f"each pair as {form!r}", names, each(form)) for names, form in (
-        (ALL, "{a},{b}^1"), (ALL, '="{a}",="{b}"'), (NUMBERS, "{a}.0,{b}.0"), (BARE, "L{i},{a}\nL{i},{b}"))),
-    ("DOT of nodes with commas", WORDS, each('"{a}", "{b}";', "graph {\n", "}\n")),
-    ("edges with their numbers, one a node's", (GAPS,), lambda nodes, pairs, source: "".join(
-        f"{at},{end}\n" for at, pair in enumerate(pairs, 10) for end in pair)),
-    ("numbers of nodes after the pairs", BARE, lambda nodes, pairs, source: lines(pairs, " ") + "".join(
-        f"{at} {node}\n" for at, node in enumerate(nodes))),
-    *((f"all pairs {word!r} {other!r} {heading!r}", ALL, beside_others(word, other, heading))
-      for word, other, heading in (
-          ("2.5", "0.0", ""), ("x", "", "von,nach,gilt\n"), ("active", "removed", "from,to,status\n"))),
-    ("names in two spellings", (("Köln", "Mörs", "Bonn", "Ulm", "Höxter"),),
-     lambda nodes, pairs, source: lines(pairs, ",") + lines(pairs, ",").replace("ö", "oe")),
-    ("GML with another key", WORDS,
-     lambda nodes, pairs, source: as_gml(nodes, pairs).replace("  edge [", "  link [", 1)),
-    ("GraphML with another element", WORDS + (MARKS,),
-     lambda nodes, pairs, source: as_graphml(nodes, pairs).replace("<edge", "<Edge").replace("</edge", "</Edge")),
-    ("DOT of two graphs", WORDS + (MARKS,), lambda nodes, pairs, source: as_dot(nodes, pairs[:2])
-     + as_dot(nodes, pairs[2:])),
-    ("DOT with a default", WORDS, lambda nodes, pairs, source: as_dot(nodes, pairs).rstrip()[:-1]
-     + "edge [style=invis]\n" + "".join(f'"{nodes[0]}" -- "{other}"\n' for other in nodes[1:]) + "}\n"),
-    ("JSON of two lists", WORDS, lambda nodes, pairs, source: json.dumps(json.loads(as_json(nodes, pairs[:1])) | {
-        "relations": [{"source": a, "target": b} for a, b in pairs[1:]]})),
-    ("JSON with lists of neighbours", ALL, lambda nodes, pairs, source: json.dumps({"links": [], "nodes": [
-        {"id": node, "neighbours": ones} for node, ones in beside(nodes, pairs, True).items()]})),
-    ("JSON of the first page", WORDS, lambda nodes, pairs, source: as_json(nodes, pairs[:-1])[:-1] + ', "next": 2}'),
-    *((f"{name} {there!r} or {other!r}", WORDS, of_all(writer, mark, there, other, *key))
-      for name, writer, mark, there, other, *key in (
-          *(("JSON of all pairs", as_json, WEIGHT, WEIGHT, other) for other in ('"weight": 0', '"hidden": true')),
-          ("JSON with", as_json, WEIGHT, WEIGHT, '"kind": "far"'),
-          ("GraphML of all pairs", as_graphml, ">2<", ">2<", ">0<"),
-          ("GraphML of all pairs", as_graphml, ">2<", ">yes<", ">no<", "interferes"),
-          ("GraphML of all pairs", as_graphml, '<data key="w">2</data>', "", '<data key="w"></data>', "present"),
-          *(("GML of all pairs", as_gml, "edge [", f"edge [ {there}", f"edge [ {other}") for there, other in (
-              ("near 1", "near 0"), ("", 'present ""\n'))),
-          *(("DOT of all pairs", as_dot, "[len=2]", there, other) for there, other in (
-              ("[len=2]", "[style=invis]"), ("[len=2]", "[color=transparent]"), ("[near=yes]", "[near=no]"))))),
-)
+# The names that pairs can have, and their texts: counts of nodes and of pairs before them, kinds of columns, and marks
+# of spreadsheets.
+NEAR = tuple((names, before, form) for names, form, befores in (
+    (NUMBERS, "{a} {b}", ("{m} {n}\n", "{n} {m2}\n", "{m} {x}\n", "1\n{n} {m}\n", "# Nodes: {n} Edges: {m2}\n")),
+    (ALL, "{a},{b}", ("source,target\nString,Text\n",)), (NUMBERS, "{a}.0,{b}.0", ("",)),
+    (ALL, '="{a}",="{b}"', ("",))) for before in befores)
 # Quotes around whole fields, which aren't part of names: most such texts are read.
-QUOTES = tuple((f"quotes {opened} {closed} {mark}", names, each(f"{opened}{{a}}{closed}{mark}{opened}{{b}}{closed}"))
+QUOTES = tuple((names, "", f"{opened}{{a}}{closed}{mark}{opened}{{b}}{closed}")
                for mark, names in ((",", ALL), (" ", PLAIN)) for opened, closed in (
                    "\u00ab\u00bb", "\u201c\u201d", "\u201e\u201c", "\u2018\u2019", "\u201a\u2018", "''"))
+
+
+def two_edges(writer, mark, one, other):
+    """A path of three nodes, of whose edges one has something in place of a mark, and the other one something else."""
+    first, second, third = writer(("A", "B", "C"), (("A", "B"), ("B", "C"))).split(mark)
+    return first + one + second + other + third
+
+
 # Texts that were read as another network once, and are refused.
 REFUSED = (
+    *(two_edges(as_json, '"weight": 2', '"weight": 2', other) for other in ('"weight": 0', '"hidden": true')),
+    *(two_edges(as_graphml, ">2<", one, other) for one, other in ((">2<", ">0<"), (">2<", "><node id='D'/><"))),
+    *(two_edges(as_gml, "edge [", one, other) for one, other in (
+        ("edge [ near 1", "edge [ near 0"), ("edge [", 'edge [ present ""\n'), ("edge [", "link ["))),
+    *(two_edges(as_dot, "[len=2]", one, other) for one, other in (
+        ("", "[style=invis]"), ("", "[color=transparent]"), ("[near=yes]", "[near=no]"))),
+    'graph { "A", "B"; "B", "C" }', "graph { A -- B } graph { B -- C }", "graph { A -- B; edge [style=invis] B -- C }",
+    '{"nodes": [{"id": 1}], "links": [], "relations": [{"source": 1, "target": 1}]}',
+    "<graphml><graph><node id='A'/><node id='B'/><Edge source='A' target='B'/></graph></graphml>",
+    "von,nach,gilt\nUlm,Aue,x\nAue,Hof,\n", "a,b,weight\nUlm,Aue,2.5\nAue,Hof,0.0\n", "Ulm,Aue,2.5\nAue,Hof,0.0\n",
+    "Ulm Aue\nAue Hof\nHof Ulm\n0 Ulm\n1 Aue\n2 Hof\n", "Ulm,Aue\nAue,Hof\nexcept,Ulm\n", "1 2\n2 3\n3 1\n0\n",
+    "Ulm Network\nUlm Aue\nAue Hof\n", "graph {\na-1 -- a-2\na-2 -- b-1\n}\n", "Ulm,Aue^1\nAue,Hof^1\n",
+    "L1,Ulm\nL1,Aue\nL2,Aue\nL2,Hof\n", "10,8\n10,7\n11,8\n11,10\n12,7\n12,33\n",
+    "Ulm,Aue\nsite_a,site_b\nAue,Hof\n", "source,target\nUlm,Aue\nfrom,to\nAue,Hof\n",
+    "source,target,\nUlm,Aue\nAue,Hof,Ulm\n", "von,nach,nach 2\n5,7,1\n7,1,\n", "from,to,to.1\nUlm,Aue,Hof\n",
     "Gera,Hof/Bonn\nUlm,Aue\n", "T&ouml;lz,Hof\nHof,Ulm\nHof,K&ouml;ln\n",
     '{"nodes": [{"id": 1}, {"id": 2}, {"id": 3}], "links": [{"source": 1, "target": 2}]}',
     '{"nodes": [{"id": 2}, {"id": 0}, {"id": 1}], "links": [{"source": 0, "target": 1}]}',
@@ -160,7 +93,7 @@ REFUSED = (
     "Ulm,south\nAue,north\nHof,south\n", "14,20\nUlm,Aue\nAue,Hof\nHof,Ulm\n", "1\t4\n2\t1\n1\t5\n2\t0\t2\n3\t5\n",
     "4,3,2\n1,4,2\n", "Hof region\nHof Ulm\nUlm Aue\nAue Hof\n", "Ulm Aue\nAue Hof\nHof #planned\n",
     "1,2\n2,03\n3,1\n", "A\tB 1\nB\tC 2\nC\tA 1\n", "#x.py\n# GMT x\n# \nUlm Aue\nAue Hof\n",
-    "Ulm,Aue,3\nAue,Hof,4\nBonn,,5\n", "1,x\n1,2\n2,3\n", "source,target\nsource,Ulm\nUlm,Aue\n",
+    "1,x\n1,2\n2,3\n", "source,target\nsource,Ulm\nUlm,Aue\n",
     "1 2\n%%MatrixMarket\n2 3\n", '"Ulm,Aue\nAue,Hof\n', "\u00abUlm,Aue\nAue,Hof\n",
     '{"nodes": [{"id": "A"}, {"id": "A"}], "links": []}', "graph [ node [ id 1 ] edge [ source 1 ] ]",
     '<graphml><graph><node id="A"/><node id="A "/></graph></graphml>', 'graph { "K\u00c3\u00b6ln" -- Ulm }',
@@ -171,6 +104,9 @@ REFUSED = (
     "source,target\nUlm,Aue\nAue,10 km\n", "node,a\nnode,b\n")
 # Texts of which something is counted, which may be another network.
 COUNTED = (
+    "from,to,status\nUlm,Aue,active\nAue,Hof,removed\n", "Ulm Aue\nSector South\nAue Hof\nHof Ulm\n",
+    "Köln,Ulm\nUlm,Bonn\nKoeln,Bonn\n",
+    '{"nodes": [{"id": 1, "neighbours": [1, 2]}, {"id": 2}], "links": []}', '{"nodes": [], "links": [], "next": 2}',
     *(f"source,target\nUlm,Aue\nAue,Hof\nHof,{word}\n" for word in ("removed", "x", "5km", "Kanal 6", "prepared by")),
     "# edges: 4\n1 2\n2 3\n", "# n=3 m=4\n1 2\n2 3\n", "# Nodes: 5 Edges: 2\n1\t2\n2\t3\n",
     "Ulm,Aue\n# removed:\nAue,Hof\n", "# pairs that DON'T interfere\n1 2\n2 3\n", "Ulm,Aue\nAue,\nHof,Ulm\n",
@@ -250,24 +186,19 @@ UNITS = (
     ("degrees of a programme", "site,x,y\nUlm,10.12345,48.40123\nAue,10.12745,48.41123\n"),
     ("degrees by hand", "site;x;y\nUlm;10,05;48,06\nAue;10,09;48,05\nHof;10,12;48,0\n"),
 )
-# Kinds of which a column or a key that isn't read, and is counted, may say which edges count.
-UNREAD = ("JSON with ", "JSON of the first page", "all pairs 'active'")
-
-
 def judge(case, kinds):
     """Has the texts of each kind read: each gives its network, or none, or says that something is left out, other than
-    a column or a key where these are no edges. Returns how many were read of each kind."""
+    a column or a key. Returns how many were read of each kind."""
     read = {}
-    for name, names, writer in kinds:
-        source, wrong = random.Random(f"{SEED} {name}"), []
+    for names, *kind in kinds:
+        source, wrong, name = random.Random(f"{SEED} {kind}"), [], str(kind)
         for _ in range(TEXTS):
             nodes, pairs = graph_of(source, source.choice(names))
-            text = filled(writer, nodes, pairs) if isinstance(writer, str) else writer(nodes, pairs, source)
-            found, left_out = found_in(text if isinstance(text, bytes) else text.encode())
+            text = filled(*kind, nodes, pairs)
+            found, left_out = found_in(text.encode())
             read[name] = read.get(name, 0) + (found is not None)
-            edges = frozenset(map(frozenset, pairs))
-            left_out = left_out if name.startswith(UNREAD) else excuses(left_out)
-            if found and not left_out and not (found[0] == edges and found[1] <= set(nodes)):
+            good = found and found[0] == frozenset(map(frozenset, pairs)) and found[1] <= set(nodes)
+            if found and not excuses(left_out) and not good:
                 wrong.append((text, found))
         case.note(f"{name}: its network, or none", not wrong, (len(wrong), wrong[:1]))
     return read
