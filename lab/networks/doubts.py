@@ -3,7 +3,6 @@ are pairs."""
 import re
 from collections import Counter
 from collections.abc import Iterator
-from functools import lru_cache
 
 from lab.networks.edge_list import FLAGS, NOT
 from lab.networks.fields import is_number, shown, value_of, whole
@@ -13,8 +12,7 @@ from lab.networks.name_doubts import DATE, SUMS, Pairs, look_of
 from lab.wrong import Wrong
 
 PAIRS, NEIGHBOURS = "--as pairs (the first two fields are a pair)", "--as adjacency (a node and its neighbours)"
-PORT = re.compile(r"(.+?)(?:[:/.#@_-]|\s?[(\[])[\w/.:]*\d+[)\]]?")
-PORT_IN_BRACKETS = re.compile(r"([^:]+?)(?:\s?[(\[][\w/.: ]+[)\]]|:[\w/.]+)")
+PORT = re.compile(r"([^:]+?)(?:\s?[(\[][\w/.: ]+[)\]]|:[\w/.]+)")
 LETTERED = re.compile(NOUN + "[ _.-]?[ab12]")
 # Titles of a column whose zeros say that a pair doesn't count.
 WEIGHTS = re.compile(r"(weight|value|val|w|freq|frequency|gewicht|wert|adj|adjacent|edge|kante|link|there|present)s?")
@@ -35,10 +33,8 @@ def doubts_of_rows(body: Rows, table: Table, is_unknown: bool) -> Doubts:
     if len(fields) > 1 and all(map(is_number, filter(None, fields[0][:2]))) and not any(
             is_number(end) for row in fields[1:] for end in row[:2]):
         yield body[0][0], f"`{shown(' '.join(fields[0]))}` may say how many lines there are"
-    for rows in (pairs, pairs[1:] if max(map(len, [["", "", ""][:len(fields)], *fields[1:]])) > 2 else []):
-        kinds = [{kind_of(row[at]) for row in rows} for at in (0, 1)]
-        if rows and len(kinds[0]) == len(kinds[1]) == 1 and kinds[0] != kinds[1]:
-            yield None, "names beside numbers may be no pairs of nodes (--sites reads places, --bars channels)"
+    if {(is_number(row[0]), is_number(row[1])) for row in pairs} in ({(True, False)}, {(False, True)}):
+        yield None, "names beside numbers may be no pairs of nodes (--sites reads places, --bars channels)"
     if is_unknown and len(ones) == len(others) and set(ones).isdisjoint(others) and (
             len(set(ones)) == len(ones) > 2 or len(set(others)) == len(others) > len(set(ones)) > 1 and not all(
                 map(is_number, ones + others))):
@@ -48,23 +44,14 @@ def doubts_of_rows(body: Rows, table: Table, is_unknown: bool) -> Doubts:
         yield body[0][0], "one line of words may be a message"
     if max(map(len, fields)) < 3:
         return
-    if any(len(row) > 3 or len(row) == 3 and row[2] and not is_number(row[2]) for row in fields):
-        yield None, "lines of more than a pair and a weight, without a heading that names the ends"
-    widths = {len(row) for _, row in (table.rows if table.separator else body)}
-    if len(widths) > 1 or not table.separator and widths != {3}:
-        yield None, "not each line is a pair and a weight, and not each neighbour has a line"
     firsts, seconds, thirds = ({row[at] for row in fields if len(row) > at} for at in range(3))
-    is_apart = firsts.isdisjoint(others) and len(fields) > 2
-    if firsts.isdisjoint(seconds) and seconds & thirds and len(thirds) > 1 or len(firsts) == len(fields) and (
-            is_apart or all(whole(field) is not None for row in fields for field in row)):
-        yield None, "the first field may be a time, a weight or a line's number, or a node before its neighbours"
-
-
-@lru_cache(1 << 16)
-def kind_of(field: str) -> str:
-    if DATE.match(field):
-        return "date"
-    return "whole" if whole(field) is not None else "number" if is_number(field) else "name"
+    are_weights = {len(row) for _, row in (table.rows if table.separator else body)} == {3} and all(
+        not row[2] or is_number(row[2]) for row in fields)
+    if not are_weights or firsts.isdisjoint(seconds) and seconds & thirds and len(thirds) > 1 or (
+            len(firsts) == len(fields) and (firsts.isdisjoint(others) and len(fields) > 2 or all(
+                whole(field) is not None for row in fields for field in row))):
+        yield None, ("lines of more than a pair and a weight, or of a time, a weight or a number of the line before a "
+                     "pair, without a heading that names the ends")
 
 
 def doubts_of_pairs(pairs: Pairs, is_closed: bool) -> Doubts:
@@ -73,7 +60,7 @@ def doubts_of_pairs(pairs: Pairs, is_closed: bool) -> Doubts:
     rows = [(line, [end for end in ends if end]) for line, *ends in pairs.rows]
     yield from odd_rows(pairs, rows)
     yield from single_nodes(pairs, rows, is_closed)
-    if pairs.separator is None and not all(pairs.is_apart(ends) for _, ends in rows):
+    if pairs.separator is None:
         apart = [row for row in rows if pairs.is_apart(row[1])]
         known = {look_of(end) for _, ends in rows[1:] if not pairs.is_apart(ends)
                  for end in ends if end not in rows[0][1]}
@@ -84,15 +71,12 @@ def doubts_of_pairs(pairs: Pairs, is_closed: bool) -> Doubts:
     titles = {end for end in pairs.lines if end.lower() in words or LETTERED.fullmatch(end.lower())}
     are_numbered = any(re.fullmatch(NOUN + NUMBERED, end.lower()) for end in pairs.lines.keys() - titles)
     for line, ends in rows:
-        is_heading = titles.issuperset(ends) and ends_named(ends) and not (are_numbered and words.isdisjoint(
-            map(str.lower, ends)))
+        is_heading = ends_named(ends) and not (are_numbered and words.isdisjoint(map(str.lower, ends)))
         is_other = len(ends) > 1 and pairs.is_apart(ends) and OF_TABLES.issuperset(map(str.lower, ends))
         are_kinds = pairs.is_headed and line == rows[0][0] and KINDS.issuperset(
             re.sub(r"\W|\d", "", end.lower()) for end in ends)
-        if is_heading or is_other or are_kinds:
+        if is_heading or is_other or are_kinds or words.issuperset(map(str.lower, pairs.ones)):
             yield line, f"`{shown(','.join(ends))}` may be the heading of a second table, or the kinds of its columns"
-    if len(rows) > 1 and words.issuperset(map(str.lower, pairs.ones)):
-        yield rows[0][0], f"`{shown(rows[0][1][0])}` names a column"
 
 
 def odd_rows(pairs: Pairs, rows: list[tuple[int, list[str]]]) -> Doubts:
@@ -102,7 +86,7 @@ def odd_rows(pairs: Pairs, rows: list[tuple[int, list[str]]]) -> Doubts:
     mixed = [row for row in rows if len(set(map(is_number, row[1]))) > 1]
     kinds = {is_number(row[1][0]) for row in rows if len(set(map(is_number, row[1]))) == 1}
     odd = [row for row in mixed if all(pairs.times[end] == 1 for end in row[1] if {is_number(end)} != kinds)]
-    if len(rows) > 1 and odd and len(kinds) == 1 and len(odd) == len(mixed):
+    if len(rows) > 1 and odd and len(odd) == len(mixed):
         yield odd[0][0], f"`{shown(' '.join(odd[0][1]))}` may be no pair of nodes, beside the other lines"
     (line, last), looks = rows[-1], {look_of(end) for _, ends in rows[:-1] for end in ends}
     is_new = len(rows) > 2 and len(last) > 1 and pairs.is_apart(last) and (
@@ -122,22 +106,19 @@ def single_nodes(pairs: Pairs, rows: list[tuple[int, list[str]]], is_closed: boo
         if len(ends) > 1:
             continue
         is_end = one == "0" and line == rows[-1][0] and all(whole(end) for _, ends in rows[:-1] for end in ends)
-        is_odd = times == 1 and (SUMS.fullmatch(one) or DATE.fullmatch(one) or look_of(one) not in looks)
+        is_odd = SUMS.fullmatch(one) or DATE.fullmatch(one) or look_of(one) not in looks
         if is_end or is_odd or line < last and times == 1 or not is_closed and times > 1:
             yield line, (f"`{shown(one)}` alone may be a title, a count, or merged with the line above: write nodes "
                          "without a neighbour after all pairs")
 
 
 def doubts_of_shape(pairs: Pairs, is_named: bool) -> Doubts:
-    """Of pairs of which each name comes once, if it is a device's and a port's; and of those of which one column has
-    each name twice, as numbers of edges beside their two ends, unless a heading has named them ends: it has no name of
-    the other, or few if the lines of each number are neighbours."""
+    """Of pairs of which each name is a device's and a port's; and of those of which one column has each name twice, as
+    numbers of edges beside their two ends, unless a heading has named them ends: it has no name of the other, or few if
+    the lines of each number are neighbours."""
     both = len(pairs.ones & pairs.others)
-    stems = {found[1] for end in pairs.lines if (found := PORT.fullmatch(end))}
-    inner = {found[1] for end in pairs.lines if (found := PORT_IN_BRACKETS.fullmatch(end))}
-    are_inner = all(map(PORT_IN_BRACKETS.fullmatch, pairs.lines)) and len(inner) < len(pairs.lines)
-    if are_inner or not both and len(pairs.lines) == 2 * len(pairs.rows) > max(2, len(stems)) and all(
-            map(PORT.fullmatch, pairs.lines)):
+    ports = list(map(PORT.fullmatch, pairs.lines))
+    if all(ports) and len({found[1] for found in ports}) < len(ports):
         yield None, f"the names, as `{shown(pairs.rows[0][1])}`, may be ports of nodes"
     for at in (1, 2) if not is_named else ():
         ends = [row[at] for row in pairs.rows if row[2]]

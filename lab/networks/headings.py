@@ -36,7 +36,7 @@ def heading_of(rows: list, separator: str | None, name: str, heading: bool | Non
     them is counted, and the refusal if it may be a heading or a pair. `heading` is what the caller knows of it."""
     line, first = rows[0]
     head = list(map(str.casefold, first))
-    body = [row for row in rows[1:] if row[1][0].casefold() != head[0] or list(map(str.casefold, row[1])) != head]
+    body = [row for row in rows[1:] if list(map(str.casefold, row[1])) != head]
     said, columns = [], None
     if heading is not False:
         columns = columns_named(rows[0], body, name, heading is None)
@@ -116,13 +116,12 @@ def shows_numbers(first: list[str], body: list, name: str, line: int) -> bool:
 
 def may_be_heading(first: list[str], body: list) -> bool:
     """Whether the words of the first row come in no other, or one of them, which headings and titles have; or they
-    number the columns, and it isn't first by the order of the rows."""
+    number the columns, and no others are numbered."""
     ends = [end for _, fields in body for end in fields[:2] if end]
     if are_columns(first, body):
-        order = [tuple(map(whole, fields[:2])) for _, fields in body if len(fields) > 1 and all(fields[:2])]
-        return None in map(whole, ends) or not {"0", "1"} & set(ends) or order != sorted(order)
+        return None in map(whole, ends) or not {"0", "1"} & set(ends)
     new = [word for word in first[:2] if word not in ends]
-    if len(first) < 2 or any(map(is_number, first)):
+    if any(map(is_number, first)):
         return False
     return any(word.casefold() in TITLES for word in new) or len(new) == 2 and bool(ends)
 
@@ -130,5 +129,5 @@ def may_be_heading(first: list[str], body: list) -> bool:
 def are_columns(first: list[str], body: list) -> bool:
     """Whether the first row has the numbers of its columns from 0 on, as pandas writes them, and no other is this
     pair."""
-    return len(first) > 1 and first == [str(at) for at in range(len(first))] and bool(body) and not any(
+    return len(first) > 1 and first == [str(at) for at in range(len(first))] and body != [] and not any(
         set(fields[:2]) == {"0", "1"} for _, fields in body)

@@ -11,10 +11,10 @@ from lab.networks.headings import MISSING
 # A name of which nobody can doubt, and one that has more marks, with `a` in place of each letter and digit.
 BARE = re.compile(r"[^\W_](?:[\w.-]*[^\W_])?", re.A)
 PLAIN = re.compile(r"([#%]?a|['\u2019]a{1,2}[ -])([a _.\-\u2010-\u2014/&'\u2019+:@#,;()\[\]{}\"]*[a.)\]}\"])?")
-TWICE = re.compile(r"--|: |\.\.|['&+,;]{2}|(?<!:)//|^\d+\. |^\w{1,3}\) |&#?\w+;|\+\w{3,}-")
-# What separates the names of a list in one field; what begins a comment, alone or after a name.
+TWICE = re.compile(r"--|: |\.\.|['&+,;]{2}|(?<!:)//|^\d+\. |^\w{1,3}\) |&#?\w+;|\+\w{3,}-|[#%] ")
+# What separates the names of a list in one field; what begins a comment after a name.
 LIST, WORDS = re.compile(r"[\s,;|/&+]+"), re.compile(r"\s*([,;|/&+]|\b(?:and|und|or|oder|et)\b)\s*")
-COMMENT, AFTER = re.compile(r"(^|.*\s)([#%!]+|//|--|/\*)\s"), re.compile(r"(.*?\S)\s*([#%!(\[]|//|--|/\*)")
+AFTER = re.compile(r"(.*?\S)\s*([#%!(\[]|//|--|/\*)")
 # What stands between a node and its neighbours where each has a line of its own, and between the ends of one pair.
 # Those that are `LOOSE` are rarer between names than in them.
 BETWEEN, LOOSE = (":", " - ", "@", "#", "%", ";", ","), ("/", "&", "+", "(", "[", "{")
@@ -66,11 +66,10 @@ def doubts_of_names(pairs: Pairs) -> Iterator[tuple[int, str]]:
     seen: dict[str, str] = {}
     for end, line in pairs.lines.items():
         is_bare = BARE.fullmatch(end) and not TWICE.search(end) and (end.isdecimal() or not is_number(end))
-        if end.casefold() in NOTHING or NEGATED.fullmatch(end) or DATE.search(end) or not is_bare and is_doubtful(
-                end, known, usual):
+        is_comment = pairs.separator is None and pairs.times[end] == 1 and re.match(r"[#%][^\W\d]", end)
+        if end.casefold() in NOTHING or NEGATED.fullmatch(end) or DATE.search(end) or is_comment or (
+                not is_bare and is_doubtful(end, known, usual)):
             yield line, f"`{shown(end)}` may be no name, or more than one"
-        if pairs.separator is None and pairs.times[end] == 1 and re.match(r"[#%][^\W\d]", end):
-            yield line, f"`{shown(end)}` may be a comment"
         core = end.lstrip("0") or "0" if end.isdecimal() else re.sub(r"^\W+|[\W_]+$", "", end)
         if seen.setdefault(core, end) != end and core:
             yield line, f"`{shown(end)}` may be `{shown(seen[core])}` with a mark"
@@ -99,7 +98,7 @@ def is_doubtful(end: str, known: set[str], usual: set[str]) -> bool:
         len(listed) > 1 and (not usual.issuperset(marks & set("|;,")) or not known.isdisjoint(listed))
         or len(parts) > 1 and (all(map(is_number, parts)) or known.issuperset(parts))
         or is_row_of(end, known)
-        or COMMENT.match(end) or after and after[1] in known
+        or after and after[1] in known
         or NO_VALUE.fullmatch(end) or VALUE.fullmatch(end)
         or is_number(end) and whole(end) is None and not is_code
         or end[-1] not in usual and re.search(r"\.$|[(\[]\d+[)\]]$", end) or not is_plain(end))
@@ -118,23 +117,19 @@ def is_letter(letter: str) -> bool:
 
 
 def is_plain(end: str) -> bool:
-    """Whether a name begins with a letter, a digit or one of # and %, ends with a letter, a digit, a point or the
-    bracket that it opened, and has only marks inside that names have."""
+    """Whether a name begins with a letter, a digit or one of # and %, ends with a letter, a digit, a point, a quote or
+    a bracket, and has only marks inside that names have."""
     bones = "".join("a" if is_letter(letter) else letter for letter in end)
-    are_closed = all(end.count(one) == end.count(other) for one, other in ("()", "[]", "{}"))
-    return PLAIN.fullmatch(bones) is not None and are_closed and end.count('"') % 2 == 0 and not TWICE.search(end)
+    return PLAIN.fullmatch(bones) is not None and end.count('"') % 2 == 0 and not TWICE.search(end)
 
 
 def has_more(names: set[str], against: set[str]) -> bool:
-    """Whether all names have the same mark inside or at the end, a number in front, or a measure or a number after
-    them, and none of the others has."""
+    """Whether all names have the same mark inside, a number in front, or a measure or a number after them, and none of
+    the others has."""
     marks = BETWEEN + LOOSE * (len(names) > 2)
-    last = next(iter(names))[-1]
     if any(all(mark in one[1:] for one in names) and not any(mark in one for one in against) for mark in marks) or any(
             all(map(kind.fullmatch, names)) and not any(map(kind.fullmatch, against)) for kind in KINDS):
         return True
-    if not is_letter(last) and last not in ")]}" and all(one[-1] == last for one in names):
-        return not any(one[-1] == last for one in against)
     parts = [re.fullmatch(r"(.*\S)\s\d+", one) for one in names]
     return all(parts) and any(found[1] in against for found in parts)
 

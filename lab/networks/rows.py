@@ -80,10 +80,8 @@ def read_adjacency(table: Table, name: str, form: str | None) -> Listed:
     if not form and table.by_networkx and not is_closed(table.rows):
         raise Wrong(f"{name}: networkx writes a line for each node of an adjacency list, and some node has none, or "
                     "two: is it cut, or have names blanks? nx.write_graphml(G, FILE) writes what is read")
-    # A first row of two fields may be a heading over rows that are numbered.
-    body = table.rows[len(table.rows[0][1]) == 2:]
     if not form and not table.by_networkx and (table.separator or not are_mutual(table.rows) and all(
-            1 < len(fields) < 4 and not fields[0].endswith(":") for _, fields in body)):
+            1 < len(fields) < 4 and not fields[0].endswith(":") for _, fields in table.rows)):
         refuse([(None, "these may be pairs with a weight, or nodes and their neighbours")], name)
     for line, node, others in nodes:
         inside = next((one for one in (node, *others) if not table.separator and re.search("[,;|]", one)), None)
@@ -150,9 +148,6 @@ def read_pairs(table: Table, name: str, heading: bool | None, is_sure: bool) -> 
         found.left_out += counted_names(pairs)
     found.edges = [row for row in rows if row[2]]
     found.alone = [row[:2] for row in rows if not row[2]]
-    beyond = next((line for (line, fields), row in zip(body, rows) if not row[2] and any(fields[2:])), None)
-    if beyond and not named and not is_sure:
-        raise wrong_line(name, beyond, "one node and more fields, as sums have (if it is a node: --as pairs)")
     if found.alone and found.edges and table.separator and not is_sure:
         found.left_out.append(f"a node alone, first at line {found.alone[0][0]}: is its cell merged with that above?")
     if left := columns_left(titles, body, set(columns)):
