@@ -19,7 +19,7 @@ def text_of(lines: Iterable[str]) -> bytes:
 def forests_text(net: Network) -> bytes:
     """The forests text: entry F of a vertex's higher neighbours, by ascending identifier, is its parent in forest F."""
     triples = sorted((f, v, w) for v, ws in net.higher.items() for f, w in enumerate(ws))
-    return text_of([f"forests {len(net.neighbours)} {net.forest_count}"] + [f"{f} {v} {w}" for f, v, w in triples])
+    return text_of([f"forests {net.nodes} {net.forest_count}"] + [f"{f} {v} {w}" for f, v, w in triples])
 
 
 def plan_text(net: Network) -> bytes:
@@ -87,7 +87,7 @@ def merged(net: Network, f: int, old: Colours, colour_in_f: Colours) -> Colours:
     pair = {v: (colour_in_f[v], old[v]) for v in old}
     looked_at = {v: [w for w in ws if net.number[frozenset((v, w))] <= f and pair[w] < pair[v]]
                  for v, ws in net.neighbours.items()}
-    palette = {v: set(range(net.span + 1)) - net.barred[v] for v in old}
+    palette = {v: set(range(net.channels)) - net.barred[v] for v in old}
     new, made = None, dict.fromkeys(old, 0)
     while new != made:
         new = made
@@ -97,7 +97,7 @@ def merged(net: Network, f: int, old: Colours, colour_in_f: Colours) -> Colours:
 
 def first_colours(net: Network) -> Colours:
     """The least colour of each vertex that is not barred at it."""
-    return {v: min(set(range(net.span + 1)) - net.barred[v]) for v in net.neighbours}
+    return {v: min(set(range(net.channels)) - net.barred[v]) for v in net.neighbours}
 
 
 def colours(net: Network) -> Colours:

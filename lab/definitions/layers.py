@@ -30,7 +30,7 @@ class Layers:
     @staticmethod
     def last_pulse(net: Network) -> int:
         """No two nodes of a component are as many edges apart as there are nodes."""
-        return max(len(net.neighbours) - 1, 0)
+        return max(net.nodes - 1, 0)
 
     def greet(self) -> list[Slot]:
         """What it sends at pulse 0, by port: its layer, if it is the root."""

@@ -20,7 +20,7 @@ class Leader:
     @staticmethod
     def last_pulse(net: Network) -> int:
         """No two nodes of a component are further apart than the number of nodes."""
-        return len(net.neighbours)
+        return net.nodes
 
     def greet(self) -> list[Slot]:
         """What it sends at pulse 0, by port: its own identifier."""

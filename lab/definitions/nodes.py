@@ -6,8 +6,8 @@ The node under alpha, the network and the synchronous run are of any program: a 
 the node of a vertex `(net, v)`, and of a node `greet()`, `next(pulse, inbox)` and `result()`, as `Colouring` has them.
 lab/definitions/programs.py has them all.
 
-A vertex is a number from 1. Its ports are numbers from 0: port 0 goes to its neighbour with the least number. A pulse
-is a number from 0, a forest and a colour too.
+A vertex is a number from 1. Its ports are numbers from 0: port 0 goes to its neighbour with the least number, as entry
+0 of `neighbours`. A pulse is a number from 0, a forest and a colour too.
 
 A payload is (kind, number), the kind being "Hello", "Label", "Colour" or "Chosen"; None is no payload. A wire
 is a tuple: ("Payload", pulse, (kind, number)), ("Ack", pulse), ("Safe", pulse) or ("Close",). An event is
@@ -29,14 +29,9 @@ class Refused(Exception):
     """Why an event isn't possible, in one word of docs/claim/FORMATS.md; of a wire that isn't due, which it is."""
 
 
-def ports_of(net: Network, v: int) -> list[int]:
-    """The neighbours of v, ascending: entry 0 is the one at port 0."""
-    return sorted(net.neighbours[v])
-
-
 def last_pulse(net: Network) -> int:
     """The last pulse R of every node; the pulses are 0 to R."""
-    return 12 + 3 * net.forest_count * (net.span + 1)
+    return 12 + 3 * net.forest_count * net.channels
 
 
 class Colouring:
@@ -150,7 +145,7 @@ def bit_step(own: int, parent: int | None) -> int:
 def synchronous_pulses(net: Network, program: type = Colouring, order: Iterable[int] = ()) -> Iterator[tuple]:
     """(pulse, nodes, inboxes, sent) of each pulse of the synchronous run, from 0: the nodes after it, and what each
     read in it and sends at each port. They are made and called in an order, by default that of the network."""
-    ports = {v: ports_of(net, v) for v in net.neighbours}
+    ports = net.neighbours
     nodes = {v: program(net, v) for v in order or net.neighbours}
     inboxes, sent = {}, {v: nodes[v].greet() for v in nodes}
     yield 0, nodes, inboxes, sent
@@ -290,7 +285,7 @@ class NetState:
     link: dict[tuple[int, int], list[Wire]]
 
     def __init__(self, net: Network, program: type = Colouring):
-        self.neighbours = {v: ports_of(net, v) for v in net.neighbours}
+        self.neighbours = net.neighbours
         self.port_to = {(v, w): port for v, ws in self.neighbours.items() for port, w in enumerate(ws)}
         self.nodes = {v: AlphaNode(net, v, program) for v in net.neighbours}
         self.link = {(v, port): [] for (v, _), port in self.port_to.items()}

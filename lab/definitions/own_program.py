@@ -98,7 +98,7 @@ class OwnNode:
 
     def __init__(self, net, v):
         self.last = self.last_pulse(net)
-        self.me = Me(id=net.identifiers[v], degree=len(net.neighbours[v]), nodes=len(net.neighbours),
+        self.me = Me(id=net.identifiers[v], degree=len(net.neighbours[v]), nodes=net.nodes,
                      greatest_degree=net.greatest_degree, forests=net.forest_count, greatest_bars=net.greatest_bars,
                      barred=tuple(colour + 1 for colour in sorted(net.barred[v])),
                      _lots=f"{self.seed} {net.identifiers[v]}")
@@ -107,9 +107,9 @@ class OwnNode:
     @classmethod
     def last_pulse(cls, net) -> int:
         if "last_pulse" not in cls.of_file:
-            return len(net.neighbours)
+            return net.nodes
         function = cls.of_file["last_pulse"]
-        sizes = (len(net.neighbours), net.greatest_degree, net.forest_count, net.greatest_bars)
+        sizes = (net.nodes, net.greatest_degree, net.forest_count, net.greatest_bars)
         takes_four = getattr(getattr(function, "__code__", None), "co_argcount", 2) == 4
         last = called(cls.file, function, *sizes[:4 if takes_four else 2])
         if not isinstance(last, int) or isinstance(last, bool) or not 0 <= last < 2 ** 32:
@@ -177,7 +177,7 @@ def check_repeats(net, program: type) -> None:
     them, mean nothing. The second time the nodes come in the opposite order."""
     if not issubclass(program, OwnNode):
         return
-    vertices = sorted(net.neighbours)
+    vertices = net.vertices
     for (node, function, pulse, one), (_, _, _, two) in zip(rounds_of(net, program, vertices),
                                                            rounds_of(net, program, vertices[::-1])):
         if one != two:

@@ -25,7 +25,7 @@ def rounds_text(net: Network) -> bytes:
 
 def head_of(net: Network) -> str:
     """The first line. Edition 1, and edition 2 if a channel is barred."""
-    sizes = [1, len(net.neighbours), net.greatest_degree, net.forest_count, last_pulse(net)]
+    sizes = [1, net.nodes, net.greatest_degree, net.forest_count, last_pulse(net)]
     if net.greatest_bars:
         sizes[:3] = [2, *sizes[1:3], net.greatest_bars]
     return "rounds " + " ".join(map(str, sizes))
@@ -40,7 +40,7 @@ def phase_words(net: Network, p: int) -> str:
 
 def merge_step(net: Network, p: int) -> tuple[int, int, int]:
     """Forest, three-colour (0 to 2) and old colour (0 to the span) of a merge pulse, 13 to R."""
-    forest, step = divmod(p - FIRST_MERGE, 3 * (net.span + 1))
+    forest, step = divmod(p - FIRST_MERGE, 3 * net.channels)
     return forest, *divmod(step, net.span + 1)
 
 

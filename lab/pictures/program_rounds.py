@@ -2,7 +2,7 @@
 of a text (docs/claim/FORMATS.md) that is, line by line, the rounds of its network."""
 from itertools import zip_longest
 
-from lab.definitions.nodes import Colouring, ports_of, synchronous_pulses
+from lab.definitions.nodes import Colouring, synchronous_pulses
 from lab.definitions.own_program import OwnNode, check_repeats, what_is_wrong
 from lab.definitions.rounds import Pulse, Rounds
 from lab.wrong import Wrong, wrong_line
@@ -23,7 +23,7 @@ class ProgramRounds:
         if self.last * network.nodes > MOST_STEPS:
             raise Wrong(f"{network.name}: {self.last} pulses of {network.nodes} nodes are too many to be drawn")
         check_repeats(network, program)
-        self.pulses, ports = [], {v: ports_of(network, v) for v in network.vertices}
+        self.pulses, ports = [], network.neighbours
         for p, nodes, _, sent in synchronous_pulses(network, program):
             puts = [(v, w, slot[0].lower(), slot[1]) for v in nodes for w, slot in zip(ports[v], sent[v]) if slot]
             drawn = {v: (colour, None if port is None else ports[v][port]) for v, node in nodes.items()

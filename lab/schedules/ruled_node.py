@@ -6,7 +6,7 @@ isn't due, and a missing one that is (docs/claim/DEFINITIONS.md, refusals of the
 program of one's own goes on with any."""
 import copy
 
-from lab.definitions.nodes import AlphaNode, Colouring, Refused, ports_of, synchronous_pulses
+from lab.definitions.nodes import AlphaNode, Colouring, Refused, synchronous_pulses
 from lab.definitions.own_program import OwnNode
 from lab.definitions.sequel import Sequel
 from lab.definitions.values import frozen
@@ -103,7 +103,7 @@ class Rounds:
 
     def __init__(self, net, program=Colouring):
         self.net, self.last = net, program.last_pulse(net)
-        self.ports, self.inbox = {v: ports_of(net, v) for v in net.neighbours}, {}
+        self.ports, self.inbox = net.neighbours, {}
         for p, nodes, inboxes, _ in synchronous_pulses(net, program):
             self.inbox |= {(v, p): inbox for v, inbox in inboxes.items()}
         self.results = {v: node.result() for v, node in nodes.items()}

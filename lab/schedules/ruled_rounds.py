@@ -16,7 +16,7 @@ from typing import NamedTuple
 from lab.definitions.colours import at_parent, bit, first_colours, merged, other_than, shift
 from lab.definitions.independent_set import IndependentSet
 from lab.definitions.matching import Matching
-from lab.definitions.nodes import Colouring, ports_of, synchronous_run
+from lab.definitions.nodes import Colouring, synchronous_run
 from lab.definitions.recolouring import Recolouring
 from lab.network import Network
 from lab.schedules.rules import OF_FORESTS
@@ -119,7 +119,7 @@ class RuledMatching(Matching):
 
     @staticmethod
     def faults(net, nodes):
-        partner = {v: None if node.partner is None else ports_of(net, v)[node.partner] for v, node in nodes.items()}
+        partner = {v: None if node.partner is None else net.neighbours[v][node.partner] for v, node in nodes.items()}
         return (Fault((v, w), f"the partner of node {v} is {w}, and that of node {w} is {partner[w] or 'none'}")
                 for v, w in partner.items() if w and partner[w] != v)
 

@@ -83,7 +83,7 @@ class Space:
         self.net, self.without, self.limit, self.puts, self.beyond = net, tuple(without), limit, puts, beyond
         self.reduce, self.program = reduce, program
         self.rounds = Rounds(net, program)
-        self.vertices, self.ports, self.last = sorted(net.neighbours), self.rounds.ports, self.rounds.last
+        self.vertices, self.ports, self.last = net.vertices, self.rounds.ports, self.rounds.last
         self.links = [(v, w) for v in self.vertices for w in self.ports[v]]
         self.slot = {link: k for k, link in enumerate(self.links, len(self.vertices))}
         self.arriving = [[self.slot[w, v] for w in self.ports[v]] for v in self.vertices]

@@ -17,7 +17,7 @@ import sys
 import tempfile
 
 from lab.definitions.colours import colours
-from lab.definitions.nodes import last_pulse, ports_of, synchronous_pulses
+from lab.definitions.nodes import last_pulse, synchronous_pulses
 from lab.schedules.space import Space
 from tests import TOP
 from tests.programs.schedules import net_of
@@ -47,18 +47,18 @@ def due_of(net):
     due = {}
     for p, nodes, inboxes, _ in synchronous_pulses(net):
         for v, inbox in inboxes.items():
-            due |= {(v, p, w): slot[1] for w, slot in zip(ports_of(net, v), inbox) if slot}
+            due |= {(v, p, w): slot[1] for w, slot in zip(net.neighbours[v], inbox) if slot}
     return due, {v: node.merged for v, node in nodes.items()}
 
 
 def header_of(net):
-    vertices, (due, end) = sorted(net.neighbours), due_of(net)
+    vertices, (due, end) = net.vertices, due_of(net)
     assert end == colours(net)
-    joined = [f"(v == {v - 1} && w == {w - 1})" for v in vertices for w in sorted(net.neighbours[v])]
+    joined = [f"(v == {v - 1} && w == {w - 1})" for v in vertices for w in net.neighbours[v]]
     by_pulse = {}
     for (v, p, w), number in due.items():
         by_pulse.setdefault(p, []).append((f"v == {v - 1} && w == {w - 1}", number + 1))
-    links = [(v - 1, w - 1) for v in vertices for w in ports_of(net, v)]
+    links = [(v - 1, w - 1) for v in vertices for w in net.neighbours[v]]
     lower = " || ".join(f"({a} < v || {a} == v && {b} < w) && NEXT({a},{b})" for a, b in links)
     return "".join(f"#define {line}\n" for line in [
         f"N {len(vertices)}",

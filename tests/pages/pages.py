@@ -67,7 +67,7 @@ def tutorial_table(title, rows):
     found = re.match(r"Forest (\d+) of `(.*)`, pulse by pulse:", title)
     if found:
         net, f = network_of(contents(found.group(2))), int(found.group(1))
-        joined, lists = [v for v in sorted(net.neighbours) if net.neighbours[v]], forest_colours(net, f)
+        joined, lists = [v for v in net.vertices if net.neighbours[v]], forest_colours(net, f)
         return [[str(v) for v in joined], [str(net.parent(f, v) or "-") for v in joined]] + [
             [f"**{c[v]}**" if p in (8, 10, 12) and c[v] != lists[p - 1][v] else str(c[v]) for v in joined]
             for p, c in lists.items()]
@@ -77,7 +77,7 @@ def tutorial_table(title, rows):
     if rows[0][0] == "network":
         nets = [network_of(contents(row[0].strip("`"))) for row in rows[2:]]
         return [rows[0][1:]] + [[str(number) for number in (
-            len(net.neighbours), net.greatest_degree, net.forest_count, last_pulse(net),
+            net.nodes, net.greatest_degree, net.forest_count, last_pulse(net),
             max(colours(net).values(), default=-1) + 1)] for net in nets]
     if rows[0][0].startswith("identifiers"):
         return [rows[0][1:]] + [list(greatest_colours(int(row[0].split()[0]))) for row in rows[2:]]

@@ -26,7 +26,7 @@ def painter(*words, data=b""):
 def transcript(network, seed, capacity=4):
     """The text of a run, of edition 2."""
     net = network_of(network)
-    return merged_text(len(net.neighbours), made_transcript(random.Random(f"{SEED} {seed}"), net, capacity))
+    return merged_text(net.nodes, made_transcript(random.Random(f"{SEED} {seed}"), net, capacity))
 
 
 class PictureCase(Case):

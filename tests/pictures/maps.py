@@ -60,7 +60,7 @@ def strip_mark(column, colour, is_in_forest):
 
 
 def parents_in(net, f):
-    return {v: net.parent(f, v) for v in sorted(net.neighbours) if net.parent(f, v)}
+    return {v: net.parent(f, v) for v in net.vertices if net.parent(f, v)}
 
 
 class Maps(PictureCase):
@@ -141,8 +141,8 @@ class Maps(PictureCase):
         """The colours and parents of a forest, and the plan after its merge. Of more than 40 vertices an arrow may be
         nearer to another vertex than to its own."""
         net, parents = facts.network, parents_in(facts.network, f)
-        is_small, ended = len(net.neighbours) <= 40, {*parents, *parents.values()}
-        places = dict(zip(sorted(net.neighbours), map(centre, marks(above, "colour", "alone"))))
+        is_small, ended = net.nodes <= 40, {*parents, *parents.values()}
+        places = dict(zip(net.vertices, map(centre, marks(above, "colour", "alone"))))
         arrows = {}
         for start, end in map(ends, marks(above, "arrow")):
             child = nearest(places, start)
@@ -170,7 +170,7 @@ class Maps(PictureCase):
         facts, root = Rounds(network_of(network)), parsed(self.drawn("rounds", network, *options))
         net, width = facts.network, facts.network.span + 1
         left, right = marks(root, "colours"), marks(root, "choices")
-        turns = [{v: (facts.colours[f][12][v], facts.merged[f][v]) for v in sorted(net.neighbours)} for f in drawn]
+        turns = [{v: (facts.colours[f][12][v], facts.merged[f][v]) for v in net.vertices} for f in drawn]
         # Over the merge columns is the pair whose turn it is: all pairs, or, if they are many, those that a node has.
         pairs = [[(k, j) for k in range(3) for j in range(width)] if 3 * width * len(drawn) <= 40
                  else sorted(set(turn.values())) for turn in turns]
@@ -233,7 +233,7 @@ class Maps(PictureCase):
         for name, network in networks.items():
             facts, data = Rounds(network_of(network)), data_of(self.drawn("player", network))
             net, film, last = facts.network, data["film"], last_pulse(facts.network)
-            vertices, forests, steps = sorted(net.neighbours), range(net.forest_count), range(FIRST_MERGE, last + 1)
+            vertices, forests, steps = net.vertices, range(net.forest_count), range(FIRST_MERGE, last + 1)
 
             def shown(key):
                 return [pulse[key] for pulse in film["pulses"]]

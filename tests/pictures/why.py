@@ -57,7 +57,7 @@ class Why(PictureCase):
         for name in ("path", "triangle", "four_cycle", "barred", "petersen", "drops", "long_names"):
             net = network_of(example(name))
             text = set(rounds_text(net).decode().splitlines())
-            for vertex in sorted(net.neighbours):
+            for vertex in net.vertices:
                 said = self.said(name, vertex)
                 rows = re.findall(r"^(\d+) told (\d+) (colour|chosen) (\d+) in pulse (\d+), in (the merge of )?forest "
                                   r"(\d+)$", said, re.M)

@@ -6,7 +6,7 @@ docs/learn/TUTORIAL.md are compared, too; none is taken from the program."""
 import random
 
 from lab.definitions.colours import colours
-from lab.definitions.nodes import NetState, Refused, last_pulse, missing_words, ports_of, wire_words
+from lab.definitions.nodes import NetState, Refused, last_pulse, missing_words, wire_words
 from lab.networks.network_text import network_of
 from tests.cases import Case, called, text
 from tests.commands import EDGE, TRIANGLE
@@ -79,7 +79,7 @@ def state_text(net, state, taken):
     for v, node in sorted(state.nodes.items()):
         is_last = node.pulse_number == last_pulse(net)
         lines.append(f"node {v} pulse {node.pulse_number}" + (f" channel {node.program.merged + 1}" if is_last else ""))
-        for port, w in enumerate(ports_of(net, v)):
+        for port, w in enumerate(net.neighbours[v]):
             lines.append(f"link {v} {w} taken {taken[v, port]}"
                          + "".join(" " + wire_words(wire) for wire in state.link[v, port]))
     return "".join(line + "\n" for line in lines).encode()
@@ -95,8 +95,8 @@ def answer_of(net, events):
         except Refused as refused:
             return refusal(f"{refused} line {line}{missing_words(state, kind, v, port)}")
         if kind == "Take":
-            w = ports_of(net, v)[port]
-            taken[w, ports_of(net, w).index(v)] += 1
+            w = net.neighbours[v][port]
+            taken[w, net.neighbours[w].index(v)] += 1
     return 0, state_text(net, state, taken), b""
 
 
@@ -107,7 +107,7 @@ def random_events(source, net, count):
         possible = list(state.possible())
         if not possible or source.random() < 0.002:
             kind = source.choice(["Pulse", "Put", "Take"])
-            event = (kind, source.randrange(0, len(net.neighbours) + 2),
+            event = (kind, source.randrange(0, net.nodes + 2),
                      None if kind == "Pulse" else source.randrange(0, 4))
         else:
             event = source.choice(possible)

@@ -138,8 +138,8 @@ class Run:
     it takes."""
 
     def __init__(self, net, capacity, looks=None):
-        self.player, self.nodes, self.looks = Player(net), len(net.neighbours), 0
-        state, pool = self.player.state, deque(sorted(net.neighbours))
+        self.player, self.nodes, self.looks = Player(net), net.nodes, 0
+        state, pool = self.player.state, deque(net.vertices)
         while pool and self.looks != looks:
             self.looks, v = self.looks + 1, pool.popleft()
             for event in turn(None, state, v, capacity):

@@ -195,7 +195,7 @@ class OwnNetworks(Case):
                 found = len(reached(net, 1)) == nodes, net.greatest_degree, net.forest_count
                 good = all(wish in (None, there) for wish, there in zip(wanted, found))
                 self.note(f"random {words}, seed {seed}",
-                          good and (len(net.neighbours), len(net.edges)) == (nodes, edges), (found, text))
+                          good and (net.nodes, len(net.edges)) == (nodes, edges), (found, text))
                 texts.add(text.split(b"\n", 1)[1])
             self.note(f"random {words}: the seeds differ", len(texts) == (8 if edges > 2 else 1), len(texts))
 
@@ -255,7 +255,7 @@ class OwnNetworks(Case):
                 self.same(f"{name} by {words}", by_names(text), by_names(before))
                 net = network_of(text)
                 order = [len(net.neighbours[v]) if "degree" in words else float(comments(text, "at")[v].split()[0])
-                         for v in sorted(net.neighbours) if "degree" in words or "place" in words]
+                         for v in net.vertices if "degree" in words or "place" in words]
                 self.same(f"{name} by {words}: the order", order, sorted(order, reverse="reverse" in words))
             again = [call("number", "-", "--by", "random", "--seed", seed, data=before)[1] for seed in (1, 1, 4)]
             self.note(f"{name} numbered by chance: by its seed", again[0] == again[1] != again[2])

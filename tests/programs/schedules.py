@@ -87,7 +87,7 @@ def shown(state, v):
 def count_of_events(net):
     """n·R + 2·wires, wires being 2·payloads + 2·edges·(R + 1)."""
     wires = 2 * payloads_of(net) + 2 * len(net.edges) * (last_pulse(net) + 1)
-    return len(net.neighbours) * last_pulse(net) + 2 * wires, wires
+    return net.nodes * last_pulse(net) + 2 * wires, wires
 
 
 # Lists of events, and walks.

@@ -8,7 +8,7 @@ import itertools
 import re
 
 from lab.definitions.colours import colours, text_of
-from lab.definitions.nodes import ports_of, synchronous_run
+from lab.definitions.nodes import synchronous_run
 from lab.networks.network_text import network_of
 from lab.pictures.program_rounds import rounds_of
 from tests.cases import Case
@@ -27,7 +27,7 @@ def ended(net, v, result):
     """A result as `run` prints it: it adds that a leader is elected, and the neighbour to which a port leads."""
     port = re.search(r"(?:partner|by) (\d+)$", result)
     return f"{result} elected" if result == f"leader {net.identifiers[v]}" else (
-        f"{result} to {ports_of(net, v)[int(port[1])]}" if port else result)
+        f"{result} to {net.neighbours[v][int(port[1])]}" if port else result)
 
 
 class SequelRuns(Case):

@@ -26,7 +26,7 @@ class Sheets(Case):
 
     def check(self, name, section):
         net = network_of(re.search(r"<pre>(.*?)</pre>", section, re.S)[1].encode())
-        vertices, payloads = sorted(net.neighbours), payloads_of(net)
+        vertices, payloads = net.vertices, payloads_of(net)
         self.same(f"{name}: its network", (8, 9, 3, 2),
                   (len(reached(net, 1)), len(net.edges), net.greatest_degree, net.forest_count))
         colours, merged = {}, {}
@@ -38,7 +38,7 @@ class Sheets(Case):
             rf"has {payloads} payloads.*?over the edge (\d)–(\d)", section, re.S).groups())
         plan, *parents, before, shift_5, drop_5, shift_4, drop_4, shift_3, drop_3 = rows = rows_of(section)[:10]
         merges, (slow,) = rows_of(section)[10:14], rows_of(section)[14:]
-        clashes = [f"{v} and {w}" for v in vertices for w in sorted(net.neighbours[v]) if v < w
+        clashes = [f"{v} and {w}" for v in vertices for w in net.neighbours[v] if v < w
                    and plan[v - 1] == plan[w - 1]]
         turn = 25 + 4 * colours[12, chooser][1] + merged[24, chooser]
         # Two wires for each payload, and 36 safes and a close on each of the 18 links.

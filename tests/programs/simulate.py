@@ -79,7 +79,7 @@ class Witnesses(Case):
 
     @staticmethod
     def own_data(net, v):
-        return {"identifier": net.identifiers[v], "degree": len(net.neighbours[v]), "nodes": len(net.neighbours),
+        return {"identifier": net.identifiers[v], "degree": len(net.neighbours[v]), "nodes": net.nodes,
                 "delta": net.greatest_degree, "bars": net.greatest_bars, "forests": net.forest_count,
                 "last": last_pulse(net), "barred": {colour + 1 for colour in net.barred[v]}}
 
@@ -108,7 +108,7 @@ class Runs(Case):
                 with self.subTest(name, policy=policy):
                     status, text, fault = simulate(name, "--policy", policy, "--seed", "7")
                     self.assertEqual((status, fault), (0, b""))
-                    self.assertEqual(text.partition(b"\n")[0], b"transcript 2 %d" % len(net.neighbours))
+                    self.assertEqual(text.partition(b"\n")[0], b"transcript 2 %d" % net.nodes)
                     whole_run(net, text)
                     status, state, fault = called(PLAY, "replay", data=example(name) + b"\n" + text)
                     self.assertEqual((status, fault), (0, b""))

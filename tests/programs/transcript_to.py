@@ -16,7 +16,7 @@ def call(*words, data=b""):
 
 def made(name):
     net = network_of(example(name))
-    return len(net.neighbours), made_transcript(random.Random(f"to {name}"), net, 3)
+    return net.nodes, made_transcript(random.Random(f"to {name}"), net, 3)
 
 
 def line_of(row):

@@ -214,7 +214,7 @@ def is_counted(net, data, said):
     acknowledged, there is a safe of each pulse below the last and a closing mark for each direction of an edge, and all
     of it is taken.
     """
-    nodes, last = len(net.neighbours), last_pulse(net)
+    nodes, last = net.nodes, last_pulse(net)
     payloads = len(re.findall(rb"put\s+\d+\s+payload", data))
     wires = 2 * payloads + sum(map(len, net.neighbours.values())) * (last + 1)
     return said == f"whole run of {nodes} nodes, {nodes * last + 2 * wires} entries, {payloads} payloads, {wires} wires"
@@ -381,8 +381,8 @@ class Transcripts(Case):
             if kind == KINDS[0]:
                 (network, net), program = source.choice(small), PROGRAMS[("colouring", *SEQUELS)[run % 4]]
                 entries = played(net, seed=str(run), program=program)
-                merged = text_of_run(len(net.neighbours), entries, program).encode()
-                plain = transcript_text(len(net.neighbours), entries)
+                merged = text_of_run(net.nodes, entries, program).encode()
+                plain = transcript_text(net.nodes, entries)
             data, least = spoiled(source, kind, merged)
             said, got = said_of(net, data, program)[0], said_by(network, data, "--program", program.name)
             codes.add(said.rpartition(": ")[2])
