@@ -108,7 +108,7 @@ SCRIPTS = (
     # Each of two nodes that are apart makes its 12 pulses by itself: 13 times 13 states.
     Script("explore", ("FILE",), "", r"every schedule of net: 169 states, [^\0]*\none end: channels 1 1\n"),
     Script("simulate", ("FILE", "--policy", "oldest"), "", r"transcript 2 2\n(\d+ [12] pulse \d+\n){24}"),
-    Script("transcript", ("--help",), "", r"Judges a transcript [^\0]*"),
+    Script("transcript", ("--help",), "", r"usage: forestlab transcript [^\0]*"),
     Script("transcript check", ("FILE",), ENDED, r"whole run of 2 nodes, 24 entries, 0 payloads, 0 wires\n"),
     Script("transcript replay", ("FILE",), ENDED, r"node 1 pulse 12 channel 1\nnode 2 pulse 12 channel 1\n"),
     Script("transcript convert", ("json",), "transcript 2 1|1 1 pulse 1|",

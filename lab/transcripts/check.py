@@ -1,63 +1,14 @@
-"""Checks a transcript of nodes without a common clock. It is written from the pages in docs/ alone.
+"""The judge of transcripts of nodes without a common clock. It is written from the pages in docs/ alone.
 
 A transcript of edition 1 has the entries of each node in that node's own order, and says nothing of the order
 between nodes. This program looks for an order of all entries that is a run, and demands that the run is whole. One
-of edition 2 or 3 has an order, and stamps. `--help` says how to call it."""
-import gc
-import json
-import sys
+of edition 2 or 3 has an order, and stamps."""
 from collections import deque
 
 from lab.definitions.nodes import Colouring, NetState, Refused, make
-from lab.definitions.programs import add_program, program_asked
-from lab.networks.named import network_bytes
-from lab.networks.network_text import network_of
 from lab.transcripts.fields import fields_of
 from lab.transcripts.reading import Wrong, read_to_fault
 from lab.transcripts.stamps import Clock, check_whole, refusal, unfinished
-from lab.words import add_output, bytes_at, called, parser_of, write
-from lab.wrong import Wrong as WrongNetwork
-
-HELP = """\
-Checks a transcript of a run of nodes without a common clock.
-
-The nodes of a network find channels by sending each other wires: payloads,
-acknowledgements, safes and a closing mark. A transcript lists, for each node and
-in its own order, the pulses (rounds) that it made and the wires that it put on
-a link to a neighbour or took from one. One of edition 1 does not say which of two
-nodes came first. It is right if there is an order of all entries in which each of
-them was possible when it came, with just the wire that it names, and if the run is
-whole: all nodes have made their last pulse, nothing is left to be put, and no
-link holds a wire. One of edition 2 or 3 is right if the order of its lines is such
-an order, and each stamp is the one that Lamport's clock gives: one more than the
-last one of that node, and of a take also than the put's. Edition 3 names its program.
-"""
-
-MORE_HELP = """\
-Of a transcript that is right it prints one line, as
-  whole run of 3 nodes, 658 entries, 49 payloads, 284 wires
-Of any other it prints on standard error one line with the line of the transcript
-and what is wrong there, as
-  line 6: LinkEmpty: node 1 takes payload 0 hello 3 from 3, which hasn't put it by then
-
-  X1            neither the first line, as `transcript 2 N`, nor an entry, as one with a
-                payload of another program: give its name, --program
-  WrongProgram  edition 3: the first line names another program, which is said
-  NoSuch        no such node, or it has no such neighbour
-  NotReady      a pulse that the node cannot make there
-  NothingToPut  the node has nothing for that neighbour
-  LinkEmpty     the neighbour has put no wire that is left to be taken
-  WrongWire     possible, but with another wire or the number of another pulse
-  WrongStamp    another stamp than the clock of the node gives, or out of order
-  NotWhole      all entries are a run, but it does not reach the end
-  Nodes         the first line names another number of nodes than the network has
-
-Status: 0 right, 1 not right, or a file can't be read, 2 the command line is refused.
-
-Example:
-  forestplan transcript < examples/triangle.col > triangle.transcript
-  forestlab transcript check examples/triangle.col triangle.transcript
-"""
 
 
 class Found:
@@ -171,58 +122,3 @@ def in_order(made, text):
     lines = text.split(b"\n")
     head = next(line for line in lines if fields_of(line))
     return b"".join(line + b"\n" for line in [head] + [lines[line - 1] for line in made])
-
-
-def words_of_command():
-    words = parser_of("transcript check", "NETWORK [TRANSCRIPT] [options]", HELP, MORE_HELP)
-    words.add_argument(
-        "--order",
-        action="store_true",
-        help="instead of that line print the transcript in the order found, in which it is a run line by line; with "
-             "stamps as it is",
-    )
-    words.add_argument("--json", action="store_true", help="write the verdict for a program")
-    add_texts(words)
-    add_output(words)
-    return words
-
-
-def add_texts(words):
-    """The network, the transcript, and the program of its nodes."""
-    words.add_argument("network", metavar="NETWORK",
-                       help="a file that `forestplan` reads without a fault, or a name, as petersen or path5")
-    words.add_argument("transcript", nargs="?", default="-", metavar="TRANSCRIPT",
-                       help="a file, or - for standard input; default: -")
-    add_program(words)
-
-
-def texts_of(given):
-    """The network, the texts of both, and the program of a command line."""
-    if given.network == given.transcript == "-":
-        raise WrongNetwork("standard input has one text: name a file for the network or for the transcript")
-    network = network_bytes(given.network)
-    net = network_of(network, called(given.network))
-    return net, network, bytes_at(given.transcript), program_asked("transcript", given, net)
-
-
-def main(words):
-    given = words_of_command().parse_args(words)
-    # Nothing that is made here goes round in a circle that would have to be collected before the end.
-    gc.disable()
-    net, _, text, program = texts_of(given)
-    try:
-        made, said = whole_run(net, text, program)
-    except Wrong as wrong:
-        if given.json:
-            found = {"right": False, "line": wrong.line, "code": wrong.code, "words": wrong.what}
-            write(given, json.dumps(found) + "\n")
-        else:
-            print(wrong, file=sys.stderr)
-        return 1
-    if given.order:
-        write(given, in_order(made, text))
-    elif given.json:
-        write(given, json.dumps({"right": True, "words": said}) + "\n")
-    else:
-        write(given, said + "\n")
-    return 0

@@ -1,37 +1,9 @@
-"""The door: `forestlab transcript convert FORM [TRANSCRIPT]`. Writes a transcript with stamps, edition 2 or 3, in the
-form of another tool, or one line on standard error."""
+"""A transcript with stamps, edition 2 or 3, in the forms of other tools."""
 import json
 from collections import deque
 
 from lab.definitions.nodes import wire_words
 from lab.transcripts.reading import Wrong, read
-from lab.words import add_output, bytes_at, parser_of, write
-
-HELP = """\
-Writes a transcript with stamps, edition 2 or 3, for other tools.
-
-  json:   a JSON object a line: the first with the number of nodes, and in edition 3
-          with the program; then one for each entry, {"stamp", "node", "kind",
-          "neighbour", "wire", "pulse", ..}; a take has the number of the line of its put
-          as "put"
-  shiviz: a log for ShiViz (bestchai.bitbucket.io/shiviz), with vector clocks
-"""
-MORE_HELP = """\
-Without TRANSCRIPT it is read from standard input. Only a take without a put before it
-and lines that no transcript has are refused: forestlab transcript check judges a run.
-
-The other way, from the list of events of `forestlab picture adversary` to a transcript, goes
-`forestlab simulate NETWORK --events LIST`.
-
-In ShiViz, give this as the parser of the log:
-  (?<host>\\S*) (?<clock>{.*})\\n(?<event>.*)
-
-Status: 0 done, 1 not read (one line on standard error says why), 2 the command line is
-refused.
-
-Example:
-  forestlab simulate examples/triangle.col | forestlab transcript convert shiviz > triangle.log
-"""
 
 
 def entries_of(text):
@@ -91,14 +63,3 @@ def as_shiviz(_, entries):
 
 
 FORMS = {"json": as_json, "shiviz": as_shiviz}
-
-
-def main(words):
-    line = parser_of("transcript convert", "FORM [TRANSCRIPT]", HELP, MORE_HELP)
-    line.add_argument("form", choices=FORMS, metavar="FORM", help="json or shiviz")
-    line.add_argument("transcript", metavar="TRANSCRIPT", nargs="?", default="-",
-                      help="a file, or - for standard input; default: -")
-    add_output(line)
-    given = line.parse_args(words)
-    write(given, "".join(row + "\n" for row in FORMS[given.form](*entries_of(bytes_at(given.transcript)))))
-    return 0

@@ -1,12 +1,21 @@
 """`forestlab transcript`: checks, replays and converts transcripts, whoever wrote them."""
-import importlib
+import gc
+import json
 import sys
 
-COMMANDS = ("check", "replay", "convert")
+from lab import programs
+from lab.definitions.own_program import OwnNode
+from lab.definitions.programs import add_program, program_asked, program_words
+from lab.networks.named import network_bytes
+from lab.networks.network_text import network_of
+from lab.transcripts.check import in_order, whole_run
+from lab.transcripts.convert import FORMS, entries_of
+from lab.transcripts.reading import Wrong as WrongEntry
+from lab.words import add_command, add_output, bytes_at, called, parser_of, write
+from lab.wrong import Wrong
+
 HELP = """\
 Judges a transcript of a run without a clock, whoever wrote it.
-
-usage: forestlab transcript COMMAND [words]
 
   check       says whether it is one whole run, or which line isn't possible, and why
   replay      orders its entries, and has the proved machine of forestplay play them
@@ -14,17 +23,139 @@ usage: forestlab transcript COMMAND [words]
 
 `forestlab transcript COMMAND --help` has the options and an example.
 
-Example:
-  forestlab simulate petersen | forestlab transcript check petersen
+Status: 0 done, 1 the transcript isn't right, a file can't be read, or forestplay isn't
+built, 2 the command line is refused; else what forestplay ends with.
 """
+# By command: its words, what it does, more of that, and an example.
+COMMANDS = {
+    "check": ("NETWORK [TRANSCRIPT] [options]", "Checks a transcript of a run of nodes without a common clock.", """\
+The nodes of a network find channels by sending each other wires: payloads,
+acknowledgements, safes and a closing mark. A transcript lists, for each node and
+in its own order, the pulses (rounds) that it made and the wires that it put on
+a link to a neighbour or took from one. One of edition 1 does not say which of two
+nodes came first. It is right if there is an order of all entries in which each of
+them was possible when it came, with just the wire that it names, and if the run is
+whole: all nodes have made their last pulse, nothing is left to be put, and no
+link holds a wire. One of edition 2 or 3 is right if the order of its lines is such
+an order, and each stamp is the one that Lamport's clock gives: one more than the
+last one of that node, and of a take also than the put's. Edition 3 names its program.
+
+Of a transcript that is right it prints one line, as
+  whole run of 3 nodes, 658 entries, 49 payloads, 284 wires
+Of any other it prints on standard error one line with the line of the transcript
+and what is wrong there, as
+  line 6: LinkEmpty: node 1 takes payload 0 hello 3 from 3, which hasn't put it by then
+
+  X1            neither the first line, as `transcript 2 N`, nor an entry, as one with a
+                payload of another program: give its name, --program
+  WrongProgram  edition 3: the first line names another program, which is said
+  NoSuch        no such node, or it has no such neighbour
+  NotReady      a pulse that the node cannot make there
+  NothingToPut  the node has nothing for that neighbour
+  LinkEmpty     the neighbour has put no wire that is left to be taken
+  WrongWire     possible, but with another wire or the number of another pulse
+  WrongStamp    another stamp than the clock of the node gives, or out of order
+  NotWhole      all entries are a run, but it does not reach the end
+  Nodes         the first line names another number of nodes than the network has""",
+              "forestplan transcript < examples/triangle.col > triangle.transcript\n"
+              "  forestlab transcript check examples/triangle.col triangle.transcript"),
+    "replay": ("NETWORK [TRANSCRIPT] [options]", "Has the proved machine of forestplay play a transcript.", """\
+A transcript of edition 1 lists all entries of node 1, then all of node 2, and so on.
+They can't have happened in this order, so `forestplay replay` refuses it (LinkEmpty).
+One of edition 2, which `forestplan transcript` writes without `--edition 1`, or 3, of
+another program, has an order, and `forestplay replay` takes it. This command looks for an
+order that is a run, and gives the network and the entries in that order to `forestplay
+replay`.
+
+It prints the state that the entries lead to, as `forestplay replay --help` says.
+Of a transcript that isn't right it prints what `forestlab transcript check` says.""",
+               "forestlab transcript replay examples/chain6.col examples/chain6_slow.transcript"),
+    "convert": ("FORM [TRANSCRIPT]", "Writes a transcript with stamps, edition 2 or 3, for other tools.", """\
+  json:   a JSON object a line: the first with the number of nodes, and in edition 3
+          with the program; then one for each entry, {"stamp", "node", "kind",
+          "neighbour", "wire", "pulse", ..}; a take has the number of the line of its put
+          as "put"
+  shiviz: a log for ShiViz (bestchai.bitbucket.io/shiviz), with vector clocks
+
+Only a take without a put before it and lines that no transcript has are refused:
+forestlab transcript check judges a run.
+
+The other way, from the list of events of `forestlab picture adversary` to a transcript, goes
+`forestlab simulate NETWORK --events LIST`.
+
+In ShiViz, give this as the parser of the log:
+  (?<host>\\S*) (?<clock>{.*})\\n(?<event>.*)""",
+                "forestlab simulate examples/triangle.col | forestlab transcript convert shiviz > triangle.log")}
+
+
+def command_line():
+    words = parser_of("transcript", "COMMAND WORDS.. [options]", HELP, None)
+    commands = words.add_subparsers(dest="command", metavar="COMMAND", required=True, help="one of those above")
+    for name, does in COMMANDS.items():
+        command = add_command(commands, f"transcript {name}", *does)
+        if name == "convert":
+            command.add_argument("form", choices=FORMS, metavar="FORM", help="json or shiviz")
+        else:
+            command.add_argument("network", metavar="NETWORK",
+                                 help="a file that `forestplan` reads without a fault, or a name, as petersen or path5")
+            add_program(command)
+        command.add_argument("transcript", nargs="?", default="-", metavar="TRANSCRIPT",
+                             help="a file, or - for standard input; default: -")
+        if name == "check":
+            command.add_argument("--order", action="store_true",
+                                 help="instead of that line print the transcript in the order found, in which it is a "
+                                 "run line by line; with stamps as it is")
+            command.add_argument("--json", action="store_true", help="write the verdict for a program")
+        add_output(command)
+    return words
+
+
+def texts_of(given):
+    """The network, the texts of both, and the program of a command line."""
+    if given.network == given.transcript == "-":
+        raise Wrong("standard input has one text: name a file for the network or for the transcript")
+    data = network_bytes(given.network)
+    net = network_of(data, called(given.network))
+    return net, data, bytes_at(given.transcript), program_asked("transcript", given, net)
+
+
+def checked(given):
+    """The verdict on a transcript that is right, or its entries in order."""
+    net, _, text, program = texts_of(given)
+    made, said = whole_run(net, text, program)
+    if given.order:
+        return in_order(made, text)
+    return (json.dumps({"right": True, "words": said}) if given.json else said) + "\n"
+
+
+def replayed(given):
+    """What the proved machine prints of a transcript in the order found."""
+    net, network, text, program = texts_of(given)
+    if issubclass(program, OwnNode):
+        raise Wrong(f"no proved program runs {program.name}")
+    made, _ = whole_run(net, text, program)
+    # The network may not end in a line feed.
+    return programs.text_of("forestplay", ["replay", *program_words(program)], network + b"\n" + in_order(made, text))
+
+
+def converted(given):
+    return "".join(row + "\n" for row in FORMS[given.form](*entries_of(bytes_at(given.transcript))))
 
 
 def main(words):
-    if words and words[0] in COMMANDS:
-        return importlib.import_module(f"lab.transcripts.{words[0]}").main(words[1:])
-    if words and words[0] in ("-h", "--help"):
-        sys.stdout.write(HELP)
-        return 0
-    what = f"there is no command {words[0]}" if words else "a command is missing"
-    print(f"transcript: {what}; try --help", file=sys.stderr)
-    return 2
+    given = command_line().parse_args(words)
+    # Nothing that is made here goes round in a circle that would have to be collected before the end.
+    gc.disable()
+    try:
+        write(given, {"check": checked, "replay": replayed, "convert": converted}[given.command](given))
+    except WrongEntry as wrong:
+        if getattr(given, "json", False):
+            found = {"right": False, "line": wrong.line, "code": wrong.code, "words": wrong.what}
+            write(given, json.dumps(found) + "\n")
+        else:
+            print(wrong, file=sys.stderr)
+        return 1
+    except programs.Refused as why:
+        sys.stderr.write(why.words)
+        return why.status
+    return 0
