@@ -17,7 +17,7 @@ class Found:
     first one."""
 
     def __init__(self, net, entries, program):
-        self.is_stamped = bool(entries) and entries[0].stamp is not None
+        self.entries, self.is_stamped = entries, bool(entries) and entries[0].stamp is not None
         self.state, self.clock, self.made = NetState(net, program), Clock(net.neighbours), []
         self.left, self.refusals = {}, {}
         for entry in entries:
@@ -59,7 +59,7 @@ class Found:
         entry = self.first_refused()
         if entry is None or fault and self.waits(entry) or is_part and set(self.refusals.values()) == {"LinkEmpty"}:
             return fault
-        return refusal(self.state, entry, self.refusals[entry.vertex], self.clock)
+        return refusal(self.state, entry, self.refusals[entry.vertex], self.entries, self.clock)
 
     def is_whole(self):
         return not self.refusals and not any(unfinished(self.state))

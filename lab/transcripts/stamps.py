@@ -43,11 +43,10 @@ def standing(state, v):
 
 
 # What an entry lacks, of the refusals that say no more of it.
-LACKED = {"NoSuch": ", but there is no such node or neighbour", "NothingToPut": ", for which it has nothing",
-          "LinkEmpty": ", which hasn't put it by then (is the text cut?)"}
+LACKED = {"NoSuch": ", but there is no such node or neighbour", "NothingToPut": ", for which it has nothing"}
 
 
-def refusal(state, entry, code, clock):
+def refusal(state, entry, code, entries, clock):
     """Of an entry that isn't possible: what it lacks or what is due there, and the rule that a pulse or a put
     breaks."""
     said, at = words(entry) + LACKED.get(code, ""), code != "NoSuch" and standing(state, entry.vertex)
@@ -56,6 +55,8 @@ def refusal(state, entry, code, clock):
     elif code == "WrongWire":
         due = state.carried(*event_of(state, entry))
         said += f", but the next one there is {due if entry.kind == 'Pulse' else wire_words(due)}"
+    elif code == "LinkEmpty":
+        said += why_link_empty(entry, entries)
     elif code == "WrongStamp":
         due = clock.counters[entry.vertex]
         said += f" with stamp {entry.stamp}, but " + (
@@ -64,6 +65,16 @@ def refusal(state, entry, code, clock):
         what = f"pulse {entry.what}" if entry.kind == "Pulse" else f"put {entry.neighbour} {wire_words(entry.what)}"
         said += f"; {rule_of(at, what, says_lacks=False)}"
     return Wrong(entry.line, code, said)
+
+
+def why_link_empty(entry, entries):
+    """Of a wire that isn't there: where it is put, or that it never is."""
+    link = entry.neighbour, entry.vertex
+    taken = sum(e.kind == "Take" and (e.neighbour, e.vertex) == link and e.line < entry.line for e in entries)
+    puts = [e for e in entries if e.kind == "Put" and (e.vertex, e.neighbour) == link][taken:]
+    put = next((e for e in puts if e.what == entry.what), None)
+    return f"; it is put in line {put.line}, which can't have come before" if put else (
+        f", and {entry.neighbour} never puts it (is the text cut?)")
 
 
 def unfinished(state):

@@ -44,7 +44,8 @@ Of a transcript that is right it prints one line, as
   whole run of 3 nodes, 658 entries, 49 payloads, 284 wires
 Of any other it prints on standard error one line with the line of the transcript
 and what is wrong there, as
-  line 6: LinkEmpty: node 1 takes payload 0 hello 3 from 3, which hasn't put it by then
+  line 6: LinkEmpty: node 1 takes payload 0 hello 3 from 3, and 3 never puts it (is the
+  text cut?)
 
   X1            neither the first line, as `transcript 2 N`, nor an entry, as one with a
                 payload of another program: give its name, --program

@@ -282,7 +282,7 @@ class Transcripts(Case):
         """The checker as a command: from a file, from standard input, in the order found, and refused."""
         whole, wrong = EDGE_RUN, b"transcript 1 2\n1 take 2 close\n"
         network, transcript = self.file("edge.col", text(EDGE)), self.file("edge.transcript", whole)
-        why = "node 1 takes close from 2, which hasn't put it by then (is the text cut?)"
+        why = "node 1 takes close from 2, and 2 never puts it (is the text cut?)"
         nowhere = f"transcript: {transcript}x: No such file or directory\n".encode()
         for words, data, wanted in (
             ([network, transcript], b"x", (0, EDGE_WHOLE.encode() + b"\n", b"")),

@@ -11,6 +11,8 @@ SAFE = "safe P is said once in each pulse P but the last, to each neighbour, onc
        "acknowledged"
 NO_ACK = "it can't have said safe yet: it lacks the acknowledgement of pulse 0 from 2"
 PULSE = "a node makes its next pulse once it has said safe and has the safes of all its neighbours"
+PUT_LATER = "; it is put in line {}, which can't have come before"
+NEVER_PUT = ", and 2 never puts it (is the text cut?)"
 # (the entries of edition 2, the line that is said)
 ROWS = (
     (GREETED + "3 2 put 1 ack 1|",
@@ -33,11 +35,13 @@ ROWS = (
      "said in pulse P"),
     ("1 3 pulse 1|", "line 2: NoSuch: node 3 makes pulse 1, but there is no such node or neighbour"),
     ("1 1 put 1 safe 0|", "line 2: NoSuch: node 1 puts safe 0 for 1, but there is no such node or neighbour"),
-    *((f"{entries}1 take 2 {HELLO_2}|{more}", f"line {line}: LinkEmpty: node 1 takes payload 0 hello 2 from 2, which "
-                                              "hasn't put it by then (is the text cut?)")
-      for entries, more, line in (
-          ("1 ", f"1 2 put 1 {HELLO_2}|", 2), ("1 ", "", 2), ("1 ", "2 2 put 1 ack 0|", 2),
-          (f"1 1 put 2 {HELLO_1}|1 2 put 1 {HELLO_2}|2 1 take 2 {HELLO_2}|3 ", "", 5))),
+    # A wire that isn't there: where it is put, if it is, or nowhere, be there another one; and one that was taken.
+    *((f"{entries}1 take 2 {HELLO_2}|{more}", f"line {line}: LinkEmpty: node 1 takes payload 0 hello 2 from 2{said}")
+      for entries, more, line, said in (
+          ("1 ", f"1 2 put 1 {HELLO_2}|", 2, PUT_LATER.format(3)), ("1 ", "", 2, NEVER_PUT),
+          ("1 ", "2 2 put 1 ack 0|", 2, NEVER_PUT),
+          ("1 ", f"2 2 put 1 ack 0|3 2 put 1 {HELLO_2}|", 2, PUT_LATER.format(4)),
+          (f"1 1 put 2 {HELLO_1}|1 2 put 1 {HELLO_2}|2 1 take 2 {HELLO_2}|3 ", "", 5, NEVER_PUT))),
     # Nothing is on its way: it isn't asked whether the text is cut.
     (GREETED, "line 5: NotWhole: after the last entry nothing is on its way, and not all is done: node 1 at pulse 0 "
               "doesn't put 2 ack 0; node 2 at pulse 0 doesn't put 1 ack 0"),
