@@ -10,7 +10,6 @@ from lab.definitions.nodes import NetState, Refused, last_pulse, missing_words, 
 from lab.networks.network_text import network_of
 from tests.cases import Case, called, text
 from tests.commands import EDGE, TRIANGLE
-from tests.programs.plain_networks import random_of, some_bars, text_of
 from tests.settings import PLAY, SECOND_PLAY
 
 SEED = 2026
@@ -37,7 +36,7 @@ WORKED = [
 ]
 
 # (input, fault): faults of the text, of the network, of the reading of events, of an event, in this order. What else a
-# text may be is for hostile.py.
+# text may be, and random lists of events, are for hostile.py.
 REFUSED = [
     ("put 1 0|", "F1"), ("p edge 2 1|e 1 1|put 1 0|x|", "F6 line 2"), (EDGE + "events|put 1 0|", "F8 line 3"),
     ("p edge 2 1|put 1 0|e 1 2|", "NoEvent line 3"), (EDGE + "pulse 1|put 1|", "NoEvent line 4"),
@@ -119,15 +118,9 @@ def random_events(source, net, count):
     return events
 
 
-def written(source, network, events):
-    """The input, with blank lines and comments among the events, and each event with its line."""
-    lines, numbered = network.splitlines(), []
-    for kind, v, port in events:
-        while lines[-1][0:1] != "p" and source.random() < 0.1:
-            lines.append(source.choice(["", "c put 1 0", " \t", "comment"]))
-        lines.append(f"{kind.lower()} {v}" + ("" if port is None else f" {port}"))
-        numbered.append((len(lines), kind, v, port))
-    return "".join(line + "\n" for line in lines).encode(), numbered
+def words_of(event):
+    """An event as a list has it."""
+    return " ".join(str(word) for word in event if word is not None).lower()
 
 
 class Events(Case):
@@ -140,21 +133,6 @@ class Events(Case):
                 name = f"{command}: {fault} of {data[-40:]!r}"
                 self.same(name, called(PLAY, command, data=text(data)), refusal(fault))
 
-    def test_random_lists(self):
-        """Random networks and events against the definitions."""
-        source, wrong, refused = random.Random(SEED), [], 0
-        for _ in range(300):
-            (nodes, edges), = random_of(1, 0, 6)(source)
-            network = text_of(source, nodes, edges, bars=some_bars(source, nodes, 2))
-            net = network_of(network)
-            data, events = written(source, network.decode(), random_events(source, net, source.randrange(0, 400)))
-            done, wanted = called(PLAY, "events", data=data), answer_of(net, events)
-            refused += wanted[0]
-            if done != wanted:
-                wrong.append((data, wanted, done))
-        self.note("300 random lists of events against the definitions", not wrong, wrong[:1])
-        self.note("some of them are refused, and some are not", 30 < refused < 270, refused)
-
     def test_ends(self):
         """Events to the end, by the program as each of two compilers builds it (the gate leaves that of Rattle's own
         beside the other): every node has halted, nothing waits, and the channels are the colours plus one."""
@@ -166,8 +144,8 @@ class Events(Case):
             while possible := list(state.possible()):
                 events.append(source.choice(possible))
                 state.step(*events[-1])
-            data, numbered = written(source, text(network).decode(), events)
-            wanted = answer_of(net, numbered)
+            data = text(network) + "".join(words_of(event) + "\n" for event in events).encode()
+            wanted = answer_of(net, [(None, *event) for event in events])
             for program in (PLAY, SECOND_PLAY):
                 self.same(f"a whole run of {network} by {program}", called(program, "events", data=data), wanted)
             channels = [int(line.split()[-1]) for line in wanted[1].splitlines() if line.startswith(b"node")]

@@ -18,7 +18,7 @@ from lab.transcripts.reading import line_of
 from tests.cases import Case, text
 from tests.commands import COMMANDS, PROGRAM_OF
 from tests.faults.refused_memory import build_front
-from tests.programs.events import EDGE, TRIANGLE, random_events
+from tests.programs.events import EDGE, TRIANGLE, random_events, words_of
 from tests.programs.plain_networks import long_names, pairs_of, some_bars, text_of
 from tests.programs.slow_reader import answer_to
 from tests.settings import PATHS, setting
@@ -134,10 +134,9 @@ def behind(source, command, net):
         return [head] + source.sample(rows, len(rows))
     if command not in ("events", "replay"):
         return []
-    events = random_events(source, net, source.choice((3, 10, 40)))
+    events = random_events(source, net, source.choice((3, 10, 40) * 8 + (400,)))
     if command == "events":
-        return [" ".join(str(word) for word in (kind.lower(), *at) if word is not None).encode()
-                for kind, *at in events]
+        return [words_of(event).encode() for event in events]
     player = Player(net)
     for kind, *at in events[:-1]:
         player.make(kind.lower(), *at)

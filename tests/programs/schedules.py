@@ -6,17 +6,20 @@ import gc
 import os
 import random
 from collections import Counter
+from itertools import product
 
 from lab.definitions.colours import colours
 from lab.definitions.nodes import NetState, last_pulse
 from lab.definitions.values import frozen
+from lab.network import Network
 from lab.networks.network_text import network_of
 from lab.schedules import ruled_rounds, rules
 from lab.schedules.space import Space
 from tests import TOP
 from tests.cases import Case, called, said_by, text_in
-from tests.programs.events import answer_of
-from tests.programs.plain_networks import payloads_of, random_of, text_of as text_of_network
+from tests.programs.events import words_of
+from tests.programs.plain_networks import all_of, payloads_of, random_of, text_of as text_of_network
+from tests.programs.slow_reader import answer_to
 from tests.settings import PLAN, PLAY
 
 MOST = 200_000  # states; more show that a search goes on and on
@@ -71,6 +74,23 @@ def key_in_table(space, s):
     return tuple(node_key(space.locals[a][state[a]]) for a in range(len(space.vertices))), tuple(links)
 
 
+def keys_of(space, states):
+    """States as they can be compared between two searches."""
+    return {(tuple(values[part].key() for values, part in zip(space.locals, space.states[s])),
+             tuple(space.contents[c] for c in space.states[s][len(space.vertices):])) for s in states}
+
+
+def reduced_rows():
+    """(network, rules left out, whether puts are steps)."""
+    rules_of_two = (), ("early",), ("acks",), ("acks", "early")
+    for nodes, edges in ((nodes, edges) for nodes in (1, 2, 3) for edges in all_of(nodes)):
+        yield from ((Network(nodes, edges), *more) for more in (
+            product(rules_of_two, (False, True)) if nodes < 3 else [((), False)]))
+    for net in (Network(3, [(1, 2), (2, 3)], {1: 9, 2: 200, 3: 5}, {2: [1]}), net_of("path")):
+        yield from ((net, without, False) for without in rules_of_two[:3])
+    yield net_of("row of four"), (), False
+
+
 def shown(state, v):
     """What is shown of a node: its pulse, its stage, and what it waits for."""
     node, ports = state.nodes[v], list(zip(state.neighbours[v], state.nodes[v].ports))
@@ -92,16 +112,9 @@ def count_of_events(net):
 
 # Lists of events, and walks.
 
-def numbered(network, lines):
-    """The events as `answer_of` reads them, with their lines after the network."""
-    first = network.count("\n") + 1
-    for line, event in enumerate(lines, first):
-        kind, v, *port = event.split()
-        yield line, kind.title(), int(v), int(port[0]) if port else None
-
-
-def played(name, lines):
-    return called(PLAY, "events", data=(text_of(name) + "".join(line + "\n" for line in lines)).encode())
+def list_of(name, lines):
+    """The input of `forestplay events`."""
+    return (text_of(name) + "".join(line + "\n" for line in lines)).encode()
 
 
 def explored(*words):
@@ -152,6 +165,9 @@ REFUSED = [
     (["--without", "partner,bars", "--program", "matching"], "can't be left out together"),
     (["path2", "--without", "bars", "--program", "recolouring", "--list"], "the rounds have no events"),
     (["examples/two.col", "x"], "unrecognized arguments: x"),
+    *((words, "explore: error: --reduce") for words in (
+        ["two", "--reduce", "--without", "safes"], ["two", "--reduce", "--without", "acks,fifo"])),
+    (["--reduce", "--without", "shift"], "the rounds have no events"),
 ]
 
 
@@ -197,7 +213,7 @@ class Schedules(Case):
                 put_all(state)
                 events.append(event)
                 seen = {v: node[:3] for v, node in space.nodes(s).items()}
-                may = {" ".join(str(part) for part in one if part is not None).lower() for one in state.possible()}
+                may = set(map(words_of, state.possible()))
                 if (net_key(state) != key_in_table(space, s) or seen != {v: shown(state, v) for v in space.vertices}
                         or may != {str(event) for event, _ in space.steps(s)}):
                     wrong.append((name, [str(event) for event in events]))
@@ -207,6 +223,27 @@ class Schedules(Case):
                 needless.append((name, needed))
         self.note("a hundred random walks, state by state", not wrong, wrong[:1])
         self.note("a put only as a take needs it", not needless, needless[:1])
+
+    def test_reduced(self):
+        """With `reduce` the same goes wrong, the ends are the same states, and every state is one of the whole
+        search."""
+        for net, without, puts in reduced_rows():
+            whole, less = (Space(net, without, MOST, puts, beyond=bool(without), reduce=it) for it in (False, True))
+            self.same(f"{net.edges} without {without}, puts apart: {puts}",
+                      (set(less.faults.values()), keys_of(less, less.ends)),
+                      (set(whole.faults.values()), keys_of(whole, whole.ends)))
+            self.note(f"states of {net.edges} without {without}, puts apart: {puts}",
+                      keys_of(less, range(less.count)) <= keys_of(whole, range(whole.count))
+                      and less.count <= whole.count - bool(net.edges), (less.count, whole.count))
+        # The triangle's counts by the help; and nothing of what it doesn't know.
+        whole, reduced = (explored("triangle", *words) for words in ([], ["--reduce"]))
+        for status, said, fault in (whole, reduced):
+            count = said.split(" states")[0].split(": ")[1]
+            self.note("the triangle, as the help says", (status, fault) == (0, "") and count in explored("--help")[1],
+                      said)
+        said = reduced[1].replace("so schedules, pulses apart and wires under way aren't", "")
+        self.note("nothing of what it doesn't know",
+                  not any(word in said for word in ("schedules,", "apart,", "under way\n")), said)
 
     def explored(self, name, *words):
         return explored(self.file(f"{name}.col", text_of(name)), "--limit", str(MOST), *words)
@@ -223,9 +260,9 @@ class Schedules(Case):
             self.same(f"the list of {name} without {without}",
                       [line.split(":")[0] for line in said.splitlines()[1:1 + len(lines)]], lines)
             self.same(f"{name} without {without}, puts apart", apart.split(": ")[0], first.split(": ")[0])
-            got = played(name, lines)
-            wanted = answer_of(net_of(name), numbered(text_of(name), lines))
-            self.same(f"forestplay on the list of {name} without {without}", got, wanted)
+            got = called(PLAY, "events", data=list_of(name, lines))
+            self.same(f"forestplay on the list of {name} without {without}", got,
+                      answer_to("events", list_of(name, lines)))
             wanted = f"forestplay: {fault} line ".encode() if fault else b""
             self.note(f"forestplay refuses it as it should, {name} without {without}",
                       got[2].startswith(wanted) and got[0] == (1 if fault else 0), got)
@@ -238,7 +275,7 @@ class Schedules(Case):
         self.note("what explore says of two, puts apart", wanted in apart, apart)
         for name in ("alone", "apart", "two", "path", "triangle"):
             listed, said = (self.explored(name, *more)[1] for more in (["--list"], []))
-            status, out, _ = played(name, listed.splitlines())
+            status, out, _ = called(PLAY, "events", data=list_of(name, listed.splitlines()))
             channels = [line.split()[-1] for line in out.decode().splitlines() if "channel" in line]
             plan = called(PLAN, "plain", data=text_of(name).encode())[1].decode().splitlines()[1:]
             self.note(f"a whole list of {name}", status == 0 and len(channels) == len(net_of(name).neighbours), out)

@@ -19,6 +19,7 @@ from lab.transcripts.check import whole_run
 from lab.transcripts.stamps import unfinished
 from tests import TOP
 from tests.cases import Case, called, example, forestlab
+from tests.programs.events import words_of
 from tests.programs.made_transcripts import entries_of
 from tests.settings import PLAY
 
@@ -132,7 +133,7 @@ def walk(net, events, source):
     while len(lines) < events and (possible := list(state.possible())):
         kind, v, port = source.choice(possible)
         what = state.step(kind, v, port)
-        lines.append(" ".join(str(word) for word in (kind.lower(), v, port) if word is not None))
+        lines.append(words_of((kind, v, port)))
         entry = f"{v} pulse {what}" if port is None else (
             f"{v} {kind.lower()} {state.neighbours[v][port]} {wire_words(what)}")
         entries[v].append(entry.split())
