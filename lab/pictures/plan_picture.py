@@ -6,8 +6,6 @@ from lab.words import counted
 from lab.wrong import Wrong
 
 LARGEST_NUMBERED = 100
-# The most barred channels of a vertex that its title names.
-MOST_SAID = 12
 
 
 class Planned(Vertex):
@@ -18,7 +16,8 @@ class Planned(Vertex):
     def __init__(self, network, v, channel):
         super().__init__(network, v)
         self.channel, self.words = channel, label_of(network, v)
-        self.title = f"vertex {self.words}: channel {channel}{said_of_bars(self.bars)}"
+        said = f", barred {', '.join(map(str, self.bars))}" if self.bars else ""
+        self.title = f"vertex {self.words}: channel {channel}{said}"
         if network.nodes > LARGEST_NUMBERED:
             self.words, self.bars = "", []
 
@@ -47,11 +46,3 @@ def said_of(network):
     return (f"{counted(network.nodes, 'transmitter')}, {counted(len(network.edges), 'pair')} that "
             f"{'interferes' if len(network.edges) == 1 else 'interfere'}, at most "
             f"{counted(network.greatest_degree, 'neighbour')}: on each line two different numbers")
-
-
-def said_of_bars(bars):
-    """The barred channels of a vertex in words, to come after its channel."""
-    if not bars:
-        return ""
-    more = f" and {len(bars) - MOST_SAID} more" if len(bars) > MOST_SAID else ""
-    return ", barred " + ", ".join(map(str, bars[:MOST_SAID])) + more

@@ -13,12 +13,15 @@ def draw(rounds, pulses=None):
     network, shown = rounds.network, columns_of(rounds, pulses)
     at_most("rounds", len(shown), "pulses in which something happens", MOST_COLUMNS, "fewer pulses (--pulses A..B)")
     words = [result for pulse in rounds.pulses for result in pulse.results.values()]
+    missing = "" if len(shown) > rounds.last else (
+        f"{rounds.last + 1 - len(shown)} of {rounds.last + 1} pulses aren't drawn: nothing is sent in them and nothing "
+        "found, or they aren't asked for.")
     column = max(88, max(text_width(result, SIZE) for result in words) + 22)
     svg = Svg(max(LEFT + len(shown) * column + 24, 760), TOP + network.nodes * ROW + 30,
               f"Rounds of {rounds.program.name} on {network.name}")
     svg.heading(f"{network.name}: {rounds.program.name}, pulse by pulse to pulse {rounds.last}",
                 "Left in a column is what the node has found after the pulse, where it is new; an arrow is a message, "
-                "read in the next pulse.", left_out(rounds, shown, bool(pulses)),
+                "read in the next pulse.", missing,
                 f"It isn't right at the end: {rounds.wrong}." if rounds.wrong else "")
     x_of = {pulse.number: LEFT + k * column for k, pulse in enumerate(shown)}
     for k, pulse in enumerate(shown):
@@ -56,15 +59,6 @@ def columns_of(rounds, pulses):
     first, last = pulses or (0, rounds.last)
     return [pulse for pulse in rounds.pulses[first:last + 1]
             if pulse.puts or any(is_new(rounds, pulse, v) for v in rounds.network.vertices)]
-
-
-def left_out(rounds, shown, is_part):
-    """What is said of the pulses that aren't drawn."""
-    missing = rounds.last + 1 - len(shown)
-    if not missing:
-        return ""
-    why = "others than those asked for, and those" if is_part else "those"
-    return f"{missing} of {rounds.last + 1} pulses aren't drawn: {why} in which nothing is sent and nothing found."
 
 
 def arrow(svg, x1, y1, x2, y2, title):

@@ -37,7 +37,7 @@ def draw(network, name, counts, pulses):
     (first, final), last, edges = pulses, len(counts["safe"]) - 1, len(network.edges)
     shown = range(first, final + 1)
     totals = {kind: sum(counts[kind]) for kind in ORDER}
-    bar = max(WIDEST / len(shown) if len(shown) > WIDEST / 4 else 4, min(26, WIDEST / len(shown)))
+    bar = min(26, WIDEST / len(shown))
     width = max(LEFT + bar * len(shown) + 30, 900)
     svg = Svg(width, TOP + HEIGHT + 76, f"Wires of {name}")
     svg.heading(
@@ -75,10 +75,8 @@ def draw_bars(svg, counts, pulses, bar, width):
         svg.line(LEFT, y, width - 20, y, "#E4E4E4", 1)
         svg.text(LEFT - 8, y + 4, mark, 10, SOFT, "end")
     every = next(size for size in (1, 2, 5, 10, 20, 50, 100, 200, 500, 1000, 10 ** 9) if bar * size > 17)
-    # Below three pixels a gap between bars would come and go with the screen's own pixels, and so would half a pixel's
-    # pale edge.
-    space = min(1, bar * 0.1) if bar >= 3 else 0
-    edges = None if space else "crispEdges"
+    # A gap between narrow bars would come and go with the screen's own pixels.
+    space = 1 if bar > 9 else 0
     for column, pulse in enumerate(pulses):
         y, x = TOP + HEIGHT, LEFT + column * bar
         for kind in ORDER:
@@ -86,6 +84,6 @@ def draw_bars(svg, counts, pulses, bar, width):
             if height:
                 y -= height
                 with svg.group(kind, f"pulse {pulse}: {kind} {counts[kind][pulse]}"):
-                    svg.rect(x + space, y, bar - 2 * space, height, WIRES[kind], shape_rendering=edges)
+                    svg.rect(x + space, y, bar - 2 * space, height, WIRES[kind], shape_rendering="crispEdges")
         if pulse % every == 0:
             svg.text(x + bar / 2, TOP + HEIGHT + 14, pulse, 9, SOFT, "middle")

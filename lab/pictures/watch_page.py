@@ -7,8 +7,9 @@ import json
 from collections import deque
 
 from lab.definitions.nodes import Colouring, NetState, make, wire_words
+from lab.definitions.rounds import FIRST_MERGE
 from lab.pictures.pages import net_of, page
-from lab.pictures.transcripts import ordered
+from lab.pictures.transcripts import ordered, window_of
 from lab.transcripts.reading import words
 from lab.wrong import Wrong
 
@@ -37,23 +38,17 @@ def look_of(state, v):
 
 def found(node):
     """Its channel once it has chosen one, or 0; of another program than the colouring the words for what it found."""
-    if not isinstance(node.program, Colouring):
-        return node.program.result()
-    return node.program.merged + 1 if has_chosen(node) else 0
+    program = node.program
+    if not isinstance(program, Colouring):
+        return program.result()
+    # Its turn in the first merge; if nothing is merged, it has a channel at the end.
+    turn = (FIRST_MERGE + program.colours[0] * (program.span + 1) + program.least_free(()) if program.forests
+            else node.last)
+    return program.merged + 1 if node.pulse_number >= turn else 0
 
 
 def payload_words(payload):
     return f"{payload[0].lower()} {payload[1]}"
-
-
-def has_chosen(node):
-    """Whether the node has chosen in the first merge: its turn there is over, or nothing is merged."""
-    program, p = node.program, node.pulse_number
-    if program.forests == 0:
-        return p == node.last
-    width = program.span + 1
-    first = program.least_free(())
-    return p >= 13 + program.colours[0] * width + first
 
 
 class Steps:
@@ -115,13 +110,11 @@ class Run:
         """Which entries are shown: from where a first node begins the first pulse to where the last one ends the
         last."""
         reached = [max(during) for during in self.at_pulse.values()]
-        if pulses and pulses[1] > min(self.last, *reached):
-            raise Wrong(f"{self.name}: pulses {pulses[0]} to {pulses[1]} are not among 0 to {min(self.last, *reached)}")
+        if pulses:
+            window_of(self.name, min(self.last, *reached), pulses)
         self.is_too_long = not pulses and len(every) > MOST_ENTRIES
         if self.is_too_long:
-            pulses = 0, min(reached) - 1
-            if min(reached) == 0:
-                raise Wrong(f"{self.name}: not one pulse fits into {MOST_ENTRIES:,} entries")
+            pulses = 0, max(0, min(reached) - 1)
         self.pulses = pulses or (0, min(self.last, max(reached)))
         self.is_cut = pulses is not None and pulses != (0, self.last)
         shown = [at for at, (_, during, _) in enumerate(every) if self.pulses[0] <= during <= self.pulses[1]]

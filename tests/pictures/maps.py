@@ -27,10 +27,8 @@ def circles(mark, net_colours):
 
 
 def words_of_bars(net, v):
-    """What comes after a vertex's channel: up to twelve of the barred ones."""
-    bars = [str(c + 1) for c in sorted(net.barred[v])]
-    more = f" and {len(bars) - 12} more" if len(bars) > 12 else ""
-    return f", barred {', '.join(bars[:12])}{more}" if bars else ""
+    """What comes after a vertex's channel: the barred ones."""
+    return f", barred {', '.join(str(c + 1) for c in sorted(net.barred[v]))}" if net.barred[v] else ""
 
 
 def bars_of(net):

@@ -12,7 +12,6 @@ from lab.networks.network_text import network_of
 from tests import FORESTLAB, TOP
 from tests.cases import called, contents, example, examples, text_in
 from tests.pictures.base import APART, FORM, SEED, PictureCase, painter, transcript
-from tests.pictures.marks import gap
 from tests.programs.made_transcripts import made_transcript, merged_text, transcript_text
 from tests.settings import PLAN, PLAY
 
@@ -67,10 +66,8 @@ REFUSED = [
     ("plan nowhere.col", b"", 1, "nowhere.col"), ("plan {wrong}", b"", 1, "(F6)"), ("plan {empty}", b"", 1, "(F1)"),
     ("plan {none}", b"", 1, "no node"), ("results {none}", b"", 1, "no node"),
     ("results path --program nothing", b"", 1, "no program nothing"),
-    ("results ring401", b"", 1, "at most 400 nodes"), ("plan ring401", b"", 1, "use matrix"),
-    ("matrix ring2001", b"", 1, "check"), ("forests ring401", b"", 1, "use matrix"),
-    ("rounds ring101", b"", 1, "use forests"), ("player ring41", b"", 1, "use rounds"),
-    ("watch ring41", b"", 1, "watch draws at most 40 nodes"), ("schedules path5", b"", 1, "at most 4 nodes"),
+    ("results ring401", b"", 1, "at most 400 nodes"), ("matrix ring2001", b"", 1, "check"),
+    ("forests ring401", b"", 1, "use matrix"), ("watch ring41", b"", 1, "watch draws at most 40 nodes"),
     ("run ring13 --transcript {short13}", b"", 1, "use overview"),
     ("overview ring101 --transcript {short101}", b"", 1, "use tally"), ("adversary path5", b"", 1, "4 nodes"),
     ("schedules complete4", b"", 1, "at most 200,000 states"), ("schedules two --columns 0..105", b"", 1, "0 to 104"),
@@ -176,11 +173,6 @@ class Pictures(PictureCase):
     def test_examples(self):
         """What the examples say of their places, and that each says what it shows."""
         for name, network in examples().items():
-            places = {int(v): (float(x), float(y)) for v, x, y in re.findall(rb"c at (\d+) (\S+) (\S+)", network)}
-            self.note(f"{name} has a place for each vertex", sorted(places) == sorted(network_of(network).neighbours))
+            placed = {int(v) for v in re.findall(rb"c at (\d+) \S+ \S+", network)}
+            self.note(f"{name} has a place for each vertex", placed == {*network_of(network).vertices})
             self.note(f"{name} says what it shows", re.match(rb"c [A-Z][^\n]{20,}", network))
-            if name == "disk100":
-                joined = {frozenset((v, w)) for v in places for w in places if v < w
-                          and gap(places[v], places[w]) < 170}
-                self.note("disk100: two are less than 170 apart just if they interfere",
-                          joined == set(map(frozenset, network_of(network).edges)))
