@@ -54,9 +54,8 @@ def play_words(network, space):
 def transcript_words(network, space):
     """How the list becomes the transcript of its run."""
     name, program = network.name, option(space.program)
-    judge = f"forestlab transcript check {name}.col list.transcript{program}" if is_own(space.program) else (
-        f"(cat {name}.col; cat list.transcript) | forestplay replay{program}")
     words = (f"Store the list as list.events, and type forestlab simulate {name}.col --events list.events{program} > "
-             f"list.transcript. Once all have halted (or with --to-the-end, which plays the rest) "
-             f"{judge} accepts it. forestlab picture run and watch draw it, halted or not.")
+             "list.transcript. Once all have halted (or with --to-the-end, which plays the rest) forestlab transcript "
+             f"check {name}.col list.transcript{program} accepts it. forestlab picture run and watch draw it, halted "
+             "or not.")
     return words + " An event that can happen here alone is refused there, with its line." * bool(space.without)

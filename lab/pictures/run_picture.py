@@ -144,31 +144,19 @@ def legend(svg, kinds):
 
 
 def draw_bands(svg, window):
-    """A band for each pulse, from tick p of every node to its tick p + 1."""
-    pulses, thin = range(window.first, window.last + 1), min(1.2, 0.2 * window.column)
-    for pulse in pulses:
+    """A band for each pulse, from tick p of every node to its tick p + 1, and its number above, where there is room."""
+    thin, y, free = min(1.2, 0.2 * window.column), window.top - window.over - 6, 0
+    svg.text(20, y, "pulse", 11.5, PULSE, bold=True)
+    for pulse in range(window.first, window.last + 1):
         left, right = window.border(pulse), window.border(pulse + 1)
         svg.path(polygon(left + right[::-1]) + ["Z"], None, None, BAND if (pulse - window.first) % 2 == 0 else PAPER,
                  mark="band")
         svg.path(polygon(left), BORDER, thin)
-    svg.path(polygon(right), BORDER, thin)
-    name_pulses(svg, {pulse: max(window.border(pulse)[0][0] + 5, window.left) for pulse in pulses},
-                window.top - window.over - 6)
-
-
-def name_pulses(svg, places, y):
-    """A name over each band, or a number alone where names have no room; a band that is narrower than that has none."""
-    starts = sorted(places.values())
-    least = min((b - a for a, b in zip(starts, starts[1:])), default=1e9)
-    has_room = least > text_width(f"pulse {max(places)}", 11.5) * BOLD
-    if not has_room:
-        svg.text(20, y, "pulse", 11.5, PULSE, bold=True)
-    free = 0
-    for pulse, x in sorted(places.items()):
-        words = f"pulse {pulse}" if has_room else pulse
+        x = max(left[0][0] + 5, window.left)
         if x >= free:
-            svg.text(x, y, words, 11.5, PULSE, bold=True, mark="name")
-            free = x + text_width(words, 11.5) * BOLD + 3
+            svg.text(x, y, pulse, 11.5, PULSE, bold=True, mark="name")
+            free = x + text_width(pulse, 11.5) * BOLD + 3
+    svg.path(polygon(right), BORDER, thin)
 
 
 def polygon(points):
