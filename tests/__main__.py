@@ -26,8 +26,7 @@ from tests import TOP
 from tests.settings import PATHS, SETTINGS, built, variable
 
 # The modules that take longest, which begin first.
-LONGEST = ("programs.hostile", "programs.transcripts", "programs.schedules", "programs.plans",
-           "programs.plain_networks")
+LONGEST = ("programs.hostile", "programs.plain_networks", "programs.transcripts", "programs.schedules")
 
 
 def options():

@@ -134,13 +134,12 @@ def spoiled(source, kind, data):
 
 class Run:
     """The run of one worker thread, by the definition of looks and turns: it is the same each time, and the number of
-    looks that it needs shows whether capacity and turns reached the run. It has made a number of looks, or as many as
-    it takes."""
+    looks that it needs shows whether capacity and turns reached the run."""
 
-    def __init__(self, net, capacity, looks=None):
+    def __init__(self, net, capacity):
         self.player, self.nodes, self.looks = Player(net), net.nodes, 0
         state, pool = self.player.state, deque(net.vertices)
-        while pool and self.looks != looks:
+        while pool:
             self.looks, v = self.looks + 1, pool.popleft()
             for event in turn(None, state, v, capacity):
                 self.player.make(*event)

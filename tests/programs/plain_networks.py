@@ -1,5 +1,5 @@
-"""`plain` on 800 networks, beside the definition of the colours; and that definition step by step, by hand
-(black_box.py has whole plans).
+"""`plain` on 800 networks, and `plan` on those without identifiers of their own, beside the definition of the colours;
+and that definition step by step, by hand (black_box.py has whole plans).
 
 The networks are the same in every run. A difference is printed with the network's number in its family and its text. In
 300 of them lines give identifiers of up to 128 binary digits; in the others vertex V has the identifier V. In 200 lines
@@ -156,6 +156,11 @@ FAMILIES = [
     ("names and bars on up to 12 nodes", random_of(80, 1, 12), long_names, some_bars),
     ("names and bars on 20 to 40 nodes", random_of(20, 20, 40), long_names, some_bars),
 ]
+PAIRS = list(itertools.product((1, 2, 4, 64), repeat=2))
+# Families whose runs on threads take seconds, and how many of their networks are run so: in the first, each pair once;
+# of those that climb, with each number of parents twice, and the first.
+LONG = {"random on 20 to 40 nodes": len(PAIRS), "bars on 20 to 40 nodes": len(PAIRS) // 2, "climbing on 1,000 nodes": 6,
+        "climbing on 20,000 nodes": 1}
 
 
 def texts_of(family):
@@ -186,11 +191,17 @@ class PlainNetworks(Case):
             self.same(f"the definition: {name}", got, wanted)
 
     def test_families(self):
+        """The pairs of workers and capacity come by turns over all families."""
+        pairs = itertools.cycle(PAIRS)
         for family in FAMILIES:
             different, count = [], 0
             for count, network in enumerate(texts_of(family), 1):
-                done = called(PLAN, "plain", data=network)
-                if done != (0, plan_text(network_of(network)), b""):
-                    different.append((count, network, done))
-            self.note(f"plain by the definition, {count} networks, {family[0]}", count > 0 and not different,
+                calls = [["plain"]]
+                if family[2] is nothing and count <= LONG.get(family[0], count):
+                    workers, capacity = next(pairs)
+                    calls.append(["plan", "--workers", workers, "--capacity", capacity])
+                wanted = 0, plan_text(network_of(network)), b""
+                different += [(count, words, network) for words in calls
+                              if called(PLAN, *words, data=network) != wanted]
+            self.note(f"plain and plan by the definition, {count} networks, {family[0]}", count > 0 and not different,
                       f"{len(different)} differ, the first is {different[:1]}")
