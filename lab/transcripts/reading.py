@@ -72,8 +72,8 @@ def read_to_fault(text, program=COLOURING, stop=None):
     """The first line, the entries before the first line that isn't one, and that line's fault, or None. With `stop`, of
     each node only what it did before it begins that pulse."""
     lines, entries, stopped = text.split(b"\n"), [], set()
-    head = head_of(lines)
-    program = checked_program(head, program)
+    head = head_of(lines, program)
+    program = program or head.program or COLOURING
     for line, raw in enumerate(lines[head.line:], head.line + 1):
         if stopped and stopped.issuperset(raw.split(b" ", head.is_stamped + 1)[head.is_stamped:head.is_stamped + 1]):
             continue
@@ -90,25 +90,19 @@ def read_to_fault(text, program=COLOURING, stop=None):
     return head, entries, None
 
 
-def checked_program(head, program):
-    """The program whose payloads the entries have: the one that is asked for, unless the first line names another."""
-    if program is None:
-        return head.program or COLOURING
-    if head.program not in (None, name_in_texts(program)):
-        raise Wrong(head.line, "WrongProgram",
-                    f"a transcript of {head.program}, not of {program}: --program {head.program}")
-    return program
-
-
-def head_of(lines):
-    """The first line that has a field."""
+def head_of(lines, program):
+    """The first line that has a field; that it names another program than the one asked for is its first fault."""
     line, fields = next(((at, found) for at, found in enumerate(map(fields_of, lines), 1) if found), (1, [b""]))
+    named = fields[2].decode("latin-1") if fields[:2] == [b"transcript", b"3"] and fields[2:] else ""
+    is_name = name_in_texts(named) == named and not named.isdecimal() and named != ""
+    if is_name and program is not None and named != name_in_texts(program):
+        raise Wrong(line, "WrongProgram", f"a transcript of {named}, not of {program}: --program {named}")
     with contextlib.suppress(NoEntry):
         match fields:
             case [b"transcript", b"1" | b"2" as edition, nodes]:
                 return Head(line, int(edition), number(nodes, "node"))
-            case [b"transcript", b"3", name, nodes] if name_in_texts(name.decode("latin-1")).encode() == name:
-                return Head(line, 3, number(nodes, "node"), name.decode())
+            case [b"transcript", b"3", _, nodes] if is_name:
+                return Head(line, 3, number(nodes, "node"), named)
     what = "; this is a network: it is a file of its own, named before the transcript" if fields[0] in NETWORK else (
         "; save it as UTF-8 without a byte order mark" if not fields[0].isascii() or b"\0" in fields[0] else "")
     raise Wrong(line, "X1", f"neither `transcript 1 N`, `transcript 2 N` nor `transcript 3 NAME N`{what}")
