@@ -11,6 +11,7 @@ import re
 from lab.definitions.colours import bit, colours, first_colours, merge, plan_text, three
 from lab.definitions.rounds import rounds_text
 from lab.network import Network
+from lab.networks.kinds import KINDS
 from lab.networks.network_text import network_of
 from tests.cases import Case, called
 from tests.settings import PLAN
@@ -92,42 +93,17 @@ def random_of(count, least, greatest):
 
 
 def shapes(source):
-    """Paths, cycles, trees, stars, two-sided and complete graphs on names in any order, among vertices without an
-    edge."""
-    for shape, most in [(path, 40), (cycle, 40), (tree, 40), (star, 40), (two_sided, 40), (complete, 16)] * 8:
+    """Kinds of networks, on names in any order, among vertices without an edge."""
+    for kind, most in [("path", 40), ("ring", 40), ("tree", 40), ("star", 40), ("complete", 16)] * 10:
         nodes = source.randint(13, 40)
-        yield nodes, shaped(source, shape, nodes, source.randint(3, min(nodes, most)))
+        yield nodes, shaped(source, kind, nodes, source.randint(3, min(nodes, most)))
 
 
-def shaped(source, shape, nodes, count):
-    """The edges of a shape on so many of the vertices, in any order."""
+def shaped(source, kind, nodes, count):
+    """The edges of a kind of networks on so many of the vertices, in any order."""
+    seed = [source.random()] if KINDS[kind].is_by_chance else []
     names = source.sample(range(1, nodes + 1), count)
-    return {(min(pair), max(pair)) for pair in shape(source, names)}
-
-
-def path(_, names):
-    return zip(names, names[1:])
-
-
-def cycle(_, names):
-    return zip(names, names[1:] + names[:1])
-
-
-def tree(source, names):
-    return [(names[i], source.choice(names[:i])) for i in range(1, len(names))]
-
-
-def star(_, names):
-    return [(names[0], name) for name in names[1:]]
-
-
-def two_sided(source, names):
-    split = source.randint(1, len(names) - 1)
-    return itertools.product(names[:split], names[split:])
-
-
-def complete(_, names):
-    return itertools.combinations(names, 2)
+    return {(names[v - 1], names[w - 1]) for v, w in KINDS[kind].make(count, *seed).edges}
 
 
 def climbing(count, nodes):

@@ -21,8 +21,7 @@ from tests import FORESTLAB
 from tests.cases import Case, called, forestlab, text, text_in, wait_until
 from tests.programs.made_transcripts import KINDS, Run, merged_text, spoiled, transcript_text
 from tests.programs.node_programs import SEQUELS
-from tests.programs.plain_networks import (all_small, cycle, path, random_of, shaped, some_bars, star, text_of, tree,
-                                           two_sided)
+from tests.programs.plain_networks import all_small, random_of, shaped, some_bars, text_of
 from tests.settings import PLAN, PLAY, setting
 
 LIMIT = 60
@@ -175,9 +174,9 @@ def networks_of_runs(source):
     """Networks of 2 to 40 nodes, those with many edges small, so that a run has at most some 100,000 entries."""
     while True:
         yield from random_of(1, 2, 9)(source)
-        for shape in path, cycle, tree, star, two_sided:
-            nodes = source.randint(3, 12 if shape is two_sided else 40)
-            pairs = shaped(source, shape, nodes, nodes)
+        for kind in "path", "ring", "tree", "star", "complete":
+            nodes = source.randint(3, 12 if kind == "complete" else 40)
+            pairs = shaped(source, kind, nodes, nodes)
             if len(pairs) < 60:
                 yield nodes, pairs
 
@@ -196,9 +195,9 @@ def networks():
     random ones on up to 6 nodes with barred channels."""
     source = random.Random(SEED)
     pairs = list(all_small(source)) + list(random_of(60, 0, 6)(source))
-    for shape in [path, cycle, tree, star, two_sided] * 8:
+    for kind in ["path", "ring", "tree", "star", "complete"] * 8:
         nodes = source.randint(3, 12)
-        pairs.append((nodes, shaped(source, shape, nodes, source.randint(3, min(nodes, 8)))))
+        pairs.append((nodes, shaped(source, kind, nodes, source.randint(3, min(nodes, 8)))))
     texts = [text_of(source, nodes, edges) for nodes, edges in pairs]
     texts += [text_of(source, nodes, edges, bars=some_bars(source, nodes, 3))
               for nodes, edges in random_of(24, 1, 6)(source)]
