@@ -17,7 +17,7 @@ import time
 
 from build import kit
 from build.crate_lists import TOP, copy, listed, with_below
-from lab.progress import exactly
+from lab.words import duration
 
 # What `rt ci` isn't given of a crate: what was built of it, and edits.
 LEFT_OUT = ("out", "must-fail", "wrong-bodies")
@@ -75,7 +75,7 @@ def tell(name, what):
 
 
 def since(start):
-    return exactly(time.monotonic() - start)
+    return duration(time.monotonic() - start)
 
 
 def tell_failure(name, status, said, log):

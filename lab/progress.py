@@ -7,8 +7,9 @@ import sys
 import time
 from itertools import chain, count
 
-from lab.networks.costs import Run, processor_seconds
+from lab.networks.describe import Run, processor_seconds
 from lab.networks.network_text import network_of
+from lab.words import duration
 from lab.wrong import Wrong
 
 # Seconds after which a line is written, and then every half hour.
@@ -25,11 +26,6 @@ def fields_of(process: int) -> list[str] | None:
     return None if fields[0] in ("Z", "X") else fields
 
 
-def exactly(seconds: float) -> str:
-    minutes, seconds = divmod(int(seconds), 60)
-    return f"{minutes} min {seconds} s" if minutes else f"{seconds} s"
-
-
 def about(process: int, command: str) -> str:
     """About how much processor time a run takes, if its input is a file that can be read once more; or nothing."""
     try:
@@ -37,7 +33,7 @@ def about(process: int, command: str) -> str:
             if not stat.S_ISREG(os.fstat(file.fileno()).st_mode):
                 return ""
             run = Run(network_of(file.read()))
-        return f", of about {exactly(processor_seconds(run, command))} for {run.wires:,} wires"
+        return f", of about {duration(processor_seconds(run, command))} for {run.wires:,} wires"
     except (OSError, Wrong, MemoryError):
         return ""
 
@@ -53,7 +49,7 @@ def main(words: list[str]) -> int:
         fields = fields_of(process)
         if fields is None:
             return 0
-        took = exactly(time.monotonic() - start)
-        used = exactly((int(fields[11]) + int(fields[12])) / os.sysconf("SC_CLK_TCK"))
+        took = duration(time.monotonic() - start)
+        used = duration((int(fields[11]) + int(fields[12])) / os.sysconf("SC_CLK_TCK"))
         print(f"{name}: {took}, {used} of processor time{reckons}", file=sys.stderr, flush=True)
     return 0

@@ -39,6 +39,11 @@ def counted(count: int, one: str, more: str | None = None) -> str:
     return f"{count:,} {one if count == 1 else more or f'{one}s'}"
 
 
+def duration(seconds: float) -> str:
+    minutes, seconds = divmod(int(seconds), 60)
+    return f"{minutes} min {seconds} s" if minutes else f"{seconds} s"
+
+
 def parser_of(name: str, words: str, what: str, more: str | None, door: str = "forestlab") -> argparse.ArgumentParser:
     """The parser of `forestlab NAME WORDS`, whose help begins with `what` and ends with `more`, as they stand."""
     return Parser(prog=f"{door} {name}", usage=f"{door} {name} {words}", description=what, epilog=more,

@@ -1,6 +1,96 @@
-"""`forestlab network tell`: what a network is, and what a run on it comes to."""
-from lab.networks.costs import Run, times
-from lab.words import counted
+"""`forestlab network tell`: what a network is, and what a run on it comes to, its payloads and wires, and about how
+long the commands take."""
+import subprocess
+import tempfile
+import time
+
+from lab.networks.texts import plain_text
+from lab.programs import built, called, program_file
+from lab.words import counted, duration
+from lab.wrong import Wrong
+
+# The most nodes times pulses for which the rounds are worked out here, in about a second.
+MOST_AT_ONCE = 300_000
+# The last pulse before the merges.
+LAST_COLOUR = 12
+# The most wires of a run for which nobody waits, and for how many a processor takes a second (docs/MEASUREMENTS.md).
+AN_INSTANT = 100_000
+WIRES_A_SECOND = {"plan": 1_500_000, "transcript": 1_000_000}
+
+
+class Run:
+    """What every whole run of a network comes to; `payloads` counts them, `how` says who counted, and `is_bound` that
+    it is the most that there can be. If they may be many, they are counted only if that `is_counted`."""
+
+    def __init__(self, network, is_counted=False):
+        self.network, self.forests, self.is_bound = network, network.forest_count, False
+        self.last = LAST_COLOUR + 3 * self.forests * network.channels
+        rounds = rounds_here(network) if network.nodes * self.last <= MOST_AT_ONCE else None
+        if rounds:
+            self.payloads = sum(len(pulse.puts) for pulse in rounds.pulses)
+            self.how = "counted by the definition of the rounds"
+        elif is_counted:
+            self.payloads, self.how = payloads_by_program(network), "counted by `forestplay rounds`"
+        else:
+            self.payloads, self.how, self.is_bound = most_payloads(network), "--payloads counts them", True
+        self.wires = 2 * self.payloads + 2 * len(network.edges) * (self.last + 1)
+        # Of a transcript; a line has two vertices, a pulse, and words of 13 letters.
+        self.lines = 2 * self.wires + network.nodes * self.last + 1
+        self.letters = 2 * digits(network.nodes) + digits(self.last) + 13
+
+
+def digits(most):
+    """How many digits the numbers from 0 to the greatest have on average."""
+    return 1 + sum(1 - 10 ** length / (most + 1) for length in range(1, len(str(most))))
+
+
+def rounds_here(network):
+    """The rounds by their definition; None in the folder of a class, which doesn't have it."""
+    try:
+        from lab.definitions.rounds import Rounds
+    except ImportError:
+        return None
+    return Rounds(network)
+
+
+def payloads_by_program(network):
+    """The payloads of the rounds, counted line by line: the whole text may have a gigabyte."""
+    with tempfile.TemporaryFile() as file:
+        file.write(plain_text(network).encode())
+        file.seek(0)
+        with subprocess.Popen([program_file("forestplay"), "rounds"], stdin=file, stdout=subprocess.PIPE) as started:
+            found = sum(b" put " in line for line in started.stdout)
+    see_ended(started, "forestplay rounds")
+    return found
+
+
+def see_ended(process, name):
+    if process.returncode:
+        raise Wrong(f"{name} ended with status {process.returncode}; is there too little memory?")
+
+
+def most_payloads(network):
+    """A greeting both ways, a label and ten colours of each edge; and in each merge both ends of each edge choose."""
+    forests = network.forest_count
+    merged = sum(forests - f for parents in network.higher.values() for f in range(len(parents)))
+    return 13 * len(network.edges) + 2 * merged
+
+
+def processor_seconds(run, command):
+    """About how much processor time `plan` or `transcript` takes, by its wires alone."""
+    return run.wires / WIRES_A_SECOND[command]
+
+
+def times(run):
+    """How long `plain` takes, which is run, and about how much processor time `plan` and `transcript`."""
+    if run.wires <= AN_INSTANT:
+        return "less than a second"
+    longer = ", ".join(f"{command} about {duration(processor_seconds(run, command))}" for command in WIRES_A_SECOND)
+    if built("forestplan"):
+        start = time.monotonic()
+        see_ended(called("forestplan", ["plain"], plain_text(run.network).encode()), "forestplan plain")
+        longer = f"plain {duration(time.monotonic() - start)}, the same plan; {longer}"
+    return f"{longer}, of all processors together"
 
 
 def size(count):

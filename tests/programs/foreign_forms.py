@@ -282,7 +282,7 @@ class ForeignForms(Case):
             got = call("tell", "-", data=data)
             self.note(f"tell of {data[:60]}", got[0] == status and said in got[2], got)
         network = call("random", "3000", "9000")[1]
-        with mock.patch("lab.networks.costs.program_file", lambda name: "false"):
+        with mock.patch("lab.networks.describe.program_file", lambda name: "false"):
             got = call("tell", "-", "--payloads", data=network)
         said = b"network: forestplay rounds ended with status 1; is there too little memory?\n"
         self.note("a program that fails", got == (1, b"", said), got)

@@ -8,7 +8,7 @@ import re
 
 from lab.definitions.nodes import last_pulse
 from lab.networks import network
-from lab.networks.costs import most_payloads
+from lab.networks.describe import most_payloads
 from lab.networks.network_text import network_of
 from lab.networks.reading import read_any
 from lab.wrong import Wrong
@@ -369,8 +369,8 @@ class OwnNetworks(Case):
         bound, _ = self.told_of(data)
         told, _ = self.told_of(data, "--payloads")
         payloads = len(re.findall(rb"^\d+ put ", called(PLAY, "rounds", data=data)[1], re.M))
-        took = r"(less than a second|about \d+ (second|minute|hour)s?)"
-        shape = rf"plain {took}, the same plan; plan {took}, transcript {took}, of all processors together"
+        took = r"(\d+ min )?\d+ s"
+        shape = rf"plain {took}, the same plan; plan about {took}, transcript about {took}, of all processors together"
         self.note("the time of a large network", re.fullmatch(shape, told["time"]), told)
         most = bound["payloads"].removeprefix("at most ").partition(";")
         good = bound["payloads"].startswith("at most ") and most[2] == " --payloads counts them"
