@@ -82,10 +82,8 @@ A line has a node's name and its channel; a node without a name has its number.
 With --channels the channels are real numbers: see `forestlab channels --help`.""",
               "forestplan plain < sites.col | forestlab network names sites.col --channels '1 6 11'"),
 }
-# How many words FILE may be, where it isn't one; and what it may be besides.
+# How many words FILE may be, where it isn't one.
 FILES = {"read": "?", "tell": "+"}
-FURTHER = {"read": "", "number": ", or a name, as path5", "tell": ", or a name, as path5; or a code, as C8",
-           "names": ", or a name, as path5"}
 
 
 def kilometres(word):
@@ -132,8 +130,8 @@ def command_line():
         for size in KINDS[name].sizes if name in KINDS else ():
             command.add_argument(size, type=int, metavar=size.upper(), help=f"how many {size}")
         if name in COMMANDS:
-            command.add_argument("file", metavar="FILE", nargs=FILES.get(name), help="a file, or - for standard input"
-                                 + FURTHER[name])
+            command.add_argument("file", metavar="FILE", nargs=FILES.get(name),
+                                 help="a file, - for standard input, or a name, as path5")
         if name == "number" or name in KINDS and KINDS[name].is_by_chance:
             add_seed(command, "the same one chooses the same again")
         add_options(command, name, OPTIONS)

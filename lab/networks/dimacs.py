@@ -1,24 +1,26 @@
 """DIMACS with mistakes that can be mended, and its relatives: what `forestlab network read` takes for a network that
 the programs wouldn't read."""
+import math
 import re
 
 from lab.networks.edge_list import Listed, clean
 from lab.networks.fields import Unread, is_number, value_of
-from lab.networks.network_text import (
-    IDENTIFIERS, MAX_BARS, MAX_CHANNEL, MAX_NODES, SKIPPED, Reading, fields_of, shown, whole)
+from lab.networks.network_text import MAX_NODES, SKIPPED, Reading, fields_of, shown, whole
 from lab.wrong import Wrong, wrong_line
 
 EDGE = re.compile(r"^[ \t]*(p[ \t]+[a-z]+[ \t]+[0-9]+|p[ \t]+[0-9]+[ \t]+[0-9]+|e[ \t]+[0-9]+[ \t]+[0-9]+)\b", re.M)
 
-# The words after `p` that the programs read, those of texts that are networks, too, and those of others.
+# The words after `p` of texts that are networks, too, and those that the programs read.
 ALIKE = (None, "sp", "tw", "max", "min", "ds", "vc", "cep", "mat", "graph")
-WORDS, OTHERS = ("edge", "edges", "col"), ("cnf", "wcnf", "sat", "td", "htd", "fhtd")
+WORDS = ("edge", "edges", "col")
 
 
 def read(text: str, name: str) -> Listed:
     """Edges are lines `e V W` or `a V W WEIGHT`, or `V W` after `p tw`. Without a `p` line the greatest number counts.
     A line `i V NUMBER` gives V an identifier, and `b V CHANNEL` bars a channel at V."""
-    found, comments = Listed("DIMACS"), Reading()
+    found, read = Listed("DIMACS"), Reading(name)
+    # How many vertices there are, and whether from 0 or 1 on, is seen at the end.
+    read.nodes, read.least = math.inf, 0
     # The word after `p` and the numbers of nodes and of edges, if there is a `p` line.
     head, passed, weights = (None, None, None), 0, 0
     for line, raw in enumerate(text.split("\n"), 1):
@@ -29,12 +31,9 @@ def read(text: str, name: str) -> Listed:
             if head[1] is not None:
                 raise wrong_line(name, line, "a second `p` line")
             head = read_head(found, name, line, fields)
-        elif fields[0].startswith("c"):
-            comments.comment(raw, fields)
-        elif fields[0] == "i":
-            read_identifier(found, name, line, fields)
-        elif fields[0] == "b":
-            read_bar(found, name, line, fields)
+        elif fields[0].startswith(("c", "i", "b")):
+            read.line = line - 1
+            read.read(raw)
         else:
             is_bare = fields[0] not in ("e", "a")
             ends, more = fields[not is_bare:][:2], fields[not is_bare:][2:]
@@ -49,7 +48,9 @@ def read(text: str, name: str) -> Listed:
                 if value_of(more[0]) == 0:
                     raise wrong_line(name, line, "an edge of weight 0: is it one? Leave out those that are none")
             found.edges.append((line, *(str(whole(end)) for end in ends)))
-    see_nodes(found, name, head[1], comments)
+    found.identifiers = {str(v): number for v, number in read.identifiers.items()}
+    found.bars = {str(v): channels for v, channels in read.bars.items()}
+    see_nodes(found, name, head[1], read)
     if passed:
         found.left_out.append(f"lines `n`, `d`, `v` and `x` not read: {passed}")
     if weights:
@@ -66,15 +67,15 @@ def read_head(found, name, line, fields):
     numbers = list(map(whole, fields[1 + (word is not None):]))
     if len(numbers) != 2 or None in numbers:
         raise wrong_line(name, line, f"no number of nodes and of edges: `{shown(' '.join(fields))}`")
-    if (word or "").lower() in OTHERS:
-        raise wrong_line(name, line, f"`p {word}` begins a text of another kind than a network")
+    if word not in WORDS + ALIKE:
+        raise wrong_line(name, line, f"`p {shown(word)}` may begin another kind of text than a network; if it is one, "
+                                     "write `p edge`")
     if word not in WORDS:
-        said = found.notes if word in ALIKE else found.left_out
-        said.append(f"`{shown(' '.join(fields[:2]))}` is read like `p edge`")
+        found.notes.append(f"`{shown(' '.join(fields[:2]))}` is read like `p edge`")
     return word, *numbers
 
 
-def see_nodes(found, name, nodes, comments):
+def see_nodes(found, name, nodes, read):
     """All nodes from 1 on, or from 0 if an edge has it and none has the greatest number; and what comments say of
     them."""
     used = {int(end): line for line, *ends in reversed(found.edges) for end in ends}
@@ -92,27 +93,8 @@ def see_nodes(found, name, nodes, comments):
             raise Wrong(f"{name}: {nodes} nodes, and a network has at most {MAX_NODES}")
         known = range(least, least + nodes)
         found.alone = [(1, str(v)) for v in known]
-    for said, kept in ((comments.names, found.names), (comments.places, found.places)):
+    for said, kept in ((read.names, found.names), (read.places, found.places)):
         # Comments may count from 1 where edges count from 0.
         less = 1 if least == 0 and 0 not in said else 0
         kept |= {str(v - less): what for v, what in said.items() if v - less in known}
     found.names = {node: clean(own) for node, own in found.names.items()}
-
-
-def read_identifier(found, name, line, fields):
-    v, number = map(whole, (fields[1:3] + ["", ""])[:2])
-    if v is None or number is None or number >= IDENTIFIERS:
-        raise wrong_line(name, line, f"no vertex with an identifier below 2^128: `{shown(' '.join(fields))}`")
-    if str(v) in found.identifiers:
-        raise wrong_line(name, line, f"a second identifier of vertex {v}")
-    found.identifiers[str(v)] = number
-
-
-def read_bar(found, name, line, fields):
-    v, channel = map(whole, (fields[1:3] + ["", ""])[:2])
-    if v is None or channel is None or not 1 <= channel <= MAX_CHANNEL:
-        raise wrong_line(name, line, f"no vertex with a channel of 1 to {MAX_CHANNEL}: `{shown(' '.join(fields))}`")
-    bars = found.bars.setdefault(str(v), set())
-    bars.add(channel)
-    if len(bars) > MAX_BARS:
-        raise wrong_line(name, line, f"more than {MAX_BARS} channels are barred at vertex {v}")

@@ -2,6 +2,8 @@
 import re
 from functools import lru_cache
 
+from lab.words import one_line
+
 # More digits than any number has that a text of ours may hold.
 MOST_DIGITS = 40
 
@@ -22,20 +24,7 @@ def whole(field):
 
 def shown(field):
     """A field as it may be printed in one line."""
-    short = field if len(field) <= 40 else field[:37] + ".."
-    return "".join(letter if letter.isprintable() else letter.encode("unicode_escape").decode() for letter in short)
-
-
-def why_no_number(fields, names):
-    """What is wrong with the first of these fields that is missing or no number."""
-    for at, name in enumerate(names):
-        if at >= len(fields):
-            return f"{name} is missing"
-        if whole(fields[at]) is None:
-            if "\r" in fields[at]:
-                return "a carriage return is inside the line, and only a line feed ends one"
-            return f"`{shown(fields[at])}` is no number"
-    return None
+    return one_line(field if len(field) <= 40 else field[:37] + "..")
 
 
 class Unread(str):

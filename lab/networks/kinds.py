@@ -3,12 +3,12 @@ what is chosen at random comes from `random()` of a seed alone, whose numbers Py
 import inspect
 import random
 from collections.abc import Callable
-from itertools import combinations
+from itertools import combinations, islice
 from math import cos, pi, sin
 from typing import NamedTuple
 
 from lab.network import Network
-from lab.networks.network_text import MAX_DEGREE, MAX_EDGES, MAX_NODES
+from lab.networks.network_text import MAX_EDGES, MAX_NODES, checked
 from lab.networks.places import near
 from lab.networks.random_networks import alike_edges, below
 from lab.wrong import Wrong
@@ -27,20 +27,9 @@ def check(nodes, least=1, **sizes):
         raise Wrong(f"that would be {nodes} nodes, and a network has at most {MAX_NODES}")
 
 
-def checked(nodes, edges, places=None):
-    """The network of these edges, if neither they nor a node's neighbours are more than it may have."""
-    found, degrees = set(), [0] * (nodes + 1)
-    for v, w in edges:
-        found.add((v, w))
-        degrees[v] += 1
-        degrees[w] += 1
-        if len(found) > MAX_EDGES:
-            raise Wrong(f"that would be more than {MAX_EDGES} edges, the most that a network has")
-        if max(degrees[v], degrees[w]) > MAX_DEGREE:
-            raise Wrong(
-                f"that would be more than {MAX_DEGREE} neighbours of node {v if degrees[v] > MAX_DEGREE else w}"
-            )
-    return Network(nodes, found, places=places or {})
+def made(nodes, edges, places=None):
+    """The network of these edges, of which no more are looked at than one too many."""
+    return checked(Network(nodes, islice(edges, MAX_EDGES + 1), places=places or {}), "that network")
 
 
 def circle(vertices):
@@ -56,29 +45,29 @@ def squares(rows, columns):
 
 def path(nodes):
     check(nodes)
-    return checked(nodes, ((v, v + 1) for v in range(1, nodes)), {v: (v - 1, 0) for v in range(1, nodes + 1)})
+    return made(nodes, ((v, v + 1) for v in range(1, nodes)), {v: (v - 1, 0) for v in range(1, nodes + 1)})
 
 
 def ring(nodes):
     check(nodes, least=3)
-    return checked(nodes, ((v, v % nodes + 1) for v in range(1, nodes + 1)), circle(range(1, nodes + 1)))
+    return made(nodes, ((v, v % nodes + 1) for v in range(1, nodes + 1)), circle(range(1, nodes + 1)))
 
 
 def star(nodes):
     check(nodes)
-    return checked(nodes, ((v, nodes) for v in range(1, nodes)), circle(range(1, nodes)) | {nodes: (0, 0)})
+    return made(nodes, ((v, nodes) for v in range(1, nodes)), circle(range(1, nodes)) | {nodes: (0, 0)})
 
 
 def complete(nodes):
     check(nodes)
-    return checked(nodes, combinations(range(1, nodes + 1), 2), circle(range(1, nodes + 1)))
+    return made(nodes, combinations(range(1, nodes + 1), 2), circle(range(1, nodes + 1)))
 
 
 def grid(rows, columns):
     check(rows * columns, rows=rows, columns=columns)
     edges = [(v, v + 1) for v in range(1, rows * columns + 1) if v % columns]
     edges += [(v, v + columns) for v in range(1, (rows - 1) * columns + 1)]
-    return checked(rows * columns, edges, squares(rows, columns))
+    return made(rows * columns, edges, squares(rows, columns))
 
 
 def queen(rows, columns):
@@ -86,7 +75,7 @@ def queen(rows, columns):
     places = squares(rows, columns)
     number = {place: v for v, place in places.items()}
     edges = ((v, w) for v, place in places.items() for way in WAYS_OF_A_QUEEN for w in squares_on(place, way, number))
-    return checked(rows * columns, edges, places)
+    return made(rows * columns, edges, places)
 
 
 def squares_on(place, way, number):
@@ -100,7 +89,7 @@ def squares_on(place, way, number):
 def tree(nodes, seed):
     check(nodes)
     source = random.Random(seed)
-    return checked(nodes, ((1 + below(source, v - 1), v) for v in range(2, nodes + 1)))
+    return made(nodes, ((1 + below(source, v - 1), v) for v in range(2, nodes + 1)))
 
 
 def disk(nodes, radius, seed):
@@ -115,7 +104,7 @@ def disk(nodes, radius, seed):
             free.add(place)
             places[len(places) + 1] = place
     pairs = near([(x, y, 0) for x, y in places.values()], radius * SIDE, is_globe=False)
-    return checked(nodes, ((v + 1, w + 1) for v, w in pairs), places)
+    return made(nodes, ((v + 1, w + 1) for v, w in pairs), places)
 
 
 def any_edges(nodes, edges, seed, connected=False, neighbours=None, forests=None):
@@ -129,14 +118,14 @@ def any_edges(nodes, edges, seed, connected=False, neighbours=None, forests=None
         chosen = alike_edges(source, nodes, edges, connected, neighbours, forests)
         if chosen is None:
             raise Wrong("no network with these wishes was found: change their numbers")
-        return checked(nodes, chosen)
+        return made(nodes, chosen)
     while len(chosen) < min(edges, pairs - edges):
         v, w = 1 + below(source, nodes), 1 + below(source, nodes)
         if v != w:
             chosen.add((min(v, w), max(v, w)))
     if edges > pairs - edges:
         chosen = set(combinations(range(1, nodes + 1), 2)) - chosen
-    return checked(nodes, chosen)
+    return made(nodes, chosen)
 
 
 class Kind(NamedTuple):

@@ -4,7 +4,7 @@ import re
 
 from lab.network import Network
 from lab.networks.kinds import KINDS
-from lab.networks.network_text import read_network
+from lab.networks.network_text import network_of
 from lab.networks.texts import text_of
 from lab.programs import TOP
 from lab.words import bytes_at, called
@@ -28,7 +28,7 @@ def network_bytes(name: str) -> bytes:
         return bytes_at(path)
     found = re.fullmatch(r"([a-z]+)([0-9]{1,5})(?:x([0-9]{1,5}))?", name)
     if not found:
-        raise Wrong(f"{name}: No such file or directory")
+        raise Wrong(f"{called(name)}: No such file or directory")
     kind, sizes = KINDS.get(found[1]), [int(size) for size in found.groups()[1:] if size]
     if not kind or kind.is_by_chance or len(kind.sizes) != len(sizes):
         names = ", ".join(kind + ("N" if len(of.sizes) == 1 else "RxC") for kind, of in KINDS.items()
@@ -37,13 +37,9 @@ def network_bytes(name: str) -> bytes:
     return text_of(kind.make(*sizes)).encode()
 
 
-def network_text(name: str) -> str:
-    return network_bytes(name).decode("utf-8", "replace")
-
-
 def network_at(name: str) -> Network:
     """The network of a name, with the name that it has in what is printed."""
-    network = read_network(network_text(name), called(name))
+    network = network_of(network_bytes(name), called(name))
     if name == "-":
         network.name = "this network"
     return network

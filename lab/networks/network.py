@@ -13,8 +13,8 @@ from lab.networks.describe import facts, warnings
 from lab.networks.edge_list import Listed
 from lab.networks.fields import Unread, shown
 from lab.networks.kinds import KINDS
-from lab.networks.named import network_bytes, network_text, path_of
-from lab.networks.network_text import network_of_reading, read_network, reading_of
+from lab.networks.named import network_at, network_bytes, path_of
+from lab.networks.network_text import reading_of
 from lab.networks.numbering import renumbered
 from lab.networks.plan_text import clashes, read_plan
 from lab.networks.reading import listed_of, made_of, other_form
@@ -26,8 +26,11 @@ from lab.wrong import Wrong
 LEAST_REACH = 1e-6
 
 
-def bytes_of_file(path):
-    return bytes_at(path, lambda stream: edge_list.bytes_of(stream, one_line(path)))
+def bytes_of_file(name):
+    """The bytes of a file that isn't longer than any network is, or of a network that is called by its name."""
+    if path_of(name) != name:
+        return network_bytes(name)
+    return bytes_at(name, lambda stream: edge_list.bytes_of(stream, one_line(name)))
 
 
 def say(what):
@@ -112,11 +115,10 @@ def was_told(given):
 
 
 def network_told(path, is_counted):
-    data = network_bytes(path) if path_of(path) != path else bytes_of_file(path)
-    path = one_line(path)
+    data, path = bytes_of_file(path), one_line(path)
     try:
         reading = reading_of(data.decode("utf-8", "replace"), path)
-        network = network_of_reading(reading, path)
+        network = reading.network()
     except Wrong as why:
         # Of a network that is too large `read` would say the same.
         other = None if str(why).endswith(("(F7)", "(N1)")) else other_form(data, path)
@@ -129,14 +131,14 @@ def network_told(path, is_counted):
 
 
 def was_numbered(given):
-    network = read_network(network_text(given.file), one_line(given.file))
+    network = network_at(given.file)
     return text_of(renumbered(network, given.by, source_of(given.seed), given.reverse))
 
 
 def was_named(given):
     if given.file == "-":
         raise Wrong("names: standard input has the plan, so the network has to be a file")
-    network = read_network(network_text(given.file), one_line(given.file))
+    network = network_at(given.file)
     table = channels_asked(given)
     plan = read_plan(text_at("-"), "the plan", network)
     for v, w in clashes(network, plan)[:1]:
@@ -154,10 +156,5 @@ def was_named(given):
 def main(words):
     given = command_line().parse_args(words)
     doers = {"read": was_read, "tell": was_told, "number": was_numbered, "names": was_named}
-    try:
-        text = doers[given.command](given) if given.command in doers else made(given)
-        write(given, text)
-    except Wrong as why:
-        say(why)
-        return 1
+    write(given, doers[given.command](given) if given.command in doers else made(given))
     return 0

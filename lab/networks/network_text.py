@@ -6,7 +6,7 @@ other."""
 import re
 
 from lab.network import Network
-from lab.networks.fields import fields_of, shown, whole, why_no_number
+from lab.networks.fields import fields_of, shown, whole
 from lab.wrong import Wrong, wrong_line
 
 FORMATS = {"edge", "edges", "col"}
@@ -24,19 +24,9 @@ def stem(path):
     return re.sub(r"\.\w+$", "", path.split("/")[-1]).encode("utf-8", "replace").decode()
 
 
-def place_of(fields):
-    """(vertex, (x, y)) of the fields of a comment line `c at V X Y`, or None."""
-    if len(fields) == 5 and fields[:2] == ["c", "at"] and whole(fields[2]) is not None:
-        if all(re.fullmatch(r"-?[0-9]{1,9}(\.[0-9]{1,9})?", field) for field in fields[3:]):
-            return whole(fields[2]), (float(fields[3]), float(fields[4]))
-    return None
-
-
-def name_of(line):
-    """(vertex, name) of a comment line `c name V NAME`, or None; the name is the rest of the line."""
-    found = re.fullmatch(r"[ \t]*c[ \t]+name[ \t]+([0-9]+)[ \t]+([^ \t].*)", line.rstrip(" \t\r"))
-    return (whole(found.group(1)), found.group(2)) if found and found.group(2) else None
-
+# Comment lines `c at V X Y` and `c name V NAME`, whose name is the rest of the line.
+PLACE = re.compile("[ \t]*c[ \t]+at[ \t]+([0-9]+)" + r"[ \t]+(-?[0-9]{1,9}(?:\.[0-9]{1,9})?)" * 2 + "[ \t]*\r?")
+NAME = re.compile("[ \t]*c[ \t]+name[ \t]+([0-9]+)[ \t]+([^ \t].*)")
 
 # The words of a line after its first field, how many of them are vertices, what it says, and the fault of one that
 # comes before the `p` line.
@@ -46,7 +36,9 @@ LINES = {"e": ("V W", 2, "an edge", "F3"), "i": ("V NUMBER", 1, "an identifier",
 
 class Reading:
     """What the lines so far say: `nodes` is None before the `p` line, `promised` its number of edges, and `edge_lines`
-    counts the lines that name one, again and again too."""
+    counts the lines that name one, again and again too. The vertices begin at the `least`."""
+
+    least = 1
 
     def __init__(self, path=""):
         self.path, self.line, self.nodes, self.promised, self.edge_lines = path, 0, None, None, 0
@@ -61,35 +53,29 @@ class Reading:
         fields = [field for field in fields_of(raw) if field]
         word = fields[0] if fields else "c"
         if word.startswith("c"):
-            self.comment(raw, fields)
+            self.comment(raw)
         elif word == "p":
             self.problem(fields)
         elif word in LINES:
             one, other = self.numbers(fields)
             {"e": self.edge, "i": self.identifier, "b": self.bar}[word](one, other)
         elif word not in SKIPPED:
-            raise self.wrong(why_unknown(word), "F8")
+            raise self.wrong(f"`{shown(word)}` begins no line of a network", "F8")
 
-    def comment(self, raw, fields):
+    def comment(self, raw):
         """Keeps a place or a name of a vertex."""
-        place, name = place_of(fields), name_of(raw)
+        place, name = PLACE.fullmatch(raw), NAME.fullmatch(raw.rstrip(" \t\r"))
         if place:
-            self.places[place[0]] = place[1]
+            self.places[whole(place[1])] = float(place[2]), float(place[3])
         if name:
-            self.names[name[0]] = name[1]
+            self.names[whole(name[1])] = name[2]
 
     def problem(self, fields):
         """NODES and EDGES of the `p` line."""
-        form = "`p edge NODES EDGES`"
         if self.nodes is not None:
             raise self.wrong("a second `p` line", "F2")
-        if len(fields) > 1 and fields[1] not in FORMATS:
-            is_missing = whole(fields[1]) is not None
-            what = "the word `edge` is missing" if is_missing else f"`p {shown(fields[1])}` is another format"
-            raise self.wrong(f"{what}: the line has to be {form}", "F4")
-        why = why_no_number(fields[2:], ["NODES", "EDGES"])
-        if len(fields) < 2 or why:
-            raise self.wrong(f"no {form}: {why}", "F4")
+        if len(fields) < 4 or fields[1] not in FORMATS or None in map(whole, fields[2:4]):
+            raise self.wrong(f"no `p edge NODES EDGES`: `{shown(' '.join(fields))}`", "F4")
         if whole(fields[2]) > MAX_NODES:
             raise self.wrong(f"more than {MAX_NODES} nodes", "F7")
         self.nodes, self.promised = map(whole, fields[2:4])
@@ -100,11 +86,10 @@ class Reading:
         words, count, what, code = LINES[fields[0]]
         if self.nodes is None:
             raise self.wrong(f"{what} before the line `p edge NODES EDGES`", code)
-        why = why_no_number(fields[1:], words.split())
-        if why:
-            raise self.wrong(f"no `{fields[0]} {words}`: {why}", "F4")
+        if len(fields) < 3 or None in map(whole, fields[1:3]):
+            raise self.wrong(f"no `{fields[0]} {words}`: `{shown(' '.join(fields))}`", "F4")
         vertices = fields[1:1 + count]
-        if whole(min(vertices, key=whole)) == 0:
+        if whole(min(vertices, key=whole)) < self.least:
             raise self.wrong("there is no vertex 0, since vertices count from 1", "F5")
         most = max(vertices, key=whole)
         if whole(most) > self.nodes:
@@ -134,14 +119,10 @@ class Reading:
         if len(barred) > MAX_BARS:
             raise self.wrong(f"more than {MAX_BARS} channels are barred at vertex {v}", "F14")
 
-
-def why_unknown(field):
-    """Of a line that begins like no line of a network."""
-    if field.startswith("\ufeff"):
-        return "a byte order mark is before the first word"
-    if "\0" in field or field.startswith("\ufffd"):
-        return f"`{shown(field)}` is no text in ASCII; it may be UTF-16, or no text at all"
-    return f"`{shown(field)}` begins no line of a network"
+    def network(self):
+        """What all lines are, or its first fault."""
+        return checked(Network(self.nodes, self.edges, self.identifiers, self.bars, self.names, self.places,
+                               stem(self.path)), self.path)
 
 
 def reading_of(text, path):
@@ -154,35 +135,29 @@ def reading_of(text, path):
     return read
 
 
-def network_of_reading(read, path):
-    network = Network(read.nodes, read.edges, read.identifiers, read.bars, read.names, read.places, stem(path))
-    return checked(network, path)
-
-
 def checked(network, path):
-    """A network that is within the limits of nodes, and whose identifiers differ."""
+    """A network that is within the limits, and whose identifiers differ."""
+    if network.nodes > MAX_NODES:
+        raise Wrong(f"{path}: {network.nodes} nodes, and a network has at most {MAX_NODES}")
+    if len(network.edges) > MAX_EDGES:
+        raise Wrong(f"{path}: more than {MAX_EDGES} edges, the most that a network has")
     for v in network.vertices:
         if len(network.neighbours[v]) > MAX_DEGREE:
             name = f" ({shown(network.names[v])})" if v in network.names else ""
             raise Wrong(f"{path}: vertex {v}{name} has {len(network.neighbours[v])} neighbours, more than {MAX_DEGREE} "
                         "(N1)")
-    same = two_alike(network.identifiers)
+    alike = {}
+    for v, number in network.identifiers.items():
+        alike.setdefault(number, []).append(v)
+    same = min((found for found in alike.values() if len(found) > 1), default=None)
     if same:
         raise Wrong(f"{path}: vertices {same[0]} and {same[1]} have one identifier (N2)")
     return network
 
 
-def two_alike(identifiers):
-    """The first two vertices with one identifier, or None."""
-    of = {}
-    for v, number in sorted(identifiers.items()):
-        of.setdefault(number, []).append(v)
-    return min((found[:2] for found in of.values() if len(found) > 1), default=None)
-
-
 def read_network(text, path):
     """The network of a text, or its first fault."""
-    return network_of_reading(reading_of(text, path), path)
+    return reading_of(text, path).network()
 
 
 def network_of(data, path="the network"):

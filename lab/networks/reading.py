@@ -3,7 +3,7 @@ left out."""
 from lab.network import Network
 from lab.networks.edge_list import NO_END, decoded, twin_of, with_clean_names
 from lab.networks.forms import listed
-from lab.networks.network_text import MAX_EDGES, MAX_NODES, checked, read_network, shown, stem, whole
+from lab.networks.network_text import checked, read_network, shown, stem, whole
 from lab.networks.texts import text_of
 from lab.words import counted
 from lab.wrong import Wrong
@@ -72,14 +72,10 @@ def made_of(found, name):
     names = {v: one for v, one in names.items() if one != str(v)}
     if len(set(names.values())) < len(names):
         found.notes.append(f"two nodes are named {shown(twin_of(names))}")
-    if len(order) > MAX_NODES:
-        raise Wrong(f"{name}: {len(order)} nodes, and a network has at most {MAX_NODES}")
     made = checked(Network(len(order), edges, given(found.identifiers, number, name, "an identifier"),
                            given(found.bars, number, name, "a barred channel"), names,
                            {v: place for v, place in places.items() if all(abs(part) < FARTHEST for part in place)},
                            stem(name)), name)
-    if len(made.edges) > MAX_EDGES:
-        raise Wrong(f"{name}: {len(made.edges)} edges, and a network has at most {MAX_EDGES}")
     return made, [summary(made, found, by)] + found.notes, found.left_out + left_out
 
 

@@ -4,7 +4,7 @@ from typing import NamedTuple
 
 from lab.networks.edge_list import Listed, clean, note_alike
 from lab.networks.fields import shown, value_of, whole
-from lab.networks.network_text import IDENTIFIERS, MAX_BARS, MAX_CHANNEL, MAX_EDGES, MAX_NODES
+from lab.networks.network_text import IDENTIFIERS, MAX_BARS, MAX_CHANNEL, MAX_EDGES
 from lab.networks.places import Point, across_of, near, on_ground, on_map
 from lab.networks.site_doubts import check_marks, refuse_far, refuse_maps, refuse_names, refuse_no_place, refuse_units
 from lab.networks.site_tables import BARE, CHANNELS, GLOBES, IDENTIFIER, NAMES, PLANES, Table, named, table
@@ -102,8 +102,6 @@ def with_sites(found: Listed, data: bytes, name: str, reach: float | None) -> No
     columns, own = sites.columns(NAMES), sites.columns([IDENTIFIER])
     if not columns:
         raise Wrong(f"{name}: no column is named {', '.join(NAMES[:3])}: the first line has to be a heading")
-    if len(sites.rows) > MAX_NODES:
-        raise Wrong(f"{name}: {len(sites.rows)} sites, and a network has at most {MAX_NODES} nodes")
     read = columns + own
     places = places_of(sites, read)
     sites.leave(read)

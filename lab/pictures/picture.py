@@ -13,8 +13,8 @@ from lab import programs
 from lab.definitions.colours import plan_text as plan_by_definition
 from lab.definitions.nodes import Colouring
 from lab.definitions.programs import add_program, program_asked, program_words
-from lab.networks.named import network_text
-from lab.networks.network_text import read_network, stem
+from lab.networks.named import network_bytes
+from lab.networks.network_text import network_of, stem
 from lab.networks.plan_text import read_plan
 from lab.pictures import (adversary_page, automaton_picture, bits_picture, broken_picture, forests_picture, map_picture,
                           matrix_picture, overview_picture, plan_picture, player_page, program_picture, results_picture,
@@ -425,13 +425,13 @@ def drawn(given):
     if given.network is None:
         asked.program = program_asked("picture", given)
         return drawing(given.kind, asked)
-    data = network_text(given.network)
-    asked.network = network = read_network(data, called(given.network))
+    data = network_bytes(given.network)
+    asked.network = network = network_of(data, called(given.network))
     network.name = given.title or ("this network" if given.network == "-" else network.name)
     asked.program = program_asked("picture", given, network)
     asked.texts = [Text(form, called(path), text_at(path)) for form, path in stored]
-    asked.written = lambda form: (plan_text(network, data.encode()) if form == "plan" else
-                                  run_text(given, network, data.encode(), asked.program))
+    asked.written = lambda form: (plan_text(network, data) if form == "plan" else
+                                  run_text(given, network, data, asked.program))
     picture = drawing(given.kind, asked)
     if said := unused_places(network):
         note(said)
