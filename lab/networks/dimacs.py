@@ -5,14 +5,13 @@ import re
 
 from lab.networks.edge_list import Listed, clean
 from lab.networks.fields import Unread, is_number, value_of
-from lab.networks.network_text import MAX_NODES, SKIPPED, Reading, fields_of, shown, whole
+from lab.networks.network_text import FORMATS, MAX_NODES, SKIPPED, Reading, fields_of, shown, whole
 from lab.wrong import Wrong, wrong_line
 
 EDGE = re.compile(r"^[ \t]*(p[ \t]+[a-z]+[ \t]+[0-9]+|p[ \t]+[0-9]+[ \t]+[0-9]+|e[ \t]+[0-9]+[ \t]+[0-9]+)\b", re.M)
 
-# The words after `p` of texts that are networks, too, and those that the programs read.
+# The words after `p` of texts that are networks, besides those that the programs read.
 ALIKE = (None, "sp", "tw", "max", "min", "ds", "vc", "cep", "mat", "graph")
-WORDS = ("edge", "edges", "col")
 
 
 def read(text: str, name: str) -> Listed:
@@ -37,7 +36,7 @@ def read(text: str, name: str) -> Listed:
         else:
             is_bare = fields[0] not in ("e", "a")
             ends, more = fields[not is_bare:][:2], fields[not is_bare:][2:]
-            if len(ends) < 2 or None in map(whole, ends) or is_bare and head[0] in (None, *WORDS):
+            if len(ends) < 2 or None in map(whole, ends) or is_bare and head[0] in (None, *FORMATS):
                 raise wrong_line(name, line, f"no edge: `{shown(raw.strip())}`")
             is_weight = len(more) == 1 and is_number(more[0]) and (fields[0] == "a" or whole(more[0]) is None)
             if more and (is_bare or not is_weight):
@@ -67,10 +66,10 @@ def read_head(found, name, line, fields):
     numbers = list(map(whole, fields[1 + (word is not None):]))
     if len(numbers) != 2 or None in numbers:
         raise wrong_line(name, line, f"no number of nodes and of edges: `{shown(' '.join(fields))}`")
-    if word not in WORDS + ALIKE:
+    if word not in (*FORMATS, *ALIKE):
         raise wrong_line(name, line, f"`p {shown(word)}` may begin another kind of text than a network; if it is one, "
                                      "write `p edge`")
-    if word not in WORDS:
+    if word not in FORMATS:
         found.notes.append(f"`{shown(' '.join(fields[:2]))}` is read like `p edge`")
     return word, *numbers
 

@@ -9,7 +9,7 @@ from lab.network import Network
 from lab.networks.fields import fields_of, shown, whole
 from lab.wrong import Wrong, wrong_line
 
-FORMATS = {"edge", "edges", "col"}
+FORMATS = ("edge", "edges", "col")
 SKIPPED = {"n", "d", "v", "x"}
 MAX_NODES = 20000
 MAX_EDGES = 400000
@@ -81,19 +81,15 @@ class Reading:
         self.nodes, self.promised = map(whole, fields[2:4])
 
     def numbers(self, fields):
-        """The two numbers of a line, of which a vertex is named with the digits that the text has; of two wrong ones 0
-        first, and then the greater one."""
+        """The two numbers of a line; a vertex that isn't there is named with the digits that the text has."""
         words, count, what, code = LINES[fields[0]]
         if self.nodes is None:
             raise self.wrong(f"{what} before the line `p edge NODES EDGES`", code)
         if len(fields) < 3 or None in map(whole, fields[1:3]):
             raise self.wrong(f"no `{fields[0]} {words}`: `{shown(' '.join(fields))}`", "F4")
-        vertices = fields[1:1 + count]
-        if whole(min(vertices, key=whole)) < self.least:
-            raise self.wrong("there is no vertex 0, since vertices count from 1", "F5")
-        most = max(vertices, key=whole)
-        if whole(most) > self.nodes:
-            raise self.wrong(f"there is no vertex {shown(most)}, since the `p` line has {self.nodes}", "F5")
+        for v in fields[1:1 + count]:
+            if not self.least <= whole(v) <= self.nodes:
+                raise self.wrong(f"there is no vertex {shown(v)}, only {self.least} to {self.nodes}", "F5")
         if fields[0] == "b" and not 1 <= whole(fields[2]) <= MAX_CHANNEL:
             raise self.wrong(f"channel {shown(fields[2])} can't be barred, only 1 to {MAX_CHANNEL} can", "F13")
         return map(whole, fields[1:3])

@@ -24,8 +24,8 @@ IDENTIFIER = "identifier"
 # Units of degrees, and what may be said of them.
 DEGREES = ("", "deg", "degree", "degrees", "°", "grad", "decimal", "decimaldegrees", "dd", "dezimal", "dezimalgrad",
            "wgs84", "wgs 84", "n", "s", "e", "w", "o")
-CHANNELS = ("channel", "channels", "barredchannel", "barredchannels", "barred", "bar", "kanal", "kanäle",
-            "gesperrterkanal", "gesperrtekanäle", "gesperrt")
+CHANNELS = ("channel", "channels", "channelnumber", "barredchannel", "barredchannels", "barred", "bar", "kanal",
+            "kanäle", "kanalnummer", "gesperrterkanal", "gesperrtekanäle", "gesperrt")
 # So many names that aren't known are named, with the nearest that is, unless they are longer than names are.
 MOST_NAMED, LONGEST = 4, 100
 KNOWN = {*NAMES, *CHANNELS, IDENTIFIER, *(word for pair in (*PLANES, *GLOBES) for word in pair[:2])}
@@ -60,9 +60,6 @@ class Table:
 def table(data: bytes, name: str) -> Table:
     """The table of a text."""
     text, mended, guessed = decoded(data, name)
-    if text.lstrip()[:1] in ("<", "{", "["):
-        raise Wrong(f"{name}: it looks like XML or JSON, as KML, GPX and GeoJSON are: a table is read, with a heading "
-                    "as site,lat,lon")
     found = table_of(text, name, is_headed=True)
     rows = found.rows
     if not rows or found.separator is None and len(rows[0][1]) > 1:

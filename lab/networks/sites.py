@@ -1,4 +1,5 @@
 """Tables of sites beside the pairs of a network: names, places, identifiers, and channels that are barred by name."""
+import math
 import re
 from typing import NamedTuple
 
@@ -6,7 +7,7 @@ from lab.networks.edge_list import Listed, clean, note_alike
 from lab.networks.fields import shown, value_of, whole
 from lab.networks.network_text import IDENTIFIERS, MAX_BARS, MAX_CHANNEL, MAX_EDGES
 from lab.networks.places import Point, across_of, near, on_ground, on_map
-from lab.networks.site_doubts import check_marks, refuse_far, refuse_maps, refuse_names, refuse_no_place, refuse_units
+from lab.networks.site_doubts import NO_PLACE, check_marks, refuse_far, refuse_maps, refuse_names, refuse_units
 from lab.networks.site_tables import BARE, CHANNELS, GLOBES, IDENTIFIER, NAMES, PLANES, Table, named, table
 from lab.words import counted
 from lab.wrong import Wrong
@@ -57,12 +58,11 @@ def place_in(found: Table, line: int, said: list[str], is_globe: bool) -> tuple[
     if not any(said):
         return None
     place = tuple(map(value_of, said))
-    if None in place:
-        raise found.wrong(line, f"no place: `{shown(' '.join(said))}`; two numbers are wanted, without separators of "
-                          "thousands")
-    refuse_no_place(found, line, said, is_globe and place == (0, 0))
-    if is_globe and not (-90 <= place[0] <= 90 and -180 <= place[1] <= 360):
-        raise found.wrong(line, f"no latitude and longitude in degrees: `{shown(' '.join(said))}`; are they exchanged?")
+    if None in place or math.inf in map(abs, place) or all(map(NO_PLACE.fullmatch, said)) or is_globe and (
+            place == (0, 0) or abs(place[0]) > 90 or not -180 <= place[1] <= 360):
+        raise found.wrong(line, f"no place: `{shown(' '.join(said))}`; two numbers are wanted without separators of "
+                          "thousands, latitude and longitude in degrees (are they exchanged?), or empty fields if it "
+                          "isn't known")
     return place
 
 
