@@ -4,7 +4,7 @@ import inspect
 import random
 from collections.abc import Callable
 from itertools import combinations, islice
-from math import cos, pi, sin
+from math import cos, pi, prod, sin
 from typing import NamedTuple
 
 from lab.network import Network
@@ -18,15 +18,6 @@ SIDE = 1000
 WAYS_OF_A_QUEEN = ((1, 0), (0, 1), (1, 1), (-1, 1))
 
 
-def check(nodes, least=1, **sizes):
-    """Refuses what would be no network, before anything is made."""
-    for name, size in (sizes or {"nodes": nodes}).items():
-        if size < least:
-            raise Wrong(f"{name.upper()} is {size}, and has to be at least {least}")
-    if nodes > MAX_NODES:
-        raise Wrong(f"that would be {nodes} nodes, and a network has at most {MAX_NODES}")
-
-
 def made(nodes, edges, places=None):
     """The network of these edges, of which no more are looked at than one too many."""
     return checked(Network(nodes, islice(edges, MAX_EDGES + 1), places=places or {}), "that network")
@@ -38,63 +29,45 @@ def circle(vertices):
     return {v: (sin(turn * k), -cos(turn * k)) for k, v in enumerate(vertices)}
 
 
-def squares(rows, columns):
-    """{vertex: (column, row)}, numbered row by row."""
-    return {row * columns + column + 1: (column, row) for row in range(rows) for column in range(columns)}
-
-
 def path(nodes):
-    check(nodes)
     return made(nodes, ((v, v + 1) for v in range(1, nodes)), {v: (v - 1, 0) for v in range(1, nodes + 1)})
 
 
 def ring(nodes):
-    check(nodes, least=3)
     return made(nodes, ((v, v % nodes + 1) for v in range(1, nodes + 1)), circle(range(1, nodes + 1)))
 
 
 def star(nodes):
-    check(nodes)
     return made(nodes, ((v, nodes) for v in range(1, nodes)), circle(range(1, nodes)) | {nodes: (0, 0)})
 
 
 def complete(nodes):
-    check(nodes)
     return made(nodes, combinations(range(1, nodes + 1), 2), circle(range(1, nodes + 1)))
 
 
+def board(rows, columns, ways, far):
+    """The squares of a board, numbered row by row, each joined to those that are up to so far in these directions."""
+    number = {(x, y): y * columns + x + 1 for y in range(rows) for x in range(columns)}
+    edges = ((v, number[square]) for (x, y), v in number.items() for across, down in ways for step in range(1, far + 1)
+             if (square := (x + step * across, y + step * down)) in number)
+    return made(rows * columns, edges, {v: square for square, v in number.items()})
+
+
 def grid(rows, columns):
-    check(rows * columns, rows=rows, columns=columns)
-    edges = [(v, v + 1) for v in range(1, rows * columns + 1) if v % columns]
-    edges += [(v, v + columns) for v in range(1, (rows - 1) * columns + 1)]
-    return made(rows * columns, edges, squares(rows, columns))
+    return board(rows, columns, ((1, 0), (0, 1)), 1)
 
 
 def queen(rows, columns):
-    check(rows * columns, rows=rows, columns=columns)
-    places = squares(rows, columns)
-    number = {place: v for v, place in places.items()}
-    edges = ((v, w) for v, place in places.items() for way in WAYS_OF_A_QUEEN for w in squares_on(place, way, number))
-    return made(rows * columns, edges, places)
-
-
-def squares_on(place, way, number):
-    """The vertices from a square on in one direction, to the edge of the board."""
-    (x, y), (across, down) = place, way
-    while (x + across, y + down) in number:
-        x, y = x + across, y + down
-        yield number[x, y]
+    return board(rows, columns, WAYS_OF_A_QUEEN, max(rows, columns))
 
 
 def tree(nodes, seed):
-    check(nodes)
     source = random.Random(seed)
     return made(nodes, ((1 + below(source, v - 1), v) for v in range(2, nodes + 1)))
 
 
 def disk(nodes, radius, seed):
     """Places in a square of side 1000, and an edge if two are less than `radius` sides apart."""
-    check(nodes)
     if not 0 < radius <= 2:
         raise Wrong(f"the radius is {radius}, and has to be above 0 and at most 2")
     source, free, places = random.Random(seed), set(), {}
@@ -109,7 +82,6 @@ def disk(nodes, radius, seed):
 
 def any_edges(nodes, edges, seed, connected=False, neighbours=None, forests=None):
     """So many different edges, each set of them as likely as any other; or with the wishes of `alike_edges`."""
-    check(nodes)
     pairs = nodes * (nodes - 1) // 2
     if not 0 <= edges <= min(pairs, MAX_EDGES):
         raise Wrong(f"EDGES is {edges}, and {nodes} nodes have 0 to {min(pairs, MAX_EDGES)}")
@@ -129,16 +101,28 @@ def any_edges(nodes, edges, seed, connected=False, neighbours=None, forests=None
 
 
 class Kind(NamedTuple):
-    """What makes networks of a kind, what they are, and more of it."""
+    """What makes networks of a kind, what they are, more of it, and how many nodes, rows or columns are the least."""
 
-    make: Callable[..., Network]
+    function: Callable[..., Network]
     does: str
     more: str = ""
+    least: int = 1
+
+    def make(self, *words, **named):
+        """A network of the kind; what would be none is refused before anything is made."""
+        chosen = inspect.signature(self.function).bind(*words, **named).arguments
+        sizes = {name: chosen[name] for name in self.sizes if name != "edges"}
+        for name, size in sizes.items():
+            if size < self.least:
+                raise Wrong(f"{name.upper()} is {size}, and has to be at least {self.least}")
+        if prod(sizes.values()) > MAX_NODES:
+            raise Wrong(f"that would be {prod(sizes.values())} nodes, and a network has at most {MAX_NODES}")
+        return self.function(*words, **named)
 
     @property
     def chosen(self):
         """What `make` is told."""
-        return list(inspect.signature(self.make).parameters)
+        return list(inspect.signature(self.function).parameters)
 
     @property
     def sizes(self):
@@ -152,7 +136,7 @@ class Kind(NamedTuple):
 
 KINDS = {
     "path": Kind(path, "a row"),
-    "ring": Kind(ring, "a row whose ends are joined"),
+    "ring": Kind(ring, "a row whose ends are joined", least=3),
     "star": Kind(star, "one centre, which is the last node; the others are its leaves",
                  "So there is one forest; `number --by degree --reverse` gives the centre the number 1."),
     "complete": Kind(complete, "each node is joined to each other"),
