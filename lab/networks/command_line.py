@@ -70,9 +70,9 @@ The forests depend on the numbers, and so does the plan.""",
   wires       what all links of such a run carry: the payloads, as many
               acknowledgements, a safe of each pulse and a closing mark
   transcript  what `transcript` prints of it
-  time        how long `plain` takes, which is run meanwhile, and about how much processor
-              time `plan` and `transcript`, by the wires alone: the machine and nodes with
-              few edges can double it. `plain` prints the same plan as `plan`.
+  time        about how much processor time `plan` and `transcript` take, by the wires
+              alone: the machine and nodes with few edges can double it. `plain` prints
+              the same plan as `plan`.
 
 If FILE is a code that the programs report, and no file, it says what the fault is and
 what to do. The words after the code may follow: C8 vertex 1.""",

@@ -2,10 +2,9 @@
 long the commands take."""
 import subprocess
 import tempfile
-import time
 
 from lab.networks.texts import plain_text
-from lab.programs import built, called, program_file
+from lab.programs import program_file
 from lab.words import counted, duration
 from lab.wrong import Wrong
 
@@ -23,8 +22,7 @@ class Run:
     it is the most that there can be. If they may be many, they are counted only if that `is_counted`."""
 
     def __init__(self, network, is_counted=False):
-        self.network, self.forests, self.is_bound = network, network.forest_count, False
-        self.last = LAST_COLOUR + 3 * self.forests * network.channels
+        self.is_bound, self.last = False, LAST_COLOUR + 3 * network.forest_count * network.channels
         rounds = rounds_here(network) if network.nodes * self.last <= MOST_AT_ONCE else None
         if rounds:
             self.payloads = sum(len(pulse.puts) for pulse in rounds.pulses)
@@ -60,13 +58,9 @@ def payloads_by_program(network):
         file.seek(0)
         with subprocess.Popen([program_file("forestplay"), "rounds"], stdin=file, stdout=subprocess.PIPE) as started:
             found = sum(b" put " in line for line in started.stdout)
-    see_ended(started, "forestplay rounds")
+    if started.returncode:
+        raise Wrong(f"forestplay rounds ended with status {started.returncode}; is there too little memory?")
     return found
-
-
-def see_ended(process, name):
-    if process.returncode:
-        raise Wrong(f"{name} ended with status {process.returncode}; is there too little memory?")
 
 
 def most_payloads(network):
@@ -82,15 +76,11 @@ def processor_seconds(run, command):
 
 
 def times(run):
-    """How long `plain` takes, which is run, and about how much processor time `plan` and `transcript`."""
+    """About how much processor time `plan` and `transcript` take."""
     if run.wires <= AN_INSTANT:
         return "less than a second"
     longer = ", ".join(f"{command} about {duration(processor_seconds(run, command))}" for command in WIRES_A_SECOND)
-    if built("forestplan"):
-        start = time.monotonic()
-        see_ended(called("forestplan", ["plain"], plain_text(run.network).encode()), "forestplan plain")
-        longer = f"plain {duration(time.monotonic() - start)}, the same plan; {longer}"
-    return f"{longer}, of all processors together"
+    return f"{longer}, of all processors together; `plain` prints the same plan much sooner"
 
 
 def size(count):
@@ -103,7 +93,7 @@ def facts(reading, network, is_counted):
     """(name, what) of each line that `tell` prints."""
     run = Run(network, is_counted)
     degrees = [len(network.neighbours[v]) for v in network.vertices]
-    edges = len(network.edges)
+    edges, forests = len(network.edges), network.forest_count
     again = reading.edge_lines - edges
     alone = f", {degrees.count(0):,} of them without a neighbour" if 0 in degrees else ""
     more = f", {counted(again, 'line')} more with an edge that was there before" if again else ""
@@ -119,7 +109,7 @@ def facts(reading, network, is_counted):
          f"{min(degrees, default=0):,} to {network.greatest_degree:,} of a node" + ("" if bars else enough)),
         *([("barred", barred)] if bars else []),
         ("forests",
-         f"{run.forests:,}, so the last pulse is 12 + 3 * {run.forests:,} * {network.channels:,} = {run.last:,}"),
+         f"{forests:,}, so the last pulse is 12 + 3 * {forests:,} * {network.channels:,} = {run.last:,}"),
         ("payloads", f"{most}{run.payloads:,}; {run.how}"),
         ("wires", f"{most}2 * {run.payloads:,} + 2 * {edges:,} * {run.last + 1:,} = {run.wires:,}"),
         ("transcript", f"{most}{run.lines:,} lines, about {size(run.lines * run.letters)} without stamps"),

@@ -357,7 +357,7 @@ class OwnNetworks(Case):
         told, _ = self.told_of(data, "--payloads")
         payloads = len(re.findall(rb"^\d+ put ", called(PLAY, "rounds", data=data)[1], re.M))
         took = r"(\d+ min )?\d+ s"
-        shape = rf"plain {took}, the same plan; plan about {took}, transcript about {took}, of all processors together"
+        shape = rf"plan about {took}, transcript about {took}, of all processors together; .*"
         self.note("the time of a large network", re.fullmatch(shape, told["time"]), told)
         most = bound["payloads"].removeprefix("at most ").partition(";")
         good = bound["payloads"].startswith("at most ") and most[2] == " --payloads counts them"
