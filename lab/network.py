@@ -16,7 +16,7 @@ class Network:
 
     `higher[v]` are the neighbours with a higher identifier, by ascending identifier: entry f is v's parent in forest f.
     `number[frozenset((v, w))]` is the forest of an edge. `span` is the greatest degree and the greatest number of bars
-    together: the colours of a plan are 0 to `span`, and so many `channels` are enough."""
+    together: the colours of a plan are 0 to `span`, and `channels` is how many these are."""
 
     nodes: int
     edges: Iterable[tuple[int, int]]

@@ -79,8 +79,8 @@ def times(run):
     """About how much processor time `plan` and `transcript` take."""
     if run.wires <= AN_INSTANT:
         return "less than a second"
-    longer = ", ".join(f"{command} about {duration(processor_seconds(run, command))}" for command in WIRES_A_SECOND)
-    return f"{longer}, of all processors together; `plain` prints the same plan much sooner"
+    longer = [f"{command} about {duration(max(1, processor_seconds(run, command)))}" for command in WIRES_A_SECOND]
+    return f"{', '.join(longer)}, of all processors together; `plain` prints the same plan much sooner"
 
 
 def size(count):

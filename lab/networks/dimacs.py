@@ -17,9 +17,9 @@ ALIKE = (None, "sp", "tw", "max", "min", "ds", "vc", "cep", "mat", "graph")
 def read(text: str, name: str) -> Listed:
     """Edges are lines `e V W` or `a V W WEIGHT`, or `V W` after `p tw`. Without a `p` line the greatest number counts.
     A line `i V NUMBER` gives V an identifier, and `b V CHANNEL` bars a channel at V."""
-    found, read = Listed("DIMACS"), Reading(name)
+    found, reading = Listed("DIMACS"), Reading(name)
     # How many vertices there are, and whether from 0 or 1 on, is seen at the end.
-    read.nodes, read.least = math.inf, 0
+    reading.nodes, reading.least = math.inf, 0
     # The word after `p` and the numbers of nodes and of edges, if there is a `p` line.
     head, passed, weights = (None, None, None), 0, 0
     for line, raw in enumerate(text.split("\n"), 1):
@@ -31,8 +31,8 @@ def read(text: str, name: str) -> Listed:
                 raise wrong_line(name, line, "a second `p` line")
             head = read_head(found, name, line, fields)
         elif fields[0].startswith(("c", "i", "b")):
-            read.line = line - 1
-            read.read(raw)
+            reading.line = line - 1
+            reading.read(raw)
         else:
             is_bare = fields[0] not in ("e", "a")
             ends, more = fields[not is_bare:][:2], fields[not is_bare:][2:]
@@ -47,9 +47,9 @@ def read(text: str, name: str) -> Listed:
                 if value_of(more[0]) == 0:
                     raise wrong_line(name, line, "an edge of weight 0: is it one? Leave out those that are none")
             found.edges.append((line, *(str(whole(end)) for end in ends)))
-    found.identifiers = {str(v): number for v, number in read.identifiers.items()}
-    found.bars = {str(v): channels for v, channels in read.bars.items()}
-    see_nodes(found, name, head[1], read)
+    found.identifiers = {str(v): number for v, number in reading.identifiers.items()}
+    found.bars = {str(v): channels for v, channels in reading.bars.items()}
+    see_nodes(found, name, head[1], reading)
     if passed:
         found.left_out.append(f"lines `n`, `d`, `v` and `x` not read: {passed}")
     if weights:
@@ -74,7 +74,7 @@ def read_head(found, name, line, fields):
     return word, *numbers
 
 
-def see_nodes(found, name, nodes, read):
+def see_nodes(found, name, nodes, reading):
     """All nodes from 1 on, or from 0 if an edge has it and none has the greatest number; and what comments say of
     them."""
     used = {int(end): line for line, *ends in reversed(found.edges) for end in ends}
@@ -92,7 +92,7 @@ def see_nodes(found, name, nodes, read):
             raise Wrong(f"{name}: {nodes} nodes, and a network has at most {MAX_NODES}")
         known = range(least, least + nodes)
         found.alone = [(1, str(v)) for v in known]
-    for said, kept in ((read.names, found.names), (read.places, found.places)):
+    for said, kept in ((reading.names, found.names), (reading.places, found.places)):
         # Comments may count from 1 where edges count from 0.
         less = 1 if least == 0 and 0 not in said else 0
         kept |= {str(v - less): what for v, what in said.items() if v - less in known}

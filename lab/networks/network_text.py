@@ -89,7 +89,7 @@ class Reading:
             raise self.wrong(f"no `{fields[0]} {words}`: `{shown(' '.join(fields))}`", "F4")
         for v in fields[1:1 + count]:
             if not self.least <= whole(v) <= self.nodes:
-                raise self.wrong(f"there is no vertex {shown(v)}, only {self.least} to {self.nodes}", "F5")
+                raise self.wrong(f"there is no vertex {shown(v)}: there are {self.nodes}, from {self.least} on", "F5")
         if fields[0] == "b" and not 1 <= whole(fields[2]) <= MAX_CHANNEL:
             raise self.wrong(f"channel {shown(fields[2])} can't be barred, only 1 to {MAX_CHANNEL} can", "F13")
         return map(whole, fields[1:3])

@@ -273,8 +273,8 @@ class ForeignForms(Case):
         """A number is quoted as it is in the text, and a text that says fewer edges than it has isn't cut. That a
         program fails says nothing of the text."""
         for data, status, said in (
-            (b"p edge 3 1\ne 1 %s\n" % (b"9" * 36 + b"\n"), 1, b"there is no vertex %s," % (b"9" * 36)),
-            (b"p edge 3 1\ne 1 %s\n" % (b"9" * 60), 1, b"there is no vertex %s..," % (b"9" * 37)),
+            (b"p edge 3 1\ne 1 %s\n" % (b"9" * 36 + b"\n"), 1, b"there is no vertex %s:" % (b"9" * 36)),
+            (b"p edge 3 1\ne 1 %s\n" % (b"9" * 60), 1, b"there is no vertex %s..:" % (b"9" * 37)),
             (b"p edge 3 1\nb 1 %s\n" % (b"8" * 60), 1, b"channel %s.. can't be barred" % (b"8" * 37)),
             (b"p edge 3 1\ne 1 2\ne 1 3\n", 0, b"the text has 2: does the line belong to another text?"),
             (b"p edge 3 5\ne 1 2\ne 1 3\n", 0, b"says 5 edges, and the text has 2: is it cut?"),

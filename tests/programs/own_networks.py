@@ -98,8 +98,8 @@ FAULTS = [
     ("p edge 2 1\ne 1 2\r\r\n", "F4 line 2", "`e 1 2\\r`", True),
     ("p edge 2 1\nb x 1\n", "F4 line 2", "no `b V CHANNEL`: `b x 1`", False),
     ("p edge 2 1\ni 1\n", "F4 line 2", "no `i V NUMBER`: `i 1`", False),
-    ("p edge 2 1\ne 1 3\n", "F5 line 2", "there is no vertex 3, only 1 to 2", False),
-    ("p edge 2 1\ne 0 1\n", "F5 line 2", "there is no vertex 0, only 1 to 2", True),
+    ("p edge 2 1\ne 1 3\n", "F5 line 2", "there is no vertex 3: there are 2, from 1 on", False),
+    ("p edge 2 1\ne 0 1\n", "F5 line 2", "there is no vertex 0: there are 2, from 1 on", True),
     ("p edge 2 1\ne 0 9\n", "F5 line 2", "there is no vertex 0", False),
     ("p edge 2 1\ne 2 2\n", "F6 line 2", "from vertex 2 to itself", True),
     ("p edge 20001 0\n", "F7 line 1", "more than 20000 nodes", False),
@@ -275,7 +275,7 @@ class OwnNetworks(Case):
         text = self.written("read", "-", data=b"p edge 3 1\ne 0 1\nb 0 7\n")
         self.note("a bar in a text that counts from 0", b"\nb 1 7\n" in text, text)
         for data, said in (
-            (b"p edge 2 1\nb 1 0\n", b"channel 0 can't be barred, only 1 to 2048 can"),
+            (b"p edge 2 1\nb 1 0\n", b"line 2: channel 0 can't be barred, only 1 to 2048 can"),
             (b"p edge 2 1\nb 3 1\n", b"a barred channel of 3, which is no vertex"),
         ):
             self.refusal(f"read of {data[:30]}", call("read", "-", data=data), 1, said)

@@ -33,7 +33,7 @@ REFUSED = [
         ("line 4: a second site a", "id,x,y\na,1,2\nb,1,3\na,4,4\n"),
         ("line 3: a site without a name", "id,x,y\na,1,2\n,1,3\n"),
         ("line 2: no place", "id,x,y\na,1,\n"), ("line 2: no place", "id,x,y\na,1,1e999\n"),
-        ("line 2: no place", "id,lat,lon\na,91,0\n"),
+        ("line 2: no place", "id,lat,lon\na,91,0\n"), ("line 2: no place", "id,lat,lon\na,0,361\n"),
         ("line 2: no identifier below 2^128", "id,x,y,identifier\na,1,2,me\n"),
         ("vertices 1 and 2 have one identifier", "id,x,y,identifier\na,1,2,9\nb,1,2,9\n"),
         ("edges within 5 km", "id,x,y\n" + "".join(f"s{at},0,0\n" for at in range(1100))),
