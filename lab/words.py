@@ -22,6 +22,16 @@ class Parser(argparse.ArgumentParser):
         (file or sys.stderr).write(message)
 
 
+class Command(Parser):
+    """The parser of a command below another one, which refuses the words that it doesn't know with its own usage."""
+
+    def parse_known_args(self, args=None, namespace=None):
+        given, others = super().parse_known_args(args, namespace)
+        if others:
+            self.error(f"unrecognized arguments: {' '.join(others)}")
+        return given, others
+
+
 def one_line(words: str) -> str:
     """Words as they may be printed in one line: what is no letter of a line is escaped."""
     return words if words.isprintable() else "".join(
@@ -48,6 +58,12 @@ def parser_of(name: str, words: str, what: str, more: str | None, door: str = "f
     """The parser of `forestlab NAME WORDS`, whose help begins with `what` and ends with `more`, as they stand."""
     return Parser(prog=f"{door} {name}", usage=f"{door} {name} {words}", description=what, epilog=more,
                   formatter_class=argparse.RawDescriptionHelpFormatter)
+
+
+def add_commands(words: Parser, what: str = "command"):
+    """What holds the commands below one."""
+    return words.add_subparsers(dest=what, metavar=what.upper(), required=True, help="one of those above",
+                                parser_class=Command)
 
 
 def add_command(commands, name: str, words: str, what: str, more: str, example: str) -> argparse.ArgumentParser:

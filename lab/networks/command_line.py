@@ -2,7 +2,7 @@
 from lab.networks.forms import FORMS
 from lab.networks.kinds import KINDS
 from lab.networks.numbering import WAYS
-from lab.words import add_command, add_options, add_output, add_seed, parser_of
+from lab.words import add_command, add_commands, add_options, add_output, add_seed, parser_of
 
 HELP = """\
 Makes networks, reads them in other forms, and says what they are.
@@ -122,7 +122,7 @@ def command_line():
     titles = {name: " ".join([name, *map(str.upper, kind.sizes)]) for name, kind in KINDS.items()}
     kinds = "".join(f"  {titles[name]:<20}{kind.does}\n" for name, kind in KINDS.items())
     words = parser_of("network", "COMMAND WORDS.. [options]", HELP.format(kinds=kinds), MORE_HELP)
-    commands = words.add_subparsers(dest="command", metavar="COMMAND", required=True, help="one of those above")
+    commands = add_commands(words)
     of_kinds = {name: (f"{titles[name].partition(' ')[2]} [options]", f"{kind.does.capitalize()}.", kind.more,
                        f"forestlab network {name} {'10 ' * len(kind.sizes)}> net.col") for name, kind in KINDS.items()}
     for name, does in (of_kinds | COMMANDS).items():

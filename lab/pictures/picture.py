@@ -26,7 +26,7 @@ from lab.pictures.transcripts import read_transcript, window_of
 from lab.pictures.watch_page import steps_of_text
 from lab.schedules.rules import OF_ANY_ROUNDS, OF_PROGRAMS as RULES_OF_PROGRAMS, OF_SCHEDULES, unknown_to
 from lab.schedules.simulate import played, text_of_run
-from lab.words import add_command, add_options, add_output, called, parser_of, some_of, text_at, write
+from lab.words import add_command, add_commands, add_options, add_output, called, parser_of, some_of, text_at, write
 from lab.wrong import Wrong, at_most
 
 
@@ -353,7 +353,7 @@ OPTIONS = (
 def command_line():
     words = parser_of("picture", "KIND NETWORK [options]", HELP, MORE_HELP)
     words.set_defaults(stored=None)
-    kinds = words.add_subparsers(dest="kind", metavar="KIND", required=True, help="one of those above")
+    kinds = add_commands(words, "kind")
     for name, does in KINDS.items():
         usage = "[NETWORK] --without RULES" if name == "broken" else "NETWORK [options]"
         most = f"At most {does.most[0]:,} nodes. " if does.most else ""

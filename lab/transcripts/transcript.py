@@ -11,7 +11,7 @@ from lab.networks.network_text import network_of
 from lab.transcripts.check import in_order, whole_run
 from lab.transcripts.convert import FORMS, entries_of
 from lab.transcripts.reading import Wrong as WrongEntry
-from lab.words import add_command, add_output, bytes_at, called, parser_of, write
+from lab.words import add_command, add_commands, add_output, bytes_at, called, parser_of, write
 from lab.wrong import Wrong
 
 HELP = """\
@@ -91,7 +91,7 @@ In ShiViz, give this as the parser of the log:
 
 def command_line():
     words = parser_of("transcript", "COMMAND WORDS.. [options]", HELP, None)
-    commands = words.add_subparsers(dest="command", metavar="COMMAND", required=True, help="one of those above")
+    commands = add_commands(words)
     for name, does in COMMANDS.items():
         command = add_command(commands, f"transcript {name}", *does)
         if name == "convert":

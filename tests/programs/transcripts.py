@@ -327,7 +327,7 @@ class Transcripts(Case):
                               (["-"], 1)):
             done = replay(*words, data=whole)
             self.note(f"replay {words}", done[:2] == (status, b"") and re.search(
-                rb"^(forestlab )?transcript(: | replay: error: )", done[2], re.M), done)
+                rb"^(forestlab transcript replay: error|transcript): ", done[2], re.M), done)
         self.refusal("replay of a cut text", replay(network, data=whole[:100]), 1, b"cut")
         taken = {v: whole.count(b"\n%d take %d " % (3 - v, v)) for v in (1, 2)}
         wanted = "".join(f"node {v} pulse {EDGE_LAST} channel {v}\nlink {v} {3 - v} taken {taken[v]}\n" for v in (1, 2))
