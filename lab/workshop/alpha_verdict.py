@@ -36,17 +36,18 @@ class At(Standing):
         return f"nothing yet: before its next pulse it waits for {self.lacks}"
 
     def hints(self) -> list[tuple[str, str]]:
-        """What the node had got: what came for its pulse, what came a pulse early for this one or the next, and what it
-        did last."""
-        came, pulse = [("came", self.rounds.came(self.pulse, self.v))] * bool(self.pulse), 0
+        """What the node had got: what came for its pulse; what came a pulse early, a payload for this pulse or the
+        next, or a safe that isn't used up; and what it did last."""
+        early, pulse = [], 0
         for words in self.own:
             match words.split():
                 case ["pulse", _]:
                     pulse += 1
-                case ["take", _, "safe" | "payload", of, *_] if pulse + 1 == int(of) >= self.pulse - 1:
-                    kept = f"`{words}` came at pulse {pulse}, and is to be kept until pulse {of} is made"
-                    came.append(("early", kept))
-        return [*came, ("so far", "; ".join(last_of(self.own)) or "nothing")]
+                case ["take", _, "safe" | "payload" as wire, of, *_] if (
+                        pulse + 1 == int(of) >= self.pulse - (wire == "payload")):
+                    early.append(f"`{words}` came at pulse {pulse}, and is to be kept until pulse {of} is made")
+        return [*[("came", self.rounds.came(self.pulse, self.v))] * bool(self.pulse),
+                *(("early", words) for words in last_of(early)), ("so far", "; ".join(last_of(self.own)) or "nothing")]
 
 
 def at_node(rounds: RightRounds, before: list[Entry], v: int) -> At:

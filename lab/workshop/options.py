@@ -77,7 +77,7 @@ def add_limits(words: argparse.ArgumentParser) -> None:
 
 
 def seconds(text: str) -> float:
-    if not re.fullmatch(r"[0-9]{1,6}(\.[0-9]+)?", text) or not float(text):
+    if not re.fullmatch(r"[0-9]{1,6}\.?[0-9]*|\.[0-9]+", text) or not float(text):
         raise argparse.ArgumentTypeError(f"{text} is no number of seconds")
     return float(text)
 

@@ -54,7 +54,7 @@ class Pages(Case):
             (workshop, guard.PROCESSOR_SECONDS, r"([\d,]+) seconds of processor time"),
             (workshop, guard.Limits(1, 1, 16).written >> 20, r"may have ([\d,]+) megabytes"),
             (workshop, guard.OPEN_FILES, r"It may open ([\d,]+) files"),
-            (talking, protocol.MOST_LETTERS, r"up to ([\d,]+) letters a line"),
+            (talking, protocol.MOST_LETTERS, r"up to ([\d,]+) letters"),
             (talking, processes.LAST_LINES, r"shows the last (\w+) lines"),
             (teaching, len(MISTAKES.MISTAKES), r"writes ([\d,]+)\s+wrong nodes"),
             (teaching, len(MISTAKES.MISTAKES) - 2, r"([\d,]+) of them show; two change nothing"),
