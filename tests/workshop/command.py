@@ -20,7 +20,7 @@ class Command(Played):
     def test_statuses(self):
         for words, status, said in (
             (["rounds", "two", "--", *ROUNDS], 0, ""),
-            (["rounds", "two", "--timeout", "0.1", "--", *WAITS], 1, ""),
+            (["rounds", "two", "--timeout", ".1", "--", *WAITS], 1, ""),
             (["rounds", "two"], 2, "there is no command after `--`"),
             (["rounds", "--"], 2, "there is no command after `--`"),
             (["nothing", "two", "--", *ROUNDS], 2, "invalid choice"),

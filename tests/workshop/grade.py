@@ -195,6 +195,8 @@ class Grades(Case):
                         contextlib.redirect_stderr(io.StringIO()):
                     grade.play_all([part], given, 1, "")
                 self.assertEqual(part.found, {"why": f"no result: its process ended with {why}"})
+                own = grade.as_one({"anna": [part]}, "7")["submissions"][0]
+                self.assertEqual((own["in_all"], own["rounds"]["points"]), ("0?", None))
 
     def test_a_limit(self):
         """Whatever a program does with its time, a part ends, and says so."""

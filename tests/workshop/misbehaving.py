@@ -77,6 +77,12 @@ def command(code: str, first: int = 5, last: str = "") -> list[str]:
     return [sys.executable, "-S", "-c", NODE.format(code=code, first=first, last=last), MARK]
 
 
+def alpha_node(methods: str) -> list[str]:
+    """A right node without a clock, but for these methods."""
+    code = f"{BEGIN}from alpha_node import AlphaNode\nclass Node(AlphaNode):\n    {methods}\ntalk.serve(Node)\n"
+    return [sys.executable, "-S", "-c", code, MARK]
+
+
 class Misbehaving(Played):
     def tearDown(self):
         self.assertEqual(left_at_last(), [])
@@ -104,19 +110,22 @@ class Misbehaving(Played):
 
     def test_a_late_answer_to_a_wrong_step_isn_t_waited_for(self):
         """Node 2 hangs in pulse 1, but before that it acknowledges nothing: that is what it is told."""
-        code = BEGIN + ("from alpha_node import AlphaNode\nclass Node(AlphaNode):\n    def put(self, at, wire):\n"
-                        "        super().put(at, 'ack 7' if wire[:3] == 'ack' else wire)\n"
-                        f"    def take_safe(self, port, pulse):\n        {LONG}\ntalk.serve(Node)\n")
+        node = alpha_node("def put(self, at, wire):\n        super().put(at, 'ack 7' if wire[:3] == 'ack' else wire)\n"
+                          f"    def take_safe(self, port, pulse):\n        {LONG}")
         start = time.monotonic()
-        found = played("alpha", "two", ALPHA, [sys.executable, "-S", "-c", code, MARK], timeout=60).finding
+        found = played("alpha", "two", ALPHA, node, timeout=60).finding
         self.assertEqual((found.kind, found.node), ("WrongWire", 2))
         self.assertLess(time.monotonic() - start, 30)
 
     def test_a_wrong_step_before_a_line_that_is_none_comes_first(self):
-        code = BEGIN + ("from alpha_node import AlphaNode\nclass Node(AlphaNode):\n    def enter(self, out):\n"
-                        "        super().enter(out)\n        if self.pulse == 2:\n"
-                        "            self.answer += ['put 0 close', 'colour 0 3']\ntalk.serve(Node)\n")
-        self.found(("NothingToPut", 1, 2), "alpha", "two", [sys.executable, "-S", "-c", code, MARK])
+        node = alpha_node("def enter(self, out):\n        super().enter(out)\n        if self.pulse == 2:\n"
+                          "            self.answer += ['put 0 close', 'colour 0 3']")
+        self.found(("NothingToPut", 1, 2), "alpha", "two", node)
+
+    def test_what_came_for_a_pulse_in_which_it_ends(self):
+        found = self.found(("ended", 1, 0), "alpha", "two", alpha_node("def enter(self, out):\n        if self.pulse:\n"
+                           "            sys.exit()\n        super().enter(out)"), ALPHA, policy="oldest")
+        self.same("what is right", dict(found.lines)["right"], "pulse 1, for which hello 2 by port 0 came")
 
     def test_ending_the_workshop_ends_the_programs(self):
         rows = (("while True: pass", signal.SIGTERM, 143), (LONG, signal.SIGHUP, 129),

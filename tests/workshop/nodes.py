@@ -47,9 +47,11 @@ SYNCHRONISER = {
     "early_present": ("WrongWire", 2, 23, "one of: put 0 safe 23; put 1 safe 23", "pulse 23 is the turn of the nodes"),
     "early_lost": ("WrongWire", 2, 23, "one of: put 0 safe 23; put 1 safe 23", "`chosen 0` came by port 0 in pulse 23",
                    "\ncame   chosen 0 by port 0, chosen 0 by port 1\nearly  `take 1 payload 22 chosen 0` came at pulse "
-                   "21, and is to be kept until pulse 22 is made\n"),
+                   "21, and is to be kept until pulse 22 is made\nearly  `take 1 safe 23` came at pulse 22, and is to "
+                   "be kept until pulse 23 is made\n"),
     "early_safe_lost": ("stuck", 2, 1, f"{PULSE}, and this node has", "\nearly  `take 1 safe 1` came at pulse 0, and "
-                        "is to be kept until pulse 1 is made\n"),
+                        "is to be kept until pulse 1 is made\n",
+                        "\nwaits  node 1 for safe 2 by port 0 | node 3 for safe 2 by port 0\n"),
     "safes_any": ("NotReady", 2, 0, "waits for safe 0 by port 0", f"{PULSE}; it lacks safe 0 by port 0"),
     "safes_none": ("NotReady", 3, 0, "waits for safe 0 by port 0", f"{PULSE}; it lacks safe 0 by port 0"),
     "safe_unsaid": ("NotReady", 2, 1, "waits for ack 1 by port 0", f"{PULSE}; {NO_ACK}"),
@@ -60,7 +62,7 @@ SYNCHRONISER = {
     "close_never": ("stuck", 1, 30, "close is put on each link as the node makes its last pulse"),
     "one_pulse": ("stuck", 4, 1, f"{PULSE}, and this node has"),
     "leaves": ("ended", 2, 29, "waits for safe 29 by port 0"),
-    "no_channel": ("result", 1, 30, "channel 1", "the channel is the merged colour and one"),
+    "no_channel": ("result", 1, 30, "wrong  no line `channel 1`\nright  channel 1\nwhy    the channel is the merged"),
     # A payload completes nothing, so nothing else is in the answer to it.
     "acks_after": None,
 }
@@ -206,10 +208,14 @@ class Mistakes(Played):
         found = self.found(("differs", 1, 3), "rounds", "alone4", answering(), program="layers")
         self.note("its words", "wrong  no line `layer none`" in found.text(), found.text())
 
+    def test_a_choice_too_many(self):
+        self.found(("differs", 1, 0), "rounds", "path1", answering("chose 0"))
+
     def test_a_node_that_does_nothing(self):
         found = self.found(("stuck", 1, 0), "alpha", "triangle", answering())
         why = "in pulse 0 a node sends `hello` and its identifier, 1, by each port"
         self.same("why", dict(found.lines)["why"], why)
+        self.same("who else", [label for label, _ in found.lines].count("wrong"), 3)
 
     def test_blame_is_of_the_node_whose_mistake_it_is(self):
         """Two right nodes, and one at the end of the row that makes pulses without its neighbours' safes."""
@@ -239,6 +245,7 @@ class Lines(Played):
             ("colouring", "rounds", "put 0 hello 1\nput 0 hello 1", "is a second payload by this port in one pulse"),
             ("colouring", "rounds", "put 7 hello 1", "there is no port 7; the node has port 0 alone"),
             ("colouring", "open", f"put 0 {'x' * 1001}", "x ..` is no line of an answer, which are `put PORT WORDS..`"),
+            ("colouring", "rounds", "", "an empty line is no line of an answer"),
             ("colouring", "rounds", "my colours: [3, 1]", "`my colours: [3, 1]` is no line of an answer"),
         ):
             found = played(assignment, "two", answering(line), program=program).finding
