@@ -22,7 +22,7 @@ ROWS = (
     ("5 2 put 1 safe 1\n", "WrongWire: node 2 puts safe 1 for 1, but the next one there is safe 0;"),
     ("5 2 put 1 payload 1 label 0\n",
      "WrongWire: node 2 puts payload 1 label 0 for 1, but the next one there is safe 0;"),
-    ("5 2 take 1 safe 0\n", "LinkEmpty: node 2 takes safe 0 from 1, which hasn't put it by then"),
+    ("5 2 take 1 safe 0\n", "LinkEmpty: node 2 takes safe 0 from 1, and 1 never puts it"),
     ("9 2 put 1 safe 0\n", "WrongStamp: node 2 puts safe 0 for 1 with stamp 9, but the clock there gives 5."),
 )
 NOT_POSSIBLE = ["line 9, not possible"]
