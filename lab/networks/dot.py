@@ -10,10 +10,11 @@ from lab.wrong import Wrong, wrong_line
 # A line that begins with # is a comment.
 SPACE = r"(?:[ \t\r\n\f\v\ufeff]|//[^\n]*|/\*(?:[^*]|\*(?!/))*\*/|(?m:^)#[^\n]*)"
 QUOTED = r'"[^"\\]*(?:\\.[^"\\]*)*"'
-NAME = r"-?(?:\.[0-9]+|[0-9]+(?:\.[0-9]*)?)(?![\w.])|[^\W\d]\w*"
-# One pass over the text: whichever of these begins first at a place is there.
-TOKEN = re.compile(rf"(?P<space>{SPACE}+)|(?P<mark>--|->|[{{}}\[\];,:=])|(?P<quoted>{QUOTED})|(?P<html><)|"
-                   rf'(?P<name>{NAME})|(?P<cut>/\*|")|(?P<strange>[^\s{{}}\[\];,:="<]+|.)', re.S)
+# A minus after a letter begins no number: a name with one in it isn't two.
+NAME = r"(?:(?<!\w)-)?(?:\.[0-9]+|[0-9]+(?:\.[0-9]*)?)(?![\w.])|[^\W\d]\w*"
+# One pass over the text: whichever of these begins first at a place is there. A text in angle brackets has tags inside.
+TOKEN = re.compile(rf"(?P<space>{SPACE}+)|(?P<mark>--|->|[{{}}\[\],;:=])|(?P<quoted>{QUOTED})|(?P<name>{NAME})|"
+                   r"(?P<html><(?:[^<>]|<[^<>]*>)*>)|(?P<strange>[^\s{}\[\],;:=\"<]+|.)", re.S)
 BEGINS = rf"{SPACE}*+(?:strict\b{SPACE}*+)?(?:di)?graph\b{SPACE}*+(?:{QUOTED}|{NAME})?{SPACE}*+\{{"
 COMPASS = {"n", "ne", "e", "se", "s", "sw", "w", "nw", "c", "_"}
 WORDS = {"node", "edge", "graph", "digraph", "subgraph", "strict"}
@@ -24,34 +25,18 @@ MOST_EDGES = 4 * MAX_EDGES
 def tokens_of(text, name):
     """(line, kind, value) of each token: a mark, which may be a keyword, or a text; in quotes it is never a keyword.
     The last one is the end."""
-    at, line = 0, 1
-    while at < len(text):
-        found = TOKEN.match(text, at)
-        kind, value, start, at = found.lastgroup, found.group(), line, found.end()
-        if kind == "html":
-            at = end_of_html(text, at)
-            value = text[found.start():at]
-        # A name with - in it would be two, the second one a number.
-        is_behind = kind == "name" and value[0] == "-" and re.match(r"\w", text[found.start() - 1:found.start()])
-        if kind in ("cut", "strange") or at is None or is_behind:
+    line = 1
+    for found in TOKEN.finditer(text):
+        kind, value = found.lastgroup, found.group()
+        if kind == "strange":
             raise wrong_line(name, line, f"DOT isn't read on from `{shown(value[:40])}`: a name of other letters than "
                                          "these and digits needs quotes. If nothing ends it, is the text cut?")
-        if kind == "quoted":
-            value = value[1:-1].replace("\\\n", "").replace('\\"', '"')
-        line += text.count("\n", found.start(), at)
         if kind != "space":
-            yield start, "mark" if kind == "mark" or kind == "name" and value.lower() in WORDS else "text", value
+            is_mark = kind == "mark" or kind == "name" and value.lower() in WORDS
+            bare = value[1:-1].replace("\\\n", "").replace('\\"', '"') if kind == "quoted" else value
+            yield line, "mark" if is_mark else "text", bare
+        line += value.count("\n")
     yield line, "end", ""
-
-
-def end_of_html(text, at):
-    """The end of a text in angle brackets, which has more of them inside, from after the first one on; or None."""
-    depth = 1
-    for found in re.compile("[<>]").finditer(text, at):
-        depth += 1 if found.group() == "<" else -1
-        if depth == 0:
-            return found.end()
-    return None
 
 
 class Reader:
@@ -151,12 +136,10 @@ class Reader:
 
     def end(self):
         """An end of an edge: nodes with commas between them, or the nodes of a subgraph."""
-        if self.skip("subgraph"):
-            if not self.is_at("{"):
+        if self.is_at("subgraph", "{"):
+            if self.skip("subgraph") and not self.is_at("{"):
                 self.id()
             self.want("{")
-            return self.statements()
-        if self.skip("{"):
             return self.statements()
         names = [self.node()]
         while self.skip(","):
