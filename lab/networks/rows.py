@@ -51,9 +51,9 @@ def may_be_blanks(rows: Rows) -> bool:
 
 def nodes_of(rows: Rows) -> list[tuple[int, str, list[str]]]:
     """The line, the node and the neighbours of each row; a colon may be after each node."""
-    has_colons = all(fields[0].endswith(":") or fields[1:2] == [":"] for _, fields in rows)
-    return [(line, fields[0].removesuffix(":" * has_colons),
-             [field for field in fields[1:] if field and not (has_colons and field == ":")]) for line, fields in rows]
+    colon = ":" * all(fields[0].endswith(":") for _, fields in rows)
+    return [(line, fields[0].removesuffix(colon), [field for field in fields[1:] if field not in ("", ":")])
+            for line, fields in rows]
 
 
 def is_closed(rows: Rows) -> bool:
@@ -77,7 +77,7 @@ def are_mutual(rows: Rows) -> bool:
 def read_adjacency(table: Table, name: str, form: str | None) -> Listed:
     """A node and its neighbours in each row."""
     found, nodes = Listed("adjacency"), nodes_of(table.rows)
-    if not form and table.by_networkx and not is_closed(table.rows):
+    if not form and not is_closed(table.rows):
         raise Wrong(f"{name}: networkx writes a line for each node of an adjacency list, and some node has none, or "
                     "two: is it cut, or have names blanks? nx.write_graphml(G, FILE) writes what is read")
     if not form and not table.by_networkx and (table.separator or not are_mutual(table.rows) and all(
@@ -133,7 +133,6 @@ def read_pairs(table: Table, name: str, heading: bool | None, is_sure: bool) -> 
     if not body:
         raise Wrong(f"{name}: there is no line after the heading")
     found = Listed("pairs with a heading" if is_headed else "pairs", left_out=said)
-    closed = not is_sure and is_closed(body)
     if not is_sure and not named:
         refuse(doubts_of_rows(body, table, heading is None), name)
     if doubt:
@@ -141,14 +140,14 @@ def read_pairs(table: Table, name: str, heading: bool | None, is_sure: bool) -> 
     rows = [(line, *ends_of(line, fields, columns, len(titles) if named else None, name)) for line, fields in body]
     if not is_sure:
         pairs = Pairs(rows, table.separator, is_headed)
-        refuse(doubts_of_pairs(pairs, closed), name)
+        refuse(doubts_of_pairs(pairs, is_closed(body)), name)
         refuse(doubts_of_names(pairs), name)
         refuse(doubts_of_shape(pairs, named is not None), name)
         refuse(doubts_of_columns(titles, body, columns, set(pairs.lines)), name)
         found.left_out += counted_names(pairs)
     found.edges = [row for row in rows if row[2]]
     found.alone = [row[:2] for row in rows if not row[2]]
-    if found.alone and found.edges and table.separator and not is_sure:
+    if found.alone and table.separator and not is_sure:
         found.left_out.append(f"a node alone, first at line {found.alone[0][0]}: is its cell merged with that above?")
     if left := columns_left(titles, body, set(columns)):
         (found.notes if is_sure else found.left_out).append(left)

@@ -5,7 +5,7 @@ from collections.abc import Iterator
 
 from lab.networks.edge_list import FLAGS
 from lab.networks.fields import is_number, shown, value_of, whole
-from lab.networks.lines import DATA, Rows, without_inner_commas
+from lab.networks.lines import Rows, without_inner_commas
 from lab.wrong import Wrong
 
 
@@ -41,11 +41,10 @@ def shapes(rows: Rows, separator: str | None, text: str) -> Iterator[tuple[bool,
 
 
 def is_odd(field: str) -> bool:
-    """Whether a field has bars, marks alone or a comment's, brackets that aren't in pairs, or braces as no name has
-    them."""
-    return "|" in field or field.startswith(("//", "{")) or field.endswith("{}") or DATA.search(field) is not None or (
-        field != ":" and not any(map(str.isalnum, field))) or any(
-            field.count(one) != field.count(other) for one, other in ("()", "[]", "{}"))
+    """Whether a field has bars, marks alone or a comment's, or brackets that aren't in pairs, or begins with a brace; a
+    colon may be between a node and its neighbours."""
+    return "|" in field or field.startswith(("//", "{")) or field != ":" and not any(map(str.isalnum, field)) or any(
+        field.count(one) != field.count(other) for one, other in ("()", "[]", "{}"))
 
 
 def are_parted(text: str, known: set[str]) -> bool:
@@ -91,8 +90,7 @@ def is_matrix(fields: list[list[str]]) -> bool:
     of a square, each row of which has one number more than the one before, or one less."""
     counts = [sum(map(bool, row)) for row in fields]
     steps = {two - one for one, two in zip(counts, counts[1:])}
-    if len(fields) > 2 and steps in ({1}, {-1}) and min(counts) < 2 and all(
-            is_number(field) for row in fields for field in row if field):
+    if len(fields) > 2 and steps in ({1}, {-1}) and all(is_number(field) for row in fields for field in row if field):
         return True
     if len(fields) > 1 and all(len(row) > 1 and FLAGS.issuperset(map(str.casefold, row)) for row in fields):
         return True
@@ -100,24 +98,19 @@ def is_matrix(fields: list[list[str]]) -> bool:
 
 
 def is_square(fields: list[list[str]], top: int, left: int) -> bool:
-    """Whether there is a square of numbers below so many rows of names and beside so many columns. Two lines of two
-    whole numbers are pairs, unless all are 0 or 1 or it has a diagonal of zeros; three of three, if weights alone have
-    a point, are pairs with weights, and three with the same three nodes are a triangle."""
+    """Whether there is a square of numbers below so many rows of names and beside so many columns, with a diagonal of
+    zeros. Three lines of three, if weights alone have a point, are pairs with weights, and three with the same three
+    nodes are a triangle."""
     body = [[value_of(field or "0" * top) for field in row[left:]] for row in fields[top:]]
-    side, names = len(body), fields[0][-len(body):]
+    side = len(body)
     if side < 2 or any(len(row) != side or None in row for row in body):
         return False
     if left:
-        return names == [row[0] for row in fields[1:]] and not (len(fields[0]) > side and is_number(fields[0][0]))
-    are_zeros = not any(body[at][at] for at in range(side))
+        return fields[0][-side:] == [row[0] for row in fields[1:]] and not (
+            len(fields[0]) > side and is_number(fields[0][0]))
     is_symmetric = all(body[at][to] == body[to][at] for at in range(side) for to in range(at))
+    are_zeros = not any(body[at][at] for at in range(side)) and (side > 2 or is_symmetric)
     if top:
-        is_like_pairs = len(fields[0]) != side or not (is_symmetric or not any(map(is_number, names)))
-        return not is_like_pairs and are_zeros or side > 2 and is_symmetric and len(fields[0]) == side
-    if side > 3 or None in map(whole, sum((row[:2] for row in fields), [])):
-        return side < 4 or are_zeros
-    if side == 3:
-        nodes = sorted(row[0] for row in fields)
-        is_triangle = len(set(nodes)) == 3 and all(sorted(row) == nodes for row in fields)
-        return not is_triangle and all(whole(row[2]) is not None for row in fields)
-    return all(number in (0, 1) for row in body for number in row) or are_zeros and is_symmetric
+        return len(fields[0]) == side and (are_zeros or side > 2 and is_symmetric)
+    is_triangle = all(sorted(row) == sorted(fields[0]) for row in fields)
+    return are_zeros or side == 3 and not is_triangle and all(whole(row[2]) is not None for row in fields)
