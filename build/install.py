@@ -108,7 +108,7 @@ def put(room, folder):
     for path in now:
         if os.path.isdir(os.path.join(folder, path)) or any(
                 os.path.isfile(os.path.join(folder, above)) for above in pathlib.PurePath(path).parents):
-            raise OSError(f"{path} would be a file in the place of a folder, or a folder in that of a file")
+            raise OSError(f"there is a folder in the place of {path}, or a file in that of a folder of it")
     for path in [*now, checksums.NAME]:
         os.makedirs(os.path.dirname(os.path.join(folder, path)), exist_ok=True)
         os.replace(os.path.join(room, path), os.path.join(folder, path))

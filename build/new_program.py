@@ -74,7 +74,7 @@ def check_name(name, top, model=MODEL):
     if not re.fullmatch("[a-z]{1,20}", name):
         raise Wrong(f"{name}: a program's name is one word of at most 20 small letters, a to z")
     if words_in(model) & {name, name.title()}:
-        raise Wrong(f"{name}: this word is taken in the crate itself")
+        raise Wrong(f"{name}: the crate that is copied has this word for something else")
     if os.path.exists(os.path.join(top, "crates", name)) or name == "colouring":
         raise Wrong(f"{name}: there is a crate or a program of this name")
 

@@ -16,10 +16,10 @@ HELP = """\
 Copies crates of this tree, and all below them, into another repository.
 
 A crate goes to crates/NAME there, and its line into crates.txt, which is made if it
-isn't there. A crate that is there already stays if it says the same; if it says anything
-else, nothing is copied, or with --replace its folder is replaced. Then write a line of
-your own, as mine: node_api interference sync_rounds
-(HANDLES, which is copied if there is none, has to allow as much as here)
+isn't there, as is HANDLES: one that is there has to allow as much as this tree's. A crate
+that is there already stays if it says the same; if it says anything else, nothing is
+copied, or with --replace its folder is replaced. Then write a line of your own, as
+mine: node_api interference sync_rounds
 and `rt try`, `rt check` and `rt ci` work there; `rt ci mine` takes what ./forestplan has
 proved here. Copies know nothing of later changes: call it again with --replace.
 If it can't be copied to the end, as on a full disk, the repository stays as it was.

@@ -100,11 +100,13 @@ class Endings(Case):
 
     def test_own_faults(self):
         """A fault of a command itself is one line, too."""
-        for fault, said in (("{}['x']", "KeyError: 'x'"), ("1 / 0", "ZeroDivisionError"), ("[].pop()", "IndexError")):
+        own = "some: a fault of this command itself, please report it: "
+        for fault, status, said in (("{}['x']", 70, f"{own}KeyError: 'x' ("), ("[].pop()", 70, f"{own}IndexError: "),
+                                    ("bytearray(1 << 62)", 1, "some: out of memory\n")):
             script = f"import sys; from lab import door; sys.exit(door.run('some', lambda: lambda: {fault}))"
             done = subprocess.run([sys.executable, "-c", script], capture_output=True, text=True, cwd=TOP)
-            good = done.returncode == 70 and done.stderr.count("\n") == 1 and said in done.stderr
-            self.note(f"a command that fails by {fault}", good and done.stderr.startswith("some: a fault of"), done)
+            good = done.returncode == status and done.stderr.count("\n") == 1 and done.stderr.startswith(said)
+            self.note(f"a command that fails by {fault}", good, done)
 
     def test_words(self):
         """The doors themselves, without a command, or with one that there isn't."""

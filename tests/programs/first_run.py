@@ -45,8 +45,12 @@ link_or_copy = os.link
 
 
 def offer(crate, stamp):
-    with open(f"{crate.folder}/out/rlib/{crate.name}.rlib/format") as text, open(f"{CACHE}/offered", "a") as said:
-        said.write(f"{crate.name} {stamp == crate.stamp() == text.read()}\\n")
+    found = [stamp, crate.stamp()]
+    for path in (f"{crate.name}.rlib/format", "stamp"):
+        with open(f"{crate.folder}/out/rlib/{path}") as text:
+            found.append(text.read())
+    with open(f"{CACHE}/offered", "a") as said:
+        said.write(f"{crate.name} {len(set(found)) == 1}\\n")
 
 
 def say(*lines):

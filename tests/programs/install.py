@@ -171,10 +171,10 @@ class Install(Case):
 
     def test_again(self):
         """Once more, while a program of the folder runs: what is there besides stays, and what an earlier install put
-        there and this one doesn't is removed, if it is as it was."""
-        own, old, changed = (self.file(os.path.join(self.target, "examples", name), b"x")
-                             for name in ("own", "old", "changed"))
-        for path, said in ((old, b"x"), (changed, b"y")):
+        there and this one doesn't is removed, if it is as it was; nothing outside."""
+        own, old, changed, outside = (self.file(os.path.join(self.target, "examples", name), b"x")
+                                      for name in ("own", "old", "changed", "../../outside"))
+        for path, said in ((old, b"x"), (changed, b"y"), (outside, b"x")):
             line = f"{hashlib.sha256(said).hexdigest()}  {os.path.relpath(path, self.target)}\n"
             self.file(os.path.join(self.target, "SHA256SUMS"), line, "ab")
         with subprocess.Popen([os.path.join(self.target, "bin", "forestplan"), "forests"], stdin=subprocess.PIPE,
@@ -182,7 +182,8 @@ class Install(Case):
             got = run([*self.script, self.target])
             out, _ = running.communicate(b"p edge 2 1\ne 1 2\n", timeout=LIMIT)
         self.note("install once more", got[:2] == (0, b"") and out == b"forests 2 1\n0 1 2\n", (got, out))
-        self.same("what is there", [os.path.exists(path) for path in (own, changed, old)], [True, True, False])
+        there = [os.path.exists(path) for path in (own, changed, outside, old)]
+        self.same("what is there", there, [True, True, True, False])
 
     def test_refused(self):
         for words in ([], [self.folder, self.folder], ["--all"], [TOP], [os.path.join(TOP, "docs", "new")]):
@@ -296,8 +297,10 @@ class Install(Case):
         """Crates go to another repository with those below them and their lines, and replace nothing unasked."""
         vendor, there = [*BUILD, "vendor"], os.path.join(self.folder, "other repository")
         os.mkdir(there)
-        got = run([*vendor, there, "cole_vishkin"])
-        self.note("vendor", got[:2] == (0, b"") and b"2 crates" in got[2], got)
+        for how in ("vendor", "once more"):
+            got = run([*vendor, there, "cole_vishkin"])
+            self.note(how, got[:2] == (0, b"") and b"2 crates" in got[2], got)
+        self.same("what is there", sorted(os.listdir(there)), ["HANDLES", "crates", "crates.txt"])
         crates, lines = os.path.join(there, "crates"), os.path.join(there, "crates.txt")
         self.same("their lines", re.findall(rb"(?m)^[^#\n].*$", contents(lines)),
                   [b"colour_base:", b"cole_vishkin: colour_base"])
