@@ -26,6 +26,9 @@ CHANGES = """\
   src/laws.rt         what the nodes have found at the end, in the words of the subject
   src/texts.rt        what is printed of it, with specs/Texts.antt
 """
+# Words that can't name a crate beside those of the model's code.
+TAKEN = set("""as break const continue crate dyn else enum false fn for ghost if impl in let loop match mod move mut pub
+ref return self static struct super trait true type unsafe use where while core std""".split())
 
 HELP = f"""\
 Makes the crate crates/NAME with a node program, all of it proved already: a copy of
@@ -73,8 +76,8 @@ def check_name(name, top, model=MODEL):
     """Refuses a name that no new crate can have."""
     if not re.fullmatch("[a-z]{1,20}", name):
         raise Wrong(f"{name}: a program's name is one word of at most 20 small letters, a to z")
-    if words_in(model) & {name, name.title()}:
-        raise Wrong(f"{name}: the crate that is copied has this word for something else")
+    if name in TAKEN or words_in(model) & {name, name.title()}:
+        raise Wrong(f"{name}: this word is taken in the language or in the crate that is copied")
     if os.path.exists(os.path.join(top, "crates", name)) or name == "colouring":
         raise Wrong(f"{name}: there is a crate or a program of this name")
 

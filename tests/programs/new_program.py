@@ -38,7 +38,7 @@ class NewProgram(Case):
 
     def test_names(self):
         for model, names in ((MODEL, ("Echoes", "a-b", "match", "laws", "known", "colouring", "x" * 21, "")),
-                             (SEQUEL, ("joined", "told", "slot", "member"))):
+                             (SEQUEL, ("while", "joined", "told", "slot", "member"))):
             for name in names:
                 with self.subTest(name), self.assertRaisesRegex(Wrong, f"^{name}: "):
                     check_name(name, self.folder, model)
