@@ -24,11 +24,11 @@ DECLARED = re.compile(rb"\s*<\?xml[^>]{0,200}?encoding\s*=\s*[\"']([A-Za-z][\w.-
 INVISIBLE = re.compile("[\u034f\u115f\u1160\u17b4\u17b5\u180b-\u180f\u3164\ufe00-\ufe0f\uffa0\U000e0100-\U000e01ef]")
 
 # Letters of UTF-8 that were read as Windows-1252. And bytes that are no letters of western Windows but of DOS or of old
-# Macintoshes, beside a letter; and three letters of another alphabet, one after the other.
+# Macintoshes, beside a letter or always; and three letters of another alphabet, one after the other.
 SPOILT = re.compile("[\u00c2\u00c3\u00d0\u00d1][\u0080-\u00bf\u0152\u0153\u0160\u0161\u0178\u017d\u017e\u0192\u02c6"
                     "\u02dc\u2013-\u2122]|\u00e2\u20ac")
 OTHER_LETTERS = re.compile(rb"(?i)[a-z][\x80-\x91\x93-\x95\x98-\x9f][a-z]|[a-z][\x80\x81\x83\x86-\x90\x95\x98-\x9f]|"
-                           rb"[\x80\x81\x83\x86-\x90\x95\x98-\x9f][a-z]|[\xc0-\xff]{3}")
+                           rb"[\x80\x81\x83\x86-\x90\x95\x98-\x9f][a-z]|[\xc0-\xff]{3}|[\x81\x8d\x8f\x90\x9d]")
 # What is said of a text whose last line may be cut.
 NO_END = "its last line has no line end: is the text cut?"
 # Letters of Cyrillic and Greek that look like others.
@@ -154,11 +154,8 @@ def likeness(name: str) -> str:
 
 
 def bytes_of(stream: io.BufferedIOBase, name: str) -> bytes:
-    """All that a file gives, if it is no more than a network may be; refused early if it is no text."""
-    data = stream.read(1 << 16)
-    if b"\0" in data and not data.startswith((codecs.BOM_UTF16_LE, codecs.BOM_UTF16_BE)):
-        return data
-    data += stream.read(MOST_BYTES - len(data) + 1)
+    """All that a file gives, if it is no more than a network may be."""
+    data = stream.read(MOST_BYTES + 1)
     if len(data) > MOST_BYTES:
         raise Wrong(f"{name}: more than {MOST_BYTES >> 20} MiB, and no network within the limits is so long")
     return data
@@ -183,10 +180,8 @@ def decoded(data: bytes, name: str) -> tuple[str, list[str], list[str]]:
         if is_other:
             raise Wrong(f"{name}: it begins like {encoding}, and can't be read so: is it cut?") from None
         refuse_letters(data, name)
-        # Western Windows has Latin-1 with more letters, and some bytes are none.
-        encoding = "Latin-1" if re.search(rb"[\x81\x8d\x8f\x90\x9d]", data) else "Windows-1252"
-        text = data.decode(encoding)
-        guessed = [f"read as {encoding}, since it is no UTF-8"]
+        text = data.decode("cp1252")
+        guessed = ["read as Windows-1252, since it is no UTF-8"]
     if "\0" in text:
         raise Wrong(f"{name}: it has bytes of value zero, so it is no text")
     if data.startswith(codecs.BOM_UTF8):

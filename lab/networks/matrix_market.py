@@ -1,6 +1,6 @@
 """A network as a sparse matrix in the form Matrix Market: an entry in row V and column W joins V and W."""
 from lab.networks.edge_list import Listed
-from lab.networks.fields import Unread
+from lab.networks.fields import Unread, value_of
 from lab.networks.graphs import Graph
 from lab.networks.network_text import shown, whole
 from lab.wrong import Wrong, wrong_line
@@ -41,10 +41,3 @@ def read(text: str, name: str) -> Listed:
     if words[3] != "pattern":
         graph.found.left_out.append(Unread(["values"], "{names} not read, as weights are"))
     return graph.listed(False, from_one=True)
-
-
-def value_of(field: str) -> float | None:
-    try:
-        return float(field)
-    except ValueError:
-        return None

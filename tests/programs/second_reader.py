@@ -161,7 +161,7 @@ def matrix_market(text):
     for row in body[1:]:
         want(all(re.fullmatch("[0-9]+", word) and 1 <= int(word) <= height for word in row[:2]), "no place")
         try:
-            values = [float(word) for word in row[2:]]
+            values = [float(word.replace(",", ".")) for word in row[2:]]
         except ValueError:
             raise Unreadable("no value") from None
         if not values or any(values):
