@@ -63,12 +63,14 @@ def refuse_far(found, places) -> None:
     """Refuses kilometres that are wider than the earth, or reach farther than around it: they are metres. And refuses
     places in several strips of Gauss and Krüger, or zones of UTM, which are in front of the digits."""
     points = [point for point in places.points if point]
-    farthest, xs = max(abs(part) for point in points for part in point), [x for x, _, _ in points]
-    is_wide = places.unit == 1.0 and (farthest > 2 * WIDEST or across_of(points) > WIDEST)
-    if is_wide or (places.titles[0] == "rechtswert" or max(xs) > 10_000) and len({int(x // 1000) for x in xs}) > 1:
-        raise Wrong(f"{found.name}: {' and '.join(places.titles)} reach {farthest:,.0f} km, or are in several strips "
-                    "of Gauss and Krüger or zones of UTM, which have no common map, as latitude and longitude have: "
-                    "columns in metres are called `x (m)` and `y (m)`, or easting and northing")
+    farthest = max(abs(part) for point in points for part in point)
+    if places.unit == 1.0 and (farthest > 2 * WIDEST or across_of(points) > WIDEST):
+        raise Wrong(f"{found.name}: {' and '.join(places.titles)} reach {farthest:,.0f} km, farther than the earth "
+                    "does: columns in metres are called `x (m)` and `y (m)`, or easting and northing")
+    xs = [x for x, _, _ in points]
+    if (places.titles[0] == "rechtswert" or max(xs) > 10_000) and len({int(x // 1000) for x in xs}) > 1:
+        raise Wrong(f"{found.name}: places in several strips of Gauss and Krüger, or zones of UTM, have no common map; "
+                    "latitude and longitude have one")
 
 
 def refuse_units(found, places, met: set[int], reach: float) -> None:

@@ -60,6 +60,9 @@ class Table:
 def table(data: bytes, name: str) -> Table:
     """The table of a text."""
     text, mended, guessed = decoded(data, name)
+    if text.lstrip()[:1] in ("<", "{", "["):
+        raise Wrong(f"{name}: it looks like XML or JSON, as KML, GPX and GeoJSON are: a table is read, with a heading "
+                    "as site,lat,lon")
     found = table_of(text, name, is_headed=True)
     rows = found.rows
     if not rows or found.separator is None and len(rows[0][1]) > 1:

@@ -60,9 +60,10 @@ def place_in(found: Table, line: int, said: list[str], is_globe: bool) -> tuple[
     place = tuple(map(value_of, said))
     if None in place or math.inf in map(abs, place) or all(map(NO_PLACE.fullmatch, said)) or is_globe and (
             place == (0, 0) or abs(place[0]) > 90 or not -180 <= place[1] <= 360):
-        raise found.wrong(line, f"no place: `{shown(' '.join(said))}`; two numbers are wanted without separators of "
-                          "thousands, latitude and longitude in degrees (are they exchanged?), or empty fields if it "
-                          "isn't known")
+        wanted = "latitude and longitude in degrees (are they exchanged?)" if is_globe else (
+            "two numbers without separators of thousands")
+        raise found.wrong(line, f"no place: `{shown(' '.join(said))}`; {wanted} are wanted, or empty fields if the "
+                          "place isn't known")
     return place
 
 
