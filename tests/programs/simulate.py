@@ -43,6 +43,14 @@ class Waits(Case):
             self.note(f"{step}", step not in waiting or len(waiting) == len(steps), steps)
             player.make(step.kind, step.node, player.state.port_to.get((step.node, step.neighbour)))
 
+    def test_since_when(self):
+        """By hand: node 2 puts its greeting third and its acknowledgement fourth, so node 1 can take since 3, and what
+        was put on that link last is of 4."""
+        player = Player(network_of(example("two")))
+        for event in (("put", 1, 0), ("take", 2, 0), ("put", 2, 0), ("put", 2, 0)):
+            player.make(*event)
+        self.assertEqual([(step.kind, step.since, step.latest) for step in player.steps[1]], [("take", 3, 4)])
+
     def test_how_far_a_slow_edge_lets_others_run(self):
         """By hand: while nothing goes over 2-3 in six in a row, nodes 2 and 3 wait for each other's acknowledgement at
         pulse 0, so 1 and 4 wait for their safe; 5 makes one pulse by 4's safe, and 6 another by 5's."""

@@ -176,6 +176,8 @@ class Answers(Server):
         run = self.answer("run", network=TRIANGLE, how="seed", policy="random", seed="7")["answer"]
         good = run["judge"]["ok"] and run["results"] == [2, 3, 1] and run["same"][0] == run["same"][1]
         self.note("run", good, run["same"])
+        slow = self.answer("run", network=TRIANGLE, policy="slow-node", seed="7")["answer"]
+        self.note("which node waits", slow["of"] in ("node 1", "node 2", "node 3") and not run["of"], slow["of"])
         lines = run["text"].split("\n")
         got = self.answer("replay", network=TRIANGLE, transcript="\n".join(lines[:101]))["answer"]
         self.note("a beginning of it", got["ok"] and got["entries"] == 100 and len(got["pulses"]) == 3, got)
@@ -197,6 +199,11 @@ class Answers(Server):
         done = self.answer("steps", network=two, by=200, seed="3")["answer"]
         found = [look["c"] for look in done["looks"]]
         self.note("chance ends it", found == [1, 2] and done["judge"]["ok"], done)
+        other = self.answer("steps", network=two, by=200, seed="4")["answer"]
+        self.note("by its seed", other["made"] != done["made"], other)
+        turn = self.answer("steps", network=two, without="fifo", steps="2-1_1-2-1")["answer"]
+        again = self.answer("steps", network=two, without="fifo", list="\n".join(turn["list"]))["answer"]
+        self.note("what overtakes is in the list", "take 1 0 1" in turn["list"] and again["made"] == turn["made"], turn)
         held = self.answer("steps", network=TRIANGLE, slow=[[1, 2]], by=200)["answer"]
         at = [look["p"] for look in held["looks"]]
         self.note("a held link holds its nodes", at[0] == at[1] == 0 and "1-2" in held["steps"], held)

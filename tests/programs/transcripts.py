@@ -329,6 +329,10 @@ class Transcripts(Case):
             self.note(f"replay {words}", done[:2] == (status, b"") and re.search(
                 rb"^(forestlab transcript replay: error|transcript): ", done[2], re.M), done)
         self.refusal("replay of a cut text", replay(network, data=whole[:100]), 1, b"cut")
+        for root in ([], ["--root", "2"]):
+            layers = ["two", "-", "--program", "layers", *root]
+            run = forestlab("simulate", *layers[:1], *layers[2:])[1]
+            self.note(f"replay of layers {root}", replay(*layers, data=run)[::2] == (0, b""))
         taken = {v: whole.count(b"\n%d take %d " % (3 - v, v)) for v in (1, 2)}
         wanted = "".join(f"node {v} pulse {EDGE_LAST} channel {v}\nlink {v} {3 - v} taken {taken[v]}\n" for v in (1, 2))
         self.same("replay of a run", replay(network, data=whole), (0, wanted.encode(), b""))
