@@ -17,7 +17,7 @@ from lab.networks.network_text import network_of
 from lab.schedules.simulate import played, text_of_run
 from lab.transcripts.check import Wrong, find_order, in_order, whole_run
 from lab.transcripts.reading import read
-from tests import FORESTLAB
+from tests import FORESTLAB, TOP
 from tests.cases import Case, called, forestlab, text, text_in, wait_until
 from tests.programs.made_transcripts import KINDS, Run, merged_text, spoiled, transcript_text
 from tests.programs.node_programs import SEQUELS
@@ -323,12 +323,14 @@ class Transcripts(Case):
             return forestlab("transcript", "replay", *words, data=data)
 
         whole, network = EDGE_RUN, self.file("edge.col", text(EDGE[:-1]))
-        for words, status in (([], 2), ([network, "x", "y"], 2), (["--order", network], 2), ([network, "nowhere"], 1),
-                              (["-"], 1)):
+        for words, status in (([], 2), ([network, "x", "y"], 2), (["--order", network], 2), ([network, "nowhere"], 1)):
             done = replay(*words, data=whole)
             self.note(f"replay {words}", done[:2] == (status, b"") and re.search(
                 rb"^(forestlab transcript replay: error|transcript): ", done[2], re.M), done)
-        self.refusal("replay of a cut text", replay(network, data=whole[:100]), 1, b"cut")
+        own = ["--program", os.path.join(TOP, "examples", "algorithms", "tree_count.py")]
+        for words, data, said in (([network], whole[:100], b"cut"), (["-"], whole, b"standard input has one text"),
+                                  ([network, *own], whole, b"no proved program runs tree_count")):
+            self.refusal(f"replay {words} of {len(data)} bytes", replay(*words, data=data), 1, said)
         for root in ([], ["--root", "2"]):
             layers = ["two", "-", "--program", "layers", *root]
             run = forestlab("simulate", *layers[:1], *layers[2:])[1]

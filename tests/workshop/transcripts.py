@@ -35,6 +35,12 @@ ROWS = (
      "said in pulse P"),
     ("1 3 pulse 1|", "line 2: NoSuch: node 3 makes pulse 1, but there is no such node or neighbour"),
     ("1 1 put 1 safe 0|", "line 2: NoSuch: node 1 puts safe 0 for 1, but there is no such node or neighbour"),
+    (f"1 1 put 2 {HELLO_1}|1 2 put 1 {HELLO_2}|2 1 take 2 payload 0 hello 7|",
+     "line 4: WrongWire: node 1 takes payload 0 hello 7 from 2, but the next one there is payload 0 hello 2"),
+    (f"2 1 put 2 {HELLO_1}|",
+     f"line 2: WrongStamp: node 1 puts {HELLO_1} for 2 with stamp 2, but the clock there gives 1"),
+    (f"1 2 put 1 {HELLO_2}|1 1 put 2 {HELLO_1}|", f"line 3: WrongStamp: node 1 puts {HELLO_1} for 2 with stamp 1, but "
+                                                  "entries ascend by stamp, and then by node"),
     # A wire that isn't there: where it is put, if it is, or nowhere, be there another one; and one that was taken.
     *((f"{entries}1 take 2 {HELLO_2}|{more}", f"line {line}: LinkEmpty: node 1 takes payload 0 hello 2 from 2{said}")
       for entries, more, line, said in (
