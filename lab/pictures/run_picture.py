@@ -1,7 +1,8 @@
 """Space and time: above, what happened in a run; below, the same payloads with each pulse made equally long.
 
 What is drawn is what is true. No cut through all ticks of one pulse is consistent in general, so none is shaded as one:
-a band goes from tick p to tick p + 1 of each node, and wires may cross its border backwards; they are counted in words.
+a band goes from tick p to tick p + 1 of each node, and wires may cross its border backwards; the payloads that do are
+counted in words.
 A pale bar goes from where a payload is taken to the tick at which it is read, and that tick is p + 1's."""
 from lab.pictures.marks import dash_of, short_name, wire_arrow
 from lab.pictures.palette import BAND, BORDER, INK, PAPER, PULSE, SOFT, WIRES, WRONG

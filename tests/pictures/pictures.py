@@ -32,6 +32,7 @@ SAID = [
     ("overview star64 --transcript {short64}", b"", "pulses 0 to 39 of 204"),
     ("overview star64 --transcript {short64} --pulses 0..99", b"", "neighbours are never more than one pulse apart"),
     ("overview star64 --transcript {short64} --pulses 0..100", b"", "101 pulses, too many"),
+    ("schedules star4", b"", "Here are those after 0 to 23 of 336 events."),
     ("results drops --program recolouring", b"", "2 channels; before there were 3."),
     ("why barred --vertex 1 --text", b"", "\n  channel 1 is barred at it\n"),
     ("why petersen --vertex 6 --text", b"", "\n4 told 3 colour 0 in pulse 10, in forest 0\n"),

@@ -36,6 +36,11 @@ def begins_and_tip(group):
     return ends(group)[0], ends(group.find(f"{SVG}path"))[0]
 
 
+def early_in(picture):
+    """How many payloads came early, as a run's picture says."""
+    return int(re.search(r"put here, (\w+) came", " ".join(texts(picture)))[1].replace("none", "0"))
+
+
 class Runs(PictureCase):
     needs_programs = True
 
@@ -58,7 +63,12 @@ class Runs(PictureCase):
             ticks.setdefault(y + 10, []).append(x)
         rows = dict(enumerate(sorted(ticks), 1))
         found = {v: [(x, f"pulse {p}") for p, x in enumerate(ticks[y])][1:] for v, y in rows.items()}
-        wrong, tips = [], []
+        wrong, tips, read, early = [], [], entries_of(text), 0
+        for own in read.values():
+            begun = 0
+            for _, kind, *more in own:
+                begun += kind == "pulse"
+                early += kind == "take" and more[1] == "payload" and int(more[2]) > begun
         for group in marks(root, *WIRES):
             v, w, said = re.fullmatch(r"(\d+) to (\d+): (.*)", title(group)).groups()
             start, tip = begins_and_tip(group)
@@ -70,7 +80,8 @@ class Runs(PictureCase):
                 tips.append((tip, (ticks[tip[1]][int(said.split()[1]) + 1], tip[1])))
         self.facts(f"run of {name}", {
             "its entries": ({v: [said for _, said in sorted(own)] for v, own in found.items()},
-                            {v: [" ".join(entry[1:]) for entry in own] for v, own in entries_of(text).items()}),
+                            {v: [" ".join(entry[1:]) for entry in own] for v, own in read.items()}),
+            "those that come early": (early_in(picture), early),
             "arrows between other rows": (wrong, []),
             "each payload is kept until it is read": ([ends(bar) for bar in marks(root, "bar")], tips),
         })
@@ -84,7 +95,7 @@ class Runs(PictureCase):
             for (which, text), some in zip(texts_of.items(), 2 * [(3, 7), (last - 3, last)]):
                 label = f"{name}, {which}"
                 if name != "ring14":
-                    lower.add(self.window_rows(label, network, text, 0, 3))
+                    lower.add(self.window_rows(label, network, text, 2, 5))
                 for window in (None, some):
                     self.overview_rows(label, network, text, window)
                     self.tally_rows(label, network, text, window)
@@ -126,6 +137,8 @@ class Runs(PictureCase):
             "grey ticks": (len(marks(root, "outside")), sum(
                 not first <= p <= final + 1 and low <= time <= high for (_, p), time in times.items())),
             "bands": (len(marks(root, "band")), final - first + 1),
+            "numbers over them": (sorted({*range(first, final + 1)} & {*map(int, words(root, "name"))}),
+                                  [*map(int, words(root, "name"))]),
             "its title": (f": pulses {first} to {final} of {last}," in texts(root)[0], True),
         })
 
@@ -220,3 +233,7 @@ class Runs(PictureCase):
         wrong = by_vertex([re.sub(r"^(5 put \d+ safe) 20$", r"\1 21", row) for row in rows])
         status, picture, _ = self.called("overview", network, text=wrong)
         self.note("a long text with a mistake in these pulses", (status, picture) == (1, b""))
+        cut = rows.index("5 pulse 20")
+        status, _, fault = self.called("overview", network, text=by_vertex(
+            rows[:cut] + [row for row in rows[cut:] if not row.startswith("5 ")]))
+        self.note("a long text that stops in these pulses", status == 1 and b": LinkEmpty: " in fault, fault)

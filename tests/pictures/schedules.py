@@ -70,6 +70,14 @@ def rows_of(space, s):
             for values, part, (v, node) in zip(space.locals, space.states[s], space.nodes(s).items())]
 
 
+def spread_of(bold, vertices):
+    """By how many of these pulses the nodes of a run differ, after each."""
+    made = dict.fromkeys(vertices, 0)
+    for words in (words.split() for _, _, words in bold):
+        made[int(words[1])] += words[0] == "pulse"
+        yield max(made.values()) - min(made.values())
+
+
 class Schedules(PictureCase):
     def test_tables(self):
         """The table against the explorer's space, state by state and step by step; and the page has it, and needs
@@ -100,12 +108,20 @@ class Schedules(PictureCase):
 
     def test_dares(self):
         """What the page says of its dares, counted in the space; these are the numbers that it has to say."""
-        for name, answers in (("two", [["281"], ["281"], ["281"], ["6"]]),
-                              ("path", [["3,551"], ["3,551"], ["3,551"], ["2", "17"], ["11"]])):
-            space, dares = space_of(name), data_of(self.drawn("adversary", NETWORKS[name]))["dares"]
-            pulses = [{v: node.pulse for v, node in space.nodes(s).items()} for s in range(space.count)]
-            self.same(f"dares of {name}: what they say",
+        for name, without, answers in (
+                ("two", (), [["281"], ["281"], ["281"], ["6"]]),
+                ("path", (), [["3,551"], ["3,551"], ["3,551"], ["2", "17"], ["11"]]),
+                ("two", ("safes",), [["5", "2"], ["10"], ["104"], ["4"]]),
+                # A table that ends early.
+                ("triangle", ("safes",), [["8", "3"], ["16"], ["34"], ["7"]])):
+            page = self.drawn("adversary", NETWORKS[name], *(f"--without={rule}" for rule in without))
+            dares = data_of(page)["dares"]
+            self.same(f"dares of {name} without {without}: what they say",
                       [re.findall(r"\d[\d,]*", dare["answer"])[:2] for dare in dares], answers)
+            if name == "triangle":
+                continue
+            space = space_of(name, without, bool(without))
+            pulses = [{v: node.pulse for v, node in space.nodes(s).items()} for s in range(space.count)]
             for dare in dares:
                 if dare["kind"] == "few":
                     self.same(f"dares of {name}: as few events as can be", dare["best"], min(
@@ -121,7 +137,8 @@ class Schedules(PictureCase):
 
     def test_lattices(self):
         for name, without, window in (
-                ("two", (), (0, 104)), ("two", (), None), ("path", (), (0, 20)), ("triangle", (), (364, 374)),
+                ("two", (), (0, 104)), ("two", (), None), ("path", (), None), ("path", (), (0, 20)),
+                ("triangle", (), (364, 374)),
                 ("two", ("safes",), None), ("two", ("early",), None), ("two", ("fifo",), None),
                 ("two", ("acks", "fifo"), None), ("triangle", ("safes",), None), ("two", ("safes",), (0, 24)),
                 ("two", ("safes",), (72, 84)), ("two", ("early",), (0, 30))):
@@ -161,6 +178,7 @@ class Schedules(PictureCase):
             "what its steps are": (kinds, Counter((event.wire or "pulse").split()[0] for s in range(space.count)
                                                   if low <= space.depth[s] < high for event, _ in space.steps(s))),
             "as long as the window": (len(bold), high - low),
+            "no node of it is two pulses ahead": (max(spread_of(bold, space.vertices), default=0) > 1, False),
             "the bold run takes before it pulses": (
                 [start for start, _, words in bold if words.startswith("pulse") and start in takes], []),
         })
