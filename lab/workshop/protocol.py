@@ -51,6 +51,7 @@ def shown(got: str | bytes | bytearray, most: int = 80) -> str:
     return f"`{''.join(c if c.isprintable() else '?' for c in text)}{' ..' if len(got) > most else ''}`"
 
 
+@cache
 def forms_of(assignment: str, program: str) -> list[str]:
     """The forms of the lines of an answer."""
     of_colouring = OF_COLOURING * ((assignment, program) == ("rounds", COLOURING))
@@ -66,8 +67,10 @@ def fields_of(line: str, forms: list[str], degree: int) -> tuple[str, ...]:
     """The fields of a line that has one of these forms, numbers without zeros before them; a port by which something
     is put is one of the node."""
     words = " ".join(line.split())
-    found = next((found for form in forms if (found := pattern(form).fullmatch(words))), None)
-    if not found:
+    for form in forms:
+        if found := pattern(form).fullmatch(words):
+            break
+    else:
         what, lines = shown(line) if words else "an empty line", ", ".join(f"`{form}`" for form in forms)
         raise Fault("garbage", f"{what} is no line of an answer, which are {lines} and `end`; what a program prints to "
                                "find mistakes goes to standard error")
