@@ -23,8 +23,8 @@ MOST_LETTERS = 1000         # of a payload of an own algorithm
 # The line that ends an answer: as in all lines, blanks around it count for nothing.
 END = re.compile(rb"(?m)^[ \t\r]*end[ \t\r]*\n")
 # What there is for the words of a form: those in small letters are themselves, and all others are numbers.
-FIELDS = {"WORD": r"(\S+)", "WIRE": "(.+)", "WORDS..": f"(.{{1,{MOST_LETTERS}}})", "P": "0*([0-9]{1,9})"}
-NUMBER = "0*([0-9]{1,39})"
+FIELDS = {"WORD": r"(\S+)", "WIRE": "(.+)", "WORDS..": f"(.{{1,{MOST_LETTERS}}})", "P": "0{0,40}([0-9]{1,9})"}
+NUMBER = "0{0,40}([0-9]{1,39})"
 
 
 def own_data(network: Network, v: int, assignment: str, rounds=None) -> list[str]:
