@@ -365,6 +365,7 @@ def command_line():
             add_program(kind)
         add_options(kind, name, OPTIONS)
         add_output(kind)
+        kind.set_defaults(refuse=kind.error)
     return words
 
 
@@ -440,12 +441,11 @@ def drawn(given):
 
 def main(words):
     gc.disable()  # It draws one picture and ends; on long texts the collector would take a third of the time.
-    line = command_line()
-    given = line.parse_args(words)
+    given = command_line().parse_args(words)
     if given.kind == "broken" and (why := unknown_to(given.program, given.without)):
-        line.error(why)
+        given.refuse(why)
     if getattr(given, "stopped", None) is not None and not given.wrong:
-        line.error("--stopped is for --wrong")
+        given.refuse("--stopped is for --wrong")
     try:
         picture = drawn(given)
     except programs.Refused as why:
