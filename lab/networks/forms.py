@@ -2,7 +2,7 @@
 reader returns `Listed`: the edges by names, as they are in the text, and what was guessed."""
 import re
 
-from lab.networks import by_networkx, dimacs, dot, gml, graphml, matrix_market, node_link, rows, small_forms
+from lab.networks import by_networkx, dimacs, dot, gml, graphml, node_link, rows, small_forms
 from lab.networks.edge_list import Listed
 from lab.wrong import Wrong
 
@@ -16,7 +16,8 @@ XML = r"\s*(<.{0,4096}?)?<%s\b"
 # How a text of each form begins and its reader, in the order in which they are tried.
 READERS = {
     "graphml": (at_start(XML % "graphml"), graphml.read_graphml), "json": (at_start(r"\s*\{"), node_link.read),
-    "matrixmarket": (at_start(r"\s*%%matrixmarket"), matrix_market.read), "gml": (at_start(gml.BEGINS), gml.read),
+    "matrixmarket": (at_start(r"\s*%%matrixmarket"), small_forms.read_matrix_market),
+    "gml": (at_start(gml.BEGINS), gml.read),
     "dot": (at_start(dot.BEGINS), dot.read), "dimacs": (dimacs.EDGE.search, dimacs.read),
     "gexf": (at_start(XML % "gexf"), graphml.read_gexf),
     "pajek": (at_start(r"\*(vertices|network)\b"), small_forms.read_pajek),

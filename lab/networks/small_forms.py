@@ -1,11 +1,16 @@
-"""Pajek, LEDA, graph6 and sparse6: forms whose nodes are numbered, and may have a name."""
+"""Matrix Market, Pajek, LEDA, graph6 and sparse6: forms whose nodes are numbered, and may have a name."""
 import re
 
 from lab.networks.edge_list import Listed
-from lab.networks.fields import is_number, shown, whole
+from lab.networks.fields import Unread, is_number, shown, value_of, whole
 from lab.networks.graphs import Graph
 from lab.wrong import Wrong, wrong_line
 
+# How many fields a line of Matrix Market has, by the kind of values, and a head with one, and with the halves that are
+# there.
+FIELDS = {"pattern": 2, "integer": 3, "real": 3, "complex": 4}
+MARKET = re.compile(rf"%%matrixmarket\s+matrix\s+coordinate\s+({'|'.join(FIELDS)})\s+"
+                    r"(general|symmetric|skew-symmetric|hermitian)", re.I)
 # A vertex of Pajek: its number, its name, and its place or its shape.
 VERTEX = re.compile(r'(\S+)\s+("[^"\\]*"|[^\s"\'\\]+)(\s+([-+.\d]|(ellipse|box|diamond|triangle|cross|empty)\b).*)?')
 
@@ -21,6 +26,36 @@ def add_edge(graph: Graph, line: int, ends: list[str], said: dict) -> None:
     if None in map(whole, ends):
         raise wrong_line(graph.name, line, f"no edge of two vertices: `{shown(' '.join(ends))}`")
     graph.edge(line, [str(whole(end)) for end in ends], said)
+
+
+def read_matrix_market(text: str, name: str) -> Listed:
+    """A sparse matrix: an entry in row V and column W that isn't zero joins V and W, and each row is a node."""
+    head = next((row for _, row in lines_of(text)), "")
+    found, rows = MARKET.fullmatch(head), [(line, row.split()) for line, row in lines_of(text, "%")]
+    if not found:
+        raise Wrong(f"{name}: `{shown(head)}` isn't read: Matrix Market begins with a line as `%%MatrixMarket matrix "
+                    "coordinate pattern general`")
+    sizes = [whole(field) for field in rows[0][1]] if rows else []
+    if len(sizes) != 3 or None in sizes or sizes[0] != sizes[1]:
+        raise wrong_line(name, rows[0][0] if rows else 1, "no line ROWS COLUMNS ENTRIES with as many columns as rows")
+    if len(rows) - 1 != sizes[2]:
+        raise Wrong(f"{name}: it says {sizes[2]} entries and has {len(rows) - 1}: is it cut?")
+    graph, zeros = Graph("Matrix Market", name), []
+    for node in range(1, sizes[0] + 1):
+        graph.node(1, str(node), {})
+    for line, fields in rows[1:]:
+        ends, values = [whole(field) for field in fields[:2]], [value_of(field) for field in fields[2:]]
+        if len(fields) != FIELDS[found[1].lower()] or None in ends + values:
+            raise wrong_line(name, line, f"no row and column with their values: `{shown(' '.join(fields))}`")
+        if values and not any(values):
+            zeros.append(line)
+        else:
+            graph.edge(line, list(map(str, ends)), {})
+    if zeros:
+        graph.found.left_out.append(f"entries of value zero left out: {len(zeros)}, first at line {zeros[0]}")
+    if found[1].lower() != "pattern":
+        graph.found.left_out.append(Unread(["values"], "{names} not read, as weights are"))
+    return graph.listed(False, from_one=True)
 
 
 def read_pajek(text: str, name: str) -> Listed:

@@ -181,7 +181,7 @@ REFUSED = [
     ("DIMACS of many nodes", "p edge 20001 0\n", "at most 20000"),
     ("many neighbours", "".join(f"1 {v}\n" for v in range(2, 1026)), "vertex 1 has 1024 neighbours, more than 1023"),
     ("many nodes", "".join(f"{v} {v + 1}\n" for v in range(1, 20001)), "20001 nodes, and a network has at most 20000"),
-    ("Matrix Market of a table", "%%MatrixMarket matrix array real general\n1 1\n1\n", "`matrix array real general`"),
+    ("Matrix Market of a table", "%%MatrixMarket matrix array real general\n1 1\n1\n", "array real general` isn't"),
     ("Matrix Market that is no square", "%%MatrixMarket matrix coordinate real general\n2 3 1\n1 1 1\n",
      "as many columns as rows"),
     ("an adjacency with a comma", "A B, C\nB A\n", "has a mark that separates fields", "--as", "adjacency"),
