@@ -78,7 +78,7 @@ class Maps(PictureCase):
                 "labels": (sorted(map(int, words(root, "number"))), [*plan] * is_small),
                 "crossed out": (bars_in(root), bars_of(net) if is_small else ([], [])),
                 "it says what is crossed out": ("barred" in said, net.greatest_bars > 0),
-                "it says how many are used": (f"{len({*plan.values()})} of the {net.span + 1} allowed" in said, True),
+                "it says how many are used": (f": {len({*plan.values()})} of the {net.span + 1} allowed" in said, True),
             })
             given = {int(v): (float(x), float(y)) for v, x, y in re.findall(rb"c at (\d+) (\S+) (\S+)", network)}
             if len(given) == len(plan):

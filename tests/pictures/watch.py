@@ -7,6 +7,7 @@ from unittest import mock
 
 from lab.definitions.colours import colours
 from lab.definitions.nodes import last_pulse
+from lab.definitions.rounds import Rounds
 from lab.networks.network_text import network_of
 from lab.pictures import watch_page
 from lab.pictures.watch_page import Run, Steps, steps_of_text
@@ -29,7 +30,7 @@ class Watch(PictureCase):
         for name in ("two", "triangle", "barred", "star", "petersen"):
             text, net = transcript(example(name), f"watch {name}"), network_of(example(name))
             page, lines = self.page(name, text), fields_of(text)
-            run, wrong, last, links = data_of(page)["runs"][0], [], {}, {}
+            run, wrong, last, since, links = data_of(page)["runs"][0], [], {}, {}, {}
             nodes = (node for node, *_ in played(example(name), text))
             for at, ((stamp, v, look, _), line, node) in enumerate(zip(run["rows"], lines, nodes)):
                 look, p = run["looks"][look], node.pulse
@@ -38,6 +39,8 @@ class Watch(PictureCase):
                         look["p"], look["w"], sorted(look["h"]), sorted(look["k"])]:
                     wrong.append((line, look))
                 last[v] = look
+                if look["c"]:
+                    since.setdefault(v, p)
                 if line[2] != "pulse":
                     ends = (line[1], line[3]) if line[2] == "put" else (line[3], line[1])
                     links.setdefault(ends, {"put": [], "take": []})[line[2]].append([at, stamp])
@@ -49,6 +52,8 @@ class Watch(PictureCase):
                 "those that are wrong": (wrong[:3], []),
                 "wires": (wires, {ends: [put + take for put, take in zip(both["put"], both["take"])]
                                   for ends, both in links.items()}),
+                "since when it has a channel": (dict(sorted(since.items())),
+                                                {v: Rounds(net).turn(0, v) for v in net.vertices}),
                 "the plan": ({v: (look["c"] - 1, bool(look["e"])) for v, look in last.items()},
                              {v: (colour, True) for v, colour in colours(net).items()}),
             })
