@@ -221,13 +221,14 @@ class OwnNetworks(Case):
         """One function for a text of which nobody knows the form: a network of the programs is read without a word, and
         the fault of one is its own."""
         for data, wanted in (
-            (b"c name 1 A\np edge 3 1\ne 2 1\n", (3, [(1, 2)], {1: "A"}, False)),
-            (b"a,b\nb,c\n", (3, [(1, 2), (2, 3)], {1: "a", 2: "b", 3: "c"}, True)),
-            (b"\xef\xbb\xbfp edge 2 1\ne 1 2\n", (2, [(1, 2)], {}, True)),
+            (b"c name 1 A \r\nc at 1 -1 2.5\r\np edge 3 1\r\ne 2 1\r\n",
+             (3, [(1, 2)], {1: "A"}, {1: (-1, 2.5)}, False)),
+            (b"a,b\nb,c\n", (3, [(1, 2), (2, 3)], {1: "a", 2: "b", 3: "c"}, {}, True)),
+            (b"\xef\xbb\xbfp edge 2 1\ne 1 2\n", (2, [(1, 2)], {}, {}, True)),
         ):
             found, said = read_any(data, "any.txt")
-            self.same(f"any form: {data}", (found.nodes, found.edges, found.names, bool(said), found.name),
-                      (*wanted, "any"))
+            self.same(f"any form: {data}", (
+                found.nodes, found.edges, found.names, found.places, bool(said), found.name), (*wanted, "any"))
         for data, wanted in ((b"p edge 2 1\ne 1 5\n", r"\(F5\)"), (b"", "no line with a node"),
                              (b"p edge 2 1\nx,y\n", r"\(F8\)")):
             with self.subTest(data), self.assertRaisesRegex(Wrong, wanted):
