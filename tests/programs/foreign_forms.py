@@ -175,6 +175,7 @@ REFUSED = [
     ("DOT with an edge of one end", "# x\ngraph {\n# y\n a -- }\n", "line 4: DOT isn't read on from `}`"),
     ("DOT with another mark", "graph { a ! b }", "`!`"),
     ("DIMACS with a word", "p edge 2 1\ne 1 x\n", "line 2: no edge"),
+    ("DIMACS of another kind", "p cnf 2 1\n1 2 0\ne 1 2\n", "line 1: `p cnf` may begin another kind of text"),
     ("DIMACS with a strange vertex", "p edge 2 1\ne 1 7\n", "line 2: vertex 7, and the `p` line has 2"),
     ("DIMACS with two heads", "p edge 2 1\np edge 2 1\n", "line 2: a second `p` line"),
     ("DIMACS without numbers", "p edge x\ne 1 2\n", "line 1: no number of nodes"),

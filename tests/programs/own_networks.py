@@ -55,7 +55,7 @@ REFUSED = ["path 0", "path -1", "path x", "path 20001", "ring 2", "star 1025", "
            "disk 30 --radius 0", "disk 30 --radius 3", "disk 0", "disk 2000 --radius 2", "random 10 46",
            "random 2000 400001", "random 5 3 --connected", "random 5 9 --neighbours 3", "random 5 4 --forests 5",
            "random 5 4 --neighbours -1", "random 5 4 --forests -1", "path 3 --connected", "random 5 -1", "random 5",
-           "path 3 4", "path 3 --seed 1", "square 4", "", "read",
+           "path 3 4", "path 3 --seed 1", "square 4", "", "read", "path 99999999999",
            "number x", "number x --by size", "tell", "tell x y", "read x --as graph"]
 
 
