@@ -12,10 +12,14 @@ SPACE = r"(?:[ \t\r\n\f\v\ufeff]|//[^\n]*|/\*(?:[^*]|\*(?!/))*\*/|(?m:^)#[^\n]*)
 QUOTED = r'"[^"\\]*(?:\\.[^"\\]*)*"'
 # A minus after a letter begins no number: a name with one in it isn't two.
 NAME = r"(?:(?<!\w)-)?(?:\.[0-9]+|[0-9]+(?:\.[0-9]*)?)(?![\w.])|[^\W\d]\w*"
-# One pass over the text: whichever of these begins first at a place is there. A text in angle brackets has tags inside.
+# A text in angle brackets has tags inside, and these no deeper ones than a person writes.
+HTML = "<[^<>]*>"
+for _ in range(4):
+    HTML = f"<(?:[^<>]|{HTML})*>"
+# One pass over the text: whichever of these begins first at a place is there.
 TOKEN = re.compile(rf"(?P<space>{SPACE}+)|(?P<mark>--|->|[{{}}\[\],;:=])|(?P<quoted>{QUOTED})|(?P<name>{NAME})|"
-                   r"(?P<html><(?:[^<>]|<[^<>]*>)*>)|(?P<strange>[^\s{}\[\],;:=\"<]+|.)", re.S)
-BEGINS = rf"{SPACE}*+(?:strict\b{SPACE}*+)?(?:di)?graph\b{SPACE}*+(?:{QUOTED}|{NAME})?{SPACE}*+\{{"
+                   rf"(?P<html>{HTML})|" r"(?P<strange>[^\s{}\[\],;:=\"<]+|.)", re.S)
+BEGINS = rf"{SPACE}*+(?:strict\b{SPACE}*+)?(?:di)?graph\b{SPACE}*+(?:{QUOTED}|{NAME}|{HTML})?{SPACE}*+\{{"
 COMPASS = {"n", "ne", "e", "se", "s", "sw", "w", "nw", "c", "_"}
 WORDS = {"node", "edge", "graph", "digraph", "subgraph", "strict"}
 # No file that a person or a program writes has as many edges between two subgraphs.

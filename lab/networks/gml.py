@@ -13,6 +13,10 @@ TOKEN = re.compile(r'(?P<space>\s+|#[^\n]*)|(?P<mark>[\[\]])|"(?P<string>[^"]*)"
                    r'(?P<strange>.)', re.S)
 
 
+# Keys that have one text each, in whatever list they are.
+ENDS = ("id", "source", "target")
+
+
 class Quoted(str):
     """A text that was in quotes."""
 
@@ -32,14 +36,14 @@ def root_of(text: str, name: str) -> tuple[Element, list[int]]:
     inside, lines, key, line = [Element("")], [1], "", 1
     for line, kind, value in tokens_of(text):
         mark = value if kind in ("mark", "strange") else ""
-        if mark == "[" and key:
+        if mark == "[" and key and key not in ENDS:
             inside.append(SubElement(inside[-1], key))
             lines.append(line)
         elif mark == "]" and not key and len(inside) > 1:
             inside.pop()
         elif mark or key in ("graph", "node", "edge") or not key and not re.fullmatch("[A-Za-z][0-9A-Za-z_]*", value):
             raise wrong_line(name, line, f"GML isn't read on from `{shown(value)}`")
-        elif key in ("id", "source", "target") and key in inside[-1].attrib:
+        elif key in inside[-1].attrib and (key in ENDS or inside[-1].tag == "edge"):
             raise wrong_line(name, line, f"two values of `{key}`")
         elif key:
             inside[-1].attrib.setdefault(key, value)
@@ -51,10 +55,13 @@ def root_of(text: str, name: str) -> tuple[Element, list[int]]:
 
 def said_of(part: Element) -> dict[str, str]:
     """What the keys of a node or an edge say, and where a node is drawn; a list says nothing but that it is there."""
-    said = {inner.tag: inner.tag for inner in part} | part.attrib
-    for inner in part.findall("graphics") if part.tag == "node" else ():
-        said |= {key: inner.get(key) for key in "xy"}
-    return {key: said[key] for key in said.keys() - {"graphics", "gid"}} if part.tag == "node" else said
+    said = {inner.tag: inner.tag for inner in part if inner.tag not in ("label", "name")} | part.attrib
+    if part.tag == "edge":
+        return {key: said[key] for key in said.keys() - {"source", "target"}}
+    for inner in reversed(part.findall("graphics")):
+        said |= {key: inner.attrib[key] for key in "xy" if key in inner.attrib}
+    return {"isGroup": part.get("isgroup")} | {
+        key: said[key] for key in said.keys() - {"id", "graphics", "gid", "isgroup"}}
 
 
 def read(text: str, name: str) -> Listed:

@@ -2,10 +2,12 @@
 from xml.etree import ElementTree
 
 from lab.networks.edge_list import Listed
-from lab.networks.fields import Unread
+from lab.networks.fields import Unread, shown
 from lab.networks.graphs import Graph
 from lab.wrong import Wrong
 
+# What a node or an edge is, which no key says.
+ENDS = {"node": ("id",), "edge": ("source", "target")}
 # Elements and keys of GEXF of edges that come and go.
 TIMES = {"start", "end", "spell", "spells", "startopen", "endopen", "timestamp"}
 
@@ -34,10 +36,12 @@ def read_graphml(text: str, name: str) -> Listed:
                 for part in key.findall("default")}
 
     def said_of(part: ElementTree.Element) -> dict[str, str]:
-        said = {words.get(data.get("key"), ""): (data.text or "").strip() for data in part.findall("data")}
-        if part.tag == "edge":
-            return said | {key: part.get(key) for key in ("source", "target")}
-        return drawn(part) | said | {"id": part.get("id"), "isgroup": "1" * (part.find("graph") is not None)}
+        data = [(words.get(data.get("key"), ""), (data.text or "").strip()) for data in part.findall("data")]
+        said = dict(data)
+        if part.tag == "edge" and len(said) < len(data):
+            raise Wrong(f"{name}: the edge from {shown(part.get('source') or '')} to {shown(part.get('target') or '')} "
+                        "has two values of one key")
+        return said if part.tag == "edge" else drawn(part) | said | {"isGroup": "1" * (part.find("graph") is not None)}
     graph.read(root, said_of)
     if any((part.text or "").strip() for part in root.findall(".//edge//EdgeLabel")):
         graph.found.left_out.append(Unread(["labels"], "{names} of edges not read"))
@@ -65,6 +69,7 @@ def read_gexf(text: str, name: str) -> Listed:
     def said_of(part: ElementTree.Element) -> dict[str, str]:
         values = part.findall("attvalues/attvalue")
         return {titles.get(value.get("for"), "value"): value.get("value", "") for value in values} | {
-            inner.tag: inner.tag for inner in part if inner.tag not in ("nodes", "edges", "attvalues")} | part.attrib
+            inner.tag: inner.tag for inner in part if inner.tag not in ("nodes", "edges", "attvalues")} | {
+            key: value for key, value in part.attrib.items() if key not in ENDS[part.tag]}
     graph.read(root, said_of, ("nodes", "edges"))
     return graph.listed(any(part.get("defaultedgetype") == "directed" for part in root.iter("graph")))

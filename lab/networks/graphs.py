@@ -51,18 +51,19 @@ class Graph:
         inside = {part for parent in graphs[0].iter() if parent.tag in parents for part in parent}
         for number, part in enumerate(root.iter()):
             at, said = lines[number] if lines else number, said_of(part) if part in inside else {}
-            if part.tag == "hyperedge" or part.tag != "edge" and part.get("source") and part.get("target") or (
-                    part.tag in ("node", "edge") and part not in inside):
-                raise self.wrong(at, f"`{shown(part.tag)}` joins nodes and is no edge of two ends, or isn't directly "
-                                     f"inside of {' or '.join(parents)}")
+            joins = part.tag == "hyperedge" or part.tag != "edge" and None not in map(part.get, ("source", "target"))
+            if joins or part.tag in ("node", "edge") and part not in inside or part.tag in parents and part in inside:
+                raise self.wrong(at, f"`{shown(part.tag)}` joins nodes and is no edge of two ends, or isn't read here: "
+                                     f"nodes and edges are directly in {' or '.join(parents)}, and no such list is "
+                                     "directly in another one")
             if part.tag == "node":
-                self.node(at, said.pop("id", None), said)
+                self.node(at, part.get("id"), said)
             elif part.tag == "edge":
-                self.edge(at, [said.pop("source", None), said.pop("target", None)], said)
+                self.edge(at, [part.get("source"), part.get("target")], said)
 
     def node(self, at: int, node: str | None, said: dict) -> None:
         """A node, and what its keys say: what it is called by each of the words, where it is, if `x` and `y` are
-        numbers, and whether it is a group."""
+        numbers, and whether it is a group, `isGroup`; a text's own keys are in small letters."""
         if not node or node in self.nodes:
             raise self.wrong(at, f"a second node {shown(node)}" if node else "a node without an id")
         if len(self.nodes) == MAX_NODES:
@@ -76,7 +77,7 @@ class Graph:
         with contextlib.suppress(KeyError, TypeError, ValueError):
             self.found.places[node] = float(said["x"]), float(said["y"])
             del said["x"], said["y"]
-        self.groups |= {node} if said.pop("isgroup", "") == "1" else set()
+        self.groups |= {node} if said.pop("isGroup", "") == "1" else set()
         self.keys |= {key for key, word in said.items() if word is not None}
 
     def edge(self, at: int, ends: list, said: dict) -> None:

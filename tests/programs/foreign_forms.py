@@ -62,6 +62,7 @@ YED = """<?xml version="1.0" encoding="UTF-8" standalone="no"?>
 GRAPH = "03 04 34 41 12"
 GROUP = ('graph [ node [ id 1 label "A" isGroup 1 ] node [ id 2 label "A" ] node [ id 3 ] '
          "edge [ source 2 target 3 ] ]")
+KEYED = '<graphml><key id="g" attr.name="isGroup"/><graph><node id="a"/><node id="b"/>'
 DOT = 'graph {\n "Ulm" [label=<<b>U</b> -- <i>x</i>>];\n Ulm -- Aue [label=<3 <sub>km</sub>>]; Aue -- Hof\n}\n'
 
 FORMS = [
@@ -114,6 +115,7 @@ FORMS = [
      "1 edge from a node to itself left | entries of value zero left out: 1 | values not read"),
     ("yEd", YED, "Ulm-Hof", "Aue", "groups of nodes, without an edge of their own, are no nodes: 1"),
     ("a group of yEd with an edge", YED.replace('target="n1::n1"', 'target="n1"'), "Ulm-South", "Aue Hof", "GraphML"),
+    ("a name and labels in brackets", "graph <x> { a [label=<<i><b>x</b></i>>]; a -- b }", "ab", "", "DOT; 2 nodes"),
     ("labels of Graphviz", DOT, "Ulm-Aue Aue-Hof", "", "DOT; 3 nodes"),
     ("a group of GML", GROUP, "2-3", "", "groups of nodes, without an edge of their own, are no nodes: 1"),
     ("labels that come twice", GROUP.replace("isGroup", "x"), "2-3", "1", "named by their label: A comes twice"),
@@ -166,6 +168,12 @@ REFUSED = [
     ("a sheet of Excel", "PK\x03\x04" + "x" * 40, "save the sheet as CSV"),
     ("two graphs", GML + GML, "2 graphs, and one is read"),
     ("GML that is cut", GML[:-20], "is the text cut?"),
+    ("a list as id", "graph [ node [ id 0 ] node [ id [ a 1 ] ] ]", "GML isn't read on from `[`"),
+    ("a graph directly in a graph", "graph [ node [ id 0 ] graph [ node [ id 9 ] ] ]", "`graph` joins nodes and"),
+    ("an edge of another name", 'graph [ node [ id 3 ] link [ source "" target 3 ] ]', "`link` joins nodes and"),
+    ("a key twice", "graph [ node [ id 0 ] edge [ source 0 target 0 on 1 on 0 ] ]", "two values of `on`"),
+    ("a key of GraphML twice", KEYED + '<edge source="a" target="b"><data key="g"/><data key="g"/></edge></graph>'
+     "</graphml>", "the edge from a to b has two values of one key"),
     ("GraphML with entities", '<!DOCTYPE g [<!ENTITY a "b">]><graphml><graph><node id="Ulm"/></graph></graphml>',
      "entities"),
     ("nothing", "", "no line with a node"),
@@ -214,6 +222,9 @@ STRICT = [
     ("", '{"nodes": [{"id": 1, "on": true}], "links": []}\n', "1 key of nodes not read: on"),
     ("", "graph [ node [ id 1 ] edge [ source 1 target 1 w 2 ] ]\n", "1 key of edges not read: w"),
     ("", "p sp 2 1\na 1 2 3\n", "weights of lines `a` not read: 1"),
+    ("", f"{KEYED}<node id='c'><data key='g'>1</data></node></graph></graphml>", "1 key of nodes not read: isgroup"),
+    ("", f"{KEYED.replace('isGroup', 'ID')}<node id='c'><data key='g'>1</data></node></graph></graphml>",
+     "1 key of nodes not read: id"),
     ("--ignore km", "source,target,km\nA,B,3\n", None), ("--ignore km", "source,target,km,dB\nA,B,3,7\n", ""),
     ("--ignore dB,km", "source,target,km,dB\nA,B,3,7\n", None), ("--ignore k", "source,target,km\nA,B,3\n", ""),
     ("--ignore km", LINK, ""), ("--ignore km,of", LINK, None), ("--ignore data", "A B {'weight': 2}\n", None),

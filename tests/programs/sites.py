@@ -36,6 +36,7 @@ REFUSED = [
         ("line 2: no place", "id,lat,lon\na,91,0\n"), ("line 2: no place", "id,lat,lon\na,0,361\n"),
         ("line 2: no identifier below 2^128", "id,x,y,identifier\na,1,2,me\n"),
         ("vertices 1 and 2 have one identifier", "id,x,y,identifier\na,1,2,9\nb,1,2,9\n"),
+        ("reach 15,000 km, farther than the earth", "id,x,y\na,-15000,0\nb,15000,0\n"),
         ("edges within 5 km", "id,x,y\n" + "".join(f"s{at},0,0\n" for at in range(1100))),
         ("no table", "a b c\nd e f\n"))),
 ]
