@@ -62,13 +62,14 @@ def drawn(node: ElementTree.Element) -> dict[str, str]:
 def read_gexf(text: str, name: str) -> Listed:
     """The nodes and edges of GEXF, all of one time."""
     root, graph = root_of(text, name), Graph("GEXF", name, ("label",), "element")
-    titles = {part.get("id"): part.get("title", "").lower() for part in root.findall(".//attribute")}
+    titles = {(kind.get("class"), part.get("id")): part.get("title", "").lower()
+              for kind in root.iter("attributes") for part in kind.findall("attribute")}
     if any(part.tag in TIMES or TIMES & part.attrib.keys() for part in root.iter()):
         raise Wrong(f"{name}: nodes or edges come and go: write a graph of one time")
 
     def said_of(part: ElementTree.Element) -> dict[str, str]:
         values = part.findall("attvalues/attvalue")
-        return {titles.get(value.get("for"), "value"): value.get("value", "") for value in values} | {
+        return {titles.get((part.tag, value.get("for")), "value"): value.get("value", "") for value in values} | {
             inner.tag: inner.tag for inner in part if inner.tag not in ("nodes", "edges", "attvalues")} | {
             key: value for key, value in part.attrib.items() if key not in ENDS[part.tag]}
     graph.read(root, said_of, ("nodes", "edges"))

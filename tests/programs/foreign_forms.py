@@ -62,6 +62,11 @@ YED = """<?xml version="1.0" encoding="UTF-8" standalone="no"?>
 GRAPH = "03 04 34 41 12"
 GROUP = ('graph [ node [ id 1 label "A" isGroup 1 ] node [ id 2 label "A" ] node [ id 3 ] '
          "edge [ source 2 target 3 ] ]")
+GEXF = ('<gexf xmlns="http://www.gexf.net/1.2draft" version="1.2"><graph>'
+        '<attributes class="edge"><attribute id="0" type="string" title="on"/></attributes>'
+        '<attributes class="node"><attribute id="0" type="string" title="weight"/></attributes>'
+        '<nodes><node id="a"/><node id="b"/></nodes><edges><edge source="a" target="b">'
+        '<attvalues><attvalue for="0" value="1"/></attvalues></edge></edges></graph></gexf>')
 KEYED = '<graphml><key id="g" attr.name="isGroup"/><graph><node id="a"/><node id="b"/>'
 DOT = 'graph {\n "Ulm" [label=<<b>U</b> -- <i>x</i>>];\n Ulm -- Aue [label=<3 <sub>km</sub>>]; Aue -- Hof\n}\n'
 
@@ -225,6 +230,7 @@ STRICT = [
     ("", f"{KEYED}<node id='c'><data key='g'>1</data></node></graph></graphml>", "1 key of nodes not read: isgroup"),
     ("", f"{KEYED.replace('isGroup', 'ID')}<node id='c'><data key='g'>1</data></node></graph></graphml>",
      "1 key of nodes not read: id"),
+    ("", GEXF, "1 key of edges not read: on"),
     ("--ignore km", "source,target,km\nA,B,3\n", None), ("--ignore km", "source,target,km,dB\nA,B,3,7\n", ""),
     ("--ignore dB,km", "source,target,km,dB\nA,B,3,7\n", None), ("--ignore k", "source,target,km\nA,B,3\n", ""),
     ("--ignore km", LINK, ""), ("--ignore km,of", LINK, None), ("--ignore data", "A B {'weight': 2}\n", None),

@@ -11,6 +11,7 @@ from lab.networks import network
 from lab.networks.describe import most_payloads
 from lab.networks.network_text import network_of
 from lab.networks.reading import read_any
+from lab.words import duration
 from lab.wrong import Wrong
 from tests.cases import Case, called, example, forestlab, in_process
 from tests.programs.plain_networks import payloads_of, reached
@@ -211,6 +212,7 @@ class OwnNetworks(Case):
         for command in (["read"], ["tell"], ["number", "--by", "degree"], ["names"]):
             self.same(f"{command[0]} of no file", call(*command, "/nowhere.col"),
                       (1, b"", b"network: /nowhere.col: No such file or directory\n"))
+            self.same(f"{command[0]} of a name", call(*command, "path5", data=b"plan\n1 1\n2 2\n3 1\n4 2\n5 1\n")[0], 0)
 
     def test_encodings(self):
         for data, names in (("Köln Aue\n".encode("utf-16"), {1: "Köln", 2: "Aue"}),
@@ -357,9 +359,10 @@ class OwnNetworks(Case):
         bound, _ = self.told_of(data)
         told, _ = self.told_of(data, "--payloads")
         payloads = len(re.findall(rb"^\d+ put ", called(PLAY, "rounds", data=data)[1], re.M))
-        took = r"(\d+ min )?\d+ s"
-        shape = rf"plan about {took}, transcript about {took}, of all processors together; .*"
-        self.note("the time of a large network", re.fullmatch(shape, told["time"]), told)
+        wires = numbers(told["wires"])[-1]
+        said = f"plan about {duration(wires / 1_500_000)}, transcript about {duration(wires / 1_000_000)}, of all "
+        self.note("the time of a large network", told["time"].startswith(said), told)
+        self.same("times in words", [duration(59.9), duration(60), duration(185)], ["59 s", "1 min 0 s", "3 min 5 s"])
         most = bound["payloads"].removeprefix("at most ").partition(";")
         good = bound["payloads"].startswith("at most ") and most[2] == " --payloads counts them"
         self.note("a bound of the payloads", good and payloads <= int(most[0].replace(",", "")), bound)
