@@ -12,7 +12,8 @@ from lab.networks.name_doubts import DATE, SUMS, Pairs, look_of
 from lab.wrong import Wrong
 
 PAIRS, NEIGHBOURS = "--as pairs (the first two fields are a pair)", "--as adjacency (a node and its neighbours)"
-PORT = re.compile(r"([^:]+?)(?:\s?[(\[][\w/.: ]+[)\]]|:[\w/.]+)")
+PORT = re.compile(r"(.+?)(?:[:/.#@_-]|\s?[(\[])[\w/.:]*\d+[)\]]?")
+PORT_IN_BRACKETS = re.compile(r"([^:]+?)(?:\s?[(\[][\w/.: ]+[)\]]|:[\w/.]+)")
 LETTERED = re.compile(NOUN + "[ _.-]?[ab12]")
 # Titles of a column whose zeros say that a pair doesn't count.
 WEIGHTS = re.compile(r"(weight|value|val|w|freq|frequency|gewicht|wert|adj|adjacent|edge|kante|link|there|present)s?")
@@ -30,11 +31,15 @@ def doubts_of_rows(body: Rows, table: Table, is_unknown: bool) -> Doubts:
     fields = [row for _, row in body]
     pairs = [row for row in fields if len(row) > 1 and row[1]]
     ones, others = [row[0] for row in fields], [row[1] for row in pairs]
+    (line, head), counts = table.rows[0], "`{}` may say how many lines there are"
+    if head is not fields[0] and all(map(is_number, head)) and head != [str(at) for at in range(max(2, len(head)))]:
+        yield line, counts.format(shown(" ".join(head)))
     if len(fields) > 1 and all(map(is_number, filter(None, fields[0][:2]))) and not any(
             is_number(end) for row in fields[1:] for end in row[:2]):
-        yield body[0][0], f"`{shown(' '.join(fields[0]))}` may say how many lines there are"
-    if {(is_number(row[0]), is_number(row[1])) for row in pairs} in ({(True, False)}, {(False, True)}):
-        yield None, "names beside numbers may be no pairs of nodes (--sites reads places, --bars channels)"
+        yield body[0][0], counts.format(shown(" ".join(fields[0])))
+    for rows in (pairs, pairs[1:]):
+        if {(is_number(row[0]), is_number(row[1])) for row in rows} in ({(True, False)}, {(False, True)}):
+            yield None, "names beside numbers may be no pairs of nodes (--sites reads places, --bars channels)"
     if is_unknown and len(ones) == len(others) and set(ones).isdisjoint(others) and (
             len(set(ones)) == len(ones) > 2 or len(set(others)) == len(others) > len(set(ones)) > 1 and not all(
                 map(is_number, ones + others))):
@@ -113,12 +118,12 @@ def single_nodes(pairs: Pairs, rows: list[tuple[int, list[str]]], is_closed: boo
 
 
 def doubts_of_shape(pairs: Pairs, is_named: bool) -> Doubts:
-    """Of pairs of which each name is a device's and a port's; and of those of which one column has each name twice, as
-    numbers of edges beside their two ends, unless a heading has named them ends: it has no name of the other, or few if
-    the lines of each number are neighbours."""
-    both = len(pairs.ones & pairs.others)
-    ports = list(map(PORT.fullmatch, pairs.lines))
-    if all(ports) and len({found[1] for found in ports}) < len(ports):
+    """Of pairs of which each name is a device's and a port's, each once or with the port in brackets; and of those of
+    which one column has each name twice, as numbers of edges beside their two ends, unless a heading has named them
+    ends: it has no name of the other, or few if the lines of each number are neighbours."""
+    both, is_once = len(pairs.ones & pairs.others), set(pairs.times.values()) == {1} and len(pairs.lines) > 2
+    ports = [list(map(kind.fullmatch, pairs.lines)) for kind in (PORT_IN_BRACKETS, *[PORT] * is_once)]
+    if any(all(found) and len({port[1] for port in found}) < len(found) for found in ports):
         yield None, f"the names, as `{shown(pairs.rows[0][1])}`, may be ports of nodes"
     for at in (1, 2) if not is_named else ():
         ends = [row[at] for row in pairs.rows if row[2]]

@@ -116,10 +116,11 @@ def shows_numbers(first: list[str], body: list, name: str, line: int) -> bool:
 
 def may_be_heading(first: list[str], body: list) -> bool:
     """Whether the words of the first row come in no other, or one of them, which headings and titles have; or they
-    number the columns, and no others are numbered."""
+    number the columns, and it isn't first by the order of the rows."""
     ends = [end for _, fields in body for end in fields[:2] if end]
     if are_columns(first, body):
-        return None in map(whole, ends) or not {"0", "1"} & set(ends)
+        order = [tuple(map(whole, fields[:2])) for _, fields in body if len(fields) > 1 and all(fields[:2])]
+        return None in map(whole, ends) or not {"0", "1"} & set(ends) or order != sorted(order)
     new = [word for word in first[:2] if word not in ends]
     if any(map(is_number, first)):
         return False

@@ -124,12 +124,15 @@ def is_plain(end: str) -> bool:
 
 
 def has_more(names: set[str], against: set[str]) -> bool:
-    """Whether all names have the same mark inside, a number in front, or a measure or a number after them, and none of
-    the others has."""
+    """Whether all names have the same mark inside or at the end, a number in front, or a measure or a number after
+    them, and none of the others has."""
     marks = BETWEEN + LOOSE * (len(names) > 2)
     if any(all(mark in one[1:] for one in names) and not any(mark in one for one in against) for mark in marks) or any(
             all(map(kind.fullmatch, names)) and not any(map(kind.fullmatch, against)) for kind in KINDS):
         return True
+    last = next(iter(names))[-1]
+    if not is_letter(last) and last not in ")]}" and all(one[-1] == last for one in names):
+        return not any(one[-1] == last for one in against)
     parts = [re.fullmatch(r"(.*\S)\s\d+", one) for one in names]
     return all(parts) and any(found[1] in against for found in parts)
 

@@ -49,10 +49,15 @@ def may_be_blanks(rows: Rows) -> bool:
                                                       for row in others)
 
 
+def have_colons(rows: Rows) -> bool:
+    """Whether each row has a colon after its node."""
+    return all(fields[0].endswith(":") or fields[1:2] == [":"] for _, fields in rows)
+
+
 def nodes_of(rows: Rows) -> list[tuple[int, str, list[str]]]:
     """The line, the node and the neighbours of each row; a colon may be after each node."""
-    colon = ":" * all(fields[0].endswith(":") for _, fields in rows)
-    return [(line, fields[0].removesuffix(colon), [field for field in fields[1:] if field not in ("", ":")])
+    colon = ":" * have_colons(rows)
+    return [(line, fields[0].removesuffix(colon), [field for field in fields[1:] if field not in ("", colon)])
             for line, fields in rows]
 
 
@@ -65,7 +70,7 @@ def is_closed(rows: Rows) -> bool:
 def is_adjacency(rows: Rows) -> bool:
     """Whether each line is a node of its own with its neighbours, each of which has a line, too; two nodes a line are
     taken for a pair, and so are three of which the last is a weight."""
-    return is_closed(rows) and any(any(fields[2:]) or fields[0].endswith(":") for _, fields in rows)
+    return is_closed(rows) and (have_colons(rows) or any(any(fields[2:]) for _, fields in rows))
 
 
 def are_mutual(rows: Rows) -> bool:
@@ -80,8 +85,8 @@ def read_adjacency(table: Table, name: str, form: str | None) -> Listed:
     if not form and not is_closed(table.rows):
         raise Wrong(f"{name}: networkx writes a line for each node of an adjacency list, and some node has none, or "
                     "two: is it cut, or have names blanks? nx.write_graphml(G, FILE) writes what is read")
-    if not form and not table.by_networkx and (table.separator or not are_mutual(table.rows) and all(
-            1 < len(fields) < 4 and not fields[0].endswith(":") for _, fields in table.rows)):
+    if not form and not table.by_networkx and (table.separator or not are_mutual(table.rows) and not have_colons(
+            table.rows) and all(1 < len(fields) < 4 for _, fields in table.rows)):
         refuse([(None, "these may be pairs with a weight, or nodes and their neighbours")], name)
     for line, node, others in nodes:
         inside = next((one for one in (node, *others) if not table.separator and re.search("[,;|]", one)), None)
@@ -147,6 +152,9 @@ def read_pairs(table: Table, name: str, heading: bool | None, is_sure: bool) -> 
         found.left_out += counted_names(pairs)
     found.edges = [row for row in rows if row[2]]
     found.alone = [row[:2] for row in rows if not row[2]]
+    beyond = next((line for (line, fields), row in zip(body, rows) if not row[2] and any(fields[2:])), None)
+    if beyond and not named and not is_sure:
+        raise wrong_line(name, beyond, "one node and more fields, as sums have (if it is a node: --as pairs)")
     if found.alone and table.separator and not is_sure:
         found.left_out.append(f"a node alone, first at line {found.alone[0][0]}: is its cell merged with that above?")
     if left := columns_left(titles, body, set(columns)):

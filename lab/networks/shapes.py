@@ -5,7 +5,7 @@ from collections.abc import Iterator
 
 from lab.networks.edge_list import FLAGS
 from lab.networks.fields import is_number, shown, value_of, whole
-from lab.networks.lines import Rows, without_inner_commas
+from lab.networks.lines import DATA, Rows, without_inner_commas
 from lab.wrong import Wrong
 
 
@@ -33,6 +33,7 @@ def shapes(rows: Rows, separator: str | None, text: str) -> Iterator[tuple[bool,
         "(sed 1d FILE | nl -ba -s' ')")
     yield has_counts(fields), (f"pairs below a line (`{shown(' '.join(fields[0]))}`) of how many nodes and edges there "
                                "are: remove it then")
+    yield counts_neighbours(fields), "nodes, how many neighbours each has, and these: leave the second fields out then"
     yield is_matrix(fields), "a matrix (networkx: nx.from_numpy_array(numpy.loadtxt(FILE)), nx.write_graphml(G, FILE))"
     last = max((at for at, row in enumerate(fields) if any(row[1:])), default=0)
     yield fields[last][1:] == [str(len(fields) - last - 1)] and all(row[1:] == ["0"] for row in fields[:last]), (
@@ -41,10 +42,11 @@ def shapes(rows: Rows, separator: str | None, text: str) -> Iterator[tuple[bool,
 
 
 def is_odd(field: str) -> bool:
-    """Whether a field has bars, marks alone or a comment's, or brackets that aren't in pairs, or begins with a brace; a
-    colon may be between a node and its neighbours."""
-    return "|" in field or field.startswith(("//", "{")) or field != ":" and not any(map(str.isalnum, field)) or any(
-        field.count(one) != field.count(other) for one, other in ("()", "[]", "{}"))
+    """Whether a field has bars, marks alone or a comment's, or brackets that aren't in pairs, or braces as no name has
+    them; a colon may be between a node and its neighbours."""
+    return "|" in field or field.startswith(("//", "{")) or field.endswith("{}") or DATA.search(field) is not None or (
+        field != ":" and not any(map(str.isalnum, field))) or any(
+            field.count(one) != field.count(other) for one, other in ("()", "[]", "{}"))
 
 
 def are_parted(text: str, known: set[str]) -> bool:
@@ -71,8 +73,8 @@ def has_counts(fields: list[list[str]]) -> bool:
     if not body or len(first) < 2 or None in ends + first:
         return False
     entries, least = sum(map(len, fields[1:])), min(max(ends), len(set(ends)))
-    if len(body) > 2 and len(first) == 2 and max(len(body), max(ends)) <= first[0] and entries in (
-            first[1], 2 * first[1]):
+    if len(body) > 1 and len(first) == 2 and max(len(body), max(ends)) <= first[0] and (
+            entries == 2 * first[1] or entries == first[1] and len(body) > 2):
         return True
     if min(map(len, body)) < 2 or len(fields[1]) < 3 and set(first[:2]) in map(set, body):
         return False
@@ -83,6 +85,13 @@ def has_counts(fields: list[list[str]]) -> bool:
     return max(map(len, fields)) < 4 and any(
         one >= least and other in (len(body), 2 * len(body)) or one == len(body) and other >= least
         for one, other in zip(first, first[1:]))
+
+
+def counts_neighbours(fields: list[list[str]]) -> bool:
+    """Whether the second field of each line is the number of those after it, which have lines."""
+    after = {field for row in fields for field in row[2:] if field}
+    return after != set() and after <= {row[0] for row in fields} and all(
+        len(row) > 1 and whole(row[1]) == sum(map(bool, row[2:])) for row in fields)
 
 
 def is_matrix(fields: list[list[str]]) -> bool:

@@ -133,6 +133,7 @@ FORMS = [
     ("wide lines with a heading", "A,B,t,u\nB,C,s,v\n", "BC", "", "pairs with", "--as", "pairs", "--heading", "yes"),
     ("lists without lines", "Ulm Aue Hof\nBonn Kiel Jena\n", "Ulm-Aue Ulm-Hof Bonn-Kiel Bonn-Jena", "",
      "no line for 4 of the nodes", "--as", "adjacency"),
+    ("column numbers", "0,1\n5,7\n7,9\n", "57 79", "", "pairs with a heading", "--heading", "yes"),
     ("no heading", "one,other\nUlm,Aue\n", "one-other Ulm-Aue", "", "pairs; 4 nodes", "--heading", "no"),
     ("signs", "1 = 2\n2 = 3\n", "1= 2=", "", "pairs; 3 nodes", "--as", "pairs"),
 ]
@@ -157,6 +158,8 @@ REFUSED = [
     ("counts before the edges", "10 15\n" + "".join(f"{v + 1} {w + 1}\n" for v, w in PETERSEN), "how many nodes"),
     ("counts before edges with weights", "3 2\n1 2 1\n2 3 -1\n", "how many nodes and edges"),
     ("counts in two lines", "9\n3\n1 2\n2 4\n4 1\n", "`9` alone may be a title, a count"),
+    ("a count as a heading", "9\n1 2\n2 4\n4 1\n", "may say how many lines", "--heading", "yes"),
+    ("counts as a heading", "9,2\nUlm,Aue\nAue,Hof\n", "may say how many lines", "--heading", "yes"),
     ("rows, columns and entries", "3 3 2\n1 2 1\n2 3 1\n", "how many nodes and edges"),
     ("a table of channels", "Channel,Frequency (MHz)\n36,5180\n40,5200\n", "the column `Channel` is no end of an edge"),
     ("places with a heading", "name,lat,lon\nUlm,48.4,10.0\n", "the column `lat` is no end of an edge"),
