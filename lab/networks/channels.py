@@ -11,6 +11,8 @@ from lab.networks.plan_text import rows_of
 from lab.words import add_output, bytes_at, parser_of, text_at, write
 from lab.wrong import Wrong, wrong_line
 
+# Headings of the column of channels in a file, in small letters without blanks; those of barred channels are none.
+HEADINGS = ("channel", "channels", "channelnumber", "kanal", "kanäle", "kanalnummer")
 # How many digits a real number of a channel has at most, as a frequency in kHz.
 MOST_DIGITS = 12
 
@@ -54,7 +56,7 @@ def table_of(words: list[str]) -> list[int]:
 def numbers_in(path: str) -> list[int]:
     """The column of channels of a table."""
     found = site_tables.table(bytes_at(path), path)
-    columns = found.columns(site_tables.CHANNELS)
+    columns = found.columns(HEADINGS)
     if len(columns) != 1 or not found.rows:
         raise Wrong(f"{path}: one column has to be named channel, with a row for each channel")
     for at, word in enumerate(found.words):

@@ -174,8 +174,9 @@ def read(text: str, name: str) -> Listed:
     graph = Graph("DOT", name, ("name",))
     for node, (line, said) in reader.nodes.items():
         graph.node(line, node, said)
-    for edge in reader.edges:
-        graph.edge(*edge)
+    for line, ends, said in reader.edges:
+        # An empty colour is the usual one.
+        graph.edge(line, ends, {key: word for key, word in said.items() if (key, word) != ("color", "")})
     graph.keys |= reader.of_all["node"].keys() - {"name"}
     if reader.ports:
         graph.found.left_out.append(f"ports of nodes aren't read: {reader.ports} (a name with a colon needs quotes)")

@@ -13,6 +13,8 @@ BEFORE = re.compile(r"[=;,|/*>~+!\u2022\u2013-]|\\|\(.*\)$|\[.*\]$")
 AFTER = re.compile(r"[*\u2020\u2021^~\u00b0\u00b9\u00b2\u00b3?!;,]$")
 # How programs write that a place isn't known.
 NO_PLACE = re.compile(r"[-+]?(9{3,}|9{2,}\.9+)(\.0*)?|[-+]?1(\.0*)?e\+?\d{2,3}", re.I)
+# Numbers that may have thousands, or a fraction of three digits.
+THREES = re.compile(r"[-+]?[1-9]\d{0,2}([.,]\d{3})+")
 # Titles of columns that say by which map the numbers are.
 OTHER_MAPS = re.compile("zone|utm|epsg|crs|datum|hemisphere|streifen|srid|unit|einheit")
 
@@ -47,12 +49,13 @@ def refuse_maps(found, read: list[int]) -> None:
 def check_marks(found, said: list[list[str]], is_metres: bool) -> None:
     """Refuses numbers of places whose commas or points may begin a fraction or separate thousands. In kilometres three
     digits after a point, or after a comma between semicolons, are a fraction."""
-    used = set()
+    used, pointed = set(), [field for fields in said for field in fields if "." in field]
+    if found.separator != "," and len(pointed) > 1 and all(map(THREES.fullmatch, pointed)):
+        found.notes.append(f"`{shown(pointed[0])}` of {found.name} is read as a number with a fraction")
     for (line, _), fields in zip(found.rows, said):
         for field in fields:
             used |= {*".,"} & {*field}
-            is_doubtful = re.fullmatch(r"[-+]?[1-9]\d{0,2}([.,]\d{3})+", field) and (
-                is_metres or found.separator == "," and "," in field)
+            is_doubtful = THREES.fullmatch(field) and (is_metres or found.separator == "," and "," in field)
             if is_doubtful or len(used) > 1:
                 raise found.wrong(line, f"`{shown(field)}` may have a fraction or thousands: write all numbers without "
                                   "a separator of thousands, and fractions with one mark, and with more or fewer "
@@ -81,21 +84,21 @@ def refuse_units(found, places, met: set[int], reach: float) -> None:
     across, is_km = across_of(there), places.unit == 1.0
     are_metres = is_km and across >= 100 and 2 * len(met) < len(there) and any(
         there[one] != there[other] for one, other in near(there, 1000 * reach, False))
-    if are_metres or not is_km and 0 < across < 0.1 or is_km and may_be_degrees(there):
+    if are_metres or not is_km and 0 < across < 0.1 or is_km and may_be_degrees(there, sum(places.said, [])):
         x, y = places.titles
         raise Wrong(f"{found.name}: {x} and {y} may be in kilometres, in metres or in degrees, and the reach joins "
                     f"other sites then: call the columns `{x} (km)` and `{y} (km)`, `{x} (m)` and `{y} (m)`, or lon "
                     "and lat")
 
 
-def may_be_degrees(points: list[Point]) -> bool:
+def may_be_degrees(points: list[Point], said: list[str]) -> bool:
     """Whether numbers in the range of longitudes and latitudes have four digits after the point, or are all far from
     zero and near each other, as those of a country are."""
     columns = list(zip(*points))[:2]
-    parts, farthest = sum(columns, ()), [max(map(abs, column)) for column in columns]
+    digits, farthest = [re.search(r"[.,](\d+)", one) for one in said if one], [max(map(abs, one)) for one in columns]
     if len(points) < 2 or min(farthest) > 90 or max(farthest) > 180:
         return False
-    are_long = 2 * sum(round(part, 3) != part for part in parts) > len(parts)
+    are_long = 2 * sum(found is not None and len(found[1]) > 3 for found in digits) > len(digits)
     are_apart = all(min(column) > 0 or max(column) < 0 for column in columns) and any(
         4 * (max(column) - min(column)) < most for column, most in zip(columns, farthest))
-    return are_long or len(points) > 2 and any(part % 1 for part in parts) and are_apart
+    return are_long or len(points) > 2 and any(digits) and are_apart

@@ -24,8 +24,8 @@ IDENTIFIER = "identifier"
 # Units of degrees, and what may be said of them.
 DEGREES = ("", "deg", "degree", "degrees", "°", "grad", "decimal", "decimaldegrees", "dd", "dezimal", "dezimalgrad",
            "wgs84", "wgs 84", "n", "s", "e", "w", "o")
-CHANNELS = ("channel", "channels", "channelnumber", "barredchannel", "barredchannels", "barred", "bar", "kanal",
-            "kanäle", "kanalnummer", "gesperrterkanal", "gesperrtekanäle", "gesperrt")
+CHANNELS = ("channel", "channels", "barredchannel", "barredchannels", "barred", "bar", "kanal", "kanäle",
+            "gesperrterkanal", "gesperrtekanäle", "gesperrt")
 # So many names that aren't known are named, with the nearest that is, unless they are longer than names are.
 MOST_NAMED, LONGEST = 4, 100
 KNOWN = {*NAMES, *CHANNELS, IDENTIFIER, *(word for pair in (*PLANES, *GLOBES) for word in pair[:2])}

@@ -15,10 +15,11 @@ from lab.wrong import Wrong
 
 class Places(NamedTuple):
     """The places of a table's rows: the headings of both numbers, what makes kilometres of them, or None if they are
-    degrees; of each row that has a place its numbers, and a point by which distances are measured."""
+    degrees; what each row says; of each that has a place its numbers, and a point by which distances are measured."""
 
     titles: tuple[str, str]
     unit: float | None
+    said: list[list[str]]
     numbers: list[tuple[float, float] | None]
     points: list[Point | None]
 
@@ -41,7 +42,7 @@ def places_of(found: Table, read: list[int]) -> Places | None:
     numbers = [place_in(found, line, fields, not unit) for (line, _), fields in zip(found.rows, said)]
     points = [place and (on_ground(*place) if not unit else (*(part * unit[0] for part in place), 0.0))
               for place in numbers]
-    places = Places((first, second), *unit or [None], numbers, points)
+    places = Places((first, second), *unit or [None], said, numbers, points)
     there = list(filter(None, numbers))
     if there and not unit:
         (south, north), (west, east) = ((min(parts), max(parts)) for parts in zip(*there))

@@ -121,6 +121,7 @@ FORMS = [
     ("yEd", YED, "Ulm-Hof", "Aue", "groups of nodes, without an edge of their own, are no nodes: 1"),
     ("a group of yEd with an edge", YED.replace('target="n1::n1"', 'target="n1"'), "Ulm-South", "Aue Hof", "GraphML"),
     ("a name and labels in brackets", "graph <x> { a [label=<<i><b>x</b></i>>]; a -- b }", "ab", "", "DOT; 2 nodes"),
+    ("DOT with the usual colour", 'graph { a -- b; b -- c [color=""] }', "ab bc", "", "DOT; 3 nodes, 2 edges"),
     ("labels of Graphviz", DOT, "Ulm-Aue Aue-Hof", "", "DOT; 3 nodes"),
     ("a group of GML", GROUP, "2-3", "", "groups of nodes, without an edge of their own, are no nodes: 1"),
     ("labels that come twice", GROUP.replace("isGroup", "x"), "2-3", "1", "named by their label: A comes twice"),

@@ -37,6 +37,8 @@ REFUSED = [
         ("line 2: no identifier below 2^128", "id,x,y,identifier\na,1,2,me\n"),
         ("vertices 1 and 2 have one identifier", "id,x,y,identifier\na,1,2,9\nb,1,2,9\n"),
         ("reach 15,000 km, farther than the earth", "id,x,y\na,-15000,0\nb,15000,0\n"),
+        ("may be in kilometres, in metres or in degrees", "site,x,y\na,10.1000,48.4000\nb,10.2000,48.5000\n"),
+        ("may be in kilometres, in metres or in degrees", "site,x,y\na,10.0,48.0\nb,11.0,48.0\nc,12.0,50.0\n"),
         ("edges within 5 km", "id,x,y\n" + "".join(f"s{at},0,0\n" for at in range(1100))),
         ("no table", "a b c\nd e f\n"))),
 ]
@@ -113,6 +115,8 @@ class Sites(Case):
         good = (status, edges_of(wrote)) == (0, {(1, 2)}) and b"\nb 2 6\nb 2 11\n" in wrote
         good = good and b"1 site without a place" in told and b": Bonn" in told
         self.note("German sites and bars", good, (wrote, told))
+        told = self.read("Ulm,Aue\n", "site;x;y\nUlm;12.345;48.210\nAue;13.456;47.001\n")[2]
+        self.note("fractions of three digits", b"sites is read as a number with a fraction\n" in told, told)
         wrote = self.read(None, GAUSS % 3, None, "--reach 1")[1]
         self.note("Gauss and Krüger", edges_of(wrote) == {(1, 2)}, wrote)
 
@@ -185,6 +189,7 @@ class Channels(Case):
             ("Bemerkung;Kanal\r\ngut;36\r\n;40\r\n;;\r\n", "column bemerkung may say which channels"),
             ("channel\n36\n40\n", (0, "plan\n1 40\n2 36\n", "")),
             ("Frequency\n5180\n", "one column has to be named channel"),
+            ("barred\n1\n6\n", "one column has to be named channel"),
             ("channel,power\n36,1\nforty,1\n", "line 3: no channel: `forty,1`"),
             ("channel,power\n36,1\n36,2\n", "names a channel twice"),
             ("channel,allowed\n36,yes\n40,no\n", "column allowed may say which channels"),
