@@ -50,9 +50,10 @@ class Graph:
             raise Wrong(f"{self.name}: it has {len(graphs)} graphs, and one is read")
         inside = {part for parent in graphs[0].iter() if parent.tag in parents for part in parent}
         for number, part in enumerate(root.iter()):
-            at, said = lines[number] if lines else number, said_of(part) if part in inside else {}
+            at, is_read = lines[number] if lines else number, part in inside and part.tag in ("node", "edge")
+            said = said_of(part) if is_read else {}
             joins = part.tag == "hyperedge" or part.tag != "edge" and None not in map(part.get, ("source", "target"))
-            if joins or part.tag in ("node", "edge") and part not in inside or part.tag in parents and part in inside:
+            if joins or part.tag in ("node", "edge") and not is_read or part.tag in parents and part in inside:
                 raise self.wrong(at, f"`{shown(part.tag)}` joins nodes and is no edge of two ends, or isn't read here: "
                                      f"nodes and edges are directly in {' or '.join(parents)}, and no such list is "
                                      "directly in another one")

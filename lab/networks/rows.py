@@ -33,7 +33,8 @@ def read(text: str, name: str, form: str | None, heading: bool | None) -> Listed
         refuse_shapes(rows, table.separator, text, name)
     if form == "multiline" or not form and table.has_groups:
         found = read_multiline(rows, name)
-    elif form == "adjacency" or not form and (table.by_networkx or not table.has_data and is_adjacency(rows)):
+    elif form == "adjacency" or not form and (
+            table.by_networkx or heading is not True and not table.has_data and is_adjacency(rows)):
         found = read_adjacency(table, name, form)
     else:
         found = read_pairs(table, name, heading, is_sure=form == "pairs")
@@ -89,7 +90,8 @@ def read_adjacency(table: Table, name: str, form: str | None) -> Listed:
             table.rows) and all(1 < len(fields) < 4 for _, fields in table.rows)):
         refuse([(None, "these may be pairs with a weight, or nodes and their neighbours")], name)
     for line, node, others in nodes:
-        inside = next((one for one in (node, *others) if not table.separator and re.search("[,;|]", one)), None)
+        inside = next((one for one in (node, *others) if not table.separator and re.search("[,;|]", one)
+                       or not form and one.endswith(":")), None)
         if inside or not all(map(clean, [node, *others])):
             raise wrong_line(name, line, f"no node and its neighbours, or `{shown(inside or node)}` has a mark that "
                              "separates fields, and not in each line: end each with it, or write blanks alone")

@@ -28,13 +28,14 @@ def shapes(rows: Rows, separator: str | None, text: str) -> Iterator[tuple[bool,
                       "table with bars (save it as CSV: psql --csv, mysql -B, sqlite3 -csv), a mark that separates "
                       "fields elsewhere, or a name that has blanks in brackets (networkx: nx.write_graphml(G, FILE))")
     yield are_parted(text, known), "nodes and edges in parts that a line with `#` begins, as TGF and LGL have"
-    yield is_by_line(rows) or is_by_line(rows[1:]), (
+    yield is_by_line(rows) or None not in map(whole, fields[0]) and is_by_line(rows[1:]), (
         "METIS, or lines with the neighbours of the node that is their number: without its first line it is adjacency "
         "(sed 1d FILE | nl -ba -s' ')")
     yield has_counts(fields), (f"pairs below a line (`{shown(' '.join(fields[0]))}`) of how many nodes and edges there "
                                "are: remove it then")
     yield counts_neighbours(fields), "nodes, how many neighbours each has, and these: leave the second fields out then"
     yield is_matrix(fields), "a matrix (networkx: nx.from_numpy_array(numpy.loadtxt(FILE)), nx.write_graphml(G, FILE))"
+    yield are_degrees(fields), "nodes and how many neighbours each has"
     last = max((at for at, row in enumerate(fields) if any(row[1:])), default=0)
     yield fields[last][1:] == [str(len(fields) - last - 1)] and all(row[1:] == ["0"] for row in fields[:last]), (
         "pairs, or nodes and how many lines of neighbours each has (--as multiline)")
@@ -66,17 +67,21 @@ def is_by_line(rows: Rows) -> bool:
 
 
 def has_counts(fields: list[list[str]]) -> bool:
-    """Whether the first row may count the nodes and the edges of the pairs below, which have numbers alone; as that of
-    METIS, each line of which has the neighbours of a node."""
+    """Whether the first row may count the nodes or the edges, or both, of the rows below, which have numbers alone; as
+    that of METIS, each line of which has the neighbours of a node."""
     first, body = list(map(whole, fields[0])), [list(map(whole, row[:2])) for row in fields[1:]]
     ends = sum(body, [])
-    if not body or len(first) < 2 or None in ends + first:
+    if not body or None in ends + first:
         return False
+    if len(first) == 1:
+        return first[0] not in ends and (first[0] == len(body) or first[0] > max(ends))
     entries, least = sum(map(len, fields[1:])), min(max(ends), len(set(ends)))
+    if len(first) == 2 and entries == 2 * first[1] and len(body) == first[0]:
+        return True
     if len(body) > 1 and len(first) == 2 and max(len(body), max(ends)) <= first[0] and (
             entries == 2 * first[1] or entries == first[1] and len(body) > 2):
         return True
-    if min(map(len, body)) < 2 or len(fields[1]) < 3 and set(first[:2]) in map(set, body):
+    if min(map(len, body)) < 2 or len(fields[1]) < 3 and first[1::-1] in body:
         return False
     if len(first) == 3 and first[0] == first[1] and (first[2] == len(body) or max(ends) <= first[0]):
         return True
@@ -92,6 +97,16 @@ def counts_neighbours(fields: list[list[str]]) -> bool:
     after = {field for row in fields for field in row[2:] if field}
     return after != set() and after <= {row[0] for row in fields} and all(
         len(row) > 1 and whole(row[1]) == sum(map(bool, row[2:])) for row in fields)
+
+
+def are_degrees(fields: list[list[str]]) -> bool:
+    """Whether each line may be a node of its own and how many neighbours it has: fewer than there are lines, with an
+    even sum. A tree may look so, too, if each line names a node before its parent; only its root has no line."""
+    if len(fields) < 3 or any(len(row) != 2 or None in map(whole, row) for row in fields):
+        return False
+    nodes, counts = {row[0] for row in fields}, [whole(row[1]) for row in fields]
+    are_few = len(nodes) == len(fields) > max(counts) and sum(counts) % 2 == 0
+    return are_few and len({row[1] for row in fields} - nodes) > 1
 
 
 def is_matrix(fields: list[list[str]]) -> bool:
@@ -118,8 +133,10 @@ def is_square(fields: list[list[str]], top: int, left: int) -> bool:
         return fields[0][-side:] == [row[0] for row in fields[1:]] and not (
             len(fields[0]) > side and is_number(fields[0][0]))
     is_symmetric = all(body[at][to] == body[to][at] for at in range(side) for to in range(at))
-    are_zeros = not any(body[at][at] for at in range(side)) and (side > 2 or is_symmetric)
+    are_names, are_zeros = top and not any(map(is_number, fields[0])), not any(body[at][at] for at in range(side))
+    are_zeros = are_zeros and (side > 2 or is_symmetric or are_names)
     if top:
         return len(fields[0]) == side and (are_zeros or side > 2 and is_symmetric)
-    is_triangle = all(sorted(row) == sorted(fields[0]) for row in fields)
+    nodes = sorted(row[0] for row in fields)
+    is_triangle = len(set(nodes)) == 3 and all(sorted(row) == nodes for row in fields)
     return are_zeros or side == 3 and not is_triangle and all(whole(row[2]) is not None for row in fields)

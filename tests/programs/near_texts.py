@@ -7,7 +7,7 @@ from lab.networks.edge_list import Listed
 from lab.networks.reading import listed_of, made_of
 from lab.wrong import Wrong
 from tests.cases import Case
-from tests.programs.foreign_texts import as_dot, as_gml, as_graphml, as_json, beside, excuses, found_in
+from tests.programs.foreign_texts import as_adjacency, as_dot, as_gml, as_graphml, as_json, beside, excuses, found_in
 from tests.programs.foreign_forms import named_pairs
 from tests.programs.foreign_texts import graph_of as any_graph
 
@@ -67,6 +67,10 @@ DOUBTED = (
       for mark in "-./#@_:" for port in ("", "eth")),
     ((TOWNS, *NUMBERS), ANY[:2], lambda nodes, pairs, sep: "".join(
         sep.join([node, str(len(ones)), *ones]) + "\n" for node, ones in beside(nodes, pairs, True).items())),
+    ((TOWNS, CELLS, ONES), BARE, lambda nodes, pairs, sep: "Edges:\n" + as_adjacency(nodes, pairs)),
+    ((ONES,), ANY[:2], lambda nodes, pairs, sep: "9\n" + as_adjacency(nodes, pairs)),
+    ((TOWNS, CELLS), ANY[:2], lambda nodes, pairs, sep: f"Kanten{sep}3\n" + "".join(
+        f"3{sep}{node}\n" for node in nodes)),
     ((tuple("234567"),), BARE, numbered_columns), ((ONES,), BARE, lambda nodes, pairs, sep: numbered_columns(
         nodes, [pair for pair in pairs if {*pair} != {"1", "2"}] + [("1", "8"), ("2", "1")], sep)),
     *(((TOWNS, CELLS, ONES), ANY[:2], lambda nodes, pairs, sep, word=word: each("{a}{sep}{b}{sep}{j}")(
@@ -91,6 +95,8 @@ REFUSED = (
     'graph { "A", "B"; "B", "C" }', "graph { A -- B } graph { B -- C }", "graph { A -- B; edge [style=invis] B -- C }",
     '{"nodes": [{"id": 1}], "links": [], "relations": [{"source": 1, "target": 1}]}',
     "<graphml><graph><node id='A'/><node id='B'/><Edge source='A' target='B'/></graph></graphml>",
+    "<gexf><graph><nodes><node id='A'/><node id='B'/></nodes><edges><ede source='A' target='B'/></edges></graph>"
+    "</gexf>",
     "von,nach,gilt\nUlm,Aue,x\nAue,Hof,\n", "a,b,weight\nUlm,Aue,2.5\nAue,Hof,0.0\n", "Ulm,Aue,2.5\nAue,Hof,0.0\n",
     "Ulm Aue\nAue Hof\nHof Ulm\n0 Ulm\n1 Aue\n2 Hof\n", "Ulm,Aue\nAue,Hof\nexcept,Ulm\n", "1 2\n2 3\n3 1\n0\n",
     'source,target\n"Ulm ""new""",Aue\n"Hof ""old""",Bonn\n', "Ulm{},Aue\nAue,Hof\n", "Ulm {'w':1},Aue\nAue,Hof\n",
@@ -121,7 +127,12 @@ REFUSED = (
     "Ulm Aue\nAue Hof\nHof Ulm\nremoved Ulm Aue\n", "% bip unweighted\n1 2\n2 1\n2 3\n", "p hs 3 2\n1 2 3\n2 3 1\n",
     "source,target\ns1:1,s2:1\ns2:2,s3:1\ns3:2,s1:2\n", "start,end,transmitter,receiver\n1,2,Ulm,Aue\n1,3,Aue,Hof\n",
     "Ulm,south\nAue,north\nHof,south\n", "14,20\nUlm,Aue\nAue,Hof\nHof,Ulm\n", "1\t4\n2\t1\n1\t5\n2\t0\t2\n3\t5\n",
-    "4,3,2\n1,4,2\n", *(text.replace(" ", sep) for text in ("3 2\n1 3\n2 3\n", "5 2\n2 5\n3 5\n") for sep in " ,\t"),
+    "4,3,2\n1,4,2\n", 
+    # Counts, degrees, METIS, and matrices of two and three, with some separators.
+    *(text.replace(" ", sep) for text in (
+        "3 2\n1 3\n2 3\n", "5 2\n2 5\n3 5\n", "5 4\n7 3\n7 5\n5 4\n5 6\n", "2 2\n3 2\n4 4\n", "1 1\n5 4\n",
+        "6 1\n7 2\n4 3\n8 4\n3 2\n5 2\n", "A B\n0 2\n3 0\n", "A B\n0 0\n1 0\n", "3 3 25\n3 3 25\n3 25 3\n",
+        "3 12 1\n3 12 1\n3 12 1\n", "6 Ulm\nAue 6\nAue 5\nUlm 6\nHof 5\n", "d a d\na : d\n") for sep in " ,;\t"),
     "Hof region\nHof Ulm\nUlm Aue\nAue Hof\n", "Ulm Aue\nAue Hof\nHof #planned\n",
     "1,2\n2,03\n3,1\n", "A\tB 1\nB\tC 2\nC\tA 1\n", "#x.py\n# GMT x\n# \nUlm Aue\nAue Hof\n",
     "1,x\n1,2\n2,3\n", "source,target\nsource,Ulm\nUlm,Aue\n",
