@@ -171,7 +171,8 @@ def join_near(found: Listed, sites: Table, places: Places | None, reach: float) 
 def with_bars(found: Listed, data: bytes, name: str, licence: list[int] | None) -> None:
     """Bars the channels of a table of site and channel; real numbers, if a licence says which are channels 1, 2, ..."""
     bars = table(data, name)
-    names, barred = bars.columns(NAMES), bars.columns(CHANNELS)
+    names = bars.columns(NAMES)
+    barred = [at for at, word in enumerate(bars.words) if re.sub(r"\d+$", "", word) in CHANNELS]
     if not names or len(barred) != 1:
         raise Wrong(f"{name}: the first line has to be a heading with site and channel, and no second column of them")
     site, channel = names[0], barred[0]

@@ -28,6 +28,7 @@ REFUSED = [
      ("Störungen 2026\r\nStandort A;Standort B;km\r\n" + GERMAN,)),
     ("line 2: `six` is no channel", "", ("Ulm,Aue\n", None, "site,channel\nUlm,six\n")),
     ("a heading with site and channel", "", ("Ulm,Aue\n", None, "Ulm,6\nAue,1\n")),
+    ("no second column of them", "", ("Ulm,Aue\n", None, "site,channel,kanal 2\nUlm,3,4\n")),
     *((said, "--reach 5", (None, sites)) for said, sites in (
         ("no column is named site, name, id", "Ulm,1,2\nAue,3,4\n"),
         ("line 4: a second site a", "id,x,y\na,1,2\nb,1,3\na,4,4\n"),
