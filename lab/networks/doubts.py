@@ -14,7 +14,6 @@ from lab.wrong import Wrong
 PAIRS, NEIGHBOURS = "--as pairs (the first two fields are a pair)", "--as adjacency (a node and its neighbours)"
 PORT = re.compile(r"(.+?)(?:[:/.#@_-]|\s?[(\[])[\w/.:]*\d+[)\]]?")
 PORT_IN_BRACKETS = re.compile(r"([^:]+?)(?:\s?[(\[][\w/.: ]+[)\]]|:[\w/.]+)")
-LETTERED = re.compile(NOUN + "[ _.-]?[ab12]")
 # Titles of a column whose zeros say that a pair doesn't count.
 WEIGHTS = re.compile(r"(weight|value|val|w|freq|frequency|gewicht|wert|adj|adjacent|edge|kante|link|there|present)s?")
 Doubts = Iterator[tuple[int | None, str]]
@@ -73,10 +72,10 @@ def doubts_of_pairs(pairs: Pairs, is_closed: bool) -> Doubts:
             if not known.issuperset(look_of(end) for end in ends if pairs.times[end] == 1):
                 yield line, f"`{shown(' '.join(ends))}` may be no pair of nodes, beside the other lines"
     words = {*ENDS, *ENDS.values()}
-    titles = {end for end in pairs.lines if end.lower() in words or LETTERED.fullmatch(end.lower())}
-    are_numbered = any(re.fullmatch(NOUN + NUMBERED, end.lower()) for end in pairs.lines.keys() - titles)
     for line, ends in rows:
-        is_heading = ends_named(ends) and not (are_numbered and words.isdisjoint(map(str.lower, ends)))
+        # `Site 1` and `Site 2` may be nodes, if others are called so.
+        is_heading = ends_named(ends) and (not words.isdisjoint(map(str.lower, ends)) or not any(
+            re.fullmatch(NOUN + NUMBERED, end.lower()) for end in pairs.lines.keys() - {*ends}))
         is_other = len(ends) > 1 and pairs.is_apart(ends) and OF_TABLES.issuperset(map(str.lower, ends))
         are_kinds = pairs.is_headed and line == rows[0][0] and KINDS.issuperset(
             re.sub(r"\W|\d", "", end.lower()) for end in ends)
@@ -91,7 +90,7 @@ def odd_rows(pairs: Pairs, rows: list[tuple[int, list[str]]]) -> Doubts:
     mixed = [row for row in rows if len(set(map(is_number, row[1]))) > 1]
     kinds = {is_number(row[1][0]) for row in rows if len(set(map(is_number, row[1]))) == 1}
     odd = [row for row in mixed if all(pairs.times[end] == 1 for end in row[1] if {is_number(end)} != kinds)]
-    if len(rows) > 1 and odd and len(odd) == len(mixed):
+    if len(rows) > 1 and odd and len(kinds) == 1 and len(odd) == len(mixed):
         yield odd[0][0], f"`{shown(' '.join(odd[0][1]))}` may be no pair of nodes, beside the other lines"
     (line, last), looks = rows[-1], {look_of(end) for _, ends in rows[:-1] for end in ends}
     is_new = len(rows) > 2 and len(last) > 1 and pairs.is_apart(last) and (

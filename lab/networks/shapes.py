@@ -114,7 +114,8 @@ def is_matrix(fields: list[list[str]]) -> bool:
     of a square, each row of which has one number more than the one before, or one less."""
     counts = [sum(map(bool, row)) for row in fields]
     steps = {two - one for one, two in zip(counts, counts[1:])}
-    if len(fields) > 2 and steps in ({1}, {-1}) and all(is_number(field) for row in fields for field in row if field):
+    if len(fields) > 2 and steps in ({1}, {-1}) and min(counts) < 2 and all(
+            is_number(field) for row in fields for field in row if field):
         return True
     if len(fields) > 1 and all(len(row) > 1 and FLAGS.issuperset(map(str.casefold, row)) for row in fields):
         return True
