@@ -30,13 +30,10 @@ def doubts_of_rows(body: Rows, table: Table, is_unknown: bool) -> Doubts:
     fields = [row for _, row in body]
     pairs = [row for row in fields if len(row) > 1 and row[1]]
     ones, others = [row[0] for row in fields], [row[1] for row in pairs]
-    (line, head), counts = table.rows[0], "`{}` may say how many lines there are"
-    if head is not fields[0] and all(map(is_number, head)) and head != [str(at) for at in range(max(2, len(head)))]:
-        yield line, counts.format(shown(" ".join(head)))
     if len(fields) > 1 and all(map(is_number, filter(None, fields[0][:2]))) and not any(
             is_number(end) for row in fields[1:] for end in row[:2]):
-        yield body[0][0], counts.format(shown(" ".join(fields[0])))
-    for rows in (pairs, pairs[1:]):
+        yield body[0][0], f"`{shown(' '.join(fields[0]))}` may say how many lines there are"
+    for rows in (pairs, pairs[1:] if len(fields) > 2 or any(fields[-1][2:]) else []):
         if {(is_number(row[0]), is_number(row[1])) for row in rows} in ({(True, False)}, {(False, True)}):
             yield None, "names beside numbers may be no pairs of nodes (--sites reads places, --bars channels)"
     if is_unknown and len(ones) == len(others) and set(ones).isdisjoint(others) and (

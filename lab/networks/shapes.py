@@ -93,10 +93,11 @@ def has_counts(fields: list[list[str]]) -> bool:
 
 
 def counts_neighbours(fields: list[list[str]]) -> bool:
-    """Whether the second field of each line is the number of those after it, which have lines."""
+    """Whether the second field of each line is the number of those after it: of several in some line, or of nodes that
+    have lines."""
     after = {field for row in fields for field in row[2:] if field}
-    return after != set() and after <= {row[0] for row in fields} and all(
-        len(row) > 1 and whole(row[1]) == sum(map(bool, row[2:])) for row in fields)
+    return all(len(row) > 1 and whole(row[1]) == sum(map(bool, row[2:])) for row in fields) and after != set() and (
+        max(map(len, fields)) > 3 or after <= {row[0] for row in fields})
 
 
 def are_degrees(fields: list[list[str]]) -> bool:

@@ -160,7 +160,6 @@ REFUSED = [
     ("counts before edges with weights", "3 2\n1 2 1\n2 3 -1\n", "how many nodes and edges"),
     ("counts in two lines", "9\n3\n1 2\n2 4\n4 1\n", "how many nodes and edges"),
     ("a count as a heading", "9\n1 2\n2 4\n4 1\n", "how many nodes and edges", "--heading", "yes"),
-    ("counts as a heading", "9,2\nUlm,Aue\nAue,Hof\n", "may say how many lines", "--heading", "yes"),
     ("rows, columns and entries", "3 3 2\n1 2 1\n2 3 1\n", "how many nodes and edges"),
     ("a table of channels", "Channel,Frequency (MHz)\n36,5180\n40,5200\n", "the column `Channel` is no end of an edge"),
     ("places with a heading", "name,lat,lon\nUlm,48.4,10.0\n", "the column `lat` is no end of an edge"),

@@ -65,8 +65,9 @@ BARE, ANY = (("", None),), (("", None), ("", False), ("source{sep}target\n", Non
 DOUBTED = (
     *(((TOWNS, ONES), ANY, each(f"{{a}}{mark}{port}{{i}}{{sep}}{{b}}{mark}{port}{{j}}"))
       for mark in "-./#@_:" for port in ("", "eth")),
-    ((TOWNS, *NUMBERS), ANY[:2], lambda nodes, pairs, sep: "".join(
-        sep.join([node, str(len(ones)), *ones]) + "\n" for node, ones in beside(nodes, pairs, True).items())),
+    *(((TOWNS, *NUMBERS), ANY[:2], lambda nodes, pairs, sep, colon=colon: "".join(sep.join(
+        [node + colon, str(len(ones)), *ones]) + "\n" for node, ones in beside(nodes, pairs, True).items()))
+      for colon in ("", ":")),
     ((TOWNS, CELLS, ONES), BARE, lambda nodes, pairs, sep: "Edges:\n" + as_adjacency(nodes, pairs)),
     ((ONES,), ANY[:2], lambda nodes, pairs, sep: "9\n" + as_adjacency(nodes, pairs)),
     ((TOWNS, CELLS), ANY[:2], lambda nodes, pairs, sep: f"Kanten{sep}3\n" + "".join(
@@ -177,7 +178,8 @@ READ = (
     ("source,target\nUlm,Smith & Co\nHof,Aue\nA/B,Ulm\n", "Ulm-Smith_&_Co Hof-Aue A/B-Ulm", 1),
     ("source,target\nUlm,Smith & Co\nWald & Sons,Aue\n", "Ulm-Smith_&_Co Wald_&_Sons-Aue", 1),
     ("source,target\nUlm,Aue\nHof,Aue\n", "Ulm-Aue Hof-Aue", 0),
-    ("1 : 2 \n2 : 3\n3 :\n", "12 23", 0), ("source,target\n1,Ulm\n2,Aue\n3,Hof\n", "1-Ulm 2-Aue 3-Hof", 0),
+    ("Hof,2\n2,Hof\n", "Hof-2", 0), ("1 : 2 \n2 : 3\n3 :\n", "12 23", 0),
+    ("source,target\n1,Ulm\n2,Aue\n3,Hof\n", "1-Ulm 2-Aue 3-Hof", 0),
     ("source,target\nSite 1,Site 2\nStation 1,Site 2\n", "Site_1-Site_2 Station_1-Site_2", 0),
     ("Ulm : Aue Hof\nAue : Ulm\nHof : Ulm\n", "Ulm-Aue Ulm-Hof", 0),
     ("Ulm: Aue Hof\nAue: Bonn Hof\nHof: Bonn\nBonn: Ulm\n", "Ulm-Aue Ulm-Hof Aue-Bonn Aue-Hof Hof-Bonn Bonn-Ulm", 0),
