@@ -89,6 +89,9 @@ def read_adjacency(table: Table, name: str, form: str | None) -> Listed:
     if not form and not table.by_networkx and (table.separator or not are_mutual(table.rows) and not have_colons(
             table.rows) and all(1 < len(fields) < 4 for _, fields in table.rows)):
         refuse([(None, "these may be pairs with a weight, or nodes and their neighbours")], name)
+    (line, first), below = table.rows[0], [one for _, fields in table.rows[1:] for one in fields]
+    if not form and below and all(map(is_number, first)) and not any(map(is_number, below)):
+        refuse([(line, f"`{shown(' '.join(first))}` may say how many lines there are")], name)
     for line, node, others in nodes:
         inside = next((one for one in (node, *others) if not table.separator and re.search("[,;|]", one)
                        or not form and one.endswith(":")), None)

@@ -36,8 +36,7 @@ def shapes(rows: Rows, separator: str | None, text: str) -> Iterator[tuple[bool,
     yield counts_neighbours(fields), "nodes, how many neighbours each has, and these: leave the second fields out then"
     yield is_matrix(fields), "a matrix (networkx: nx.from_numpy_array(numpy.loadtxt(FILE)), nx.write_graphml(G, FILE))"
     yield are_degrees(fields), "nodes and how many neighbours each has"
-    last = max((at for at, row in enumerate(fields) if any(row[1:])), default=0)
-    yield fields[last][1:] == [str(len(fields) - last - 1)] and all(row[1:] == ["0"] for row in fields[:last]), (
+    yield have_counts(fields) or all(row[1:] == ["0"] for row in fields), (
         "pairs, or nodes and how many lines of neighbours each has (--as multiline)")
     yield all(not any(row[1:]) for row in fields), "a list of names, or graph6 without its head (--as graph6)"
 
@@ -58,6 +57,18 @@ def are_parted(text: str, known: set[str]) -> bool:
         row[0] == "#" and len(row) == 2 and (is_number(row[1]) or row[1] in known) for row in words)
 
 
+def have_counts(fields: list[list[str]]) -> bool:
+    """Whether each row of two has a number, and is followed by as many rows of one; some by one or more."""
+    at, most = 0, 0
+    while at < len(fields):
+        count = whole(fields[at][1]) if len(fields[at]) == 2 else None
+        below = fields[at + 1:at + 1 + min(count or 0, len(fields))]
+        if count is None or len(below) < count or any(len(row) != 1 for row in below):
+            return False
+        at, most = at + 1 + count, max(most, count)
+    return most > 0
+
+
 def is_by_line(rows: Rows) -> bool:
     """Whether each line may have the neighbours of the node that is its number, counted from 0 or from 1."""
     numbered = ({line - first: set(map(whole, fields)) for line, fields in rows}
@@ -67,16 +78,22 @@ def is_by_line(rows: Rows) -> bool:
 
 
 def has_counts(fields: list[list[str]]) -> bool:
-    """Whether the first row may count the nodes or the edges, or both, of the rows below, which have numbers alone; as
-    that of METIS, each line of which has the neighbours of a node."""
-    first, body = list(map(whole, fields[0])), [list(map(whole, row[:2])) for row in fields[1:]]
+    """Whether the first row, or the first two of one number each, may count the nodes or the edges of the rows below,
+    which have numbers alone; as that of METIS, each line of which has the neighbours of a node."""
+    single = next((at for at, row in enumerate(fields) if len(row) != 1), len(fields))
+    first = [whole(field) for row in fields[:max(single, 1)] for field in row]
+    body = [list(map(whole, row[:2])) for row in fields[max(single, 1):]]
     ends = sum(body, [])
     if not body or None in ends + first:
         return False
-    if len(first) == 1:
-        return first[0] not in ends and (first[0] == len(body) or first[0] > max(ends))
+    if single:
+        return single < 3 and any(count not in ends and (count == len(body) or count > max(ends)) for count in first)
     entries, least = sum(map(len, fields[1:])), min(max(ends), len(set(ends)))
-    if len(first) == 2 and entries == 2 * first[1] and len(body) == first[0]:
+    # Of METIS the digits of a third number say whether nodes have a size or weights before their neighbours, and edges.
+    kind = (fields[0] + ["0"] * 2)[2].rjust(3, "0")
+    if len(body) == first[0] and len(first) in (2, 3, 4) and re.fullmatch("[01]{3}", kind) and (
+            entries == first[0] * (int(kind[0]) + int(kind[1]) * (first[3:] or [1])[0])
+            + 2 * first[1] * (1 + int(kind[2]))):
         return True
     if len(body) > 1 and len(first) == 2 and max(len(body), max(ends)) <= first[0] and (
             entries == 2 * first[1] or entries == first[1] and len(body) > 2):

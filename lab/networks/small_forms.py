@@ -60,7 +60,7 @@ def read_matrix_market(text: str, name: str) -> Listed:
 
 def read_pajek(text: str, name: str) -> Listed:
     """Vertices from 1 on, and edges and arcs of two numbers, with a weight or without."""
-    graph, part, count, weights = Graph("Pajek", name, ("label",)), "", None, set()
+    graph, part, count, thirds = Graph("Pajek", name, ("label",)), "", None, {}
     lines = lines_of(text, "%")
     for line, row in lines:
         fields = row.split()
@@ -76,10 +76,12 @@ def read_pajek(text: str, name: str) -> Listed:
                                              f"quotes: `{shown(row)}`")
             graph.node(line, str(whole(found[1])), {"label": found[2].strip('"'), "place": found[3]})
         elif part in ("*edges", "*arcs"):
-            weights.add(len(fields) > 2)
-            if len(fields) > 3 and is_number(fields[3]) or len(weights) > 1 and fields[2:] and fields[2] in graph.nodes:
+            thirds.setdefault((fields + ["", ""])[2], (line, row))
+            if len(fields) > 3 and is_number(fields[3]):
                 raise wrong_line(name, line, f"more than two vertices and a weight: `{shown(row)}`")
             add_edge(graph, line, fields[:2], {"weight": fields[2]} if len(fields) > 2 else {})
+    if doubts := [thirds[third] for third in thirds if third in graph.nodes and "" in thirds]:
+        raise wrong_line(name, doubts[0][0], f"two vertices and a weight, or three: `{shown(doubts[0][1])}`")
     if count != len(graph.nodes):
         raise Wrong(f"{name}: it has {len(graph.nodes)} vertices, and says another number: is it cut?")
     return graph.listed(any(row.lower().startswith("*arcs") for _, row in lines), from_one=True)

@@ -207,6 +207,8 @@ REFUSED = [
     ("Matrix Market that is cut", "%%MatrixMarket matrix coordinate real general\n3 3 2\n1 2 1\n", "is it cut?"),
     ("Pajek that is cut", '*vertices 2\n1 "Ulm"\n*edges\n1 1\n', "is it cut?"),
     ("Pajek with lists", '*vertices 2\n1 "Ulm"\n2 "Aue"\n*arcslist\n1 2\n', "line 4: `*arcslist` isn't read"),
+    *((f"Pajek with a third vertex {at}", f"*vertices 2\n1 Ulm\n2 Aue\n*edges\n{edges}\n", "and a weight, or three")
+      for at, edges in enumerate(("1 2 1\n1 1", "1 2\n1 2 1"))),
     ("Pajek from 0", '*vertices 3\n0 "Ulm"\n1 "Aue"\n2 "Hof"\n*edges\n1 2\n', "line 2: no vertex of 1 to 3"),
     ("GEXF with a node twice", '<gexf><graph><nodes><node id="a"/><node id="a"/></nodes><edges/></graph></gexf>',
      "element 4: a second node a"),
