@@ -122,7 +122,7 @@ def may_be_heading(first: list[str], body: list) -> bool:
         order = [tuple(map(whole, fields[:2])) for _, fields in body if len(fields) > 1 and all(fields[:2])]
         return None in map(whole, ends) or not {"0", "1"} & set(ends) or order != sorted(order)
     new = [word for word in first[:2] if word not in ends]
-    if any(map(is_number, first)):
+    if len(first) < 2 or any(map(is_number, first)):
         return False
     return any(word.casefold() in TITLES for word in new) or len(new) == 2 and bool(ends)
 

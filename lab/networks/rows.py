@@ -33,8 +33,7 @@ def read(text: str, name: str, form: str | None, heading: bool | None) -> Listed
         refuse_shapes(rows, table.separator, text, name)
     if form == "multiline" or not form and table.has_groups:
         found = read_multiline(rows, name)
-    elif form == "adjacency" or not form and (
-            table.by_networkx or heading is not True and not table.has_data and is_adjacency(rows)):
+    elif form == "adjacency" or not form and (table.by_networkx or not table.has_data and is_adjacency(rows)):
         found = read_adjacency(table, name, form)
     else:
         found = read_pairs(table, name, heading, is_sure=form == "pairs")
