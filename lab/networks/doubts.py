@@ -33,7 +33,7 @@ def doubts_of_rows(body: Rows, table: Table, is_unknown: bool) -> Doubts:
     if len(fields) > 1 and all(map(is_number, filter(None, fields[0][:2]))) and not any(
             is_number(end) for row in fields[1:] for end in row[:2]):
         yield body[0][0], f"`{shown(' '.join(fields[0]))}` may say how many lines there are"
-    for rows in (pairs, pairs[1:] if len(fields) > 2 or any(fields[-1][2:]) else []):
+    for rows in (pairs, pairs[1:] if len(fields) > 2 or len(fields[-1]) > 2 else []):
         if {(is_number(row[0]), is_number(row[1])) for row in rows} in ({(True, False)}, {(False, True)}):
             yield None, "names beside numbers may be no pairs of nodes (--sites reads places, --bars channels)"
     if is_unknown and len(ones) == len(others) and set(ones).isdisjoint(others) and (

@@ -103,7 +103,7 @@ def has_counts(fields: list[list[str]]) -> bool:
     if len(first) == 3 and first[0] == first[1] and (first[2] == len(body) or max(ends) <= first[0]):
         return True
     if len(body) < 3:
-        return first[1:] == [len(body)] and (max(ends) <= first[0] or first[0] == len(set(ends)))
+        return first[1:] == [len(body)] and (max(ends) <= first[0] or first[0] in (len(set(ends)), len(body) + 1))
     return max(map(len, fields)) < 4 and any(
         one >= least and other in (len(body), 2 * len(body)) or one == len(body) and other >= least
         for one, other in zip(first, first[1:]))

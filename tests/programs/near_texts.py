@@ -137,7 +137,8 @@ REFUSED = (
         "6 1\n7 2\n4 3\n8 4\n3 2\n5 2\n", "A B\n0 2\n3 0\n", "A B\n0 0\n1 0\n", "3 3 25\n3 3 25\n3 25 3\n",
         "3 12 1\n3 12 1\n3 12 1\n", "6 Ulm\nAue 6\nAue 5\nUlm 6\nHof 5\n", "d a d\na : d\n",
         "3 2 1\n1 0\n2 0\n0 2 1 2\n", "2 1\n0\n1 0\n", "3\n2\n9 5\n5 9 8\n8 5\n", "1 2 3\n2 3\n3\n",
-        "4 4\nJena Bonn Essen\nBonn Jena\nUlm\nEssen Jena\n", "Nr von nach\n1 4 2\n/ 2 1\n") for sep in " ,;\t"),
+        "4 4\nJena Bonn Essen\nBonn Jena\nUlm\nEssen Jena\n", "Nr von nach\n1 4 2\n/ 2 1\n", "3 2\n10 25\n25 7\n")
+      for sep in " ,;\t"), "int,1,\n4,Aue 2,\n",
     "c masts\n", "A\tB 1\nA\tB 1\nB\tC 2\nC\tA\n",
     "Hof region\nHof Ulm\nUlm Aue\nAue Hof\n", "Ulm Aue\nAue Hof\nHof #planned\n",
     "1,2\n2,03\n3,1\n", "A\tB 1\nB\tC 2\nC\tA 1\n", "#x.py\n# GMT x\n# \nUlm Aue\nAue Hof\n",
