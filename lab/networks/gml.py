@@ -3,9 +3,9 @@ import html
 import re
 from xml.etree.ElementTree import Element, SubElement
 
-from lab.networks.edge_list import Listed
+from lab.networks.edge_list import FLAGS, Listed
 from lab.networks.fields import shown
-from lab.networks.graphs import Graph
+from lab.networks.graphs import HIDDEN, WEIGHTS, Graph, word_of
 from lab.wrong import wrong_line
 
 BEGINS = r"\s*(#[^\n]*\n\s*)*((creator|version|comment|directed|label)\s+(\"[^\"]*\"|[0-9.]+)\s+)*graph\s*\["
@@ -43,7 +43,8 @@ def root_of(text: str, name: str) -> tuple[Element, list[int]]:
             inside.pop()
         elif mark or key in ("graph", "node", "edge") or not key and not re.fullmatch("[A-Za-z][0-9A-Za-z_]*", value):
             raise wrong_line(name, line, f"GML isn't read on from `{shown(value)}`")
-        elif key in inside[-1].attrib and (key in ENDS or inside[-1].tag == "edge"):
+        elif key in inside[-1].attrib and (key in ENDS or inside[-1].tag == "edge" and may_not_count(
+                key, {word_of(inside[-1].get(key)), word_of(value)})):
             raise wrong_line(name, line, f"two values of `{key}`")
         elif key:
             inside[-1].attrib.setdefault(key, value)
@@ -51,6 +52,12 @@ def root_of(text: str, name: str) -> tuple[Element, list[int]]:
     if len(inside) > 1 or key:
         raise wrong_line(name, line, "GML ends before its last bracket: is the text cut?")
     return inside[0], lines
+
+
+def may_not_count(key: str, words: set[str]) -> bool:
+    """Whether one of two values of an edge's key may say that it is none; else they are a list, as networkx writes
+    it."""
+    return key in (*WEIGHTS, *HIDDEN) or words <= FLAGS
 
 
 def said_of(part: Element) -> dict[str, str]:

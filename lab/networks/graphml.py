@@ -37,8 +37,8 @@ def read_graphml(text: str, name: str) -> Listed:
 
     def said_of(part: ElementTree.Element) -> dict[str, str]:
         data = [(words.get(data.get("key"), ""), (data.text or "").strip()) for data in part.findall("data")]
-        said = dict(data)
-        if part.tag == "edge" and len(said) < len(data):
+        said, named = dict(data), [word for word, _ in data if word]
+        if part.tag == "edge" and len(set(named)) < len(named):
             raise Wrong(f"{name}: the edge from {shown(part.get('source') or '')} to {shown(part.get('target') or '')} "
                         "has two values of one key")
         return said if part.tag == "edge" else drawn(part) | said | {"isGroup": "1" * (part.find("graph") is not None)}

@@ -69,9 +69,9 @@ def made_of(found, name):
     edges, left_out = kept(found, number)
     places = given(found.places, number, name, "a place")
     names = {v: found.names.get(node, node) for v, node in order.items()}
-    names = {v: one for v, one in names.items() if one != str(v)}
     if len(set(names.values())) < len(names):
         found.notes.append(f"two nodes are named {shown(twin_of(names))}")
+    names = {v: one for v, one in names.items() if one != str(v)}
     made = checked(Network(len(order), edges, given(found.identifiers, number, name, "an identifier"),
                            given(found.bars, number, name, "a barred channel"), names,
                            {v: place for v, place in places.items() if all(abs(part) < FARTHEST for part in place)},

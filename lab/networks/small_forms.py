@@ -1,5 +1,6 @@
 """Matrix Market, Pajek, LEDA, graph6 and sparse6: forms whose nodes are numbered, and may have a name."""
 import re
+from itertools import zip_longest
 
 from lab.networks.edge_list import Listed
 from lab.networks.fields import Unread, is_number, shown, value_of, whole
@@ -79,7 +80,8 @@ def read_pajek(text: str, name: str) -> Listed:
             thirds.setdefault((fields + ["", ""])[2], (line, row))
             if len(fields) > 3 and is_number(fields[3]):
                 raise wrong_line(name, line, f"more than two vertices and a weight: `{shown(row)}`")
-            add_edge(graph, line, fields[:2], {"weight": fields[2]} if len(fields) > 2 else {})
+            said = dict(zip_longest(fields[3::2], fields[4::2], fillvalue=""))
+            add_edge(graph, line, fields[:2], said | ({"weight": fields[2]} if len(fields) > 2 else {}))
     if doubts := [thirds[third] for third in thirds if third in graph.nodes and "" in thirds]:
         raise wrong_line(name, doubts[0][0], f"two vertices and a weight, or three: `{shown(doubts[0][1])}`")
     if count != len(graph.nodes):

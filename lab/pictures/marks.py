@@ -5,7 +5,6 @@ from math import sqrt
 from lab.pictures.palette import (FOREST_COLOURS, INK, PAPER, SOFT, WIRES, WRONG, channel_hue, grey, is_ring,
                                   short, text_on)
 from lab.pictures.places import OF_CIRCLES, bends, label_places, middle, moved, spaced
-from lab.pictures.svg import text_width
 
 # Maps of more nodes than these are wider, and of more than the second have smaller circles and straight edges.
 SMALL, LARGE = 12, 40

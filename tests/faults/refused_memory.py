@@ -9,7 +9,7 @@ from lab.networks.network_text import network_of
 from tests.cases import Case, called, text, text_in
 from tests.commands import COMMANDS, EDGE, TRIANGLE
 from tests.programs.made_transcripts import Run
-from tests.settings import CRATE_TESTS, PATHS, PLAN, PLAY
+from tests.settings import CRATE_TESTS, PATHS
 
 HERE = os.path.dirname(os.path.abspath(__file__))
 # Tests of `checks`, which `rt ci` builds, or `rt test` in that crate, that try again what memory is refused to once.

@@ -123,12 +123,19 @@ FORMS = [
     ("a name and labels in brackets", "graph <x> { a [label=<<i><b>x</b></i>>]; a -- b }", "ab", "", "DOT; 2 nodes"),
     ("DOT with the usual colour", 'graph { a -- b; b -- c [color=""] }', "ab bc", "", "DOT; 3 nodes, 2 edges"),
     ("labels of Graphviz", DOT, "Ulm-Aue Aue-Hof", "", "DOT; 3 nodes"),
+    ("Pajek with colours", "*Vertices 2\n1 a\n2 b\n*Edges\n1 2 1 c blue\n", "ab", "",
+     "2 keys of edges not read: c, weight"),
+    ("lists of an edge, by networkx", 'graph [ node [ id 0 ] node [ id 1 ] edge [ source 0 target 1 pts 3 pts 2 pts 0 '
+     'tags "_networkx_list_start" tags "x" ] ]', "01", "", "2 keys of edges not read: pts, tags"),
+    ("keys that aren't declared", '<graphml><graph><node id="a"/><node id="b"/><edge source="a" target="b">'
+     '<data key="x">1</data><data key="y">0</data></edge></graph></graphml>', "ab", "", "GraphML; 2 nodes, 1 edge"),
     ("a group of GML", GROUP, "2-3", "", "groups of nodes, without an edge of their own, are no nodes: 1"),
     ("labels that come twice", GROUP.replace("isGroup", "x"), "2-3", "1", "named by their label: A comes twice"),
     ("nodes without a name", GROUP.replace("isGroup 1", 'name "B"'), "2-3", "1", "by their name: some have none"),
     ("other lines of DIMACS", "p edge 3 2\ne 1 2\nx 1 3\nd 2\n", "12", "3", "lines `n`, `d`, `v` and `x` not read: 2"),
     ("two nodes of a name", "c name 1 A\nc name 2 A\nc name 3 B\np edge 3 1\ne 1 3\n", "AB", "A",
      "two nodes are named A"),
+    ("a node named as another's number", "c name 2 1\np edge 3 1\ne 1 3\n", "1-3", "1", "two nodes are named 1"),
     # What the guess refuses is read if its form is named.
     ("wide lines", "A,B,t,u\nB,C,s,v\n", "AB BC", "", "pairs; 3", "--as", "pairs"),
     ("wide lines with a heading", "A,B,t,u\nB,C,s,v\n", "BC", "", "pairs with", "--as", "pairs", "--heading", "yes"),
@@ -184,6 +191,8 @@ REFUSED = [
     ("a graph directly in a graph", "graph [ node [ id 0 ] graph [ node [ id 9 ] ] ]", "`graph` joins nodes and"),
     ("an edge of another name", 'graph [ node [ id 3 ] link [ source "" target 3 ] ]', "`link` joins nodes and"),
     ("a key twice", "graph [ node [ id 0 ] edge [ source 0 target 0 on 1 on 0 ] ]", "two values of `on`"),
+    ("a weight twice", "graph [ node [ id 0 ] edge [ source 0 target 0 weight 2 weight 0 ] ]",
+     "two values of `weight`"),
     ("a key of GraphML twice", KEYED + '<edge source="a" target="b"><data key="g"/><data key="g"/></edge></graph>'
      "</graphml>", "the edge from a to b has two values of one key"),
     ("GraphML with entities", '<!DOCTYPE g [<!ENTITY a "b">]><graphml><graph><node id="Ulm"/></graph></graphml>',
