@@ -3,16 +3,12 @@ import os
 import re
 import sys
 
-from lab.networks import site_tables
-from lab.networks.edge_list import FLAGS, NOT, clean
-from lab.networks.fields import value_of
+from lab.networks import tables
 from lab.networks.network_text import MAX_CHANNEL, shown
 from lab.networks.plan_text import rows_of
 from lab.words import add_output, bytes_at, parser_of, text_at, write
 from lab.wrong import Wrong, wrong_line
 
-# Headings of the column of channels in a file, in small letters without blanks; those of barred channels are none.
-HEADINGS = ("channel", "channels", "channelnumber", "kanal", "kanäle", "kanalnummer")
 # How many digits a real number of a channel has at most, as a frequency in kHz.
 MOST_DIGITS = 12
 
@@ -55,20 +51,11 @@ def table_of(words: list[str]) -> list[int]:
 
 def numbers_in(path: str) -> list[int]:
     """The column of channels of a table."""
-    found = site_tables.table(bytes_at(path), path)
-    columns = found.columns(HEADINGS)
-    if len(columns) != 1 or not found.rows:
-        raise Wrong(f"{path}: one column has to be named channel, with a row for each channel")
-    for at, word in enumerate(found.words):
-        said = {fields[at].casefold() for _, fields in found.rows}
-        values = set(map(value_of, said))
-        if at not in columns and (said <= FLAGS and said & NOT or 0 in values or len(said) > 1 and None in values):
-            raise Wrong(f"{path}: the column {shown(word)} may say which channels may be used: leave out the others, "
-                        "and this column")
-    for line, fields in found.rows:
-        if not re.fullmatch(r"\d{1,%d}" % MOST_DIGITS, fields[columns[0]]):
-            raise found.wrong(line, f"no channel: `{shown(','.join(fields))}`")
-    return [int(fields[columns[0]]) for _, fields in found.rows]
+    table = tables.Table(tables.decoded(bytes_at(path), path), path, ("channel",))
+    for line, row in table.rows:
+        if not re.fullmatch(r"\d{1,%d}" % MOST_DIGITS, row["channel"]):
+            raise table.wrong(line, f"no channel: `{shown(row['channel'])}`")
+    return [int(row["channel"]) for _, row in table.rows]
 
 
 def numbers_of(words: list[str]) -> list[int]:
@@ -93,7 +80,7 @@ def rows_of_run(text: str, name: str) -> list[tuple[int, int, int]]:
         if parts:
             found.append((at, int(parts[1]), int(parts[2])))
         elif line:
-            raise wrong_line(name, at, f"no node with a channel: `{shown(clean(line))}`")
+            raise wrong_line(name, at, f"no node with a channel: `{shown(line)}`")
     return found
 
 

@@ -1,6 +1,9 @@
 """The command line of `forestlab network`: its commands, and what each says of itself."""
-from lab.networks.forms import FORMS
+import argparse
+
+from lab.networks.reading import FORMS
 from lab.networks.kinds import KINDS
+from lab.networks.tables import TITLES
 from lab.networks.numbering import WAYS
 from lab.words import add_command, add_commands, add_options, add_output, add_seed, parser_of
 
@@ -8,8 +11,8 @@ HELP = """\
 Makes networks, reads them in other forms, and says what they are.
 
 {kinds}
-  read FILE           another form of a network: pairs (CSV), adjacency, GraphML, GML,
-                      JSON, DOT, Matrix Market, DIMACS; or sites and a reach
+  read FILE           another form of a network: pairs (CSV), edges, adjacency, and by
+                      networkx GraphML, GML, JSON, ..; or sites and a reach
   number FILE         the same network, with other numbers
   tell FILE           what a network is, what a run on it costs, or what is wrong with it;
                       or of a code of the programs, as C8, what it means and what to do
@@ -18,8 +21,7 @@ Makes networks, reads them in other forms, and says what they are.
 MORE_HELP = """\
 A network is written in the DIMACS format on standard output, with places and names
 of its nodes in comment lines: `c at V X Y` and `c name V NAME`. FILE may be - for
-standard input. Whatever is guessed, mended or left out is said on standard error.
-A text that may be two things, or is of a form that isn't read, is refused.
+standard input. Nothing is guessed; what isn't read is said on standard error.
 This is Python: tested, not proved. So compare the counts that it reports.
 
 Status: 0 done, 1 the file can't be read as a network, 2 the command line is refused.
@@ -30,27 +32,19 @@ Status: 0 done, 1 the file can't be read as a network, 2 the command line is ref
 # Of each command that reads a network: its words; what it does, more of it, and an example.
 COMMANDS = {
     "read": ("[FILE] [options]", "Reads a network in another form, and writes it in the DIMACS format.", """\
-  pairs         two nodes a line, as CSV, with tabs or with blanks; a heading may
-                name the columns; further ones, as weights, aren't read
-  adjacency     a node and its neighbours a line, with blanks between
-  multiline     a node and how many neighbours it has, and then a line for each
-  graphml, gml  as networkx, yEd, Gephi and igraph write them
-  json          lists `nodes` and `links`, as networkx writes and D3 reads them
-  matrixmarket  a sparse matrix of coordinates
-  dot           a graph in the language of Graphviz
-  dimacs        `p` and `e` lines, with mistakes that are mended if that can be
-The form is guessed unless --as names it. Numbers from 1 on are kept, those from 0
-on become one more, other names get numbers and stay in lines `c name V NAME`.
-Mended, and said: a byte order mark, line ends of a carriage return alone. Left out and
-counted: what isn't read, as weights, edges from a node to itself, and edges that come
-again. --strict refuses a text of which something is left out.
+  pairs       .csv .tsv    a table with the columns source and target (or from and to)
+  edges       .edgelist    two nodes a line, with blanks between, as networkx writes
+  adjacency   .adjlist     a node and its neighbours a line, and a line for each node
+  graphml, gexf, gml, json, graph6, sparse6    by networkx, if it is installed
+The file's ending says the form, or --as; standard input is DIMACS unless --as is there.
+A table is CSV with a heading. --columns source=Von,target=Nach says which columns are
+meant if they are called otherwise; --no-heading, that the first two are. What isn't as
+its form has it is refused with its line; columns and keys that aren't read are said.
 
-CSV has commas, semicolons or tabs, with decimal points or commas. A table of sites
-has a heading: site (or name, id), and if there are any lat and lon (degrees), x and
-y (km), or easting and northing (m), and identifier; a unit may follow, as x (m).
-With it the nodes are the sites of the table, in its order, those without a neighbour
-too; a pair of another site is left out, and said with the name that is most alike. A
-table of bars has the heading site,channel. Headings may be German, too.""",
+A table of sites has a column site (or name, or id), and if there are any lat and lon
+(degrees), x_km and y_km, or x_m and y_m (easting, northing), and identifier. The nodes are
+then its sites, in its order; an edge of another site is refused. A table of bars has the
+columns site and channel.""",
              "forestlab network read pairs.csv --sites sites.csv > sites.col\n"
              "  forestlab network read --sites sites.csv --reach 5.5 --bars bars.csv > sites.col"),
     "number": ("FILE [options]", "Numbers the nodes of a network anew.", """\
@@ -86,9 +80,12 @@ With --channels the channels are real numbers: see `forestlab channels --help`."
 FILES = {"read": "?", "tell": "+"}
 
 
-def kilometres(word):
-    """A length with a decimal point, or with a comma as tables may have it."""
-    return float(word.replace(",", ".") if word.count(",") == 1 and "." not in word else word)
+def titles_of(words):
+    """`source=Von,target=Nach` as pairs."""
+    pairs = [word.partition("=") for word in words.split(",")]
+    if not all(mark and title and column in TITLES for column, mark, title in pairs):
+        raise argparse.ArgumentTypeError(f"COLUMN=TITLE with commas between, and a column of {', '.join(TITLES)}")
+    return [(column, title) for column, _, title in pairs]
 
 
 # The options of the commands, in the order of the help.
@@ -98,18 +95,17 @@ OPTIONS = (
     (("random",), "--connected", {"action": "store_true", "help": "each node can be reached from each other"}),
     (("random",), "--neighbours", {"type": int, "metavar": "D", "help": "the node with the most neighbours has D"}),
     (("random",), "--forests", {"type": int, "metavar": "U", "help": "there are U forests"}),
-    (("read",), "--as", {"dest": "form", "choices": FORMS, "help": "the form, if the guess is wrong"}),
-    (("read",), "--heading", {"choices": ("yes", "no"), "help": "whether the first line of pairs is a heading"}),
+    (("read",), "--as", {"dest": "form", "choices": FORMS, "help": "the form, whatever the file is called"}),
+    (("read",), "--columns", {"type": titles_of, "metavar": "COLUMN=TITLE,..", "help": "what columns are called"}),
+    (("read",), "--no-heading", {"action": "store_true", "help": "a table of pairs has no heading"}),
+    (("read",), "--encoding", {"metavar": "NAME", "help": "that of all tables, as cp1252; default: UTF-8"}),
     (("read",), "--sites", {"metavar": "CSV", "help": "a table of sites"}),
-    (("read",), "--reach", {"type": kilometres, "metavar": "KM", "help": "joins sites that are less than KM apart"}),
+    (("read",), "--reach", {"type": float, "metavar": "KM", "help": "joins sites that are less than KM apart"}),
     (("read",), "--bars", {"metavar": "CSV", "help": "a table of channels that are barred at sites"}),
     (("read",), "--channels", {
         "metavar": "TABLE", "help": "the channels that all may use, as '1 6 11', or a CSV file with a column "
         "`channel`: the first is channel 1 of the plan; bars are of these numbers, and `forestlab channels` puts them "
         "back"}),
-    (("read",), "--ignore", {"metavar": "NAMES", "help": "columns and keys that say nothing of nodes or edges, as "
-                             "weight,km: they aren't counted as left out"}),
-    (("read",), "--strict", {"action": "store_true", "help": "refuses it if something would be left out"}),
     (("tell",), "--payloads", {"action": "store_true", "help": "counts the payloads, however many they are"}),
     (("number",), "--by", {"choices": WAYS, "required": True, "help": "the order of the new numbers"}),
     (("number",), "--reverse", {"action": "store_true", "help": "the other way round"}),

@@ -5,19 +5,18 @@ import csv
 import io
 import sys
 
-from lab.networks import edge_list, sites
+from lab.networks import tables
 from lab.networks.channels import table_of
 from lab.networks.codes import code_of, tell_code
 from lab.networks.command_line import command_line
 from lab.networks.describe import facts, warnings
-from lab.networks.edge_list import Listed
-from lab.networks.fields import Unread, shown
 from lab.networks.kinds import KINDS
 from lab.networks.named import network_at, network_bytes, path_of
 from lab.networks.network_text import reading_of
 from lab.networks.numbering import renumbered
 from lab.networks.plan_text import clashes, read_plan
-from lab.networks.reading import listed_of, made_of, other_form
+from lab.networks.reading import form_of, listed_of, made_of
+from lab.networks.tables import MOST_BYTES, Listed, with_bars, with_sites
 from lab.networks.texts import text_of
 from lab.words import bytes_at, one_line, source_of, text_at, write
 from lab.wrong import Wrong
@@ -30,7 +29,10 @@ def bytes_of_file(name):
     """The bytes of a file that isn't longer than any network is, or of a network that is called by its name."""
     if path_of(name) != name:
         return network_bytes(name)
-    return bytes_at(name, lambda stream: edge_list.bytes_of(stream, one_line(name)))
+    data = bytes_at(name, lambda stream: stream.read(MOST_BYTES + 1))
+    if len(data) > MOST_BYTES:
+        raise Wrong(f"{one_line(name)}: more than {MOST_BYTES >> 20} MiB, and no network within the limits is so long")
+    return data
 
 
 def say(what):
@@ -62,46 +64,27 @@ def channels_asked(given):
 
 
 def was_read(given):
-    heading = {"yes": True, "no": False}.get(given.heading)
-    licence = channels_asked(given)
+    licence, named = channels_asked(given), dict(given.columns or ())
     if given.reach is not None and not (given.sites and LEAST_REACH <= given.reach <= 20000):
         given.refuse(f"--reach is for a table of --sites, and {LEAST_REACH:g} or more, which is a millimetre")
     if given.file is None and given.reach is None:
         given.refuse("a FILE is wanted, or --sites with --reach")
     if [given.file, given.sites, given.bars].count("-") > 1:
         given.refuse("standard input is one file, not two")
+    name = one_line(given.file or given.sites)
     if given.file is None:
         found = Listed("sites")
     else:
-        found = listed_of(bytes_of_file(given.file), one_line(given.file), given.form, heading)
-    name = one_line(given.file or given.sites)
-    if given.sites:
-        sites.by_names(found, name)
-        table = one_line(given.sites)
-        sites.with_sites(found, bytes_of_file(given.sites), table, given.reach)
-    if given.bars:
-        sites.with_bars(found, bytes_of_file(given.bars), one_line(given.bars), licence)
-    network, said, left_out = made_of(found, name)
-    left_out = without_ignored(left_out, said, given, name)
-    if given.strict and left_out:
-        keys = ",".join(key for what in left_out if isinstance(what, Unread) for key in what.names)
-        raise Wrong(f"{name}: refused, since --strict is asked for: {'; '.join(left_out)}"
-                    + f" (--ignore {shown(keys)} if they say nothing of nodes and edges)" * bool(keys))
-    for what in said + left_out:
+        form = given.form or ("dimacs" if path_of(given.file) != given.file else form_of(given.file, name))
+        found = listed_of(bytes_of_file(given.file), name, form, given.encoding, named, not given.no_heading)
+    for path, add, more in ((given.sites, with_sites, (name, given.reach)), (given.bars, with_bars, (licence,))):
+        if path:
+            text = tables.decoded(bytes_of_file(path), one_line(path), given.encoding)
+            add(found, text, one_line(path), *more, named)
+    network, said = made_of(found, name)
+    for what in said:
         say(f"{name}: {what}")
-    if left_out:
-        say(f"{name}: --strict refuses what has something left out")
     return text_of(network, [f"Channel {channel} is {number}" for channel, number in enumerate(licence or (), 1)])
-
-
-def without_ignored(left_out, notes, given, name):
-    """What is left out, without the columns and keys of --ignore, each of which has to be one that isn't read."""
-    ignored = set(given.ignore.split(",")) if given.ignore is not None else set()
-    unread = {key for what in left_out + notes if isinstance(what, Unread) for key in what.names}
-    if ignored - unread:
-        raise Wrong(f"{name}: --ignore {shown(min(ignored - unread))}: that is no column or key that is left out"
-                    + (f", as {shown(', '.join(sorted(unread)))}" if unread else ""))
-    return [rest for what in left_out if (rest := what.without(ignored) if isinstance(what, Unread) else what)]
 
 
 def was_told(given):
@@ -116,15 +99,8 @@ def was_told(given):
 
 def network_told(path, is_counted):
     data, path = bytes_of_file(path), one_line(path)
-    try:
-        reading = reading_of(data.decode("utf-8", "replace"), path)
-        network = reading.network()
-    except Wrong as why:
-        # Of a network that is too large `read` would say the same.
-        other = None if str(why).endswith(("(F7)", "(N1)")) else other_form(data, path)
-        if other:
-            raise Wrong(f"{why}\nnetwork: but `forestlab network read {path}` can read it: {other}") from None
-        raise
+    reading = reading_of(data.decode("utf-8", "replace"), path)
+    network = reading.network()
     for what in warnings(reading):
         say(f"{path}: {what}")
     return "".join(f"{name}: {what}\n" for name, what in facts(reading, network, is_counted))

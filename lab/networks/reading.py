@@ -1,135 +1,101 @@
-"""`forestlab network read`: a network in one of the forms, as a text that the programs read, and what was guessed and
-left out."""
+"""`forestlab network read`: a text of another form as a network of the programs, and what of it isn't read."""
+import os
+
 from lab.network import Network
-from lab.networks.edge_list import NO_END, decoded, twin_of, with_clean_names
-from lab.networks.forms import listed
-from lab.networks.network_text import checked, read_network, shown, stem, whole
+from lab.networks import foreign, tables
+from lab.networks.network_text import checked, read_network, stem, whole
+from lab.networks.tables import Listed
 from lab.networks.texts import text_of
 from lab.words import counted
 from lab.wrong import Wrong
 
-# Forms whose texts end with a bracket, so that it is seen if they are cut.
-CLOSED = ("JSON of nodes and links", "GraphML", "GML", "DOT", "GEXF")
-# Places of more digits before the point aren't written.
-FARTHEST = 10 ** 9
+# The forms, and the endings of files that say which it is.
+ENDINGS = {"pairs": ("csv", "tsv"), "edges": ("edges", "edgelist"), "adjacency": ("adj", "adjlist"), "dimacs": ("col",),
+           "graphml": ("graphml",), "gexf": ("gexf",), "gml": ("gml",), "json": ("json",), "graph6": ("g6",),
+           "sparse6": ("s6",)}
+FORMS = tuple(ENDINGS)
+# What makes another form of a file, by its ending.
+ELSEWHERE = {"dot": "gv2gml -o net.gml FILE (Debian: graphviz)", "gv": "gv2gml -o net.gml FILE (Debian: graphviz)",
+             "net": "networkx: nx.write_graphml(nx.read_pajek(FILE), 'net.graphml')", "xlsx": "save the sheet as CSV",
+             "ods": "save the sheet as CSV",
+             "mtx": "networkx and scipy: nx.write_graphml(nx.Graph(scipy.io.mmread(FILE)), 'net.graphml')"}
 
 
-def read(data, name, form=None, heading=None):
-    """The network, and the lines that say what was read, guessed and left out."""
-    made, said, left_out = made_of(listed_of(data, name, form, heading), name)
-    return made, said + left_out
+def form_of(path: str, name: str) -> str:
+    """The form that a file's ending says; standard input is DIMACS."""
+    ending = os.path.splitext(path)[1][1:].lower()
+    found = "dimacs" if path == "-" else next((form for form, known in ENDINGS.items() if ending in known), None)
+    if found is None:
+        raise Wrong(f"{name}: its ending doesn't say what it is" + (
+            f": {ELSEWHERE[ending]}" if ending in ELSEWHERE else "; one of these does:\n"
+            f"  forestlab network read --as pairs {name}       CSV with a heading source,target\n"
+            f"  forestlab network read --as edges {name}       two nodes a line, with blanks between\n"
+            f"  forestlab network read --as adjacency {name}   a node and its neighbours a line"))
+    return found
 
 
-def read_any(data, name, heading=None):
-    """The network of a text in any form, and the lines that say how it was read; none if it is in the form of the
-    programs. Of a text that begins like one of theirs the fault is theirs, if it can't be mended."""
-    try:
-        return read_network(data.decode(), name), []
-    except UnicodeDecodeError:
-        fault = None
-    except Wrong as why:
-        fault = why if begins_as_ours(data) else None
-    try:
-        made, said = read(data, name, "dimacs" if fault else None, heading)
-    except Wrong as why:
-        raise fault or why from None
+def listed_of(data: bytes, name: str, form: str, encoding=None, named=None, is_headed=True) -> Listed:
+    """What a text of a form lists."""
+    text = tables.decoded(data, name, encoding)
+    if form == "dimacs":
+        network = read_network(text, name)
+        own = {v: network.names.get(v, str(v)) for v in network.vertices}
+        if len(set(own.values())) < len(own):
+            own = {v: str(v) for v in network.vertices}
+        return Listed(form, [(0, own[v], own[w]) for v, w in network.edges], list(own.values()), {},
+                      {own[v]: place for v, place in network.places.items() if v in own},
+                      {own[v]: said for v, said in network.said.items()},
+                      {own[v]: set(said) for v, said in network.bars.items()})
+    if form == "pairs":
+        found = tables.pairs(text, name, named, is_headed)
+    elif form in foreign.FORMS:
+        found = foreign.read(text, name, form)
+    else:
+        found = getattr(tables, form)(text, name)
+    return found
+
+
+def made_of(found: Listed, name: str) -> tuple[Network, list[str]]:
+    """The network of what a text lists, and the lines that say what was read, and what wasn't."""
+    names = found.nodes or list(dict.fromkeys(end for _, *ends in found.edges for end in ends))
+    tables.note_alike(found, names)
+    order, by = numbered(names)
+    number = {node: v for v, node in enumerate(order, 1)}
+    edges, loops, again = set(), 0, 0
+    for _, one, other in found.edges:
+        pair = tuple(sorted((number[one], number[other])))
+        loops += pair[0] == pair[1]
+        again += pair in edges
+        edges |= {pair} if pair[0] < pair[1] else set()
+    said = [f"{counted(loops, 'edge')} from a node to itself left out"] if loops else []
+    said += [f"{counted(again, 'edge')} there before, in one direction or the other"] if again else []
+    made = checked(Network(len(order), edges, {number[node]: what for node, what in found.identifiers.items()},
+                           {number[node]: what for node, what in found.bars.items()},
+                           {v: node for node, v in number.items() if node != str(v)},
+                           {number[node]: place for node, place in found.places.items()}, stem(name)), name)
+    alone = sum(not ws for ws in made.neighbours.values())
+    lone = f", {alone} of them without a neighbour" if alone else ""
+    first = (f"{found.form}; {counted(made.nodes, 'node')}{lone}, {counted(len(made.edges), 'edge')}, "
+             f"at most {counted(made.greatest_degree, 'neighbour')}; {by}")
+    return made, [first, *found.notes, *said]
+
+
+def numbered(names: list[str]) -> tuple[list[str], str]:
+    """The names by their numbers. Whole numbers without a gap from 0 or 1 on stay in their order."""
+    numbers = {whole(name) for name in names}
+    for least, by in ((1, "numbers as in the text"), (0, "it counts from 0, so each number is one more")):
+        if len(numbers) == len(names) and numbers == set(range(least, len(names) + least)):
+            return sorted(names, key=whole), by
+    return names, "numbers by the order in which they come"
+
+
+def read_any(data: bytes, name: str) -> tuple[Network, list[str]]:
+    """The network of a file by its ending, as the studio opens it."""
+    form = form_of(name, name) if "." in name else "dimacs"
+    if form == "dimacs":
+        return read_network(data.decode("utf-8", "replace"), name), []
+    made, said = made_of(listed_of(data, name, form), name)
     network = read_network(text_of(made), name)
     network.name = stem(name)
     return network, said
 
-
-def other_form(data, path):
-    """Of a text that the programs refuse: what `read` makes of it, or None. One that begins like a network isn't taken
-    for pairs."""
-    try:
-        return read(data, path, "dimacs" if begins_as_ours(data) else None)[1][0]
-    except Wrong:
-        return None
-
-
-def begins_as_ours(data):
-    return data.split(None, 1)[:1] in ([b"c"], [b"p"])
-
-
-def listed_of(data, name, form=None, heading=None):
-    """What a text lists."""
-    text, mended, guessed = decoded(data, name)
-    found = listed(text, name, form, heading)
-    found.notes[:0] = mended
-    found.left_out[:0] = [what for what in guessed if what != NO_END or found.form not in CLOSED]
-    with_clean_names(found, name)
-    return found
-
-
-def made_of(found, name):
-    """The network of what a text lists, the lines that say what was read and guessed, and the lines that say
-    what was left out."""
-    order, by = numbered(found)
-    number = {node: v for v, node in order.items()}
-    edges, left_out = kept(found, number)
-    places = given(found.places, number, name, "a place")
-    names = {v: found.names.get(node, node) for v, node in order.items()}
-    if len(set(names.values())) < len(names):
-        found.notes.append(f"two nodes are named {shown(twin_of(names))}")
-    names = {v: one for v, one in names.items() if one != str(v)}
-    made = checked(Network(len(order), edges, given(found.identifiers, number, name, "an identifier"),
-                           given(found.bars, number, name, "a barred channel"), names,
-                           {v: place for v, place in places.items() if all(abs(part) < FARTHEST for part in place)},
-                           stem(name)), name)
-    return made, [summary(made, found, by)] + found.notes, found.left_out + left_out
-
-
-def numbered(found):
-    """{vertex: name}. Whole numbers without a gap from 0 or 1 on stay in their order; other names count as they
-    come."""
-    names = dict.fromkeys(found.order or ())
-    for line, *ends in sorted(found.edges + found.alone, key=lambda row: row[0]):
-        names |= dict.fromkeys(ends)
-    numbers = {whole(name) for name in names}
-    if None not in numbers and len(numbers) == len(names):
-        ordered = sorted(names, key=whole)
-        if numbers == set(range(1, len(names) + 1)):
-            return dict(enumerate(ordered, 1)), "numbers as in the text"
-        if numbers == set(range(len(names))):
-            return dict(enumerate(ordered, 1)), "it counts from 0, so each number is one more"
-        return dict(enumerate(ordered, 1)), "some numbers are missing, so the nodes are numbered anew, in their order"
-    return dict(enumerate(names, 1)), f"numbers by {'the order of the sites' if found.order else 'first appearance'}"
-
-
-def given(found, number, name, what):
-    """What lines say of a vertex, by its number."""
-    unknown = [node for node in found if node not in number]
-    if unknown:
-        raise Wrong(f"{name}: {what} of {shown(unknown[0])}, which is no vertex")
-    return {number[node]: said for node, said in found.items()}
-
-
-def kept(found, number):
-    """The edges by number, each once and none from a node to itself; and lines that count what is left out. That an
-    edge is there in both directions is noted alone."""
-    edges, both, again, loops = set(), 0, 0, []
-    for line, one, other in found.edges:
-        v, w = number[one], number[other]
-        if v == w:
-            loops.append((line, one))
-        elif (v, w) in edges:
-            again += 1
-        else:
-            both += (w, v) in edges
-            edges.add((v, w))
-    notes = []
-    if loops:
-        notes.append(f"{counted(len(loops), 'edge')} from a node to itself left out, first at line {loops[0][0]}: "
-                     f"{loops[0][1]}")
-    if both:
-        found.notes.append(f"{counted(both, 'edge')} there in both directions, counted once")
-    if again:
-        notes.append(f"{counted(again, 'line')} with an edge that was there before, counted once")
-    return edges, notes
-
-
-def summary(made, found, by):
-    alone = sum(not ws for ws in made.neighbours.values())
-    lone = f", {alone} of them without a neighbour" if alone else ""
-    return (f"{found.form}; {counted(made.nodes, 'node')}{lone}, {counted(len(made.edges), 'edge')}, "
-            f"at most {counted(made.greatest_degree, 'neighbour')}; {by}")

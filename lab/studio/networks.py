@@ -56,7 +56,7 @@ def example(asked, _tell):
 
 def file_read(asked, _tell):
     """A file that was dropped on the page, in any form that `network read` reads."""
-    return shown(*read_any(base64.b64decode(asked["data"]), str(asked["name"])[:80], asked.get("heading")))
+    return shown(*read_any(base64.b64decode(asked["data"]), str(asked["name"])[:80]))
 
 
 def make(asked, _tell):

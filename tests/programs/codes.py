@@ -88,7 +88,7 @@ class Codes(Case):
 def reported():
     """The rows of FAULTS and those of networks."""
     return FAULTS + [("forests", data, fault, OF_NETWORKS[fault.split(" ")[0]])
-                     for data, fault, _, _ in NETWORK_FAULTS]
+                     for data, fault, _ in NETWORK_FAULTS]
 
 
 class Faults(Case):

@@ -55,8 +55,8 @@ class Endings(Case):
             self.same(f"{name} {words} without a reader", fault, b"")
         done = ended('set -o pipefail; "$0" network random 2000 100000 | head -1', FORESTLAB)
         self.note("a reader that goes", done[::2] == (0, b"") and done[1].count(b"\n") == 1, done)
-        for data, wanted in (("", (1, b"")), ("1,2\n", (0, b"p edge 2 1\ne 1 2\n"))):
-            got = self.redirected("2>&-", FORESTLAB, "network", "read", self.file("pairs", data))
+        for data, wanted in (("", (1, b"")), ("p edge 2 1\ne 1 2\n", (0, b"p edge 2 1\ne 1 2\n"))):
+            got = self.redirected("2>&-", FORESTLAB, "network", "read", self.file("net.col", data))
             self.same(f"{wanted} without a standard error", got[:2], wanted)
 
     def test_inputs(self):

@@ -10,7 +10,6 @@ from lab.definitions.nodes import last_pulse
 from lab.networks import network
 from lab.networks.describe import most_payloads
 from lab.networks.network_text import network_of
-from lab.networks.reading import read_any
 from lab.words import duration
 from lab.wrong import Wrong
 from tests.cases import Case, called, example, forestlab, in_process
@@ -86,42 +85,42 @@ LONG_NAMES = b"p edge 4 4\ni 2 %d\ni 4 0\ne 1 2\ne 2 3\ne 1 4\ne 1 3\n" % (2**12
 BARRED = b"c name 4 Last\np edge 4 4\ne 1 2\ne 2 3\nb 4 2\ne 1 4\nb 4 2048\ne 1 3\nb 1 2\nb 4 2 again\n"
 
 
-# (text, its fault, a part of what is said of it, whether `read` can read it)
+# (text, its fault, a part of what is said of it)
 FAULTS = [
-    ("", "F1", "there is no line", False),
-    ("p edge 1 0\np edge 1 0\n", "F2 line 2", "second", False),
-    ("e 1 2\np edge 2 1\n", "F3 line 1", "before", True),
-    ("p edge 2\n", "F4 line 1", "no `p edge NODES EDGES`: `p edge 2`", False),
-    ("p sp 2 1\na 1 2 3\n", "F4 line 1", "`p sp 2 1`", True),
-    ("p 2 1\ne 1 2\n", "F4 line 1", "`p 2 1`", True),
-    ("p edge 2 1\re 1 2\r", "F4 line 1", "`p edge 2 1\\re 1 2`", True),
-    ("p edge 2 1\ne 1\n", "F4 line 2", "no `e V W`: `e 1`", False),
-    ("p edge 2 1\ne 1 2\r\r\n", "F4 line 2", "`e 1 2\\r`", True),
-    ("p edge 2 1\nb x 1\n", "F4 line 2", "no `b V CHANNEL`: `b x 1`", False),
-    ("p edge 2 1\ni 1\n", "F4 line 2", "no `i V NUMBER`: `i 1`", False),
-    ("p edge 2 1\ne 1 3\n", "F5 line 2", "there is no vertex 3: there are 2, from 1 on", False),
-    ("p edge 2 1\ne 0 1\n", "F5 line 2", "there is no vertex 0: there are 2, from 1 on", True),
-    ("p edge 2 1\ne 0 9\n", "F5 line 2", "there is no vertex 0", False),
-    ("p edge 2 1\ne 2 2\n", "F6 line 2", "from vertex 2 to itself", True),
-    ("p edge 20001 0\n", "F7 line 1", "more than 20000 nodes", False),
-    ("p edge %s 0\n" % ("9" * 5000), "F7 line 1", "more than 20000 nodes", False),
-    ("p edge 2 1\ne 1 000002\n q\n", "F8 line 3", "`q` begins no line", False),
-    ("source,target\nA,B\n", "F8 line 1", "`source,target` begins no line", True),
-    ("graph { a -- b }\n", "F8 line 1", "`graph`", True),
-    ("1 2\n2 3\n", "F8 line 1", "`1` begins no line", True),
-    ("\ufeffp edge 2 1\ne 1 2\n", "F8 line 1", "`\\ufeffp` begins no line", True),
+    ("", "F1", "there is no line"),
+    ("p edge 1 0\np edge 1 0\n", "F2 line 2", "second"),
+    ("e 1 2\np edge 2 1\n", "F3 line 1", "before"),
+    ("p edge 2\n", "F4 line 1", "no `p edge NODES EDGES`: `p edge 2`"),
+    ("p sp 2 1\na 1 2 3\n", "F4 line 1", "`p sp 2 1`"),
+    ("p 2 1\ne 1 2\n", "F4 line 1", "`p 2 1`"),
+    ("p edge 2 1\re 1 2\r", "F4 line 1", "`p edge 2 1\\re 1 2`"),
+    ("p edge 2 1\ne 1\n", "F4 line 2", "no `e V W`: `e 1`"),
+    ("p edge 2 1\ne 1 2\r\r\n", "F4 line 2", "`e 1 2\\r`"),
+    ("p edge 2 1\nb x 1\n", "F4 line 2", "no `b V CHANNEL`: `b x 1`"),
+    ("p edge 2 1\ni 1\n", "F4 line 2", "no `i V NUMBER`: `i 1`"),
+    ("p edge 2 1\ne 1 3\n", "F5 line 2", "there is no vertex 3: there are 2, from 1 on"),
+    ("p edge 2 1\ne 0 1\n", "F5 line 2", "there is no vertex 0: there are 2, from 1 on"),
+    ("p edge 2 1\ne 0 9\n", "F5 line 2", "there is no vertex 0"),
+    ("p edge 2 1\ne 2 2\n", "F6 line 2", "from vertex 2 to itself"),
+    ("p edge 20001 0\n", "F7 line 1", "more than 20000 nodes"),
+    ("p edge %s 0\n" % ("9" * 5000), "F7 line 1", "more than 20000 nodes"),
+    ("p edge 2 1\ne 1 000002\n q\n", "F8 line 3", "`q` begins no line"),
+    ("source,target\nA,B\n", "F8 line 1", "`source,target` begins no line"),
+    ("graph { a -- b }\n", "F8 line 1", "`graph`"),
+    ("1 2\n2 3\n", "F8 line 1", "`1` begins no line"),
+    ("\ufeffp edge 2 1\ne 1 2\n", "F8 line 1", "`\\ufeffp` begins no line"),
     ("p edge 1025 1024\n" + "".join(f"e 1 {v}\n" for v in range(2, 1026)), "N1 vertex 1",
-     "vertex 1 has 1024 neighbours", False),
-    ("p edge 2 1\n\x0b\n", "F8 line 2", "`\\x0b`", False),
-    ("i 1 5\np edge 2 1\n", "F10 line 1", "an identifier before", True),
-    ("p edge 2 1\ni 3 5\n", "F5 line 2", "there is no vertex 3", False),
-    ("p edge 2 1\ni 1 %d\n" % 2**128, "F11 line 2", "2^128", False),
-    ("p edge 2 1\ni 1 5\ni 1 5\n", "F12 line 3", "second identifier of vertex 1", False),
-    ("b 1 5\np edge 2 1\n", "F10 line 1", "a barred channel before", True),
-    ("p edge 2 1\nb 1 2049\n", "F13 line 2", "channel 2049 can't be barred, only 1 to 2048 can", False),
+     "vertex 1 has 1024 neighbours"),
+    ("p edge 2 1\n\x0b\n", "F8 line 2", "`\\x0b`"),
+    ("i 1 5\np edge 2 1\n", "F10 line 1", "an identifier before"),
+    ("p edge 2 1\ni 3 5\n", "F5 line 2", "there is no vertex 3"),
+    ("p edge 2 1\ni 1 %d\n" % 2**128, "F11 line 2", "2^128"),
+    ("p edge 2 1\ni 1 5\ni 1 5\n", "F12 line 3", "second identifier of vertex 1"),
+    ("b 1 5\np edge 2 1\n", "F10 line 1", "a barred channel before"),
+    ("p edge 2 1\nb 1 2049\n", "F13 line 2", "channel 2049 can't be barred, only 1 to 2048 can"),
     ("p edge 2 1\n" + "".join(f"b 2 {channel}\n" for channel in range(1, 1026)), "F14 line 1026",
-     "more than 1024 channels are barred at vertex 2", False),
-    ("p edge 2 1\ni 1 2\n", "N2 vertices 1 2", "vertices 1 and 2 have one identifier", False),
+     "more than 1024 channels are barred at vertex 2"),
+    ("p edge 2 1\ni 1 2\n", "N2 vertices 1 2", "vertices 1 and 2 have one identifier"),
 ]
 
 
@@ -214,28 +213,6 @@ class OwnNetworks(Case):
                       (1, b"", b"network: /nowhere.col: No such file or directory\n"))
             self.same(f"{command[0]} of a name", call(*command, "path5", data=b"plan\n1 1\n2 2\n3 1\n4 2\n5 1\n")[0], 0)
 
-    def test_encodings(self):
-        for data, names in (("Köln Aue\n".encode("utf-16"), {1: "Köln", 2: "Aue"}),
-                            ("Köln Aue\n".encode("latin-1"), {1: "Köln", 2: "Aue"})):
-            self.same(f"read {data}", comments(self.written("read", "-", data=data), "name"), names)
-
-    def test_any_form(self):
-        """One function for a text of which nobody knows the form: a network of the programs is read without a word, and
-        the fault of one is its own."""
-        for data, wanted in (
-            (b"c name 1 A \r\nc at 1 -1 2.5\r\np edge 3 1\r\ne 2 1\r\n",
-             (3, [(1, 2)], {1: "A"}, {1: (-1, 2.5)}, False)),
-            (b"a,b\nb,c\n", (3, [(1, 2), (2, 3)], {1: "a", 2: "b", 3: "c"}, {}, True)),
-            (b"\xef\xbb\xbfp edge 2 1\ne 1 2\n", (2, [(1, 2)], {}, {}, True)),
-        ):
-            found, said = read_any(data, "any.txt")
-            self.same(f"any form: {data}", (
-                found.nodes, found.edges, found.names, found.places, bool(said), found.name), (*wanted, "any"))
-        for data, wanted in ((b"p edge 2 1\ne 1 5\n", r"\(F5\)"), (b"", "no line with a node"),
-                             (b"p edge 2 1\nx,y\n", r"\(F8\)")):
-            with self.subTest(data), self.assertRaisesRegex(Wrong, wanted):
-                read_any(data, "any")
-
     def test_numbers(self):
         """`number` and `read` leave each node its name, place, identifier, bars and neighbours; and the numbers have
         the order that was asked for."""
@@ -255,13 +232,12 @@ class OwnNetworks(Case):
             self.note(f"{name} numbered by chance: by its seed", again[0] == again[1] != again[2])
         for words, data, said in (
             (["number", "-", "--by", "place"], b"p edge 2 1\ne 1 2\nc at 1 0 0\n", b"have no place"),
-            (["read", "-"], b"p tw 2 1\n1 2\ni 1 2\n", b"1 and 2 have one identifier"),
             (["number", "-", "--by", "degree"], b"p edge 2 0\ni 2 9\ni 1 9\n", b"1 and 2 have one identifier"),
         ):
             self.refusal(f"{words}: {said}", call(*words, data=data), 1, said)
 
     def test_names(self):
-        network = self.written("read", "-", data=b'source,target\nUlm,"Aue, west"\n"Aue, west",Jena\n')
+        network = self.written("read", "-", "--as", "pairs", data=b'source,target\nUlm,"Aue, west"\n"Aue, west",Jena\n')
         path, plan = self.file("sites.col", network), b"plan\n1 1\n2 2\n3 1\n"
         for words, wanted in (([], b"Ulm 1\nAue, west 2\nJena 1\n"),
                               (["--csv"], b'name,channel\nUlm,1\n"Aue, west",2\nJena,1\n')):
@@ -275,11 +251,9 @@ class OwnNetworks(Case):
         return dict(re.findall(r"^(.*?): (.*)$", text.decode(), re.M)), told
 
     def test_bars(self):
-        text = self.written("read", "-", data=b"p edge 3 1\ne 0 1\nb 0 7\n")
-        self.note("a bar in a text that counts from 0", b"\nb 1 7\n" in text, text)
         for data, said in (
             (b"p edge 2 1\nb 1 0\n", b"line 2: channel 0 can't be barred, only 1 to 2048 can"),
-            (b"p edge 2 1\nb 3 1\n", b"a barred channel of 3, which is no vertex"),
+            (b"p edge 2 1\nb 3 1\n", b"there is no vertex 3"),
         ):
             self.refusal(f"read of {data[:30]}", call("read", "-", data=data), 1, said)
         told, _ = self.told_of(BARRED)
@@ -337,8 +311,8 @@ class OwnNetworks(Case):
             self.note(f"the bytes of a transcript of {len(data)}", 0.9 < told / there < 1.1, (told, there))
 
     def test_faults(self):
-        """The fault that the program reports (codes.py), in words; and whether there is another way in."""
-        for text, fault, said, is_read in FAULTS:
+        """The fault that the program reports (codes.py), in words."""
+        for text, fault, said in FAULTS:
             status, wrote, told = call("tell", "-", data=text.encode())
             code, _, place = fault.partition(" ")
             lines = told.decode().split("\n")
@@ -346,8 +320,6 @@ class OwnNetworks(Case):
             good = (status, wrote) == (1, b"") and re.fullmatch(said_in, lines[0])
             good = good and (f" {place}: " in lines[0] if place.startswith("line") else True)
             self.note(f"the fault {fault} of {text[:40]!r}", good, told)
-            self.note(f"another way in for {text[:40]!r}",
-                      (len(lines) == 3 and "`forestlab network read -` can read it" in lines[1]) == is_read, told)
         pairs = [(v, v + d) for d in range(1, 22) for v in range(1, 20001 - d)][:400_001]
         text = "p edge 20000 1\n" + "".join("e %d %d\n" % pair for pair in pairs)
         said = b"line 400002: more than 400000 different edges (F7)"
