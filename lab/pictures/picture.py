@@ -16,10 +16,10 @@ from lab.definitions.programs import add_program, program_asked, program_words
 from lab.networks.named import network_bytes
 from lab.networks.network_text import network_of, stem
 from lab.networks.plan_text import read_plan
-from lab.pictures import (adversary_page, automaton_picture, bits_picture, broken_picture, forests_picture, map_picture,
-                          matrix_picture, overview_picture, plan_picture, player_page, program_picture, results_picture,
-                          rounds_picture, run_picture, schedules_picture, schedules_space, tally_picture,
-                          timing_picture, watch_page, why_picture, wrong_run)
+from lab.pictures import (adversary_page, bits_picture, broken_picture, forests_picture, map_picture,
+                          overview_picture, plan_picture, player_page, program_picture, results_picture,
+                          rounds_picture, run_picture, schedules_picture, schedules_space,
+                          watch_page, why_picture, wrong_run)
 from lab.pictures.places import unused_places
 from lab.pictures.program_rounds import ProgramRounds, is_own, least_wires, read_rounds, rounds_of
 from lab.pictures.transcripts import read_transcript, window_of
@@ -110,20 +110,6 @@ def draw_run(asked):
     return run_picture.draw(run, shown, asked.only, asked.wrong, asked.stopped)
 
 
-def draw_node(asked):
-    if asked.vertex is None:
-        return automaton_picture.draw(*asked.part())
-    return timing_picture.draw(*asked.part(5), asked.vertex)
-
-
-def draw_tally(asked):
-    if not asked.text("transcript"):
-        return tally_picture.draw(asked.network, asked.network.name, tally_picture.counts_by(asked.rounds()),
-                                  asked.window())
-    run = asked.run()
-    return tally_picture.draw(asked.network, run.name, tally_picture.counts_of(run), asked.window())
-
-
 def draw_watch(asked):
     texts = asked.texts or [asked.text("transcript", True)]
     return watch_page.draw([watch_page.Run(text.name, asked.network, steps_of_text(
@@ -160,12 +146,12 @@ KINDS = {
         "The network alone, without a plan: for a question sheet.",
         "Identifiers that differ from the numbers are written beside them.",
         "forestlab picture map examples/petersen.col > petersen-map.svg",
-        lambda asked: map_picture.draw(asked.network), (400, "matrix")),
+        lambda asked: map_picture.draw(asked.network), (400, "a smaller network")),
     "plan": Kind(
         "The plan on the map: who has which channel.",
-        "A plan that is not proper is refused; matrix draws it.",
+        "A plan that is not proper is refused; `forestplan check` says where.",
         "forestlab picture plan examples/petersen.col > petersen-plan.svg",
-        lambda asked: plan_picture.draw(asked.network, asked.plan()), (400, "matrix")),
+        lambda asked: plan_picture.draw(asked.network, asked.plan()), (400, "a smaller network")),
     "results": Kind(
         "What the nodes of any program have found at their last pulse, on the map.",
         "A thick line is an edge that a node has chosen, with an arrow if the other end hasn't;\n"
@@ -174,17 +160,11 @@ KINDS = {
         "forestlab picture results examples/petersen.col --program matching > petersen-pairs.svg",
         lambda asked: results_picture.draw(ProgramRounds(asked.network, asked.program)),
         (400, "simulate, whose transcript ends in the same"), of_programs=True),
-    "matrix": Kind(
-        "The plan as a matrix, sorted by channel: proper if the diagonal blocks are blank.",
-        "Pairs on one channel are red.",
-        "forestlab picture matrix examples/queen5_5.col > queen5_5-matrix.svg",
-        lambda asked: matrix_picture.draw(asked.network, asked.plan()),
-        (2000, "`forestplan check`, which says whether the plan is proper")),
     "forests": Kind(
         "Each forest with its three colours, and the plan after each merge.",
         "Of more than six forests the first six, or others with --forest.",
         "forestlab picture forests examples/four_cycle.col > four_cycle-forests.svg",
-        lambda asked: forests_picture.draw(asked.rounds(), asked.forests), (400, "matrix")),
+        lambda asked: forests_picture.draw(asked.rounds(), asked.forests), (400, "a smaller network")),
     "rounds": Kind(
         "The colours of each node in each forest, and when it chooses which channel.",
         "A row for each node of each forest: without --forest the first forests, as many as have 40 rows\n"
@@ -219,21 +199,7 @@ KINDS = {
         "depend on is read, and checked.",
         "forestlab picture overview examples/petersen.col > petersen-overview.svg\n"
         "  forestlab picture overview examples/queen5_5.col --pulses 100..139 > queen5_5-overview.svg",
-        lambda asked: overview_picture.draw(*asked.part()), (100, "tally"), of_programs=True),
-    "node": Kind(
-        "The synchroniser as an automaton: how often each step is made; with --vertex its timing.",
-        "With --vertex V: what node V knew, entry by entry (at most 14 ports). Of a long run the steps of the\n"
-        "first 40 pulses, or of others with --pulses.",
-        "forestlab picture node examples/petersen.col > petersen-automaton.svg\n"
-        "  forestlab picture node examples/petersen.col --vertex 1 > petersen-timing.svg",
-        draw_node, of_programs=True),
-    "tally": Kind(
-        "The wires of a run by pulse, under the identity that counts them.",
-        "Any network. Without a transcript of a whole run the wires are counted by the rounds: each whole run\n"
-        "has the same. Of more than 100 pulses the bars of the first 40, or of others with --pulses; the\n"
-        "identity is the whole run's.",
-        "forestlab picture tally examples/petersen.col > petersen-tally.svg",
-        draw_tally, of_programs=True),
+        lambda asked: overview_picture.draw(*asked.part()), (100, "--pulses"), of_programs=True),
     "player": Kind(
         "A page with a slider and a play button: the network at each pulse (HTML).",
         "Add #pulse-P to the page's address for a link to pulse P, and #pulse-P-forest-F for one of its forests.",
@@ -276,8 +242,8 @@ KINDS = {
 
 
 # The kinds that draw a text of one form, which an option may name.
-OF_PLAN, OF_ROUNDS = ("plan", "matrix"), ("forests", "rounds", "bits", "why", "player")
-OF_RUN = "run", "overview", "node", "tally"
+OF_PLAN, OF_ROUNDS = ("plan",), ("forests", "rounds", "bits", "why", "player")
+OF_RUN = "run", "overview"
 
 HELP = ("Draws plans, rounds and runs, as SVG on standard output; the last three kinds draw\n"
         "what `forestlab explore` searches.\n\n"
@@ -291,8 +257,8 @@ are on a circle, and more are laid out by their edges. Vertices that would overl
 are drawn smaller, and those still too near are pushed apart. Comment lines
 `c name V NAME` name them, in plan, player, run and overview.
 
-Without a stored text, run, overview, node and watch draw what the built program writes,
-and plan and matrix, too, if it is built. All else is worked out by the definitions in
+Without a stored text, run, overview and watch draw what the built program writes,
+and plan, too, if it is built. All else is worked out by the definitions in
 Python, which are tested and not proved.
 
 Status: 0 done, 1 not drawn (one line on standard error says why), 2 the command
@@ -331,14 +297,14 @@ OPTIONS = (
     (("adversary",), "--json", {"action": "store_true", "dest": "as_table", "help": "the page's table alone"}),
     *((kinds, f"--{form}", stored(form, f"a stored {form} text, or - for standard input"))
       for kinds, form in ((OF_PLAN, "plan"), (OF_ROUNDS, "rounds"), (OF_RUN, "transcript"))),
-    (("run", "overview", "node"), "--workers", {"metavar": "N", "help": "the run's worker threads"}),
-    (("run", "overview", "node"), "--capacity", {"metavar": "N", "help": "how many wires its links hold"}),
+    (("run", "overview"), "--workers", {"metavar": "N", "help": "the run's worker threads"}),
+    (("run", "overview"), "--capacity", {"metavar": "N", "help": "how many wires its links hold"}),
     ((*OF_RUN, "watch"), "--pulses", PULSES),
     (("forests", "rounds"), "--forest", {"dest": "forests", "type": numbers, "metavar": "A..B",
                                          "help": "these forests alone, or one, as 2, counted from 0"}),
     (("rounds",), "--pulses", PULSES | {"help": "these pulses alone, of another program"}),
     (("bits",), "--forest", {"type": int, "metavar": "F", "help": "one forest, counted from 0"}),
-    (("bits", "node"), "--vertex", VERTEX),
+    (("bits",), "--vertex", VERTEX),
     (("why",), "--vertex", VERTEX | {"required": True}),
     (("why",), "--text", {"action": "store_true", "dest": "in_words", "help": "in words, not as a picture"}),
     (("run",), "--only", {"type": some_of(*run_picture.KINDS), "metavar": "KINDS",
@@ -401,7 +367,7 @@ def run_text(given, network, network_text, program):
     wires = least_wires(network, program)
     if wires > MOST_WIRES:
         raise Wrong(f"{given.kind} draws a run of at most {MOST_WIRES:,} wires, and one of {network.name} has more "
-                    f"than {wires:,}: use tally, which counts them by the rounds")
+                    f"than {wires:,}")
     if is_own(program):
         return text_of_run(network.nodes, played(network, program=program), program)
     options = [f"--{name}={value}" for name in ("workers", "capacity") if (value := getattr(given, name, None))]

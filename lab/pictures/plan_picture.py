@@ -27,7 +27,7 @@ def draw(network, plan):
     if clash:
         v, w = clash[0]
         raise Wrong(
-            f"the plan is not proper: neighbours {v} and {w} share channel {plan[v]} (C4); matrix draws such a plan"
+            f"the plan is not proper: neighbours {v} and {w} share channel {plan[v]} (C4)"
         )
     vertices = {v: Planned(network, v, plan[v]) for v in network.vertices}
     used = f"In the circles are the channels: {len(set(plan.values()))} of the {network.channels} allowed"

@@ -56,7 +56,7 @@ class _Answer:
 class Plan(_Answer, dict):
     """{node: channel}."""
 
-    option, kinds, most = "--plan", ("plan", "matrix"), 1200
+    option, kinds, most = "--plan", ("plan", "plan"), 1200
 
 
 class Rounds(_Answer, list):

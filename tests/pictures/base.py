@@ -15,7 +15,7 @@ BARRED = example("petersen") + b"b 1 2\n" + b"".join(
     b"b %d %d\n" % (v, channel) for v, bars in ((3, (1, 2048, 77, 500)), (7, (4, 3, 2, 1, 1024)), (10, range(1, 15)))
     for channel in bars)
 # The form of the text that a kind draws, if it isn't that of rounds.
-FORM = dict.fromkeys(("plan", "matrix"), "plan") | dict.fromkeys(("run", "overview", "node", "tally"), "transcript")
+FORM = dict.fromkeys(("plan",), "plan") | dict.fromkeys(("run", "overview"), "transcript")
 
 
 def painter(*words, data=b""):

@@ -17,9 +17,9 @@ CROWD = b"p edge 8 4\ne 1 2\ne 2 3\ne 1 3\ne 5 6\n" + b"".join(b"c at %d %d %d\n
 NETWORKS = examples() | {"one": b"p edge 1 0\n", "edge": b"p edge 2 1\ne 1 2\n", "names": NAMED, "a crowd": CROWD,
                          "barred petersen": BARRED}
 # The kinds, each with the number of nodes up to which it is drawn here.
-OF_ROUNDS = {"map": 40, "plan": 100, "results": 40, "matrix": 100, "forests": 40, "rounds": 25}
-OF_RUNS = dict.fromkeys(("run", "overview", "node", "tally"), 10)
-OTHERS = (("node", "petersen", "--vertex", 4), ("schedules", "two"), ("schedules", "path", "--columns", "0..20"),
+OF_ROUNDS = {"map": 40, "plan": 100, "results": 40, "forests": 40, "rounds": 25}
+OF_RUNS = dict.fromkeys(("run", "overview"), 10)
+OTHERS = (("schedules", "two"), ("schedules", "path", "--columns", "0..20"),
           ("schedules", "two", "--without", "safes"), *(("bits", name) for name in examples()),
           ("rounds", "petersen", "--program", "matching"), ("results", "petersen", "--program", "leader"),
           ("results", "drops", "--program", "recolouring"),

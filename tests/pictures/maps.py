@@ -85,42 +85,6 @@ class Maps(PictureCase):
                 wanted, got = seen_from_1(given), seen_from_1(places)
                 self.same(f"plan of {name}: the places given", [v for v in got if gap(got[v], wanted[v]) > 0.01], [])
 
-    def test_matrices(self):
-        for name, network in NETWORKS.items():
-            self.matrix_rows(name, network, {v: c + 1 for v, c in colours(network_of(network)).items()})
-        self.matrix_rows("all on channel 1", example("petersen"), dict.fromkeys(range(1, 11), 1))
-        self.matrix_rows("ring2000", network_bytes("ring2000"), {v: 1 + v % 2 for v in range(1, 2000)} | {2000: 3})
-
-    def matrix_rows(self, name, network, plan):
-        net = network_of(network)
-        text = "plan\n" + "".join(f"{v} {c}\n" for v, c in sorted(plan.items()))
-        root = parsed(self.drawn("matrix", network, text=text.encode()))
-        order = sorted(plan, key=lambda v: (plan[v], v))
-        blocks = marks(root, "block")
-        cell = sum(number(mark, "width") for mark in blocks) / len(plan)
-        start, middle = (number(blocks[0], "x"), number(blocks[0], "y")), {
-            mark: ((box[0] + box[2]) / 2, (box[1] + box[3]) / 2) for mark, box in shapes(root)}
-
-        def vertex(mark, axis):
-            return order[int((middle[mark][axis] - start[axis]) / cell)]
-        pairs = {kind: sorted((vertex(mark, 1), vertex(mark, 0)) for mark in marks(root, kind))
-                 for kind in ("pair", "wrong")}
-        both = sorted(pair for v, w in net.edges for pair in ((v, w), (w, v)))
-        wrong = [(v, w) for v, w in both if plan[v] == plan[w]]
-        is_small = len(plan) <= 100
-        self.facts(f"matrix of {name}", {
-            "a block each channel": ([mark.get("stroke") for mark in blocks],
-                                     [CHANNELS[(c - 1) % 8] for c in sorted(set(plan.values()))]),
-            "pairs on both sides": (pairs, {"pair": [pair for pair in both if pair not in wrong], "wrong": wrong}),
-            "numbers at their rows": ([(int(mark.text), vertex(mark, 1)) for mark in marks(root, "row")],
-                                      [(v, v) for v in order] * is_small),
-            "numbers at their columns": ([(int(mark.text), vertex(mark, 0)) for mark in marks(root, "column")],
-                                         [(v, v) for v in order] * is_small),
-            "marks that can't be seen": ([mark for mark in marks(root, "pair", "wrong")
-                                          if number(mark, "width") <= 1.5], []),
-            "its title": ("NOT proper" in texts(root)[0], bool(wrong)),
-        })
-
     def test_forests(self):
         for name, network in NETWORKS.items():
             count = network_of(network).forest_count

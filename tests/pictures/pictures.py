@@ -67,10 +67,10 @@ REFUSED = [
     ("plan nowhere.col", b"", 1, "nowhere.col"), ("plan {wrong}", b"", 1, "(F6)"), ("plan {empty}", b"", 1, "(F1)"),
     ("plan {none}", b"", 1, "no node"), ("results {none}", b"", 1, "no node"),
     ("results path --program nothing", b"", 1, "no program nothing"),
-    ("results ring401", b"", 1, "at most 400 nodes"), ("matrix ring2001", b"", 1, "check"),
-    ("forests ring401", b"", 1, "use matrix"), ("watch ring41", b"", 1, "watch draws at most 40 nodes"),
+    ("results ring401", b"", 1, "at most 400 nodes"), 
+    ("watch ring41", b"", 1, "watch draws at most 40 nodes"),
     ("run ring13 --transcript {short13}", b"", 1, "use overview"),
-    ("overview ring101 --transcript {short101}", b"", 1, "use tally"), ("adversary path5", b"", 1, "4 nodes"),
+    ("overview ring101 --transcript {short101}", b"", 1, "use --pulses"), ("adversary path5", b"", 1, "4 nodes"),
     ("schedules complete4", b"", 1, "at most 200,000 states"), ("schedules two --columns 0..105", b"", 1, "0 to 104"),
     ("schedules two --columns 3..2", b"", 1, "0 to 104"),
     ("schedules star4 --columns 0..109", b"", 1, "at most 108 events"),
@@ -88,13 +88,12 @@ REFUSED = [
     ("watch two -", RUN_OF_APART, 1, "line 1: 5 nodes, and two has 2 (Nodes)"), ("watch two -", b"plan\n", 1, "X1"),
     ("watch triangle -", RUN_OF_TRIANGLE.replace(b"\n1 ", b"\n2 ", 1), 1, "WrongStamp"),
     ("watch triangle -", re.sub(rb"\n\d+ 1 pulse 5\n", b"\n", RUN_OF_TRIANGLE), 1, "NothingToPut: "),
-    *((f"{kind} petersen --plan -", text, 1, said) for kind in ("plan", "matrix") for text, said in (
+    *((f"{kind} petersen --plan -", text, 1, said) for kind in ("plan",) for text, said in (
         (b"", "(C6)"), (PLAN_OF_PETERSEN[:-5], "(C"), (PLAN_OF_PETERSEN + b"1 2\n", "(C"),
         (PLAN_OF_PETERSEN.replace(b"3 1", b"3 5"), "(C"))),
-    ("plan petersen --plan -", PLAN_OF_PETERSEN.replace(b"3 1", b"3 2"), 1, "matrix draws such a plan"),
-    ("tally petersen --transcript -", RUN_OF_PETERSEN[:len(RUN_OF_PETERSEN) // 2], 1, "(is the text cut?)"),
+    ("plan petersen --plan -", PLAN_OF_PETERSEN.replace(b"3 1", b"3 2"), 1, "share channel"),
     *((f"{kind} {{net}} --transcript {{run}} --pulses {pulses}", b"", 1, "among 0 to 30\n")
-      for kind in (*OF_RUNS, "node --vertex 1") for pulses in ("3..2", "0..31", "31..31")),
+      for kind in OF_RUNS for pulses in ("3..2", "0..31", "31..31")),
 ]
 
 
@@ -162,7 +161,7 @@ class Pictures(PictureCase):
         for words, name in commands:
             kind, *words = words.split()
             given = [([], b"")]
-            if kind in ("forests", "rounds", "bits", "plan", "matrix"):
+            if kind in ("forests", "rounds", "bits", "plan"):
                 program, command = (PLAN, "plain") if kind in FORM else (PLAY, "rounds")
                 text = called(program, command, data=contents(words[0]))[1]
                 given.append(([f"--{FORM.get(kind, 'rounds')}", "-"], text))

@@ -9,7 +9,7 @@ from lab.networks.named import network_bytes
 from lab.networks.network_text import network_of
 from tests.cases import called, example
 from tests.pictures.base import PictureCase, transcript
-from tests.pictures.counted import fields_of, played
+from tests.pictures.counted import fields_of
 from tests.pictures.marks import SVG, centre, ends, marks, number, parsed, texts, title, titles, words
 from tests.programs.made_transcripts import entries_of
 from tests.settings import PLAN
@@ -98,8 +98,6 @@ class Runs(PictureCase):
                     lower.add(self.window_rows(label, network, text, 2, 5))
                 for window in (None, some):
                     self.overview_rows(label, network, text, window)
-                    self.tally_rows(label, network, text, window)
-                self.node_rows(label, network, text, v, some)
             self.note(f"the lower half of {name} is the same for each run", len(lower) == (name != "ring14"))
 
     def window_rows(self, name, network, text, first, last):
@@ -142,72 +140,6 @@ class Runs(PictureCase):
             "its title": (f": pulses {first} to {final} of {last}," in texts(root)[0], True),
         })
 
-    def node_rows(self, name, network, text, v, window):
-        last, steps, moments = last_pulse(network_of(network)), [], []
-        for node, kind, more, before, after in played(network, text):
-            cause, moved = (more[1:2] or [kind])[0], range(len(after)) if kind == "pulse" else []
-            if kind == "take":
-                port = [1 + node.near.index(int(more[0]))] * (cause in ("payload", "safe"))
-                moved = [0] * (before[0] != after[0]) + port
-            steps += [(node.pulse, f"{before[at]} to {after[at]} by {cause}") for at in moved]
-            if node.near == sorted(network_of(network).neighbours[v]):
-                moments.append((node.pulse, kind, cause, after[1:]))
-        for asked in (None, window):
-            root, shown = parsed(self.drawn("node", network, *pulses(asked), text=text)), Counter()
-            for step, count in (words.rsplit(": ", 1) for words in titles(root, "step")):
-                shown[step] += int(count)
-            # The drawing has an arrow for each step that can be; `Counter` compares steps made no time as absent.
-            first, final = asked or (0, last)
-            self.note(f"automaton of {name}, pulses {first} to {final}",
-                      shown == Counter(step for p, step in steps if first <= p <= final), shown)
-        root = parsed(self.drawn("node", network, "--vertex", v, *pulses((0, 4)), text=text))
-        moments = [moment for moment in moments if moment[0] <= 4]
-        shown = [(ends(mark)[0][0], "pulse", None, None) for mark in marks(root, "tick")] + [
-            (centre(dot)[0], title(group), dot.get("fill"), dot.get("stroke"))
-            for group in marks(root, "put", "take") for dot in group.iter(f"{SVG}circle")]
-        wanted = [["pulse", None, None] if kind == "pulse" else [
-            f"{kind} {wire}", *((HUES[wire], None) if kind == "take" else ("#FFFFFF", HUES[wire]))]
-            for _, kind, wire, _ in moments]
-        lanes = [[float(y) for y in re.findall(r"(?:M [0-9.]+|V) ([0-9.]+)", lane.get("d"))]
-                 for lane in marks(root, "lane")]
-        heights = [[high for high, before in zip(own, [None, *own]) if high != before] for own in zip(*(
-            [safes + paid / 2 for safes, paid in levels] for *_, levels in moments))]
-        self.facts(f"timing of {name}", {
-            "its entries; what is taken is full, what is put a ring": ([mark for _, *mark in sorted(shown)], wanted),
-            "its lanes": ([[round(own[0] + (ys[0] - y) / 17, 1) for y in ys] for ys, own in zip(lanes, heights)],
-                          heights),
-            "a lane for each port": (len(lanes), len(heights)),
-        })
-
-    def tally_rows(self, name, network, text, window=None, by_rounds=False):
-        """A tally's bars, all or those of some pulses, and its title, which counts all wires, beside the transcript of
-        a whole run; it may be drawn without that, by the rounds."""
-        net = network_of(network)
-        root = parsed(self.drawn("tally", network, *pulses(window), text=None if by_rounds else text))
-        last = last_pulse(net)
-        first, final = window or usual(last)
-        counts = Counter((more[1], last if more[1] == "close" else int(more[2]))
-                         for _, _, kind, *more in fields_of(text) if kind == "put")
-        groups = marks(root, *WIRES)
-        shown = [re.fullmatch(r"pulse (\d+): (\w+) (\d+)", title(group)).groups() for group in groups]
-        heights = [number(group[1], "height") for group in groups]
-        unit = sum(heights) / sum(int(count) for *_, count in shown)
-        bars = sorted({(number(group[1], "x"), number(group[1], "width")) for group in groups})
-        # A figure with one decimal place may be off by a twentieth.
-        gaps = [(b - a - wide, wide) for (a, wide), (b, _) in zip(bars, bars[1:])]
-        payloads = sum(count for (kind, _), count in counts.items() if kind == "payload")
-        edges = "1 edge" if len(net.edges) == 1 else f"{len(net.edges)} edges"
-        said = f"{sum(counts.values()):,} wires = 2 · {payloads:,} payloads + 2 · {edges} · ({last} + 1)"
-        self.facts(f"tally of {name}, pulses {first} to {final}", {
-            "a bar for each kind and pulse": ({(kind, int(pulse)): int(count) for pulse, kind, count in shown}, {
-                (kind, pulse): count for (kind, pulse), count in counts.items() if first <= pulse <= final}),
-            "as high as their counts": ([count for height, (*_, count) in zip(heights, shown)
-                                         if abs(height - unit * int(count)) > 0.2], []),
-            "bars that overlap, or narrow ones with a gap": (
-                [off for off, wide in gaps if off < -0.2 or wide < 2 and off > 0.2], []),
-            "its title": (texts(root)[0], said),
-        })
-
     def test_long(self):
         """Of a long run the first 40 pulses are drawn, and only what they depend on is read: the same picture as of a
         run that was stopped a little later. The tally is the same by the rounds. By hand: its last pulse
@@ -223,13 +155,9 @@ class Runs(PictureCase):
         text, short = by_vertex(rows), by_vertex(rows[:max(rows.index(f"{v} pulse 60") for v in net.neighbours)])
         self.note("a long text is long", len(rows) > 100_000, len(rows))
         for kind, *options, said in (
-                ["overview", "pulses 0 to 39 of 1848"], ["run", "pulses 0 to 2 of 1848"],
-                ["node", "in pulses 0 to 39 of the run"], ["node", "--vertex", 3, "pulses 0 to 4"]):
+                ["overview", "pulses 0 to 39 of 1848"], ["run", "pulses 0 to 2 of 1848"]):
             long, stopped = (self.drawn(kind, network, *options, text=given) for given in (text, short))
             self.note(f"{kind} {options} of a long text", long == stopped and said in long, said)
-        for window, by_rounds in ((None, False), (None, True), ((0, last), True)):
-            self.tally_rows("a long run by the rounds" if by_rounds else "a long run", network, stamped, window,
-                            by_rounds)
         wrong = by_vertex([re.sub(r"^(5 put \d+ safe) 20$", r"\1 21", row) for row in rows])
         status, picture, _ = self.called("overview", network, text=wrong)
         self.note("a long text with a mistake in these pulses", (status, picture) == (1, b""))
