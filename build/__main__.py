@@ -4,8 +4,7 @@ import importlib
 import os
 import sys
 
-MODULES = {"completion": "completion", "install": "install", "new-program": "new_program", "pack": "pack",
-           "program": "program", "promises": "promises", "vendor": "vendor", "wrong-bodies": "wrong_bodies"}
+MODULES = {"completion": "completion", "install": "install", "new-program": "new_program", "program": "program", "wrong-bodies": "wrong_bodies"}
 HELP = f"""\
 Proves, builds, installs and copies what is in this tree.
 

@@ -13,7 +13,6 @@ import tempfile
 from build import kit, program
 from build.completion import COMMANDS, completion, manual
 from build.crate_lists import PROGRAMS, TOP
-from build.vendor import reason
 from lab import checksums, version
 from lab.words import parser_of
 from lab.workshop.class_files import write, write_scripts
@@ -35,8 +34,7 @@ lessons, the licences, a manual page for each of the three, and what completes t
 in bash and zsh. With its bin/ on the PATH the lessons' commands work in it as they do here.
 VERSION says what it was made from, and SHA256SUMS has a sum of each file: sha256sum -c
 SHA256SUMS. The programs need the C library alone, the scripts bash and Python 3. One such
-folder serves every machine of the same kind: copy it with cp -r, or `python3 build pack`
-makes one archive of it. After `pip install DIR` Python can import forestplan.
+folder serves every machine of the same kind: copy it with cp -r or tar. After `pip install DIR` Python can import forestplan.
 
 Programs that aren't built from these sources are proved and built first. That takes
 the minutes that README.md says, and needs the toolchain's command rt.
@@ -142,7 +140,8 @@ def main():
     try:
         install(folder)
     except (OSError, shutil.Error, subprocess.CalledProcessError) as failed:
-        print(f"install: {folder}: {reason(failed)}", file=sys.stderr)
+        why = failed.args[0][0][2] if isinstance(failed, shutil.Error) else failed
+        print(f"install: {folder}: {why}", file=sys.stderr)
         return 1
     print(f"install: {folder} has all; with {folder}/bin on the PATH the commands work anywhere, and man finds their "
           "pages", file=sys.stderr)

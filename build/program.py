@@ -9,7 +9,7 @@ import shutil
 import sys
 import time
 
-from build import gate, kit, offered
+from build import gate, kit
 from build.crate_lists import PROGRAMS, TOP
 from lab.words import parser_of
 
@@ -85,7 +85,6 @@ def put(name, room):
     shutil.copy(program_at(name, room), f"{to}.new")
     os.replace(f"{to}.new", to)
     take_note(name, sources_of(name, room))
-    offered.share(room)
 
 
 def build(name):

@@ -6,7 +6,6 @@ import glob
 import os
 import re
 
-from build import promises
 from build.crate_lists import PROGRAMS, listed, with_below
 from lab.__main__ import COMMANDS as OF_LAB
 from tests import TOP
@@ -66,13 +65,8 @@ class Index(Case):
         self.assertEqual((before.count("!["), after.count("![")), (1, 0), "one picture, before the claim")
 
     def test_crates_below(self):
-        """What pages say of crates.txt: OWN_PROGRAM how many crates `python3 build vendor` copies, LAYERS how many are
-        above each, and LOOKUP which a first call of each program leaves unproved, those that aren't below it."""
+        """What pages say of crates.txt: LAYERS how many are above each, and LOOKUP which a first call of each program leaves unproved, those that aren't below it."""
         below = {crate: with_below([crate], listed()) for crate in listed()}
-        page = text_in("docs", "work", "OWN_PROGRAM.md")
-        rows = re.findall(r"python3 build vendor \S+ (\w+) .*?: .*?(\d+) crates", page)
-        self.same("vendored crates", rows, [(crate, str(len(below[crate]))) for crate, _ in rows])
-        self.same("examples of vendored crates", len(rows), 2)
         found = re.findall(r"^\| `(\w+)` \| (\d+) \| ", text_in("docs", "work", "LAYERS.md"), re.M)
         above = {crate: str(sum(crate in below[other] for other in below) - 1) for crate in below}
         self.same("crates above each", dict(found), {
@@ -97,9 +91,6 @@ class Index(Case):
                 names = re.findall(r"^\s*(?:from|import) lab\.(\w+)", text_in(path), re.M)
                 wrong += [f"{os.path.relpath(path, TOP)}: {name}" for name in names if name in order[at + 1:]]
         self.assertEqual(wrong, [])
-
-    def test_index_of_promises(self):
-        self.assertGreater(promises.index().count("\n- "), 40, "functions of the index")
 
     def test_names_in_files(self):
         """Each name that a page gives with its file, as in "`crates/pool/src/run.rt`: `start`, `join_all`", in two

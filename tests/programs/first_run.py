@@ -41,18 +41,6 @@ class Crate:
             return text.read()
 
 
-link_or_copy = os.link
-
-
-def offer(crate, stamp):
-    found = [stamp, crate.stamp()]
-    for path in (f"{crate.name}.rlib/format", "stamp"):
-        with open(f"{crate.folder}/out/rlib/{path}") as text:
-            found.append(text.read())
-    with open(f"{CACHE}/offered", "a") as said:
-        said.write(f"{crate.name} {len(set(found)) == 1}\\n")
-
-
 def say(*lines):
     print(*lines, sep="\\n", flush=True)
 
@@ -107,9 +95,7 @@ def ci():
     return 1 if failed else 0
 
 
-# build/offered.py takes it as a module.
-if __name__ != "rt_of_kit":
-    raise SystemExit(ci())
+raise SystemExit(ci())
 """
 CRATES = "# below\nlower:\nmiddle: lower\n\n# not of the program\naside: lower\n\nforestplan: middle\n"
 
@@ -229,8 +215,6 @@ class FirstRun(Case):
             r"forestplan: 3 crates proved in \d+ s\n\Z", err, re.M), err)
         self.note("the log", "== middle\nlogic=proved\nrt: middle proved\n" in tree.log(), tree.log())
         self.note("the gate's edits are left to the gate", "must-fail" not in tree.log(), tree.log())
-        self.same("both libraries are offered to rt check, each with the stamp of its text",
-                  sorted(text_in(tree.cached("offered")).splitlines()), ["lower True", "middle True"])
         for what, path, text in (("a second call", "crates/forestplan/out/old", ""),
                                  ("a crate of tests", "crates/some_checks/src/lib.rt", "tests"),
                                  ("another crate", "crates/aside/src/lib.rt", "changed"),

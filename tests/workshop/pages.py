@@ -6,7 +6,6 @@ import re
 import subprocess
 import tempfile
 
-from build.pack import pack
 from lab.schedules.policies import POLICIES
 from lab.transcripts.fields import PAYLOADS
 from lab.workshop import cases, class_files, guard, options, processes, protocol
@@ -129,17 +128,6 @@ class ClassFolder(Case):
             differ = called("diff", "-rq", "-x", "__pycache__", self.folder, to)
             self.assertEqual(differ, (0, b"", b""))
         self.refusal("a folder that is there", said_by("workshop", "class", made), 2, f"{made} is there already\n")
-
-    def test_its_archive_has_a_name_of_its_own(self):
-        to = self.enterContext(tempfile.TemporaryDirectory())
-        path = pack(self.folder, to)
-        self.assertIn("forestplan-class-0", path)
-        self.assertEqual(pack(self.folder, to), path)
-        with open(path, "ab") as file:
-            file.write(b"more")
-        with self.assertRaisesRegex(OSError, "is there already, with another content"):
-            pack(self.folder, to)
-        self.assertEqual(sorted(os.listdir(to)), [os.path.basename(path), f"{os.path.basename(path)}.sha256"])
 
     def test_it_works(self):
         self.assertLessEqual({"README.md", "LICENSE-MIT", "LICENSE-APACHE"}, self.found)
