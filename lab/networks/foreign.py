@@ -96,7 +96,8 @@ def read(text: str, name: str, form: str) -> Listed:
 def listed(found: Listed, graph, name: str) -> Listed:
     """The nodes of a graph by their labels, if each has one of its own, or else by their ids; and what isn't read."""
     ids = {node: clean(str(node), name, at) for at, node in enumerate(graph, 1)}
-    labels = {node: clean(str(said["label"]), name, 0) for node, said in graph.nodes(data=True) if said.get("label")}
+    labels = {node: clean(str(word), name, 0) for node, said in graph.nodes(data=True)
+              if (word := said.get("label") or said.get("name"))}
     is_labelled = len(set(labels.values())) == len(ids)
     own = labels if is_labelled else ids
     if len(set(own.values())) < len(own):
@@ -114,7 +115,7 @@ def listed(found: Listed, graph, name: str) -> Listed:
         for *_, said in rows:
             for key, value in said.items():
                 keys.setdefault(str(key), set()).add(str(value))
-        keys = {key: sorted(values) for key, values in keys.items() if key not in ("label", "id", "x", "y")}
+        keys = {key: sorted(values) for key, values in keys.items() if key not in ("label", "name", "id", "x", "y")}
         if keys:
             said = "; ".join(f"{key} ({', '.join(map(shown, [*values[:3], '..'] if len(values) > 3 else values))})"
                              for key, values in keys.items())
