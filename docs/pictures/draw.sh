@@ -4,7 +4,6 @@
 set -e
 PATH=$PWD/bin:$PATH
 forestlab picture plan examples/petersen.col -o docs/pictures/petersen-plan.svg
-forestlab picture matrix examples/petersen.col -o docs/pictures/petersen-matrix.svg
 forestlab picture forests examples/four_cycle.col -o docs/pictures/four_cycle-forests.svg
 forestlab picture rounds examples/triangle.col -o docs/pictures/triangle-rounds.svg
 forestlab picture rounds examples/drops.col -o docs/pictures/drops-rounds.svg
@@ -18,9 +17,6 @@ forestlab picture bits examples/long_names.col -o docs/pictures/long_names-bits.
 forestlab picture run examples/chain6.col --pulses 3..5 --transcript examples/chain6_slow.transcript -o docs/pictures/chain6_slow-spacetime.svg
 forestlab picture overview examples/chain6.col --transcript examples/chain6_slow.transcript -o docs/pictures/chain6_slow-overview.svg
 forestlab picture watch examples/chain6.col examples/chain6_slow.transcript -o docs/pictures/chain6_slow-watch.html
-forestlab picture node examples/petersen.col --transcript docs/pictures/petersen.transcript -o docs/pictures/petersen-automaton.svg
-forestlab picture node examples/petersen.col --vertex 1 --transcript docs/pictures/petersen.transcript -o docs/pictures/petersen-timing.svg
-forestlab picture tally examples/petersen.col --transcript docs/pictures/petersen.transcript -o docs/pictures/petersen-tally.svg
 forestlab picture schedules examples/two.col -o docs/pictures/two-schedules.svg
 forestlab picture schedules examples/two.col --without safes -o docs/pictures/two-without-safes.svg
 forestlab picture schedules examples/two.col --without safes --columns 0..24 -o docs/pictures/two-without-safes-beyond.svg

@@ -162,6 +162,8 @@ def edges(text: str, name: str) -> Listed:
         if len(words) < 2 or more and not (more[0].startswith("{") and more[-1].endswith("}") or len(more) == 1 and
                                            NUMBER.fullmatch(more[0])):
             raise wrong_line(name, line, f"no two nodes, maybe with a number or {{data}}: `{shown(' '.join(words))}`")
+        if not found.edges and word_of(words[0]) in TITLES["source"] and word_of(words[1]) in TITLES["target"]:
+            raise wrong_line(name, line, "it is a heading, and lines of nodes have none: leave it out")
         found.edges.append((line, *(clean(word, name, line) for word in words[:2])))
         data += bool(more) and more != ["{}"]
     found.notes += [f"numbers or data behind {counted(data, 'edge')} aren't read"] if data else []

@@ -34,7 +34,7 @@ class Commands(Case):
         below = [(" ".join(words), text) for words, text, _ in found if len(words) > 2]
         for name, text in below:
             self.note(f"{name} --help has an example", f"{name} " in text.partition("\nExample")[2])
-        self.note("commands below others", len(below) > 30, below)
+        self.note("commands below others", len(below) > 26, below)
         for name in MODULES:
             done = called(sys.executable, os.path.join(TOP, "build"), name, "--help")
             self.note(f"python3 build {name} --help", done[0] == 0 and done[1] and not done[2], done)

@@ -228,7 +228,7 @@ class FirstRun(Case):
         write(tree.program, "#!/bin/sh\necho another\n", 0o755)
         self.same("a program that nobody vouches for is built anew", tree.call("plan")[:2], (0, "plan\n"))
         self.same("no room is left", sorted(os.listdir(os.path.join(tree.cache, "forestplan"))),
-                  ["checkout", "room.lock"])
+                  ["room.lock"])
 
     def run_failures(self, tree):
         for crate in ("middle", "forestplan"):

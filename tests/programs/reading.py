@@ -74,7 +74,7 @@ REFUSED = (
     ("pairs", PAIR + "a,#N/A\n", "no name of a node"), ("pairs", PAIR + "a,----\n", "no name of a node"),
     ("pairs", PAIR.encode() + b"K\xf6ln,a\n", "--encoding"), ("edges", "a\n", "line 1: no two nodes"),
     ("edges", "Upper Hill Mill\n", "no two nodes"), ("edges", "1 : 2\n", "no name of a node"),
-    ("edges", "0 2\n3 {}\n4 {}\n", "no name of a node"), ("adjacency", "a b\n", "b has no line of its own"),
+    ("edges", "source target\na b\n", "it is a heading"), ("edges", "0 2\n3 {}\n4 {}\n", "no name of a node"), ("adjacency", "a b\n", "b has no line of its own"),
     ("adjacency", "a b\nb\na\n", "a second line of a"), ("adjacency", "a,b\nb,c\n", "no node has a neighbour"),
     ("json", '{"nodes": [{"id": "a"}, {"id": "a"}], "links": []}', "has 2 nodes and 0 edges, and networkx reads 1"),
     ("json", '{"nodes": [{"id": "a"}, {"id": "b"}], "links": [{"source": 0, "target": 1}]}', "networkx reads 4 and 1"),
