@@ -30,7 +30,9 @@ NETWORKS = {
     "queen 8x8": lambda: kinds.queen(8, 8),
     "grid 50x50": lambda: kinds.grid(50, 50),
     "tree of 1,000": lambda: kinds.tree(1000, 1),
-    "2,000 by preference, 5 each": lambda: graphs.of_pairs(2000, networkx.barabasi_albert_graph(2000, 5, seed=1).edges),
+    "2,000 by preference, 5 each": lambda: graphs.of_pairs(
+        2000, networkx.barabasi_albert_graph(2000, 5, seed=1).edges
+    ),
 }
 
 
@@ -40,8 +42,10 @@ def counts(network: Network) -> list[int]:
     for _ in range(PASSES):
         order = sorted(graph, key=lambda v: -found[-1][v])
         found.append(networkx.greedy_color(graph, lambda *_, order=order: order))
-    found += [networkx.greedy_color(graph, strategy) for strategy in (
-        "DSATUR", "smallest_last", "largest_first", lambda *_: sorted(graph))]
+    found += [
+        networkx.greedy_color(graph, strategy)
+        for strategy in ("DSATUR", "smallest_last", "largest_first", lambda *_: sorted(graph))
+    ]
     if any(channels[v] == channels[w] for channels in found for v, w in network.edges):
         raise SystemExit("quality: a plan isn't proper")
     return [max(channels.values()) + 1 for channels in found]
@@ -49,18 +53,37 @@ def counts(network: Network) -> list[int]:
 
 def main() -> int:
     summary, _, more = __doc__.partition("\n")
-    words = argparse.ArgumentParser(description=summary, epilog=more,
-                                    formatter_class=argparse.RawDescriptionHelpFormatter)
+    words = argparse.ArgumentParser(
+        description=summary, epilog=more, formatter_class=argparse.RawDescriptionHelpFormatter
+    )
     words.add_argument("names", metavar="NAME", nargs="*", help=f"of {'; '.join(NETWORKS)}")
     names = words.parse_args().names or list(NETWORKS)
     row = "| {:32} |" + " {:>6} |" * 3 + " {:>13} |" * 8
-    print(row.format("network", "nodes", "edges", "most", "plan", "once", "twice", "thrice", "DSATUR", "smallest last",
-                     "largest first", "by number"))
+    print(
+        row.format(
+            "network",
+            "nodes",
+            "edges",
+            "most",
+            "plan",
+            "once",
+            "twice",
+            "thrice",
+            "DSATUR",
+            "smallest last",
+            "largest first",
+            "by number",
+        )
+    )
     print("|---" * 12 + "|")
     for name in names:
         network = NETWORKS[name]()
-        print(row.format(name, network.nodes, len(network.edges), network.greatest_degree, *counts(network)),
-              flush=True)
+        print(
+            row.format(
+                name, network.nodes, len(network.edges), network.greatest_degree, *counts(network)
+            ),
+            flush=True,
+        )
     return 0
 
 

@@ -4,7 +4,13 @@ import importlib
 import os
 import sys
 
-MODULES = {"completion": "completion", "install": "install", "new-program": "new_program", "program": "program", "wrong-bodies": "wrong_bodies"}
+MODULES = {
+    "completion": "completion",
+    "install": "install",
+    "new-program": "new_program",
+    "program": "program",
+    "wrong-bodies": "wrong_bodies",
+}
 HELP = f"""\
 Proves, builds, installs and copies what is in this tree.
 
@@ -20,12 +26,16 @@ def main():
     name = sys.argv[1] if len(sys.argv) > 1 else ""
     if name not in (*MODULES, "--version"):
         is_asked = name in ("-h", "--help")
-        print(HELP if is_asked else f"build: one of these is wanted: {', '.join(MODULES)}",
-              file=sys.stdout if is_asked else sys.stderr)
+        print(
+            HELP if is_asked else f"build: one of these is wanted: {', '.join(MODULES)}",
+            file=sys.stdout if is_asked else sys.stderr,
+        )
         return 0 if is_asked else 2
     sys.argv[:2] = sys.argv[1:2]
     module = "lab.version" if "--version" in (name, *sys.argv[1:2]) else f"build.{MODULES[name]}"
-    return importlib.import_module("lab.door").run(name, lambda: importlib.import_module(module).main)
+    return importlib.import_module("lab.door").run(
+        name, lambda: importlib.import_module(module).main
+    )
 
 
 if __name__ == "__main__":

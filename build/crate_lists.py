@@ -11,13 +11,17 @@ def lines_of(top=TOP):
     """The lines of a repository's crates.txt by the names of their crates, in their order."""
     with open(os.path.join(top, "crates.txt"), encoding="utf-8") as text:
         lines = [line.strip() for line in text]
-    return {line.partition(":")[0].split()[0]: line for line in lines if ":" in line.partition("#")[0]}
+    return {
+        line.partition(":")[0].split()[0]: line for line in lines if ":" in line.partition("#")[0]
+    }
 
 
 def listed(top=TOP):
     """The crates of a repository's crates.txt in their order, each with those of the repository that its line names."""
     lines = lines_of(top)
-    named = {crate: line.partition("#")[0].partition(":")[2].split() for crate, line in lines.items()}
+    named = {
+        crate: line.partition("#")[0].partition(":")[2].split() for crate, line in lines.items()
+    }
     return {crate: [name for name in names if name in lines] for crate, names in named.items()}
 
 
@@ -45,4 +49,9 @@ def copy(crates, to, left_out):
         text.writelines(f"{lines_of()[crate]}\n" for crate in crates)
     for crate in crates:
         here, there = (os.path.join(top, "crates", crate) for top in (TOP, to))
-        shutil.copytree(here, there, symlinks=True, ignore=lambda at, _, here=here: left_out if at == here else ())
+        shutil.copytree(
+            here,
+            there,
+            symlinks=True,
+            ignore=lambda at, _, here=here: left_out if at == here else (),
+        )

@@ -82,13 +82,14 @@ def tell_failure(name, status, said, log):
     found = NOT_PROVED.search(said)
     what = f"the crate {found[1]} isn't proved" if found else f"rt ci ended with status {status}"
     tell(name, f"{what}; the last lines of {os.path.relpath(log, TOP)} are:")
-    for line in said[:found.end() if found else None].splitlines()[-12:]:
+    for line in said[: found.end() if found else None].splitlines()[-12:]:
         print(f"  {line}", file=sys.stderr)
 
 
 def run(name, crates, edits=None, take=None):
     """Has these crates proved with those below them, and these edits of each tried, and calls `take` with the folder in
-    which all is built. Returns what `rt ci` said, or None if a crate isn't proved, which standard error says then."""
+    which all is built. Returns what `rt ci` said, or None if a crate isn't proved, which standard error says then.
+    """
     wanted, edits = with_below(crates, listed()), edits or {}
     log, start = os.path.join(TOP, "out", "build", f"{name}.log"), time.monotonic()
     os.makedirs(os.path.dirname(log), exist_ok=True)
@@ -102,8 +103,13 @@ def run(name, crates, edits=None, take=None):
                     shutil.copy(path, os.path.join(room, "crates", crate, "must-fail"))
             # If this process is killed, `rt` goes on, and the lock with it.
             with open(log, "wb") as to, subprocess.Popen(
-                    [kit.command(), "ci"], cwd=room, stdin=subprocess.DEVNULL, stdout=to, stderr=subprocess.STDOUT,
-                    pass_fds=[lock.fileno()]) as rt:
+                [kit.command(), "ci"],
+                cwd=room,
+                stdin=subprocess.DEVNULL,
+                stdout=to,
+                stderr=subprocess.STDOUT,
+                pass_fds=[lock.fileno()],
+            ) as rt:
                 try:
                     said = followed(name, rt, log, len(wanted), start)
                 finally:
@@ -115,7 +121,10 @@ def run(name, crates, edits=None, take=None):
             if take:
                 take(room)
     except (KeyboardInterrupt, SystemExit):
-        tell(name, f"stopped after {since(start)}; what is proved is kept, so the next call goes on from here")
+        tell(
+            name,
+            f"stopped after {since(start)}; what is proved is kept, so the next call goes on from here",
+        )
         raise
     tell(name, f"{len(wanted)} crates proved in {since(start)}")
     return said

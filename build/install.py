@@ -73,8 +73,9 @@ def readme():
     """The text of README as it is in a folder: with the commands that the folder has, as they are called."""
     with open(os.path.join(TOP, "README.md"), encoding="utf-8") as file:
         text = file.read()
-    return re.sub(r"^## Two commands\n.*?(?=^Command \| )", SECTION, text, flags=re.M | re.S).replace("./forestplan",
-                                                                                                      "forestplan")
+    return re.sub(
+        r"^## Two commands\n.*?(?=^Command \| )", SECTION, text, flags=re.M | re.S
+    ).replace("./forestplan", "forestplan")
 
 
 def make(room):
@@ -83,19 +84,28 @@ def make(room):
     for name in PROGRAMS:
         shutil.copy(program.program_at(name), os.path.join(room, "lib"))
     for folder in FOLDERS:
-        shutil.copytree(os.path.join(TOP, folder), os.path.join(room, folder),
-                        ignore=shutil.ignore_patterns("__pycache__"))
+        shutil.copytree(
+            os.path.join(TOP, folder),
+            os.path.join(room, folder),
+            ignore=shutil.ignore_patterns("__pycache__"),
+        )
     write_scripts(room)
     for path in FILES:
         shutil.copy(os.path.join(TOP, path), os.path.join(room, path))
     os.rename(os.path.join(room, PYPROJECT), os.path.join(room, "pyproject.toml"))
     write(os.path.join(room, "README.md"), readme())
     for name in COMMANDS:
-        write(os.path.join(room, "share", "man", "man1", f"{name}.1"), manual(os.path.join(room, "bin"), name))
+        write(
+            os.path.join(room, "share", "man", "man1", f"{name}.1"),
+            manual(os.path.join(room, "bin"), name),
+        )
     write(os.path.join(room, "share", "forestlab.bash"), completion(os.path.join(room, "bin")))
     # Which kit is here, if it isn't the one that the sources name.
     kits = {kit.found()} - {kit.wanted()} if kit.command() else ()
-    write(os.path.join(room, "VERSION"), version.text() + "".join(f"built where rt is of {it}\n" for it in kits))
+    write(
+        os.path.join(room, "VERSION"),
+        version.text() + "".join(f"built where rt is of {it}\n" for it in kits),
+    )
     write(os.path.join(room, checksums.NAME), checksums.text_of(room))
 
 
@@ -105,8 +115,11 @@ def put(room, folder):
     before, now = checksums.read(folder), checksums.read(room)
     for path in now:
         if os.path.isdir(os.path.join(folder, path)) or any(
-                os.path.isfile(os.path.join(folder, above)) for above in pathlib.PurePath(path).parents):
-            raise OSError(f"there is a folder in the place of {path}, or a file in that of a folder of it")
+            os.path.isfile(os.path.join(folder, above)) for above in pathlib.PurePath(path).parents
+        ):
+            raise OSError(
+                f"there is a folder in the place of {path}, or a file in that of a folder of it"
+            )
     for path in [*now, checksums.NAME]:
         os.makedirs(os.path.dirname(os.path.join(folder, path)), exist_ok=True)
         os.replace(os.path.join(room, path), os.path.join(folder, path))
@@ -133,7 +146,9 @@ def main():
     folder = os.path.abspath(words.parse_args().dir)
     inside = os.path.relpath(os.path.realpath(folder), os.path.realpath(TOP))
     if inside == "." or inside.split(os.sep)[0] in FOLDERS:
-        words.error("the folder has to be another one than this tree, and not inside of what is copied")
+        words.error(
+            "the folder has to be another one than this tree, and not inside of what is copied"
+        )
     status = program.built(PROGRAMS)
     if status:
         return status
@@ -143,6 +158,9 @@ def main():
         why = failed.args[0][0][2] if isinstance(failed, shutil.Error) else failed
         print(f"install: {folder}: {why}", file=sys.stderr)
         return 1
-    print(f"install: {folder} has all; with {folder}/bin on the PATH the commands work anywhere, and man finds their "
-          "pages", file=sys.stderr)
+    print(
+        f"install: {folder} has all; with {folder}/bin on the PATH the commands work anywhere, and man finds their "
+        "pages",
+        file=sys.stderr,
+    )
     return 0

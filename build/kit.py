@@ -24,7 +24,9 @@ def wanted():
 def found():
     """The line of the kit that `rt` is of, if it says so."""
     try:
-        with open(os.path.join(os.path.dirname(os.path.dirname(command())), "KIT-ID"), encoding="utf-8") as line:
+        with open(
+            os.path.join(os.path.dirname(os.path.dirname(command())), "KIT-ID"), encoding="utf-8"
+        ) as line:
             return line.read().strip()
     except OSError:
         return "no kit that says its name"
@@ -33,10 +35,16 @@ def found():
 def is_there(name):
     """Whether the toolchain's command is there; says if it isn't, and if it is of another kit."""
     if not command():
-        print(f"{name}: the toolchain's command rt is not on the PATH: {wanted()} is wanted", file=sys.stderr)
+        print(
+            f"{name}: the toolchain's command rt is not on the PATH: {wanted()} is wanted",
+            file=sys.stderr,
+        )
         return False
     if found() != wanted():
-        print(f"{name}: these sources are for {wanted()}, and rt is of {found()}: proofs may fail", file=sys.stderr)
+        print(
+            f"{name}: these sources are for {wanted()}, and rt is of {found()}: proofs may fail",
+            file=sys.stderr,
+        )
     return True
 
 
@@ -55,8 +63,12 @@ def sum_of(*parts):
 
 def sum_of_texts(folder):
     """A sum of what a crate is proved from: each file's path in the crate, and what it says."""
-    files = [os.path.join(at, name) for part in PARTS for at, _, names in os.walk(os.path.join(folder, part))
-             for name in names]
+    files = [
+        os.path.join(at, name)
+        for part in PARTS
+        for at, _, names in os.walk(os.path.join(folder, part))
+        for name in names
+    ]
     parts = []
     for file in sorted(files):
         with open(file, "rb") as text:
@@ -69,6 +81,10 @@ def sums(crates, top=TOP):
     sources, and the sums of those below. A crate that isn't asked for may be broken."""
     found, lines, below = {}, lines_of(top), listed(top)
     for crate in with_below(crates, below):
-        line, own = lines[crate].partition("#")[0].strip(), sum_of_texts(os.path.join(top, "crates", crate))
-        found[crate] = sum_of(*(part.encode() for part in (line, own, *(found[lower] for lower in below[crate]))))
+        line, own = lines[crate].partition("#")[0].strip(), sum_of_texts(
+            os.path.join(top, "crates", crate)
+        )
+        found[crate] = sum_of(
+            *(part.encode() for part in (line, own, *(found[lower] for lower in below[crate])))
+        )
     return found

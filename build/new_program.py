@@ -11,7 +11,11 @@ from lab.workshop.class_files import write
 from lab.wrong import Wrong
 
 # The crates that are copied: what each is called as a crate, as a type, and as a name in texts.
-MODEL, SEQUEL = ("silent", "Silent", "silent"), ("independent_set", "IndependentSet", "independent-set")
+MODEL, SEQUEL = ("silent", "Silent", "silent"), (
+    "independent_set",
+    "IndependentSet",
+    "independent-set",
+)
 # The first lines of the crate's page.
 HEAD = """\
 //! {}: say here what the nodes find, in the words of the subject, and where the
@@ -27,8 +31,10 @@ CHANGES = """\
   src/texts.rt        what is printed of it, with specs/Texts.antt
 """
 # Words that can't name a crate beside those of the model's code.
-TAKEN = set("""as break const continue crate dyn else enum false fn for ghost if impl in let loop match mod move mut pub
-ref return self static struct super trait true type unsafe use where while core std""".split())
+TAKEN = set(
+    """as break const continue crate dyn else enum false fn for ghost if impl in let loop match mod move mut pub
+ref return self static struct super trait true type unsafe use where while core std""".split()
+)
 
 HELP = f"""\
 Makes the crate crates/NAME with a node program, all of it proved already: a copy of
@@ -93,7 +99,7 @@ def copy(name, top, model=MODEL):
     for path, text in files_of(model):
         made = renamed(text, model, name)
         if path == os.path.join("src", "lib.rt"):
-            made = HEAD.format(name.title()) + made[made.index("//!\n"):]
+            made = HEAD.format(name.title()) + made[made.index("//!\n") :]
         write(os.path.join(top, "crates", name, renamed(path, model, name)), made)
 
 
@@ -110,13 +116,17 @@ def add_line(name, top, model=MODEL):
 def main():
     words = parser_of("new-program", "[--sequel] NAME", HELP, MORE_HELP, "python3 build")
     words.add_argument("name", metavar="NAME", help="the program's name, a word of small letters")
-    words.add_argument("--sequel", action="store_true", help="a program that goes on after the colouring")
+    words.add_argument(
+        "--sequel", action="store_true", help="a program that goes on after the colouring"
+    )
     given = words.parse_args()
     name, model = given.name, SEQUEL if given.sequel else MODEL
     check_name(name, TOP, model)
     copy(name, TOP, model)
     add_line(name, TOP, model)
-    print(f"crates/{name} is there, and its line in crates.txt. Change, one after another:\n{CHANGES}"
-          f"Try it: cd crates/{name} && rt try --test    Prove it: rt check\n"
-          "docs/work/OWN_PROGRAM.md goes along with an example, to forestplay run --program.")
+    print(
+        f"crates/{name} is there, and its line in crates.txt. Change, one after another:\n{CHANGES}"
+        f"Try it: cd crates/{name} && rt try --test    Prove it: rt check\n"
+        "docs/work/OWN_PROGRAM.md goes along with an example, to forestplay run --program."
+    )
     return 0

@@ -92,8 +92,11 @@ def build(name):
     print(f"{name}: not built from these sources yet", file=sys.stderr)
     if not kit.is_there(name):
         return NOT_BUILT
-    print(f"{name}: it is proved and built now, once: 15 to 33 minutes on four free processors, twice as long on two",
-          file=sys.stderr, flush=True)
+    print(
+        f"{name}: it is proved and built now, once: 15 to 33 minutes on four free processors, twice as long on two",
+        file=sys.stderr,
+        flush=True,
+    )
     if gate.run(name, [name], take=lambda room: put(name, room)) is not None:
         return 0
     print(f"{name}: it could not be built; the lines above say why", file=sys.stderr)
@@ -107,13 +110,25 @@ def built(names):
 
 
 def main():
-    words = parser_of("program", "[--ask | --sources | --made-from SUM] NAME ..", HELP, MORE_HELP, "python3 build")
+    words = parser_of(
+        "program", "[--ask | --sources | --made-from SUM] NAME ..", HELP, MORE_HELP, "python3 build"
+    )
     what = words.add_mutually_exclusive_group()
-    what.add_argument("--ask", action="store_true", help="build nothing; the status says whether all are built")
-    what.add_argument("--sources", action="store_true", help="build nothing; print a sum of each one's sources")
-    what.add_argument("--made-from", metavar="SUM", help="take note that they were made from sources of this sum, if "
-                                                         "that is still theirs, as ./test does after the gate")
-    words.add_argument("names", nargs="+", metavar="NAME", choices=PROGRAMS, help=" or ".join(PROGRAMS))
+    what.add_argument(
+        "--ask", action="store_true", help="build nothing; the status says whether all are built"
+    )
+    what.add_argument(
+        "--sources", action="store_true", help="build nothing; print a sum of each one's sources"
+    )
+    what.add_argument(
+        "--made-from",
+        metavar="SUM",
+        help="take note that they were made from sources of this sum, if "
+        "that is still theirs, as ./test does after the gate",
+    )
+    words.add_argument(
+        "names", nargs="+", metavar="NAME", choices=PROGRAMS, help=" or ".join(PROGRAMS)
+    )
     given = words.parse_args()
     if given.ask:
         return 0 if all(map(is_built, given.names)) else 1

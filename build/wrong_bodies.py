@@ -29,13 +29,17 @@ from lab.wrong import Wrong
 
 # What the kit says of a refusal for a name alone.
 NAME_ALONE = "only because a proof file names"
-VERDICT = re.compile(r"^rt: must-fail (\w+/\S+\.edit): (refused|NOT REFUSED|BAD EDIT|NOT TRIED)(.*)$", re.M)
+VERDICT = re.compile(
+    r"^rt: must-fail (\w+/\S+\.edit): (refused|NOT REFUSED|BAD EDIT|NOT TRIED)(.*)$", re.M
+)
 COUNTED = {"refused": "refused", "NOT REFUSED": "PROVED"}
 
 
 def edits_of(crate):
     folder = os.path.join(TOP, "crates", crate, "wrong-bodies")
-    return sorted(os.path.join(folder, name) for name in os.listdir(folder) if name.endswith(".edit"))
+    return sorted(
+        os.path.join(folder, name) for name in os.listdir(folder) if name.endswith(".edit")
+    )
 
 
 def changed_since(rev, given, at_hand):
@@ -68,26 +72,40 @@ def tell(said, edits):
     found = {name: (verdict, why) for name, verdict, why in VERDICT.findall(said)}
     counts = dict.fromkeys(("refused", "WEAK", "PROVED", "not run"), 0)
     for path in (os.path.relpath(path, TOP) for crate in edits for path in edits[crate]):
-        verdict, why = found.get(path.removeprefix("crates/").replace("/wrong-bodies/", "/"), ("NOT TRIED", ""))
+        verdict, why = found.get(
+            path.removeprefix("crates/").replace("/wrong-bodies/", "/"), ("NOT TRIED", "")
+        )
         counts[COUNTED.get(verdict, "not run")] += 1
         if NAME_ALONE in why:
             verdict = "WEAK"
             counts["WEAK"] += 1
         if verdict != "refused":
             print(f"{'PROVED' if verdict == 'NOT REFUSED' else verdict} {path}{why}", flush=True)
-    print(f"{counts['refused']} refused, {counts['WEAK']} of them WEAK, {counts['PROVED']} PROVED, "
-          f"{counts['not run']} not run")
+    print(
+        f"{counts['refused']} refused, {counts['WEAK']} of them WEAK, {counts['PROVED']} PROVED, "
+        f"{counts['not run']} not run"
+    )
     return 1 if counts["PROVED"] + counts["not run"] else 3 if counts["WEAK"] else 0
 
 
 def main():
     summary, _, more = __doc__.partition("\n\n")
-    words = parser_of("wrong-bodies", "[--since REV | CRATE .. | CRATE/NAME ..]", summary, more, "python3 build")
-    words.add_argument("--since", metavar="REV", help="only what a change since the commit REV may concern")
-    words.add_argument("names", nargs="*", metavar="CRATE", help="a crate, or one edit of it, as CRATE/NAME")
+    words = parser_of(
+        "wrong-bodies", "[--since REV | CRATE .. | CRATE/NAME ..]", summary, more, "python3 build"
+    )
+    words.add_argument(
+        "--since", metavar="REV", help="only what a change since the commit REV may concern"
+    )
+    words.add_argument(
+        "names", nargs="*", metavar="CRATE", help="a crate, or one edit of it, as CRATE/NAME"
+    )
     asked = words.parse_args()
     given = listed()
-    at_hand = sorted(crate for crate in given if os.path.isdir(os.path.join(TOP, "crates", crate, "wrong-bodies")))
+    at_hand = sorted(
+        crate
+        for crate in given
+        if os.path.isdir(os.path.join(TOP, "crates", crate, "wrong-bodies"))
+    )
     if asked.since and asked.names:
         words.error("--since chooses the crates itself")
     names = changed_since(asked.since, given, at_hand) if asked.since else asked.names or at_hand

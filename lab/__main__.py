@@ -8,18 +8,32 @@ import sys
 # help; by what a reader wants, in the order of the help text.
 READERS = {
     "To see": {
-        "studio": ("lab.studio.studio", "opens a page in the browser: draw a network, and everything moves"),
-        "picture": ("lab.pictures.picture", "draws plans, rounds and runs, and makes pages that play them"),
+        "studio": (
+            "lab.studio.studio",
+            "opens a page in the browser: draw a network, and everything moves",
+        ),
+        "picture": (
+            "lab.pictures.picture",
+            "draws plans, rounds and runs, and makes pages that play them",
+        ),
         "network": ("lab.networks.network", "makes networks, reads other forms, says what one is"),
         "channels": ("lab.networks.channels", "puts real channel numbers in place of a plan's"),
     },
     "To run": {
-        "simulate": ("lab.schedules.simulate", "makes a run without a clock, by a seed or a list of events"),
+        "simulate": (
+            "lab.schedules.simulate",
+            "makes a run without a clock, by a seed or a list of events",
+        ),
         "explore": ("lab.schedules.explore", "plays every order of events of up to four nodes"),
     },
-    "To judge": {"transcript": ("lab.transcripts.transcript", "checks, replays and converts transcripts")},
+    "To judge": {
+        "transcript": ("lab.transcripts.transcript", "checks, replays and converts transcripts")
+    },
     "To teach": {
-        "workshop": ("lab.workshop.workshop", "runs students' nodes, and has the proved programs judge them"),
+        "workshop": (
+            "lab.workshop.workshop",
+            "runs students' nodes, and has the proved programs judge them",
+        ),
         "sheet": ("lab.pictures.sheet", "prints question sheets, and their answers"),
     },
 }
@@ -47,8 +61,9 @@ def main():
     # Run as a folder, its own place comes first where modules are looked for; the package's is one above.
     sys.path[0] = os.path.dirname(os.path.dirname(os.path.realpath(__file__)))
     name, words = sys.argv[1] if len(sys.argv) > 1 else "", sys.argv[2:]
-    return importlib.import_module("lab.door").run(name if name in COMMANDS else "forestlab",
-                                                   lambda: command_of(name, words))
+    return importlib.import_module("lab.door").run(
+        name if name in COMMANDS else "forestlab", lambda: command_of(name, words)
+    )
 
 
 def command_of(name, words):
@@ -60,10 +75,14 @@ def command_of(name, words):
     # The script `forestplan` asks for `progress`.
     module = (COMMANDS | {"progress": "lab.progress"}).get(name)
     if module is None:
-        return lambda: refused(f"{f'there is no command {name}' if name else 'a command is missing'}; try --help")
+        return lambda: refused(
+            f"{f'there is no command {name}' if name else 'a command is missing'}; try --help"
+        )
     if not is_there(module):
-        return lambda: refused(f"{name} isn't in this folder of a class; your teacher's folder has it, and "
-                               "docs/pictures the lessons' pictures")
+        return lambda: refused(
+            f"{name} isn't in this folder of a class; your teacher's folder has it, and "
+            "docs/pictures the lessons' pictures"
+        )
     main = importlib.import_module(module).main
     return lambda: main(words)
 
@@ -76,7 +95,9 @@ def is_there(module):
 def help_text():
     lines = []
     for reader, commands in READERS.items():
-        found = [f"  {name:<12}{does}" for name, (module, does) in commands.items() if is_there(module)]
+        found = [
+            f"  {name:<12}{does}" for name, (module, does) in commands.items() if is_there(module)
+        ]
         lines += [reader, *found] if found else []
     sys.stdout.write(HELP.format(commands="".join(line + "\n" for line in lines)))
     return 0

@@ -16,8 +16,14 @@ def of(path: str) -> str | None:
 
 def text_of(folder: str) -> str:
     """A line for each file of a folder, but for the sums themselves."""
-    paths = [os.path.relpath(os.path.join(at, name), folder) for at, _, names in os.walk(folder) for name in names]
-    return "".join(f"{of(os.path.join(folder, path))}  {path}\n" for path in sorted(paths) if path != NAME)
+    paths = [
+        os.path.relpath(os.path.join(at, name), folder)
+        for at, _, names in os.walk(folder)
+        for name in names
+    ]
+    return "".join(
+        f"{of(os.path.join(folder, path))}  {path}\n" for path in sorted(paths) if path != NAME
+    )
 
 
 def read(folder: str) -> dict[str, str]:

@@ -14,7 +14,7 @@ STOPS = (signal.SIGINT, signal.SIGTERM, signal.SIGHUP)
 
 
 def stop(number, _):
-    signal.signal(number, signal.SIG_IGN)       # a second one doesn't disturb how the command ends
+    signal.signal(number, signal.SIG_IGN)  # a second one doesn't disturb how the command ends
     if number == signal.SIGINT:
         raise KeyboardInterrupt
     sys.exit(128 + number)
@@ -23,7 +23,9 @@ def stop(number, _):
 def run(name, load):
     """Runs the command that `load` imports, a function that returns its status, and returns the status to end with."""
     for number in STOPS:
-        if signal.getsignal(number) != signal.SIG_IGN:      # as `nohup` has it, and a shell in the background
+        if (
+            signal.getsignal(number) != signal.SIG_IGN
+        ):  # as `nohup` has it, and a shell in the background
             signal.signal(number, stop)
     try:
         try:
@@ -41,8 +43,10 @@ def run(name, load):
         status, line = 1, f"{where}: {why.strerror or why}"
     except Exception as why:
         at = traceback.extract_tb(why.__traceback__)[-1]
-        status, line = 70, (f"a fault of this command itself, please report it: {type(why).__name__}: "
-                            f"{' '.join(str(why).split())} ({os.path.basename(at.filename)} line {at.lineno})")
+        status, line = 70, (
+            f"a fault of this command itself, please report it: {type(why).__name__}: "
+            f"{' '.join(str(why).split())} ({os.path.basename(at.filename)} line {at.lineno})"
+        )
     # Standard output gets nothing more.
     os.dup2(os.open(os.devnull, os.O_WRONLY), 1)
     sys.stderr.write(line and f"{name}: {line}\n")

@@ -42,16 +42,25 @@ class Network:
 
     @cached_property
     def barred(self) -> dict[int, frozenset[int]]:
-        return {v: frozenset(channel - 1 for channel in self.bars.get(v, ())) for v in self.vertices}
+        return {
+            v: frozenset(channel - 1 for channel in self.bars.get(v, ())) for v in self.vertices
+        }
 
     @cached_property
     def higher(self) -> dict[int, list[int]]:
         own = self.identifiers
-        return {v: sorted((w for w in near if own[w] > own[v]), key=own.get) for v, near in self.neighbours.items()}
+        return {
+            v: sorted((w for w in near if own[w] > own[v]), key=own.get)
+            for v, near in self.neighbours.items()
+        }
 
     @cached_property
     def number(self) -> dict[frozenset[int], int]:
-        return {frozenset((v, w)): f for v, parents in self.higher.items() for f, w in enumerate(parents)}
+        return {
+            frozenset((v, w)): f
+            for v, parents in self.higher.items()
+            for f, w in enumerate(parents)
+        }
 
     @cached_property
     def forest_count(self) -> int:

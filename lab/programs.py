@@ -35,7 +35,11 @@ class Refused(Exception):
 def built(name):
     """The program's file, or None if it isn't built. An installed folder has it in lib/."""
     is_tree = os.path.isdir(os.path.join(TOP, "crates", name))
-    path = os.path.join(TOP, "crates", name, "out", name) if is_tree else os.path.join(TOP, "lib", name)
+    path = (
+        os.path.join(TOP, "crates", name, "out", name)
+        if is_tree
+        else os.path.join(TOP, "lib", name)
+    )
     return path if os.path.isfile(path) and os.access(path, os.X_OK) else None
 
 
@@ -43,16 +47,22 @@ def program_file(name):
     """The program's file; refused if it isn't built."""
     path = built(name)
     if path is None:
-        raise Wrong(f"{name} isn't built: a first call of it, as `{name} {FIRST[name]} < examples/two.col`, proves "
-                    "and builds it in 15 to 33 minutes")
+        raise Wrong(
+            f"{name} isn't built: a first call of it, as `{name} {FIRST[name]} < examples/two.col`, proves "
+            "and builds it in 15 to 33 minutes"
+        )
     return path
 
 
 def called(name, words, data):
     """What a program did with a text: its status, and the bytes of both outputs."""
     try:
-        return subprocess.run([program_file(name), *words], input=data, capture_output=True,
-                              env={"GLIBC_TUNABLES": TUNABLES, **os.environ})
+        return subprocess.run(
+            [program_file(name), *words],
+            input=data,
+            capture_output=True,
+            env={"GLIBC_TUNABLES": TUNABLES, **os.environ},
+        )
     except OSError as why:
         raise Wrong(f"{name} can't be run: {why.strerror}") from None
 

@@ -11,8 +11,18 @@ NUMBER = "0.5.0"
 
 def commit() -> str:
     """The commit of this tree, and whether files are changed since."""
-    asked = ["git", "-C", TOP, "--git-dir", ".git", "describe", "--always", "--exclude=*", "--abbrev=12",
-             "--dirty=, with changes"]
+    asked = [
+        "git",
+        "-C",
+        TOP,
+        "--git-dir",
+        ".git",
+        "describe",
+        "--always",
+        "--exclude=*",
+        "--abbrev=12",
+        "--dirty=, with changes",
+    ]
     try:
         done = subprocess.run(asked, stdin=subprocess.DEVNULL, capture_output=True, text=True)
     except OSError:

@@ -34,8 +34,14 @@ class Command(Parser):
 
 def one_line(words: str) -> str:
     """Words as they may be printed in one line: what is no letter of a line is escaped."""
-    return words if words.isprintable() else "".join(
-        letter if letter.isprintable() else letter.encode("unicode_escape").decode() for letter in words)
+    return (
+        words
+        if words.isprintable()
+        else "".join(
+            letter if letter.isprintable() else letter.encode("unicode_escape").decode()
+            for letter in words
+        )
+    )
 
 
 def in_words(things) -> str:
@@ -54,23 +60,42 @@ def duration(seconds: float) -> str:
     return f"{minutes} min {seconds} s" if minutes else f"{seconds} s"
 
 
-def parser_of(name: str, words: str, what: str, more: str | None, door: str = "forestlab") -> argparse.ArgumentParser:
+def parser_of(
+    name: str, words: str, what: str, more: str | None, door: str = "forestlab"
+) -> argparse.ArgumentParser:
     """The parser of `forestlab NAME WORDS`, whose help begins with `what` and ends with `more`, as they stand."""
-    return Parser(prog=f"{door} {name}", usage=f"{door} {name} {words}", description=what, epilog=more,
-                  formatter_class=argparse.RawDescriptionHelpFormatter)
+    return Parser(
+        prog=f"{door} {name}",
+        usage=f"{door} {name} {words}",
+        description=what,
+        epilog=more,
+        formatter_class=argparse.RawDescriptionHelpFormatter,
+    )
 
 
 def add_commands(words: Parser, what: str = "command"):
     """What holds the commands below one."""
-    return words.add_subparsers(dest=what, metavar=what.upper(), required=True, help="one of those above",
-                                parser_class=Command)
+    return words.add_subparsers(
+        dest=what,
+        metavar=what.upper(),
+        required=True,
+        help="one of those above",
+        parser_class=Command,
+    )
 
 
-def add_command(commands, name: str, words: str, what: str, more: str, example: str) -> argparse.ArgumentParser:
+def add_command(
+    commands, name: str, words: str, what: str, more: str, example: str
+) -> argparse.ArgumentParser:
     """The parser of `forestlab NAME WORDS`, one of several commands: its help is a line, more of it, and an example."""
-    return commands.add_parser(name.split()[-1], prog=f"forestlab {name}", usage=f"forestlab {name} {words}",
-                               description=f"{what}\n\n{more}".rstrip(), epilog=f"Example:\n  {example}",
-                               formatter_class=argparse.RawDescriptionHelpFormatter)
+    return commands.add_parser(
+        name.split()[-1],
+        prog=f"forestlab {name}",
+        usage=f"forestlab {name} {words}",
+        description=f"{what}\n\n{more}".rstrip(),
+        epilog=f"Example:\n  {example}",
+        formatter_class=argparse.RawDescriptionHelpFormatter,
+    )
 
 
 def add_options(command, name: str, rows) -> None:
@@ -102,14 +127,18 @@ def called(path: str) -> str:
 
 def add_output(words) -> None:
     """The option -o, for what `write` writes."""
-    words.add_argument("-o", "--output", metavar="FILE", help="write to this file, and not to standard output")
+    words.add_argument(
+        "-o", "--output", metavar="FILE", help="write to this file, and not to standard output"
+    )
 
 
 def add_seed(words, what="whatever is by chance comes from it") -> None:
-    words.add_argument("--seed", default="1", metavar="WORD", help=f"any word or number; {what}; default: 1")
+    words.add_argument(
+        "--seed", default="1", metavar="WORD", help=f"any word or number; {what}; default: 1"
+    )
 
 
-def count(text: str, most: int = 10 ** 9 - 1) -> int:
+def count(text: str, most: int = 10**9 - 1) -> int:
     """The number of an option: from 1 up to the greatest."""
     if not (text.isascii() and text.isdecimal() and len(text) < 10 and 1 <= int(text) <= most):
         raise argparse.ArgumentTypeError(f"{text} is no number from 1 to {most:,}")
@@ -118,11 +147,13 @@ def count(text: str, most: int = 10 ** 9 - 1) -> int:
 
 def some_of(*names: str) -> Callable[[str], tuple[str, ...]]:
     """The type of an option that takes some of these words, with commas between."""
+
     def chosen(text: str) -> tuple[str, ...]:
         words = tuple(dict.fromkeys(text.split(",")))
         if not set(words) <= set(names):
             raise argparse.ArgumentTypeError(f"some of {','.join(names)}")
         return words
+
     return chosen
 
 

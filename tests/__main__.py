@@ -26,41 +26,82 @@ from tests import TOP
 from tests.settings import PATHS, SETTINGS, built, variable
 
 # The modules that take longest, which begin first.
-LONGEST = ("programs.hostile", "programs.plain_networks", "programs.transcripts", "programs.schedules")
+LONGEST = (
+    "programs.hostile",
+    "programs.plain_networks",
+    "programs.transcripts",
+    "programs.schedules",
+)
 
 
 def options():
     more = "Status: 0 all passed, 1 a row failed, 2 the command line is refused.\n\nSettings are variables:\n"
     for name, (default, what) in SETTINGS.items():
         shown = os.path.relpath(default, TOP) if default.startswith(TOP) else default
-        more += textwrap.fill(f"{what} (default: {shown or 'none'})", 100, initial_indent=f"  {variable(name):18} ",
-                              subsequent_indent=" " * 21) + "\n"
-    words = argparse.ArgumentParser(prog="tests", usage="python3 -m tests [NAME ..] [options]", description=__doc__,
-                                    epilog=more, formatter_class=argparse.RawDescriptionHelpFormatter)
+        more += (
+            textwrap.fill(
+                f"{what} (default: {shown or 'none'})",
+                100,
+                initial_indent=f"  {variable(name):18} ",
+                subsequent_indent=" " * 21,
+            )
+            + "\n"
+        )
+    words = argparse.ArgumentParser(
+        prog="tests",
+        usage="python3 -m tests [NAME ..] [options]",
+        description=__doc__,
+        epilog=more,
+        formatter_class=argparse.RawDescriptionHelpFormatter,
+    )
     words.add_argument("names", metavar="NAME", nargs="*")
-    words.add_argument("--list", action="store_true", help="print the names of the tests, and run none")
-    words.add_argument("-j", "--jobs", metavar="N", type=int, default=len(os.sched_getaffinity(0)),
-                       help="how many modules run at a time; as many as there are processors by default")
+    words.add_argument(
+        "--list", action="store_true", help="print the names of the tests, and run none"
+    )
+    words.add_argument(
+        "-j",
+        "--jobs",
+        metavar="N",
+        type=int,
+        default=len(os.sched_getaffinity(0)),
+        help="how many modules run at a time; as many as there are processors by default",
+    )
     return words
 
 
 def is_named(name, test):
     """Whether a name of the command line means a test, which is named MODULE.CLASS.test_x."""
-    name = name.removeprefix("tests/").removeprefix("tests.").removesuffix(".py").rstrip("/").replace("/", ".")
-    return test.startswith(name + ".") or test == name or name in test.split(".") or name in test.split(".")[-1]
+    name = (
+        name.removeprefix("tests/")
+        .removeprefix("tests.")
+        .removesuffix(".py")
+        .rstrip("/")
+        .replace("/", ".")
+    )
+    return (
+        test.startswith(name + ".")
+        or test == name
+        or name in test.split(".")
+        or name in test.split(".")[-1]
+    )
 
 
 def chosen_tests(names, words):
     """The tests to run by their names, and these by module. A module that can't be read is one of them: its process
     says so."""
     from tests.running import modules, tests_of
+
     found = {}
     for module in modules():
         try:
             tests = tests_of(module)
         except Exception:
             tests = {module: None}
-        chosen = {test: tests[test] for test in tests if not names or any(is_named(name, test) for name in names)}
+        chosen = {
+            test: tests[test]
+            for test in tests
+            if not names or any(is_named(name, test) for name in names)
+        }
         if chosen:
             found[module] = chosen
     for name in names:
@@ -76,8 +117,10 @@ def what_is_missing(chosen):
         return ""
     for name, path in PATHS.items():
         if not os.access(path, os.X_OK) or path == built(name) and not program.is_built(name):
-            return (f"{os.path.relpath(path)} isn't built from the sources as they are, and no test proves anything: "
-                    f"./test builds it, and so does bin/{name}")
+            return (
+                f"{os.path.relpath(path)} isn't built from the sources as they are, and no test proves anything: "
+                f"./test builds it, and so does bin/{name}"
+            )
     return "" if shutil.which("cc") else "there is no C compiler cc"
 
 
@@ -90,8 +133,14 @@ def end_all_of(process):
 def run_module(module, tests, folder, running):
     """The status of a module's process, and what it said, which it writes to a file."""
     with open(os.path.join(folder, module), "wb+") as file:
-        process = subprocess.Popen([sys.executable, "-m", "tests.running", module, *tests], stdin=subprocess.DEVNULL,
-                                   stdout=file, stderr=subprocess.STDOUT, cwd=TOP, start_new_session=True)
+        process = subprocess.Popen(
+            [sys.executable, "-m", "tests.running", module, *tests],
+            stdin=subprocess.DEVNULL,
+            stdout=file,
+            stderr=subprocess.STDOUT,
+            cwd=TOP,
+            start_new_session=True,
+        )
         running.append(process)
         status = process.wait()
         end_all_of(process)
@@ -106,7 +155,9 @@ def report(module, status, said):
     last = re.search(r"^(\d+) passed, (\d+) failed\n\Z", said, re.M)
     passed, failed = map(int, last.groups()) if last else (0, 0)
     if (status != 0) != (failed > 0) or not last:
-        print(f"FAILED {module}: it ended with status {status}{'' if last else ' and without its count'}")
+        print(
+            f"FAILED {module}: it ended with status {status}{'' if last else ' and without its count'}"
+        )
         failed += 1
     sys.stdout.flush()
     return passed, failed
@@ -114,10 +165,15 @@ def report(module, status, said):
 
 def run_all(chosen, jobs, folder):
     """The sums over all modules, which are reported in their order."""
-    order = sorted(chosen, key=lambda module: LONGEST.index(module) if module in LONGEST else len(LONGEST))
+    order = sorted(
+        chosen, key=lambda module: LONGEST.index(module) if module in LONGEST else len(LONGEST)
+    )
     running, sums = [], [0, 0]
     with ThreadPoolExecutor(jobs) as pool:
-        done = {module: pool.submit(run_module, module, chosen[module], folder, running) for module in order}
+        done = {
+            module: pool.submit(run_module, module, chosen[module], folder, running)
+            for module in order
+        }
         try:
             for module in chosen:
                 sums = [a + b for a, b in zip(sums, report(module, *done[module].result()))]
@@ -137,7 +193,9 @@ def main():
     with tempfile.TemporaryDirectory(prefix="tests-") as folder:
         os.environ.pop("PYTHONDONTWRITEBYTECODE", None)
         sys.dont_write_bytecode = False
-        sys.pycache_prefix = os.environ.setdefault("PYTHONPYCACHEPREFIX", os.path.join(folder, "compiled"))
+        sys.pycache_prefix = os.environ.setdefault(
+            "PYTHONPYCACHEPREFIX", os.path.join(folder, "compiled")
+        )
         words = options()
         given = words.parse_args()
         chosen = chosen_tests(given.names, words)

@@ -10,7 +10,9 @@ import time
 
 def command():
     """A browser that is installed, or None."""
-    return next(filter(None, map(shutil.which, ("chromium", "chromium-browser", "google-chrome"))), None)
+    return next(
+        filter(None, map(shutil.which, ("chromium", "chromium-browser", "google-chrome"))), None
+    )
 
 
 class Browser:
@@ -18,15 +20,37 @@ class Browser:
 
     def __init__(self, program):
         self.folder, (given, writing), (reading, back) = tempfile.mkdtemp(), os.pipe(), os.pipe()
-        words = [program, "--headless", "--no-sandbox", "--disable-gpu", "--no-first-run", "--remote-debugging-pipe",
-                 f"--user-data-dir={self.folder}", "about:blank"]
-        self.process = subprocess.Popen(["sh", "-c", f'exec "$@" 3<&{given} 4>&{back}', "sh", *words],
-                                        pass_fds=(given, back), stderr=subprocess.DEVNULL, stdout=subprocess.DEVNULL)
+        words = [
+            program,
+            "--headless",
+            "--no-sandbox",
+            "--disable-gpu",
+            "--no-first-run",
+            "--remote-debugging-pipe",
+            f"--user-data-dir={self.folder}",
+            "about:blank",
+        ]
+        self.process = subprocess.Popen(
+            ["sh", "-c", f'exec "$@" 3<&{given} 4>&{back}', "sh", *words],
+            pass_fds=(given, back),
+            stderr=subprocess.DEVNULL,
+            stdout=subprocess.DEVNULL,
+        )
         os.close(given)
         os.close(back)
-        self.reading, self.writing, self.rest, self.number, self.faults = reading, writing, b"", 0, []
+        self.reading, self.writing, self.rest, self.number, self.faults = (
+            reading,
+            writing,
+            b"",
+            0,
+            [],
+        )
         self.session = {}
-        while not (pages := [one for one in self.ask("Target.getTargets")["targetInfos"] if one["type"] == "page"]):
+        while not (
+            pages := [
+                one for one in self.ask("Target.getTargets")["targetInfos"] if one["type"] == "page"
+            ]
+        ):
             time.sleep(0.05)
         attached = self.ask("Target.attachToTarget", targetId=pages[0]["targetId"], flatten=True)
         self.session = {"sessionId": attached["sessionId"]}
@@ -40,9 +64,16 @@ class Browser:
         while True:
             told = self.told()
             if told.get("method") == "Runtime.exceptionThrown":
-                self.faults.append(told["params"]["exceptionDetails"].get("exception", {}).get("description", "?"))
-            if told.get("method") == "Log.entryAdded" and told["params"]["entry"]["level"] == "error":
-                self.faults.append(told["params"]["entry"]["text"] + " " + told["params"]["entry"].get("url", ""))
+                self.faults.append(
+                    told["params"]["exceptionDetails"].get("exception", {}).get("description", "?")
+                )
+            if (
+                told.get("method") == "Log.entryAdded"
+                and told["params"]["entry"]["level"] == "error"
+            ):
+                self.faults.append(
+                    told["params"]["entry"]["text"] + " " + told["params"]["entry"].get("url", "")
+                )
             if told.get("id") == self.number:
                 if "error" in told:
                     raise RuntimeError(f"{method}: {told['error']['message']}")
@@ -62,7 +93,9 @@ class Browser:
         """What an expression is on the page."""
         got = self.ask("Runtime.evaluate", expression=words, returnByValue=True, awaitPromise=True)
         if "exceptionDetails" in got:
-            raise RuntimeError(f"{words}: {got['exceptionDetails'].get('exception', {}).get('description')}")
+            raise RuntimeError(
+                f"{words}: {got['exceptionDetails'].get('exception', {}).get('description')}"
+            )
         return got["result"].get("value")
 
     def until(self, words, seconds=20):
@@ -83,21 +116,38 @@ class Browser:
 
     def choose(self, name, value):
         """Sets a field, as a user would."""
-        self.value(f"(() => {{ const e = document.getElementById({name!r}); e.value = {json.dumps(value)}; "
-                   "(e.oninput || e.onchange || (() => 0))(); })()")
+        self.value(
+            f"(() => {{ const e = document.getElementById({name!r}); e.value = {json.dumps(value)}; "
+            "(e.oninput || e.onchange || (() => 0))(); })()"
+        )
 
     def size(self, wide, high, phone=False):
-        self.ask("Emulation.setDeviceMetricsOverride", width=wide, height=high, deviceScaleFactor=2 if phone else 1,
-                 mobile=phone)
+        self.ask(
+            "Emulation.setDeviceMetricsOverride",
+            width=wide,
+            height=high,
+            deviceScaleFactor=2 if phone else 1,
+            mobile=phone,
+        )
         self.ask("Emulation.setTouchEmulationEnabled", enabled=phone)
 
     def dark(self, is_dark):
-        self.ask("Emulation.setEmulatedMedia",
-                 features=[{"name": "prefers-color-scheme", "value": "dark" if is_dark else "light"}])
+        self.ask(
+            "Emulation.setEmulatedMedia",
+            features=[{"name": "prefers-color-scheme", "value": "dark" if is_dark else "light"}],
+        )
 
     def mouse(self, kind, x, y, shift=False):
-        self.ask("Input.dispatchMouseEvent", type=kind, x=x, y=y, button="left", buttons=int(kind != "mouseReleased"),
-                 clickCount=1, modifiers=8 * shift)
+        self.ask(
+            "Input.dispatchMouseEvent",
+            type=kind,
+            x=x,
+            y=y,
+            button="left",
+            buttons=int(kind != "mouseReleased"),
+            clickCount=1,
+            modifiers=8 * shift,
+        )
 
     def click(self, x, y, shift=False):
         self.mouse("mousePressed", x, y, shift)
@@ -115,9 +165,11 @@ class Browser:
 
     def middle(self, selector):
         """The middle of an element, which is scrolled into sight."""
-        return self.value(f"(() => {{ const e = document.querySelector({json.dumps(selector)}); "
-                          "e.scrollIntoView({block: 'nearest'}); const b = e.getBoundingClientRect(); "
-                          "return [b.x + b.width / 2, b.y + b.height / 2]; })()")
+        return self.value(
+            f"(() => {{ const e = document.querySelector({json.dumps(selector)}); "
+            "e.scrollIntoView({block: 'nearest'}); const b = e.getBoundingClientRect(); "
+            "return [b.x + b.width / 2, b.y + b.height / 2]; })()"
+        )
 
     def click_on(self, selector):
         self.click(*self.middle(selector))

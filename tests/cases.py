@@ -126,16 +126,25 @@ def in_process(name, main, *words, data=b""):
     """The same of a command of forestlab, whose `main` is called in this process; how a process ends is for
     tests/programs/endings.py."""
     streams, is_collecting = (sys.stdin, sys.stdout, sys.stderr), gc.isenabled()
-    sys.stdin, sys.stdout, sys.stderr = (io.TextIOWrapper(io.BytesIO(given), "utf-8") for given in (data, b"", b""))
+    sys.stdin, sys.stdout, sys.stderr = (
+        io.TextIOWrapper(io.BytesIO(given), "utf-8") for given in (data, b"", b"")
+    )
     try:
         status = main(list(map(str, words)))
     except SystemExit as ended:
         status = ended.code
     except (Fault, OSError) as why:
         status = 1
-        print(f"{name}: {f'{why.filename}: {why.strerror}' if isinstance(why, OSError) else why}", file=sys.stderr)
+        print(
+            f"{name}: {f'{why.filename}: {why.strerror}' if isinstance(why, OSError) else why}",
+            file=sys.stderr,
+        )
     finally:
-        (_, out, errors), (sys.stdin, sys.stdout, sys.stderr) = (sys.stdin, sys.stdout, sys.stderr), streams
+        (_, out, errors), (sys.stdin, sys.stdout, sys.stderr) = (
+            sys.stdin,
+            sys.stdout,
+            sys.stderr,
+        ), streams
         (gc.enable if is_collecting else gc.disable)()
     out.flush()
     errors.flush()

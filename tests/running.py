@@ -20,18 +20,26 @@ from tests.settings import setting
 def without_rt(path):
     """A PATH without the folders that have the toolchain's command: where a program isn't built from the sources as
     they are, its script then says so, and proves nothing."""
-    return ":".join(folder for folder in path.split(":") if not os.path.exists(os.path.join(folder, "rt")))
+    return ":".join(
+        folder for folder in path.split(":") if not os.path.exists(os.path.join(folder, "rt"))
+    )
 
 
 def modules():
     """The names of all modules of tests/, without the package's and what is called by hand."""
     paths = sorted(glob.glob("**/[!_]*.py", root_dir=os.path.join(TOP, "tests"), recursive=True))
-    return [path.removesuffix(".py").replace("/", ".") for path in paths if not path.startswith("by_hand/")]
+    return [
+        path.removesuffix(".py").replace("/", ".")
+        for path in paths
+        if not path.startswith("by_hand/")
+    ]
 
 
 def tests_of(module):
     """The tests of a module by their names, `MODULE.CLASS.test_x`."""
-    cases = unittest.defaultTestLoader.loadTestsFromModule(importlib.import_module(f"tests.{module}"))
+    cases = unittest.defaultTestLoader.loadTestsFromModule(
+        importlib.import_module(f"tests.{module}")
+    )
     return {test.id().removeprefix("tests."): test for case in cases for test in case}
 
 
@@ -53,7 +61,9 @@ class Counting(unittest.TestResult):
         if err is None:
             self.passed += 1
         else:
-            row = subtest._message if isinstance(subtest._message, str) else subtest._subDescription()
+            row = (
+                subtest._message if isinstance(subtest._message, str) else subtest._subDescription()
+            )
             self.note_failure(test, f"{row}: ", err)
 
     def addSuccess(self, test):

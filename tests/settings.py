@@ -12,14 +12,32 @@ def built(name):
 SETTINGS = {
     "plan": (built("forestplan"), "the program forestplan"),
     "play": (built("forestplay"), "the program forestplay"),
-    "second-plan": (built("forestplan") + ".by-rattle", "forestplan as the second compiler builds it"),
-    "second-play": (built("forestplay") + ".by-rattle", "forestplay as the second compiler builds it"),
-    "crate-tests": (os.path.join(TOP, "crates", "checks", "out", "checks_tests"), "the tests of crates/checks"),
-    "limit": ("1200", "how many seconds a test may take; one that takes longer is ended, and has failed"),
+    "second-plan": (
+        built("forestplan") + ".by-rattle",
+        "forestplan as the second compiler builds it",
+    ),
+    "second-play": (
+        built("forestplay") + ".by-rattle",
+        "forestplay as the second compiler builds it",
+    ),
+    "crate-tests": (
+        os.path.join(TOP, "crates", "checks", "out", "checks_tests"),
+        "the tests of crates/checks",
+    ),
+    "limit": (
+        "1200",
+        "how many seconds a test may take; one that takes longer is ended, and has failed",
+    ),
     "texts": ("60000", "how many random texts programs.hostile makes, over all commands"),
     "seed": ("2026", "the seed of these random texts"),
-    "runs": ("90", "how many whole runs of threads programs.transcripts checks; 1000 take some minutes"),
-    "sequels": ("12", "how many networks by chance programs.sequel_runs plays; 1000 take some minutes"),
+    "runs": (
+        "90",
+        "how many whole runs of threads programs.transcripts checks; 1000 take some minutes",
+    ),
+    "sequels": (
+        "12",
+        "how many networks by chance programs.sequel_runs plays; 1000 take some minutes",
+    ),
     "spoiled": ("2000", "how many spoiled transcripts programs.transcripts makes"),
 }
 
@@ -33,6 +51,7 @@ def setting(name):
 
 
 PLAN, PLAY, SECOND_PLAN, SECOND_PLAY, CRATE_TESTS = (
-    os.path.abspath(setting(name)) for name in ("plan", "play", "second-plan", "second-play", "crate-tests")
+    os.path.abspath(setting(name))
+    for name in ("plan", "play", "second-plan", "second-play", "crate-tests")
 )
 PATHS = {"forestplan": PLAN, "forestplay": PLAY}

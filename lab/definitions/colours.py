@@ -19,7 +19,9 @@ def text_of(lines: Iterable[str]) -> bytes:
 def forests_text(net: Network) -> bytes:
     """The forests text: entry F of a vertex's higher neighbours, by ascending identifier, is its parent in forest F."""
     triples = sorted((f, v, w) for v, ws in net.higher.items() for f, w in enumerate(ws))
-    return text_of([f"forests {net.nodes} {net.forest_count}"] + [f"{f} {v} {w}" for f, v, w in triples])
+    return text_of(
+        [f"forests {net.nodes} {net.forest_count}"] + [f"{f} {v} {w}" for f, v, w in triples]
+    )
 
 
 def plan_text(net: Network) -> bytes:
@@ -40,11 +42,13 @@ def digit(i: int, number: int) -> int:
 def bit(net: Network, f: int, c: Colours) -> Colours:
     """The bit step: twice the least place in which a vertex differs from its parent, plus its own digit there. A root's
     place is 0."""
+
     def step(own: int, parent: int | None) -> int:
         if parent is None:
             return digit(0, own)
         i = min(i for i in range((own ^ parent).bit_length()) if digit(i, own) != digit(i, parent))
         return 2 * i + digit(i, own)
+
     return {v: step(c[v], at_parent(net, f, c, v)) for v in c}
 
 
@@ -85,8 +89,10 @@ def merged(net: Network, f: int, old: Colours, colour_in_f: Colours) -> Colours:
     at it and that no neighbour has at which it looks. There is one such list, since these neighbours have lower pairs;
     the equation is applied until it holds."""
     pair = {v: (colour_in_f[v], old[v]) for v in old}
-    looked_at = {v: [w for w in ws if net.number[frozenset((v, w))] <= f and pair[w] < pair[v]]
-                 for v, ws in net.neighbours.items()}
+    looked_at = {
+        v: [w for w in ws if net.number[frozenset((v, w))] <= f and pair[w] < pair[v]]
+        for v, ws in net.neighbours.items()
+    }
     palette = {v: set(range(net.channels)) - net.barred[v] for v in old}
     new, made = None, dict.fromkeys(old, 0)
     while new != made:

@@ -24,7 +24,10 @@ class Layers:
 
     def __init__(self, net: Network, v: int):
         self.degree, self.last = len(net.neighbours[v]), self.last_pulse(net)
-        self.is_root, self.by = net.identifiers[v] == ROOT if self.root is None else v == self.root, None
+        self.is_root, self.by = (
+            net.identifiers[v] == ROOT if self.root is None else v == self.root,
+            None,
+        )
         self.layer = 0 if self.is_root else None
 
     @staticmethod

@@ -15,7 +15,11 @@ class Leader:
     best: int
 
     def __init__(self, net: Network, v: int):
-        self.degree, self.last, self.best = len(net.neighbours[v]), self.last_pulse(net), net.identifiers[v]
+        self.degree, self.last, self.best = (
+            len(net.neighbours[v]),
+            self.last_pulse(net),
+            net.identifiers[v],
+        )
 
     @staticmethod
     def last_pulse(net: Network) -> int:

@@ -41,11 +41,18 @@ class Matching(Sequel):
         if self.partner is None:
             self.partner = came
         is_free = self.partner is None
-        return [("Free", forest) if is_free and role == ("Up", forest) else None for role in self.first.roles]
+        return [
+            ("Free", forest) if is_free and role == ("Up", forest) else None
+            for role in self.first.roles
+        ]
 
     def take(self, forest: int, colour: int, came: int | None) -> list[Slot]:
         """The second: a free node whose turn it is takes the free child of the least port."""
-        if self.partner is not None or came is None or self.first.colours[forest:forest + 1] != [colour]:
+        if (
+            self.partner is not None
+            or came is None
+            or self.first.colours[forest : forest + 1] != [colour]
+        ):
             return [None] * self.degree
         self.partner = came
         return [("Take", forest) if port == came else None for port in range(self.degree)]

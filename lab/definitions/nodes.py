@@ -40,7 +40,8 @@ class Colouring:
     `roles[port]` is ("Up", f) if the neighbour there is the node's parent in forest f, and ("Down", f) if the node is
     the neighbour's parent there; it is None before pulse 1, and below a port of the second kind before pulse 2.
     `colours[f]` is the node's colour in forest f, `before[f]` the one before the last shift. `merged` is its colour in
-    the forests merged so far, `old` the one before this merge, and `chosen` has what neighbours chose in this merge."""
+    the forests merged so far, `old` the one before this merge, and `chosen` has what neighbours chose in this merge.
+    """
 
     name = "colouring"
     last_pulse = staticmethod(last_pulse)
@@ -93,7 +94,9 @@ class Colouring:
     def orient(self, inbox: list[Slot]) -> list[Slot]:
         """Pulse 1: the higher neighbours, by ascending identifier, are the parents in forests 0, 1, 2 and so on."""
         higher = sorted(number for _, number in inbox if number > self.id)
-        self.roles = [("Up", higher.index(number)) if number in higher else None for _, number in inbox]
+        self.roles = [
+            ("Up", higher.index(number)) if number in higher else None for _, number in inbox
+        ]
         return [("Label", role[1]) if role else None for role in self.roles]
 
     def seed(self, inbox: list[Slot]) -> list[Slot]:
@@ -132,7 +135,9 @@ class Colouring:
             return [None] * self.degree
         self.merged = self.least_free(self.chosen)
         is_last = step == 3 * width - 1
-        return [("Chosen", self.merged) if f <= forest and not is_last else None for _, f in self.roles]
+        return [
+            ("Chosen", self.merged) if f <= forest and not is_last else None for _, f in self.roles
+        ]
 
 
 def bit_step(own: int, parent: int | None) -> int:
@@ -142,9 +147,12 @@ def bit_step(own: int, parent: int | None) -> int:
     return 2 * i + (own >> i & 1)
 
 
-def synchronous_pulses(net: Network, program: type = Colouring, order: Iterable[int] = ()) -> Iterator[tuple]:
+def synchronous_pulses(
+    net: Network, program: type = Colouring, order: Iterable[int] = ()
+) -> Iterator[tuple]:
     """(pulse, nodes, inboxes, sent) of each pulse of the synchronous run, from 0: the nodes after it, and what each
-    read in it and sends at each port. They are made and called in an order, by default that of the network."""
+    read in it and sends at each port. They are made and called in an order, by default that of the network.
+    """
     ports = net.neighbours
     nodes = {v: program(net, v) for v in order or net.neighbours}
     inboxes, sent = {}, {v: nodes[v].greet() for v in nodes}
@@ -169,6 +177,7 @@ class Port:
     `waits`: the acknowledgement of its payload is still to come. `safe`, `present`: the neighbour's safe and payload of
     this pulse, if they came; `early_safe`, `early`: the same of the next pulse. `closed`: the neighbour's last wire
     came. `out`: the wires that are to be put on the link, the first one next."""
+
     waits: bool = False
     safe: bool = False
     early_safe: bool = False
@@ -225,12 +234,17 @@ class AlphaNode:
     def can_pulse(self) -> bool:
         """Whether it may begin its next pulse: it has said safe, and all neighbours have."""
         return (
-            self.pulse_number != self.last and self.said and all(port.safe for port in self.ports) and self.can_take()
+            self.pulse_number != self.last
+            and self.said
+            and all(port.safe for port in self.ports)
+            and self.can_take()
         )
 
     def drained(self) -> bool:
         """Whether it is through with everything."""
-        return self.pulse_number == self.last and all(port.closed and not port.out for port in self.ports)
+        return self.pulse_number == self.last and all(
+            port.closed and not port.out for port in self.ports
+        )
 
     def pulse(self):
         """It begins its next pulse."""
@@ -271,7 +285,9 @@ class AlphaNode:
             port.waits = False
             self.settle()
         elif kind == "Safe":
-            port.safe, port.early_safe = (True, port.early_safe) if q == self.pulse_number else (port.safe, True)
+            port.safe, port.early_safe = (
+                (True, port.early_safe) if q == self.pulse_number else (port.safe, True)
+            )
         else:
             port.closed = True
 
@@ -286,7 +302,9 @@ class NetState:
 
     def __init__(self, net: Network, program: type = Colouring):
         self.neighbours = net.neighbours
-        self.port_to = {(v, w): port for v, ws in self.neighbours.items() for port, w in enumerate(ws)}
+        self.port_to = {
+            (v, w): port for v, ws in self.neighbours.items() for port, w in enumerate(ws)
+        }
         self.nodes = {v: AlphaNode(net, v, program) for v in net.neighbours}
         self.link = {(v, port): [] for (v, _), port in self.port_to.items()}
 
@@ -309,7 +327,9 @@ class NetState:
             raise Refused("NothingToPut" if kind == "Put" else "LinkEmpty")
         return wires[0]
 
-    def step(self, kind: str, v: int, port: int | None = None, what: int | Wire | None = None) -> int | Wire:
+    def step(
+        self, kind: str, v: int, port: int | None = None, what: int | Wire | None = None
+    ) -> int | Wire:
         """Makes an event that is possible, and carries this if that is given; returns what it carries."""
         carried = self.carried(kind, v, port)
         if what not in (None, carried):
@@ -342,12 +362,20 @@ def missing_words(state: NetState, kind: str, v: int, port: int | None = None) -
         return ""
     node, neighbours = state.nodes[v], state.neighbours[v]
     if kind != "Pulse":
-        return f": list of {v} for {neighbours[port]}" if kind == "Put" else f": link from {neighbours[port]} to {v}"
+        return (
+            f": list of {v} for {neighbours[port]}"
+            if kind == "Put"
+            else f": link from {neighbours[port]} to {v}"
+        )
     if node.pulse_number == node.last:
         return f": pulse {node.last} is the last"
-    lacks = [("ack", [w for w, port in zip(neighbours, node.ports) if port.waits]),
-             ("safe", [w for w, port in zip(neighbours, node.ports) if not port.safe])]
-    return ": " + "; ".join(f"{word} {node.pulse_number} of {in_words(names)}" for word, names in lacks if names)
+    lacks = [
+        ("ack", [w for w, port in zip(neighbours, node.ports) if port.waits]),
+        ("safe", [w for w, port in zip(neighbours, node.ports) if not port.safe]),
+    ]
+    return ": " + "; ".join(
+        f"{word} {node.pulse_number} of {in_words(names)}" for word, names in lacks if names
+    )
 
 
 def event_of(state: NetState, entry) -> Event:

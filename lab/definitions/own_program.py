@@ -73,7 +73,11 @@ def called(path: str, function, *values):
         with contextlib.redirect_stdout(sys.stderr):
             return function(*values)
     except (Exception, SystemExit) as why:
-        lines = [frame.lineno for frame in traceback.extract_tb(why.__traceback__) if frame.filename == path]
+        lines = [
+            frame.lineno
+            for frame in traceback.extract_tb(why.__traceback__)
+            if frame.filename == path
+        ]
         said = f"{type(why).__name__}: {why}" if str(why) else type(why).__name__
         raise (wrong_line(path, lines[-1], said) if lines else Wrong(f"{path}: {said}")) from None
 
@@ -98,10 +102,16 @@ class OwnNode:
 
     def __init__(self, net, v):
         self.last = self.last_pulse(net)
-        self.me = Me(id=net.identifiers[v], degree=len(net.neighbours[v]), nodes=net.nodes,
-                     greatest_degree=net.greatest_degree, forests=net.forest_count, greatest_bars=net.greatest_bars,
-                     barred=tuple(colour + 1 for colour in sorted(net.barred[v])),
-                     _lots=f"{self.seed} {net.identifiers[v]}")
+        self.me = Me(
+            id=net.identifiers[v],
+            degree=len(net.neighbours[v]),
+            nodes=net.nodes,
+            greatest_degree=net.greatest_degree,
+            forests=net.forest_count,
+            greatest_bars=net.greatest_bars,
+            barred=tuple(colour + 1 for colour in sorted(net.barred[v])),
+            _lots=f"{self.seed} {net.identifiers[v]}",
+        )
         self.degree = self.me.degree
 
     @classmethod
@@ -111,8 +121,8 @@ class OwnNode:
         function = cls.of_file["last_pulse"]
         sizes = (net.nodes, net.greatest_degree, net.forest_count, net.greatest_bars)
         takes_four = getattr(getattr(function, "__code__", None), "co_argcount", 2) == 4
-        last = called(cls.file, function, *sizes[:4 if takes_four else 2])
-        if not isinstance(last, int) or isinstance(last, bool) or not 0 <= last < 2 ** 32:
+        last = called(cls.file, function, *sizes[: 4 if takes_four else 2])
+        if not isinstance(last, int) or isinstance(last, bool) or not 0 <= last < 2**32:
             raise Wrong(f"{cls.file}: `last_pulse` returns {last!r}, which is no pulse")
         return last
 
@@ -124,7 +134,9 @@ class OwnNode:
 
     def next(self, pulse: int, inbox: list) -> list:
         came = [slot and (slot[0].lower(), slot[1]) for slot in inbox]
-        return self.sent("next", pulse, called(self.file, self.of_file["next"], self.me, pulse, came))
+        return self.sent(
+            "next", pulse, called(self.file, self.of_file["next"], self.me, pulse, came)
+        )
 
     def sent(self, function: str, pulse: int, what) -> list:
         """By port, what a function returned, with the words of payloads as the definitions write them."""
@@ -150,27 +162,47 @@ class OwnNode:
         if "drawn" not in self.of_file:
             return None, None
         pair = called(self.file, self.of_file["drawn"], self.me)
-        if not (isinstance(pair, tuple) and len(pair) == 2 and is_below(pair[0], COLOURS)
-                and is_below(pair[1], self.degree)):
-            raise Wrong(f"{self.file}: `drawn` returns {pair!r} at the node of identifier {self.me.id}: it must be a "
-                        f"pair, a colour below {COLOURS} or None, and a port or None")
+        if not (
+            isinstance(pair, tuple)
+            and len(pair) == 2
+            and is_below(pair[0], COLOURS)
+            and is_below(pair[1], self.degree)
+        ):
+            raise Wrong(
+                f"{self.file}: `drawn` returns {pair!r} at the node of identifier {self.me.id}: it must be a "
+                f"pair, a colour below {COLOURS} or None, and a port or None"
+            )
         return pair
 
 
 def no_payload(slot) -> str:
     """Why something is no payload, or nothing."""
-    if not (isinstance(slot, tuple) and len(slot) == 2 and isinstance(slot[0], str) and slot[0].isascii()
-            and slot[0].isalpha() and slot[0].islower() and is_below(slot[1], float("inf")) and slot[1] is not None):
+    if not (
+        isinstance(slot, tuple)
+        and len(slot) == 2
+        and isinstance(slot[0], str)
+        and slot[0].isascii()
+        and slot[0].isalpha()
+        and slot[0].islower()
+        and is_below(slot[1], float("inf"))
+        and slot[1] is not None
+    ):
         return "a payload is a pair, a word of small letters and a number from 0"
-    return "" if slot[1] < 2 ** 128 else "its number has to be below 2^128"
+    return "" if slot[1] < 2**128 else "its number has to be below 2^128"
 
 
 def is_below(number, bound) -> bool:
     """Whether something is a number from 0 below the bound, or None."""
-    return number is None or isinstance(number, int) and not isinstance(number, bool) and 0 <= number < bound
+    return (
+        number is None
+        or isinstance(number, int)
+        and not isinstance(number, bool)
+        and 0 <= number < bound
+    )
 
 
 # What a file has to keep to, and what has to hold.
+
 
 def check_repeats(net, program: type) -> None:
     """Refuses a program of a file that does something else the second time: then the rounds, and what nodes find in
@@ -178,10 +210,13 @@ def check_repeats(net, program: type) -> None:
     if not issubclass(program, OwnNode):
         return
     vertices = net.vertices
-    for (node, function, pulse, one), (_, _, _, two) in zip(rounds_of(net, program, vertices),
-                                                           rounds_of(net, program, vertices[::-1])):
+    for (node, function, pulse, one), (_, _, _, two) in zip(
+        rounds_of(net, program, vertices), rounds_of(net, program, vertices[::-1])
+    ):
         if one != two:
-            raise Wrong(f"{node.where(function, pulse)} does something else the second time: {AGAIN}")
+            raise Wrong(
+                f"{node.where(function, pulse)} does something else the second time: {AGAIN}"
+            )
 
 
 def rounds_of(net, program: type, order: list[int]):
@@ -198,11 +233,17 @@ def what_is_wrong(net, program: type, found: dict[int, str], function: str = "ri
     if not issubclass(program, OwnNode) or function not in program.of_file:
         return ""
     name = net.identifiers
-    said = called(program.file, program.of_file[function], {name[v]: words for v, words in found.items()},
-                  {name[v]: sorted(name[w] for w in ws) for v, ws in net.neighbours.items()})
+    said = called(
+        program.file,
+        program.of_file[function],
+        {name[v]: words for v, words in found.items()},
+        {name[v]: sorted(name[w] for w in ws) for v, ws in net.neighbours.items()},
+    )
     if said is True:
         return ""
     if said is not False and (not isinstance(said, str) or not said.strip() or "\n" in said):
-        raise Wrong(f"{program.file}: `{function}` returns {said!r}: it must be True, False, or what isn't right in "
-                    "words on one line")
+        raise Wrong(
+            f"{program.file}: `{function}` returns {said!r}: it must be True, False, or what isn't right in "
+            "words on one line"
+        )
     return said or f"`{function}` says that it isn't right"

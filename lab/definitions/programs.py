@@ -13,7 +13,10 @@ from lab.network import Network
 from lab.wrong import Wrong
 
 # Those that `forestplay` runs.
-PROGRAMS = {program.name: program for program in (Colouring, Leader, Layers, Matching, IndependentSet, Recolouring)}
+PROGRAMS = {
+    program.name: program
+    for program in (Colouring, Leader, Layers, Matching, IndependentSet, Recolouring)
+}
 # The options that a program has, each of which sets what its class has by this name.
 OPTIONS = {"root": Layers, "passes": Recolouring}
 # How often recolouring may choose anew.
@@ -34,15 +37,21 @@ def program_at(name: str, lots: str = "1", **options: int | None) -> type:
         return type(PROGRAMS[name].__name__, (PROGRAMS[name],), given) if given else PROGRAMS[name]
     if name.endswith(".py"):
         return own_program(name, lots)
-    raise Wrong(f"there is no program {name}: there are {', '.join(PROGRAMS)}, and a file of your own, as {name}.py"
-                if os.sep not in name else f"{name} is no name of a program, and doesn't end in .py")
+    raise Wrong(
+        f"there is no program {name}: there are {', '.join(PROGRAMS)}, and a file of your own, as {name}.py"
+        if os.sep not in name
+        else f"{name} is no name of a program, and doesn't end in .py"
+    )
 
 
 def program_words(program: type) -> list[str]:
     """The words with which a command runs the program of a name."""
-    more = [word for option, base in OPTIONS.items()
-            if issubclass(program, base) and getattr(program, option) != getattr(base, option)
-            for word in (f"--{option}", str(getattr(program, option)))]
+    more = [
+        word
+        for option, base in OPTIONS.items()
+        if issubclass(program, base) and getattr(program, option) != getattr(base, option)
+        for word in (f"--{option}", str(getattr(program, option)))
+    ]
     return [] if program is Colouring else ["--program", program.name, *more]
 
 
@@ -50,19 +59,37 @@ def program_asked(command: str, given, network: Network | None = None) -> type:
     """The program of a command line, which may lack options. A root that is no node of the network is refused, and if
     the program ignores the network's bars, that is said on standard error."""
     options = {option: getattr(given, option, None) for option in OPTIONS}
-    program = program_at(getattr(given, "program", Colouring.name), getattr(given, "lots", "1"), **options)
+    program = program_at(
+        getattr(given, "program", Colouring.name), getattr(given, "lots", "1"), **options
+    )
     if network and options["root"] not in (None, *network.vertices):
-        raise Wrong(f"there is no node {program.root} that could be the root: the network has {network.nodes}")
+        raise Wrong(
+            f"there is no node {program.root} that could be the root: the network has {network.nodes}"
+        )
     if network and network.bars and issubclass(program, WITHOUT_BARS):
-        print(f"{command}: {program.name} ignores the bars of the network, its lines `b`", file=sys.stderr)
+        print(
+            f"{command}: {program.name} ignores the bars of the network, its lines `b`",
+            file=sys.stderr,
+        )
     return program
 
 
 def add_program(words):
     """Adds the options to a command line."""
     words.add_argument("--program", default=Colouring.name, metavar="P", help=HELP)
-    words.add_argument("--root", type=int, metavar="V",
-                       help="the node that is the root of layers; default: the one of identifier 1")
-    words.add_argument("--passes", type=int, choices=PASSES, metavar="N",
-                       help="how often recolouring chooses anew, 1 to 3; default: once")
-    words.add_argument("--lots", default="1", metavar="WORD", help="the seed of a file's `me.random`; default: 1")
+    words.add_argument(
+        "--root",
+        type=int,
+        metavar="V",
+        help="the node that is the root of layers; default: the one of identifier 1",
+    )
+    words.add_argument(
+        "--passes",
+        type=int,
+        choices=PASSES,
+        metavar="N",
+        help="how often recolouring chooses anew, 1 to 3; default: once",
+    )
+    words.add_argument(
+        "--lots", default="1", metavar="WORD", help="the seed of a file's `me.random`; default: 1"
+    )

@@ -61,7 +61,9 @@ class Pulse:
     """What all nodes did in one pulse: `puts` as (v, w, word, number). Of the colouring `phase` is what the pulse is
     for, `step` is (forest, three-colour, old colour) in a merge pulse, `colours[v, f]` are those after it, and
     `chosen[v]` is what v chose in it, if it did. Of another program `results[v]` is what v has found after it, in
-    words, and `drawn[v]`, if the program says it, a colour and the vertex at the other end of an edge."""
+    words, and `drawn[v]`, if the program says it, a colour and the vertex at the other end of an edge.
+    """
+
     number: int
     puts: list[tuple[int, int, str, int]]
     phase: str = ""
@@ -74,7 +76,10 @@ class Pulse:
     def lines(self, what_for: str, own: Iterable[tuple[int, str]]) -> Iterator[str]:
         """Its line of a text of rounds, and after it the lines of each vertex: its `own`, and its puts."""
         yield f"pulse {self.number} {what_for}".rstrip()
-        puts = [(v, f"put {w} payload {self.number} {word} {number}") for v, w, word, number in self.puts]
+        puts = [
+            (v, f"put {w} payload {self.number} {word} {number}")
+            for v, w, word, number in self.puts
+        ]
         for v, words in sorted([*own, *puts], key=itemgetter(0)):
             yield f"{v} {words}"
 
@@ -88,7 +93,9 @@ class Rounds:
     def __init__(self, network: Network):
         self.network, self.forests, self.width = network, network.forest_count, network.channels
         self.parents = {(v, f): w for v, ws in network.higher.items() for f, w in enumerate(ws)}
-        self.forest_of = {pair: f for (v, f), w in self.parents.items() for pair in ((v, w), (w, v))}
+        self.forest_of = {
+            pair: f for (v, f), w in self.parents.items() for pair in ((v, w), (w, v))
+        }
         self.first, self.last = first_colours(network), last_pulse(network)
         self.colours = [forest_colours(network, f) for f in range(self.forests)]
         self.merged, self.choosing = [self.first], {}
@@ -109,17 +116,31 @@ class Rounds:
         if p >= FIRST_MERGE:
             step, at_work = merge_step(self.network, p), self.choosing.get(p, [])
             chosen = {v: self.merged[step[0] + 1][v] for v in at_work}
-            return Pulse(p, [(v, *put) for v in at_work for put in self.sent(p, v)], "merge", step, chosen=chosen)
-        colours = {(v, f): of_pulse[p][v] for v in self.network.vertices for f, of_pulse in enumerate(self.colours)
-                   if p >= SEED}
+            return Pulse(
+                p,
+                [(v, *put) for v in at_work for put in self.sent(p, v)],
+                "merge",
+                step,
+                chosen=chosen,
+            )
+        colours = {
+            (v, f): of_pulse[p][v]
+            for v in self.network.vertices
+            for f, of_pulse in enumerate(self.colours)
+            if p >= SEED
+        }
         puts = [(v, *put) for v in self.network.vertices for put in self.sent(p, v)]
         return Pulse(p, puts, phase_words(self.network, p), colours=colours)
 
     def sent(self, p: int, v: int) -> Iterator[tuple[int, str, int]]:
         """(neighbour, word, number): all hear the identifier; parents the forest; children the colour; and who is a
-        neighbour in the forests merged so far the choice of v in this pulse, but at the last step of a forest."""
+        neighbour in the forests merged so far the choice of v in this pulse, but at the last step of a forest.
+        """
         for w in self.network.neighbours[v]:
-            f, is_parent = self.forest_of[v, w], self.network.identifiers[w] > self.network.identifiers[v]
+            f, is_parent = (
+                self.forest_of[v, w],
+                self.network.identifiers[w] > self.network.identifiers[v],
+            )
             if p == 0:
                 yield w, "hello", self.network.identifiers[v]
             elif p == 1 and is_parent:
@@ -151,7 +172,9 @@ class Rounds:
 
     def in_forest(self, v, f):
         """Whether an edge of forest f ends at v."""
-        return (v, f) in self.parents or any(self.parents.get((w, f)) == v for w in self.network.neighbours[v])
+        return (v, f) in self.parents or any(
+            self.parents.get((w, f)) == v for w in self.network.neighbours[v]
+        )
 
     def edges_of(self, f):
         """(child, parent) of forest f, by child."""

@@ -6,7 +6,8 @@ from lab.network import Network
 
 class Sequel:
     """A node that runs a program, `before`, up to a pulse, the cut; from then on its node of that program, `first`,
-    stays, and it makes pulses of its own, counted from 0. The program is the colouring, or a sequel itself."""
+    stays, and it makes pulses of its own, counted from 0. The program is the colouring, or a sequel itself.
+    """
 
     before: type = Colouring
     # The kinds of its own payloads: up to the cut it refuses them.
@@ -17,7 +18,11 @@ class Sequel:
     cut: int
 
     def __init__(self, net: Network, v: int):
-        self.first, self.degree, self.cut = self.before(net, v), len(net.neighbours[v]), self.cut_of(net)
+        self.first, self.degree, self.cut = (
+            self.before(net, v),
+            len(net.neighbours[v]),
+            self.cut_of(net),
+        )
 
     @staticmethod
     def cut_of(net: Network) -> int:
@@ -28,7 +33,11 @@ class Sequel:
         return self.first.greet()
 
     def next(self, pulse: int, inbox: list[Slot]) -> list[Slot]:
-        return self.first.next(pulse, inbox) if pulse <= self.cut else self.go_on(pulse - self.cut - 1, inbox)
+        return (
+            self.first.next(pulse, inbox)
+            if pulse <= self.cut
+            else self.go_on(pulse - self.cut - 1, inbox)
+        )
 
     def go_on(self, pulse: int, inbox: list[Slot]) -> list[Slot]:
         """What it sends at a pulse of its own, by port."""

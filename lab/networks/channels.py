@@ -61,13 +61,19 @@ def numbers_in(path: str) -> list[int]:
 def numbers_of(words: list[str]) -> list[int]:
     found = []
     for word in re.split(r"[\s,;]+", " ".join(words).strip(" ,;")):
-        parts = re.fullmatch(r"(\d{1,%d})(?:-(\d{1,%d})(?:/(\d{1,6}))?)?" % (MOST_DIGITS, MOST_DIGITS), word)
+        parts = re.fullmatch(
+            r"(\d{1,%d})(?:-(\d{1,%d})(?:/(\d{1,6}))?)?" % (MOST_DIGITS, MOST_DIGITS), word
+        )
         if not parts:
             raise Wrong(f"`{shown(word)}` is no file, no channel, and no range as 1-13 or 36-64/4")
         first, last, step = (int(part) if part else None for part in parts.groups())
-        numbers = range(first, (first if last is None else last) + 1, step or 1) if step != 0 else ()
+        numbers = (
+            range(first, (first if last is None else last) + 1, step or 1) if step != 0 else ()
+        )
         if not numbers or len(numbers) > MAX_CHANNEL or last not in (None, numbers[-1]):
-            raise Wrong(f"`{word}` names no channel, or more than {MAX_CHANNEL}, or its last one isn't reached")
+            raise Wrong(
+                f"`{word}` names no channel, or more than {MAX_CHANNEL}, or its last one isn't reached"
+            )
         found += numbers
     return found
 
@@ -76,7 +82,9 @@ def rows_of_run(text: str, name: str) -> list[tuple[int, int, int]]:
     """(line, vertex, channel) of the lines of a run whose nodes have found channels."""
     found = []
     for at, line in enumerate(text.split("\n"), 1):
-        parts = re.fullmatch(r"node ([0-9]+) pulse [0-9]+ channel ([0-9]{1,%d})" % MOST_DIGITS, line)
+        parts = re.fullmatch(
+            r"node ([0-9]+) pulse [0-9]+ channel ([0-9]{1,%d})" % MOST_DIGITS, line
+        )
         if parts:
             found.append((at, int(parts[1]), int(parts[2])))
         elif line:
@@ -91,21 +99,45 @@ def numbers_for(rows: list, table: list[int] | None, given) -> dict[int, int]:
     if table is None:
         table = sorted({number for _, _, number in rows})
         print(f"channels: 1 to {len(table)} are {' '.join(map(str, table))}", file=sys.stderr)
-    found = {number: channel for channel, number in enumerate(table, 1)} if given.back else dict(enumerate(table, 1))
+    found = (
+        {number: channel for channel, number in enumerate(table, 1)}
+        if given.back
+        else dict(enumerate(table, 1))
+    )
     for line, _, number in rows:
         if number not in found:
             most = max(channel for _, _, channel in rows)
-            raise wrong_line("the plan", line, f"channel {number} isn't one of the table" if given.back else
-                             f"channel {number}, and the table has {len(table)}: it takes {most} channels")
+            raise wrong_line(
+                "the plan",
+                line,
+                f"channel {number} isn't one of the table"
+                if given.back
+                else f"channel {number}, and the table has {len(table)}: it takes {most} channels",
+            )
     return found
 
 
 def main(words: list[str]) -> int:
-    asked = parser_of("channels", "[--back] TABLE.. < PLAN\n       forestlab channels --run [TABLE..] < RUN", HELP,
-                      MORE_HELP)
-    asked.add_argument("--back", action="store_true", help="from real numbers to those that count from 1")
-    asked.add_argument("--run", action="store_true", help="from the channels of a run, as `forestplay run` writes them")
-    asked.add_argument("table", nargs="*", metavar="TABLE", help="the real numbers, in order, or a file that has them")
+    asked = parser_of(
+        "channels",
+        "[--back] TABLE.. < PLAN\n       forestlab channels --run [TABLE..] < RUN",
+        HELP,
+        MORE_HELP,
+    )
+    asked.add_argument(
+        "--back", action="store_true", help="from real numbers to those that count from 1"
+    )
+    asked.add_argument(
+        "--run",
+        action="store_true",
+        help="from the channels of a run, as `forestplay run` writes them",
+    )
+    asked.add_argument(
+        "table",
+        nargs="*",
+        metavar="TABLE",
+        help="the real numbers, in order, or a file that has them",
+    )
     add_output(asked)
     given = asked.parse_args(words)
     if not given.table and not given.back and not given.run:
@@ -117,7 +149,11 @@ def main(words: list[str]) -> int:
     except Wrong as why:
         asked.error(str(why))
     text = text_at("-")
-    rows = rows_of_run(text, "the run") if given.run else rows_of(text, "the plan", 0, 10 ** MOST_DIGITS)
+    rows = (
+        rows_of_run(text, "the run")
+        if given.run
+        else rows_of(text, "the plan", 0, 10**MOST_DIGITS)
+    )
     of = numbers_for(rows, table, given)
     write(given, "plan\n" + "".join(f"{vertex} {of[channel]}\n" for _, vertex, channel in rows))
     return 0

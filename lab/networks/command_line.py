@@ -31,7 +31,10 @@ Status: 0 done, 1 the file can't be read as a network, 2 the command line is ref
 
 # Of each command that reads a network: its words; what it does, more of it, and an example.
 COMMANDS = {
-    "read": ("[FILE] [options]", "Reads a network in another form, and writes it in the DIMACS format.", """\
+    "read": (
+        "[FILE] [options]",
+        "Reads a network in another form, and writes it in the DIMACS format.",
+        """\
   pairs       .csv .tsv    a table with the columns source and target (or from and to)
   edges       .edgelist    two nodes a line, with blanks between, as networkx writes
   adjacency   .adjlist     a node and its neighbours a line, and a line for each node
@@ -45,18 +48,25 @@ A table of sites has a column site (or name, or id), and if there are any lat an
 (degrees), x_km and y_km, or x_m and y_m (easting, northing), and identifier. The nodes are
 then its sites, in its order; an edge of another site is refused. A table of bars has the
 columns site and channel.""",
-             "forestlab network read pairs.csv --sites sites.csv > sites.col\n"
-             "  forestlab network read --sites sites.csv --reach 5.5 --bars bars.csv > sites.col"),
-    "number": ("FILE [options]", "Numbers the nodes of a network anew.", """\
+        "forestlab network read pairs.csv --sites sites.csv > sites.col\n"
+        "  forestlab network read --sites sites.csv --reach 5.5 --bars bars.csv > sites.col",
+    ),
+    "number": (
+        "FILE [options]",
+        "Numbers the nodes of a network anew.",
+        """\
   random  by chance, by --seed
   degree  fewest neighbours first
   place   from left to right, by the comment lines `c at V X Y`
 A node keeps its name; one without a name gets its old number as name. Identifiers and
 barred channels of lines `i` and `b` go with their nodes.
 The forests depend on the numbers, and so does the plan.""",
-               "forestlab network number examples/petersen.col --by random --seed 2 | forestplan forests"),
-    "tell": ("FILE [options]\n       forestlab network tell CODE",
-             "Says what a network is, and what a run on it comes to; or what is wrong with its text.", """\
+        "forestlab network number examples/petersen.col --by random --seed 2 | forestplan forests",
+    ),
+    "tell": (
+        "FILE [options]\n       forestlab network tell CODE",
+        "Says what a network is, and what a run on it comes to; or what is wrong with its text.",
+        """\
   barred      how many channels are barred, if any is
   forests     the greatest number of neighbours of a node with a greater identifier
   payloads    the messages of the rounds: every run of `plan` has just these. If they
@@ -70,11 +80,16 @@ The forests depend on the numbers, and so does the plan.""",
 
 If FILE is a code that the programs report, and no file, it says what the fault is and
 what to do. The words after the code may follow: C8 vertex 1.""",
-             "forestlab network tell examples/petersen.col\n  forestlab network tell C8"),
-    "names": ("FILE [options]", "Puts the names of a network on a plan, which it reads from standard input.", """\
+        "forestlab network tell examples/petersen.col\n  forestlab network tell C8",
+    ),
+    "names": (
+        "FILE [options]",
+        "Puts the names of a network on a plan, which it reads from standard input.",
+        """\
 A line has a node's name and its channel; a node without a name has its number.
 With --channels the channels are real numbers: see `forestlab channels --help`.""",
-              "forestplan plain < sites.col | forestlab network names sites.col --channels '1 6 11'"),
+        "forestplan plain < sites.col | forestlab network names sites.col --channels '1 6 11'",
+    ),
 }
 # How many words FILE may be, where it isn't one.
 FILES = {"read": "?", "tell": "+"}
@@ -84,33 +99,93 @@ def titles_of(words):
     """`source=Von,target=Nach` as pairs."""
     pairs = [word.partition("=") for word in words.split(",")]
     if not all(mark and title and column in TITLES for column, mark, title in pairs):
-        raise argparse.ArgumentTypeError(f"COLUMN=TITLE with commas between, and a column of {', '.join(TITLES)}")
+        raise argparse.ArgumentTypeError(
+            f"COLUMN=TITLE with commas between, and a column of {', '.join(TITLES)}"
+        )
     return [(column, title) for column, _, title in pairs]
 
 
 # The options of the commands, in the order of the help.
 OPTIONS = (
-    (("disk",), "--radius", {"type": float, "default": 0.26, "metavar": "R",
-                             "help": "joined if nearer than R sides of the square; default: 0.26"}),
-    (("random",), "--connected", {"action": "store_true", "help": "each node can be reached from each other"}),
-    (("random",), "--neighbours", {"type": int, "metavar": "D", "help": "the node with the most neighbours has D"}),
+    (
+        ("disk",),
+        "--radius",
+        {
+            "type": float,
+            "default": 0.26,
+            "metavar": "R",
+            "help": "joined if nearer than R sides of the square; default: 0.26",
+        },
+    ),
+    (
+        ("random",),
+        "--connected",
+        {"action": "store_true", "help": "each node can be reached from each other"},
+    ),
+    (
+        ("random",),
+        "--neighbours",
+        {"type": int, "metavar": "D", "help": "the node with the most neighbours has D"},
+    ),
     (("random",), "--forests", {"type": int, "metavar": "U", "help": "there are U forests"}),
-    (("read",), "--as", {"dest": "form", "choices": FORMS, "help": "the form, whatever the file is called"}),
-    (("read",), "--columns", {"type": titles_of, "metavar": "COLUMN=TITLE,..", "help": "what columns are called"}),
-    (("read",), "--no-heading", {"action": "store_true", "help": "a table of pairs has no heading"}),
-    (("read",), "--encoding", {"metavar": "NAME", "help": "that of all tables, as cp1252; default: UTF-8"}),
+    (
+        ("read",),
+        "--as",
+        {"dest": "form", "choices": FORMS, "help": "the form, whatever the file is called"},
+    ),
+    (
+        ("read",),
+        "--columns",
+        {"type": titles_of, "metavar": "COLUMN=TITLE,..", "help": "what columns are called"},
+    ),
+    (
+        ("read",),
+        "--no-heading",
+        {"action": "store_true", "help": "a table of pairs has no heading"},
+    ),
+    (
+        ("read",),
+        "--encoding",
+        {"metavar": "NAME", "help": "that of all tables, as cp1252; default: UTF-8"},
+    ),
     (("read",), "--sites", {"metavar": "CSV", "help": "a table of sites"}),
-    (("read",), "--reach", {"type": float, "metavar": "KM", "help": "joins sites that are less than KM apart"}),
-    (("read",), "--bars", {"metavar": "CSV", "help": "a table of channels that are barred at sites"}),
-    (("read",), "--channels", {
-        "metavar": "TABLE", "help": "the channels that all may use, as '1 6 11', or a CSV file with a column "
-        "`channel`: the first is channel 1 of the plan; bars are of these numbers, and `forestlab channels` puts them "
-        "back"}),
-    (("tell",), "--payloads", {"action": "store_true", "help": "counts the payloads, however many they are"}),
-    (("number",), "--by", {"choices": WAYS, "required": True, "help": "the order of the new numbers"}),
+    (
+        ("read",),
+        "--reach",
+        {"type": float, "metavar": "KM", "help": "joins sites that are less than KM apart"},
+    ),
+    (
+        ("read",),
+        "--bars",
+        {"metavar": "CSV", "help": "a table of channels that are barred at sites"},
+    ),
+    (
+        ("read",),
+        "--channels",
+        {
+            "metavar": "TABLE",
+            "help": "the channels that all may use, as '1 6 11', or a CSV file with a column "
+            "`channel`: the first is channel 1 of the plan; bars are of these numbers, and `forestlab channels` puts them "
+            "back",
+        },
+    ),
+    (
+        ("tell",),
+        "--payloads",
+        {"action": "store_true", "help": "counts the payloads, however many they are"},
+    ),
+    (
+        ("number",),
+        "--by",
+        {"choices": WAYS, "required": True, "help": "the order of the new numbers"},
+    ),
     (("number",), "--reverse", {"action": "store_true", "help": "the other way round"}),
     (("names",), "--csv", {"action": "store_true", "help": "as CSV with a heading"}),
-    (("names",), "--channels", {"metavar": "TABLE", "help": "real channel numbers, as '36 40 44 48'"}),
+    (
+        ("names",),
+        "--channels",
+        {"metavar": "TABLE", "help": "real channel numbers, as '36 40 44 48'"},
+    ),
 )
 
 
@@ -119,15 +194,26 @@ def command_line():
     kinds = "".join(f"  {titles[name]:<20}{kind.does}\n" for name, kind in KINDS.items())
     words = parser_of("network", "COMMAND WORDS.. [options]", HELP.format(kinds=kinds), MORE_HELP)
     commands = add_commands(words)
-    of_kinds = {name: (f"{titles[name].partition(' ')[2]} [options]", f"{kind.does.capitalize()}.", kind.more,
-                       f"forestlab network {name} {'10 ' * len(kind.sizes)}> net.col") for name, kind in KINDS.items()}
+    of_kinds = {
+        name: (
+            f"{titles[name].partition(' ')[2]} [options]",
+            f"{kind.does.capitalize()}.",
+            kind.more,
+            f"forestlab network {name} {'10 ' * len(kind.sizes)}> net.col",
+        )
+        for name, kind in KINDS.items()
+    }
     for name, does in (of_kinds | COMMANDS).items():
         command = add_command(commands, f"network {name}", *does)
         for size in KINDS[name].sizes if name in KINDS else ():
             command.add_argument(size, type=int, metavar=size.upper(), help=f"how many {size}")
         if name in COMMANDS:
-            command.add_argument("file", metavar="FILE", nargs=FILES.get(name),
-                                 help="a file, - for standard input, or a name, as path5")
+            command.add_argument(
+                "file",
+                metavar="FILE",
+                nargs=FILES.get(name),
+                help="a file, - for standard input, or a name, as path5",
+            )
         if name == "number" or name in KINDS and KINDS[name].is_by_chance:
             add_seed(command, "the same one chooses the same again")
         add_options(command, name, OPTIONS)

@@ -19,7 +19,8 @@ WIRES_A_SECOND = {"plan": 1_500_000, "transcript": 1_000_000}
 
 class Run:
     """What every whole run of a network comes to; `payloads` counts them, `how` says who counted, and `is_bound` that
-    it is the most that there can be. If they may be many, they are counted only if that `is_counted`."""
+    it is the most that there can be. If they may be many, they are counted only if that `is_counted`.
+    """
 
     def __init__(self, network, is_counted=False):
         self.is_bound, self.last = False, LAST_COLOUR + 3 * network.forest_count * network.channels
@@ -30,7 +31,11 @@ class Run:
         elif is_counted:
             self.payloads, self.how = payloads_by_program(network), "counted by `forestplay rounds`"
         else:
-            self.payloads, self.how, self.is_bound = most_payloads(network), "--payloads counts them", True
+            self.payloads, self.how, self.is_bound = (
+                most_payloads(network),
+                "--payloads counts them",
+                True,
+            )
         self.wires = 2 * self.payloads + 2 * len(network.edges) * (self.last + 1)
         # Of a transcript; a line has two vertices, a pulse, and words of 13 letters.
         self.lines = 2 * self.wires + network.nodes * self.last + 1
@@ -39,7 +44,7 @@ class Run:
 
 def digits(most):
     """How many digits the numbers from 0 to the greatest have on average."""
-    return 1 + sum(1 - 10 ** length / (most + 1) for length in range(1, len(str(most))))
+    return 1 + sum(1 - 10**length / (most + 1) for length in range(1, len(str(most))))
 
 
 def rounds_here(network):
@@ -56,10 +61,14 @@ def payloads_by_program(network):
     with tempfile.TemporaryFile() as file:
         file.write(plain_text(network).encode())
         file.seek(0)
-        with subprocess.Popen([program_file("forestplay"), "rounds"], stdin=file, stdout=subprocess.PIPE) as started:
+        with subprocess.Popen(
+            [program_file("forestplay"), "rounds"], stdin=file, stdout=subprocess.PIPE
+        ) as started:
             found = sum(b" put " in line for line in started.stdout)
     if started.returncode:
-        raise Wrong(f"forestplay rounds ended with status {started.returncode}; is there too little memory?")
+        raise Wrong(
+            f"forestplay rounds ended with status {started.returncode}; is there too little memory?"
+        )
     return found
 
 
@@ -79,13 +88,20 @@ def times(run):
     """About how much processor time `plan` and `transcript` take."""
     if run.wires <= AN_INSTANT:
         return "less than a second"
-    longer = [f"{command} about {duration(max(1, processor_seconds(run, command)))}" for command in WIRES_A_SECOND]
-    return f"{', '.join(longer)}, of all processors together; `plain` prints the same plan much sooner"
+    longer = [
+        f"{command} about {duration(max(1, processor_seconds(run, command)))}"
+        for command in WIRES_A_SECOND
+    ]
+    return (
+        f"{', '.join(longer)}, of all processors together; `plain` prints the same plan much sooner"
+    )
 
 
 def size(count):
     """Bytes, to two digits."""
-    unit, name = next(it for it in ((1e9, "GB"), (1e6, "MB"), (1e3, "kB"), (1, "bytes")) if count >= it[0])
+    unit, name = next(
+        it for it in ((1e9, "GB"), (1e6, "MB"), (1e3, "kB"), (1, "bytes")) if count >= it[0]
+    )
     return f"{float(f'{count / unit:.2g}'):g} {name}"
 
 
@@ -100,19 +116,29 @@ def facts(reading, network, is_counted):
     most = "at most " if run.is_bound else ""
     enough = f", so at most {counted(network.channels, 'channel')}"
     bars = network.bars.values()
-    barred = (f"{counted(sum(map(len, bars)), 'channel')} at {counted(len(bars), 'node')}, "
-              f"at most {network.greatest_bars:,} at one{enough}")
+    barred = (
+        f"{counted(sum(map(len, bars)), 'channel')} at {counted(len(bars), 'node')}, "
+        f"at most {network.greatest_bars:,} at one{enough}"
+    )
     return [
         ("nodes", f"{network.nodes:,}{alone}"),
         ("edges", f"{edges:,}{more}; the `p` line says {reading.promised:,}"),
-        ("neighbours",
-         f"{min(degrees, default=0):,} to {network.greatest_degree:,} of a node" + ("" if bars else enough)),
+        (
+            "neighbours",
+            f"{min(degrees, default=0):,} to {network.greatest_degree:,} of a node"
+            + ("" if bars else enough),
+        ),
         *([("barred", barred)] if bars else []),
-        ("forests",
-         f"{forests:,}, so the last pulse is 12 + 3 * {forests:,} * {network.channels:,} = {run.last:,}"),
+        (
+            "forests",
+            f"{forests:,}, so the last pulse is 12 + 3 * {forests:,} * {network.channels:,} = {run.last:,}",
+        ),
         ("payloads", f"{most}{run.payloads:,}; {run.how}"),
         ("wires", f"{most}2 * {run.payloads:,} + 2 * {edges:,} * {run.last + 1:,} = {run.wires:,}"),
-        ("transcript", f"{most}{run.lines:,} lines, about {size(run.lines * run.letters)} without stamps"),
+        (
+            "transcript",
+            f"{most}{run.lines:,} lines, about {size(run.lines * run.letters)} without stamps",
+        ),
         ("time", times(run)),
     ]
 
@@ -122,8 +148,10 @@ def warnings(reading):
     there = len(reading.edges)
     if reading.promised not in (there, reading.edge_lines, 2 * there):
         why = "is it cut?" if there < reading.promised else "does the line belong to another text?"
-        yield (f"the `p` line says {counted(reading.promised, 'edge')}, and the text has {there}: {why} "
-               "The programs plan what is there")
+        yield (
+            f"the `p` line says {counted(reading.promised, 'edge')}, and the text has {there}: {why} "
+            "The programs plan what is there"
+        )
     for what, listed in (("place", reading.places), ("name", reading.names)):
         beyond = [v for v in listed if not 1 <= v <= reading.nodes]
         if beyond:

@@ -19,10 +19,9 @@ def whole(field):
     if not re.fullmatch(r"[0-9]+", field):
         return None
     digits = field.lstrip("0")
-    return int(digits or "0") if len(digits) <= MOST_DIGITS else 10 ** MOST_DIGITS
+    return int(digits or "0") if len(digits) <= MOST_DIGITS else 10**MOST_DIGITS
 
 
 def shown(field):
     """A field as it may be printed in one line."""
     return one_line(field if len(field) <= 40 else field[:37] + "..")
-

@@ -23,8 +23,10 @@ PACKAGE = "it is read by networkx, which isn't installed (apt install python3-ne
 def in_xml(text: str) -> tuple[int, int]:
     """How many nodes and edges a text in XML has, wherever they are."""
     elements = list(ElementTree.fromstring(text.encode()).iter())
-    return (sum(one.tag.rpartition("}")[2].lower() in ("node", "hyperedge") for one in elements),
-            sum("source" in one.attrib for one in elements))
+    return (
+        sum(one.tag.rpartition("}")[2].lower() in ("node", "hyperedge") for one in elements),
+        sum("source" in one.attrib for one in elements),
+    )
 
 
 def in_gml(text: str) -> tuple[int, int]:
@@ -34,7 +36,9 @@ def in_gml(text: str) -> tuple[int, int]:
 
 def in_json(text: str) -> tuple[int, int]:
     edges: list[dict] = []
-    data = json.loads(text, object_hook=lambda one: edges.append(one) or one if "source" in one else one)
+    data = json.loads(
+        text, object_hook=lambda one: edges.append(one) or one if "source" in one else one
+    )
     return len(data["nodes"]), len(edges)
 
 
@@ -43,14 +47,21 @@ def node_link(nx, text: str):
     data, graph = json.loads(text), nx.MultiGraph()
     graph.add_nodes_from((node["id"], node) for node in data["nodes"])
     for edge in data["links" if "links" in data else "edges"]:
-        graph.add_edge(edge["source"], edge["target"], key=None,
-                       **{key: value for key, value in edge.items() if key not in ("source", "target", "key")})
+        graph.add_edge(
+            edge["source"],
+            edge["target"],
+            key=None,
+            **{key: value for key, value in edge.items() if key not in ("source", "target", "key")},
+        )
     return graph
 
 
 # Of each form: how networkx reads it, and how many nodes and edges the text has; None if the form has no such count.
 FORMS = {
-    "graphml": (lambda nx, text: nx.read_graphml(io.BytesIO(text.encode()), force_multigraph=True), in_xml),
+    "graphml": (
+        lambda nx, text: nx.read_graphml(io.BytesIO(text.encode()), force_multigraph=True),
+        in_xml,
+    ),
     "gexf": (lambda nx, text: nx.read_gexf(io.BytesIO(text.encode())), in_xml),
     "gml": (lambda nx, text: nx.parse_gml(text, label=None), in_gml),
     "json": (node_link, in_json),
@@ -84,20 +95,27 @@ def read(text: str, name: str, form: str) -> Listed:
     except MemoryError:
         raise
     except Exception as why:
-        raise Wrong(f"{name}: networkx can't read it as {form}: {shown(str(why)) or type(why).__name__}") from None
+        raise Wrong(
+            f"{name}: networkx can't read it as {form}: {shown(str(why)) or type(why).__name__}"
+        ) from None
     found = Listed(form, notes=[f"networkx warns: {shown(str(one.message))}" for one in warned])
     got = graph.number_of_nodes(), graph.number_of_edges()
     if there not in (None, got):
-        raise Wrong(f"{name}: the text has {there[0]} nodes and {there[1]} edges, and networkx reads {got[0]} and "
-                    f"{got[1]}: are two nodes or edges one, is one not declared, or inside of another?")
+        raise Wrong(
+            f"{name}: the text has {there[0]} nodes and {there[1]} edges, and networkx reads {got[0]} and "
+            f"{got[1]}: are two nodes or edges one, is one not declared, or inside of another?"
+        )
     return listed(found, graph, name)
 
 
 def listed(found: Listed, graph, name: str) -> Listed:
     """The nodes of a graph by their labels, if each has one of its own, or else by their ids; and what isn't read."""
     ids = {node: clean(str(node), name, at) for at, node in enumerate(graph, 1)}
-    labels = {node: clean(str(word), name, 0) for node, said in graph.nodes(data=True)
-              if (word := said.get("label") or said.get("name"))}
+    labels = {
+        node: clean(str(word), name, 0)
+        for node, said in graph.nodes(data=True)
+        if (word := said.get("label") or said.get("name"))
+    }
     is_labelled = len(set(labels.values())) == len(ids)
     own = labels if is_labelled else ids
     if len(set(own.values())) < len(own):
@@ -115,9 +133,15 @@ def listed(found: Listed, graph, name: str) -> Listed:
         for *_, said in rows:
             for key, value in said.items():
                 keys.setdefault(str(key), set()).add(str(value))
-        keys = {key: sorted(values) for key, values in keys.items() if key not in ("label", "name", "id", "x", "y")}
+        keys = {
+            key: sorted(values)
+            for key, values in keys.items()
+            if key not in ("label", "name", "id", "x", "y")
+        }
         if keys:
-            said = "; ".join(f"{key} ({', '.join(map(shown, [*values[:3], '..'] if len(values) > 3 else values))})"
-                             for key, values in keys.items())
+            said = "; ".join(
+                f"{key} ({', '.join(map(shown, [*values[:3], '..'] if len(values) > 3 else values))})"
+                for key, values in keys.items()
+            )
             found.notes.append(f"{counted(len(keys), 'key')} of {what} not read: {said}")
     return found

@@ -20,7 +20,9 @@ WAYS_OF_A_QUEEN = ((1, 0), (0, 1), (1, 1), (-1, 1))
 
 def made(nodes, edges, places=None):
     """The network of these edges, of which no more are looked at than one too many."""
-    return checked(Network(nodes, islice(edges, MAX_EDGES + 1), places=places or {}), "that network")
+    return checked(
+        Network(nodes, islice(edges, MAX_EDGES + 1), places=places or {}), "that network"
+    )
 
 
 def circle(vertices):
@@ -30,15 +32,21 @@ def circle(vertices):
 
 
 def path(nodes):
-    return made(nodes, ((v, v + 1) for v in range(1, nodes)), {v: (v - 1, 0) for v in range(1, nodes + 1)})
+    return made(
+        nodes, ((v, v + 1) for v in range(1, nodes)), {v: (v - 1, 0) for v in range(1, nodes + 1)}
+    )
 
 
 def ring(nodes):
-    return made(nodes, ((v, v % nodes + 1) for v in range(1, nodes + 1)), circle(range(1, nodes + 1)))
+    return made(
+        nodes, ((v, v % nodes + 1) for v in range(1, nodes + 1)), circle(range(1, nodes + 1))
+    )
 
 
 def star(nodes):
-    return made(nodes, ((v, nodes) for v in range(1, nodes)), circle(range(1, nodes)) | {nodes: (0, 0)})
+    return made(
+        nodes, ((v, nodes) for v in range(1, nodes)), circle(range(1, nodes)) | {nodes: (0, 0)}
+    )
 
 
 def complete(nodes):
@@ -48,8 +56,13 @@ def complete(nodes):
 def board(rows, columns, ways, far):
     """The squares of a board, numbered row by row, each joined to those that are up to so far in these directions."""
     number = {(x, y): y * columns + x + 1 for y in range(rows) for x in range(columns)}
-    edges = ((v, number[square]) for (x, y), v in number.items() for across, down in ways for step in range(1, far + 1)
-             if (square := (x + step * across, y + step * down)) in number)
+    edges = (
+        (v, number[square])
+        for (x, y), v in number.items()
+        for across, down in ways
+        for step in range(1, far + 1)
+        if (square := (x + step * across, y + step * down)) in number
+    )
     return made(rows * columns, edges, {v: square for square, v in number.items()})
 
 
@@ -116,7 +129,9 @@ class Kind(NamedTuple):
             if size < self.least:
                 raise Wrong(f"{name.upper()} is {size}, and has to be at least {self.least}")
         if prod(sizes.values()) > MAX_NODES:
-            raise Wrong(f"that would be {prod(sizes.values())} nodes, and a network has at most {MAX_NODES}")
+            raise Wrong(
+                f"that would be {prod(sizes.values())} nodes, and a network has at most {MAX_NODES}"
+            )
         return self.function(*words, **named)
 
     @property
@@ -137,16 +152,27 @@ class Kind(NamedTuple):
 KINDS = {
     "path": Kind(path, "a row"),
     "ring": Kind(ring, "a row whose ends are joined", least=3),
-    "star": Kind(star, "one centre, which is the last node; the others are its leaves",
-                 "So there is one forest; `number --by degree --reverse` gives the centre the number 1."),
+    "star": Kind(
+        star,
+        "one centre, which is the last node; the others are its leaves",
+        "So there is one forest; `number --by degree --reverse` gives the centre the number 1.",
+    ),
     "complete": Kind(complete, "each node is joined to each other"),
     "grid": Kind(grid, "squares of a board that share a side, numbered row by row"),
-    "queen": Kind(queen, "squares of a board that a queen joins in one move", "They are numbered row by row."),
+    "queen": Kind(
+        queen, "squares of a board that a queen joins in one move", "They are numbered row by row."
+    ),
     "tree": Kind(tree, "each node but the first is joined to one before it, by chance"),
-    "disk": Kind(disk, "places by chance in a square, joined if they are near",
-                 "So transmitters interfere that are near each other (a unit-disk graph)."),
-    "random": Kind(any_edges, "that many edges, by chance",
-                   "Each choice of edges is as likely as any other. With wishes, as --connected --neighbours 3\n"
-                   "--forests 2, it isn't, but the networks of all seeds are equally hard: with --neighbours D\n"
-                   "and --forests U the last pulse of each is 12 + 3·U·(D + 1)."),
+    "disk": Kind(
+        disk,
+        "places by chance in a square, joined if they are near",
+        "So transmitters interfere that are near each other (a unit-disk graph).",
+    ),
+    "random": Kind(
+        any_edges,
+        "that many edges, by chance",
+        "Each choice of edges is as likely as any other. With wishes, as --connected --neighbours 3\n"
+        "--forests 2, it isn't, but the networks of all seeds are equally hard: with --neighbours D\n"
+        "and --forests U the last pulse of each is 12 + 3·U·(D + 1).",
+    ),
 }

@@ -31,9 +31,14 @@ def network_bytes(name: str) -> bytes:
         raise Wrong(f"{called(name)}: No such file or directory")
     kind, sizes = KINDS.get(found[1]), [int(size) for size in found.groups()[1:] if size]
     if not kind or kind.is_by_chance or len(kind.sizes) != len(sizes):
-        names = ", ".join(kind + ("N" if len(of.sizes) == 1 else "RxC") for kind, of in KINDS.items()
-                          if not of.is_by_chance)
-        raise Wrong(f"{name}: there is no such file or example, and no network of this name is made, as {names} are")
+        names = ", ".join(
+            kind + ("N" if len(of.sizes) == 1 else "RxC")
+            for kind, of in KINDS.items()
+            if not of.is_by_chance
+        )
+        raise Wrong(
+            f"{name}: there is no such file or example, and no network of this name is made, as {names} are"
+        )
     return text_of(kind.make(*sizes)).encode()
 
 

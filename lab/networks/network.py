@@ -31,7 +31,9 @@ def bytes_of_file(name):
         return network_bytes(name)
     data = bytes_at(name, lambda stream: stream.read(MOST_BYTES + 1))
     if len(data) > MOST_BYTES:
-        raise Wrong(f"{one_line(name)}: more than {MOST_BYTES >> 20} MiB, and no network within the limits is so long")
+        raise Wrong(
+            f"{one_line(name)}: more than {MOST_BYTES >> 20} MiB, and no network within the limits is so long"
+        )
     return data
 
 
@@ -44,8 +46,11 @@ def made(given):
     kind = KINDS[given.command]
     chosen = {name: getattr(given, name) for name in kind.chosen}
     words = [str(chosen[name]) for name in kind.sizes]
-    words += [f"--{name}" + f" {value}" * (value is not True) for name, value in chosen.items()
-              if name not in kind.sizes and value not in (None, False)]
+    words += [
+        f"--{name}" + f" {value}" * (value is not True)
+        for name, value in chosen.items()
+        if name not in kind.sizes and value not in (None, False)
+    ]
     if kind.is_by_chance:
         chosen["seed"] = source_of(given.seed)
     try:
@@ -66,7 +71,9 @@ def channels_asked(given):
 def was_read(given):
     licence, named = channels_asked(given), dict(given.columns or ())
     if given.reach is not None and not (given.sites and LEAST_REACH <= given.reach <= 20000):
-        given.refuse(f"--reach is for a table of --sites, and {LEAST_REACH:g} or more, which is a millimetre")
+        given.refuse(
+            f"--reach is for a table of --sites, and {LEAST_REACH:g} or more, which is a millimetre"
+        )
     if given.file is None and given.reach is None:
         given.refuse("a FILE is wanted, or --sites with --reach")
     if [given.file, given.sites, given.bars].count("-") > 1:
@@ -75,16 +82,26 @@ def was_read(given):
     if given.file is None:
         found = Listed("sites")
     else:
-        form = given.form or ("dimacs" if path_of(given.file) != given.file else form_of(given.file, name))
-        found = listed_of(bytes_of_file(given.file), name, form, given.encoding, named, not given.no_heading)
-    for path, add, more in ((given.sites, with_sites, (name, given.reach)), (given.bars, with_bars, (licence,))):
+        form = given.form or (
+            "dimacs" if path_of(given.file) != given.file else form_of(given.file, name)
+        )
+        found = listed_of(
+            bytes_of_file(given.file), name, form, given.encoding, named, not given.no_heading
+        )
+    for path, add, more in (
+        (given.sites, with_sites, (name, given.reach)),
+        (given.bars, with_bars, (licence,)),
+    ):
         if path:
             text = tables.decoded(bytes_of_file(path), one_line(path), given.encoding)
             add(found, text, one_line(path), *more, named)
     network, said = made_of(found, name)
     for what in said:
         say(f"{name}: {what}")
-    return text_of(network, [f"Channel {channel} is {number}" for channel, number in enumerate(licence or (), 1)])
+    return text_of(
+        network,
+        [f"Channel {channel} is {number}" for channel, number in enumerate(licence or (), 1)],
+    )
 
 
 def was_told(given):
@@ -118,10 +135,15 @@ def was_named(given):
     table = channels_asked(given)
     plan = read_plan(text_at("-"), "the plan", network)
     for v, w in clashes(network, plan)[:1]:
-        raise Wrong(f"the plan: vertices {v} and {w} are neighbours and share a channel (C4): is it another network's?")
+        raise Wrong(
+            f"the plan: vertices {v} and {w} are neighbours and share a channel (C4): is it another network's?"
+        )
     if table and max(plan.values(), default=0) > len(table):
         raise Wrong(f"the plan takes {max(plan.values())} channels, and the table has {len(table)}")
-    rows = [(network.names.get(v, str(v)), table[plan[v] - 1] if table else plan[v]) for v in network.vertices]
+    rows = [
+        (network.names.get(v, str(v)), table[plan[v] - 1] if table else plan[v])
+        for v in network.vertices
+    ]
     if not given.csv:
         return "".join(f"{name} {channel}\n" for name, channel in rows)
     text = io.StringIO()

@@ -14,7 +14,7 @@ SKIPPED = {"n", "d", "v", "x"}
 MAX_NODES = 20000
 MAX_EDGES = 400000
 MAX_DEGREE = 1023
-IDENTIFIERS = 2 ** 128
+IDENTIFIERS = 2**128
 MAX_CHANNEL = 2048
 MAX_BARS = 1024
 
@@ -25,13 +25,18 @@ def stem(path):
 
 
 # Comment lines `c at V X Y` and `c name V NAME`, whose name is the rest of the line.
-PLACE = re.compile("[ \t]*c[ \t]+at[ \t]+([0-9]+)" + r"[ \t]+(-?[0-9]{1,9}(?:\.[0-9]{1,9})?)" * 2 + "[ \t]*\r?")
+PLACE = re.compile(
+    "[ \t]*c[ \t]+at[ \t]+([0-9]+)" + r"[ \t]+(-?[0-9]{1,9}(?:\.[0-9]{1,9})?)" * 2 + "[ \t]*\r?"
+)
 NAME = re.compile("[ \t]*c[ \t]+name[ \t]+([0-9]+)[ \t]+([^ \t].*)")
 
 # The words of a line after its first field, how many of them are vertices, what it says, and the fault of one that
 # comes before the `p` line.
-LINES = {"e": ("V W", 2, "an edge", "F3"), "i": ("V NUMBER", 1, "an identifier", "F10"),
-         "b": ("V CHANNEL", 1, "a barred channel", "F10")}
+LINES = {
+    "e": ("V W", 2, "an edge", "F3"),
+    "i": ("V NUMBER", 1, "an identifier", "F10"),
+    "b": ("V CHANNEL", 1, "a barred channel", "F10"),
+}
 
 
 class Reading:
@@ -87,11 +92,16 @@ class Reading:
             raise self.wrong(f"{what} before the line `p edge NODES EDGES`", code)
         if len(fields) < 3 or None in map(whole, fields[1:3]):
             raise self.wrong(f"no `{fields[0]} {words}`: `{shown(' '.join(fields))}`", "F4")
-        for v in fields[1:1 + count]:
+        for v in fields[1 : 1 + count]:
             if not self.least <= whole(v) <= self.nodes:
-                raise self.wrong(f"there is no vertex {shown(v)}: there are {self.nodes}, from {self.least} on", "F5")
+                raise self.wrong(
+                    f"there is no vertex {shown(v)}: there are {self.nodes}, from {self.least} on",
+                    "F5",
+                )
         if fields[0] == "b" and not 1 <= whole(fields[2]) <= MAX_CHANNEL:
-            raise self.wrong(f"channel {shown(fields[2])} can't be barred, only 1 to {MAX_CHANNEL} can", "F13")
+            raise self.wrong(
+                f"channel {shown(fields[2])} can't be barred, only 1 to {MAX_CHANNEL} can", "F13"
+            )
         return map(whole, fields[1:3])
 
     def edge(self, v, w):
@@ -117,8 +127,18 @@ class Reading:
 
     def network(self):
         """What all lines are, or its first fault."""
-        return checked(Network(self.nodes, self.edges, self.identifiers, self.bars, self.names, self.places,
-                               stem(self.path)), self.path)
+        return checked(
+            Network(
+                self.nodes,
+                self.edges,
+                self.identifiers,
+                self.bars,
+                self.names,
+                self.places,
+                stem(self.path),
+            ),
+            self.path,
+        )
 
 
 def reading_of(text, path):
@@ -140,8 +160,10 @@ def checked(network, path):
     for v in network.vertices:
         if len(network.neighbours[v]) > MAX_DEGREE:
             name = f" ({shown(network.names[v])})" if v in network.names else ""
-            raise Wrong(f"{path}: vertex {v}{name} has {len(network.neighbours[v])} neighbours, more than {MAX_DEGREE} "
-                        "(N1)")
+            raise Wrong(
+                f"{path}: vertex {v}{name} has {len(network.neighbours[v])} neighbours, more than {MAX_DEGREE} "
+                "(N1)"
+            )
     alike = {}
     for v, number in network.identifiers.items():
         alike.setdefault(number, []).append(v)

@@ -24,8 +24,18 @@ def renumbered(network, way, seed, is_reversed):
     """The first vertex of the order becomes 1, or the last one."""
     order = order_of(network, way, seed)
     number = {old: new for new, old in enumerate(reversed(order) if is_reversed else order, 1)}
-    said, bars, places = ({number[v]: what for v, what in of.items() if v in number}
-                          for of in (network.said, network.bars, network.places))
-    return checked(Network(network.nodes, {(number[v], number[w]) for v, w in network.edges}, said, bars,
-                           {new: network.names.get(old, str(old)) for old, new in number.items()}, places),
-                   f"{network.name}, numbered anew")
+    said, bars, places = (
+        {number[v]: what for v, what in of.items() if v in number}
+        for of in (network.said, network.bars, network.places)
+    )
+    return checked(
+        Network(
+            network.nodes,
+            {(number[v], number[w]) for v, w in network.edges},
+            said,
+            bars,
+            {new: network.names.get(old, str(old)) for old, new in number.items()},
+            places,
+        ),
+        f"{network.name}, numbered anew",
+    )

@@ -11,15 +11,21 @@ Point = tuple[float, float, float]
 def on_ground(latitude: float, longitude: float) -> Point:
     """The point of a place on the globe, by which distances are measured."""
     north, east = math.radians(latitude), math.radians(longitude)
-    return (EARTH * math.cos(north) * math.cos(east), EARTH * math.cos(north) * math.sin(east), EARTH * math.sin(north))
+    return (
+        EARTH * math.cos(north) * math.cos(east),
+        EARTH * math.cos(north) * math.sin(east),
+        EARTH * math.sin(north),
+    )
 
 
 def on_map(places: dict[str, tuple[float, float]]) -> dict[str, tuple[float, float]]:
     """Places of latitude and longitude on a map with true lengths at their mean latitude, north on top."""
     middle = sum(latitude for latitude, _ in places.values()) / max(1, len(places))
     degree = math.radians(1) * EARTH
-    return {one: (longitude * degree * math.cos(math.radians(middle)), -latitude * degree)
-            for one, (latitude, longitude) in places.items()}
+    return {
+        one: (longitude * degree * math.cos(math.radians(middle)), -latitude * degree)
+        for one, (latitude, longitude) in places.items()
+    }
 
 
 def across_of(points: list[Point | None]) -> float:

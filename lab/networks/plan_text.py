@@ -3,9 +3,12 @@ from lab.networks.fields import fields_of, shown, whole
 from lab.wrong import Wrong, wrong_line
 
 
-def rows_of(text, name, least=1, below=2 ** 32):
+def rows_of(text, name, least=1, below=2**32):
     """(line, vertex, channel) of the lines of a plan, with numbers in these bounds."""
-    lines = [(number, [field for field in fields_of(raw) if field]) for number, raw in enumerate(text.split("\n"), 1)]
+    lines = [
+        (number, [field for field in fields_of(raw) if field])
+        for number, raw in enumerate(text.split("\n"), 1)
+    ]
     lines = [(number, fields) for number, fields in lines if fields]
     if not lines or lines[0][1] != ["plan"]:
         raise wrong_line(name, lines[0][0] if lines else 1, "no line `plan` (C6)")
@@ -13,7 +16,9 @@ def rows_of(text, name, least=1, below=2 ** 32):
     for line, fields in lines[1:]:
         numbers = [whole(field) for field in fields]
         if len(numbers) != 2 or None in numbers or max(numbers) >= below or numbers[1] < least:
-            raise wrong_line(name, line, f"no vertex and its channel: `{shown(' '.join(fields))}` (C6)")
+            raise wrong_line(
+                name, line, f"no vertex and its channel: `{shown(' '.join(fields))}` (C6)"
+            )
         found.append((line, *numbers))
     return found
 
@@ -28,10 +33,16 @@ def read_plan(text, name, network):
         if vertex in plan:
             raise wrong_line(name, line, f"vertex {vertex} has a second line (C3)")
         if channel > network.channels:
-            raise wrong_line(name, line, f"vertex {vertex} has channel {channel}, which is above {network.channels} "
-                             "(C5); if it is a real channel number: forestlab channels --back TABLE")
+            raise wrong_line(
+                name,
+                line,
+                f"vertex {vertex} has channel {channel}, which is above {network.channels} "
+                "(C5); if it is a real channel number: forestlab channels --back TABLE",
+            )
         if channel in network.bars.get(vertex, ()):
-            raise wrong_line(name, line, f"vertex {vertex} has channel {channel}, which is barred at it (C8)")
+            raise wrong_line(
+                name, line, f"vertex {vertex} has channel {channel}, which is barred at it (C8)"
+            )
         plan[vertex] = channel
     for vertex in network.vertices:
         if vertex not in plan:

@@ -41,7 +41,12 @@ def grown(source, nodes, edges, connected, neighbours, forests):
     def join(v, w):
         """Adds an edge, and says whether that could be done."""
         v, w = min(v, w), max(v, w)
-        if v == w or (v, w) in found or neighbours in (degree[v], degree[w]) or higher[v] == forests:
+        if (
+            v == w
+            or (v, w) in found
+            or neighbours in (degree[v], degree[w])
+            or higher[v] == forests
+        ):
             return False
         found.add((v, w))
         degree[v] += 1
@@ -50,7 +55,10 @@ def grown(source, nodes, edges, connected, neighbours, forests):
         return True
 
     order = shuffled(source, range(1, nodes + 1)) if connected else []
-    if all(any(join(order[at], order[below(source, at)]) for _ in range(PAIRS)) for at in range(1, len(order))):
+    if all(
+        any(join(order[at], order[below(source, at)]) for _ in range(PAIRS))
+        for at in range(1, len(order))
+    ):
         for _ in range(PAIRS * edges):
             if len(found) >= edges:
                 break

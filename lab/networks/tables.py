@@ -14,10 +14,19 @@ from lab.words import counted
 from lab.wrong import Wrong, wrong_line
 
 # The titles that a column may have, in small letters with `_` between words, by what the column is.
-TITLES = {"source": ("source", "from"), "target": ("target", "to"), "site": ("site", "name", "id"),
-          "channel": ("channel",), "identifier": ("identifier",),
-          "lat": ("lat", "latitude"), "lon": ("lon", "lng", "longitude"),
-          "x_km": ("x_km",), "y_km": ("y_km",), "x_m": ("x_m", "easting"), "y_m": ("y_m", "northing")}
+TITLES = {
+    "source": ("source", "from"),
+    "target": ("target", "to"),
+    "site": ("site", "name", "id"),
+    "channel": ("channel",),
+    "identifier": ("identifier",),
+    "lat": ("lat", "latitude"),
+    "lon": ("lon", "lng", "longitude"),
+    "x_km": ("x_km",),
+    "y_km": ("y_km",),
+    "x_m": ("x_m", "easting"),
+    "y_m": ("y_m", "northing"),
+}
 # The two columns of places, and what makes kilometres of their numbers; None of degrees.
 PLACES = (("lat", "lon", None), ("x_km", "y_km", 1.0), ("x_m", "y_m", 0.001))
 # How a spreadsheet writes a cell that it can't work out.
@@ -47,7 +56,9 @@ def decoded(data: bytes, name: str, encoding: str | None = None) -> str:
     try:
         text = data.decode(encoding or mark)
     except (UnicodeDecodeError, LookupError):
-        raise Wrong(f"{name}: it isn't in {encoding or 'UTF-8'}; --encoding says another, as cp1252") from None
+        raise Wrong(
+            f"{name}: it isn't in {encoding or 'UTF-8'}; --encoding says another, as cp1252"
+        ) from None
     if "\0" in text:
         raise Wrong(f"{name}: it has bytes of value zero, so it is no text")
     return text.replace("\r\n", "\n").replace("\r", "\n")
@@ -56,8 +67,15 @@ def decoded(data: bytes, name: str, encoding: str | None = None) -> str:
 def clean(word: str, name: str, line: int) -> str:
     """A name of a node: one blank in place of several, letters composed; one that nobody sees is refused."""
     word = unicodedata.normalize("NFC", " ".join(word.split()))
-    if not any(map(str.isalnum, word)) or len(word) > LONGEST_NAME or FAULT.fullmatch(word) or any(
-            unicodedata.category(letter) in ("Cc", "Cf", "Co", "Cn") or letter == "\ufffd" for letter in word):
+    if (
+        not any(map(str.isalnum, word))
+        or len(word) > LONGEST_NAME
+        or FAULT.fullmatch(word)
+        or any(
+            unicodedata.category(letter) in ("Cc", "Cf", "Co", "Cn") or letter == "\ufffd"
+            for letter in word
+        )
+    ):
         raise wrong_line(name, line, f"no name of a node: `{shown(word)}`")
     return word
 
@@ -66,13 +84,23 @@ def note_alike(found: Listed, names: list[str]) -> None:
     """Notes the first two names that differ in capitals, blanks, marks or accents alone."""
     seen: dict[str, str] = {}
     for one in names:
-        bare = "".join(letter for letter in unicodedata.normalize("NFKD", one).casefold() if letter.isalnum()) or one
+        bare = (
+            "".join(
+                letter
+                for letter in unicodedata.normalize("NFKD", one).casefold()
+                if letter.isalnum()
+            )
+            or one
+        )
         if seen.setdefault(bare, one) != one:
-            found.notes.append(f"{shown(seen[bare])} and {shown(one)} are two nodes: are they meant to be one?")
+            found.notes.append(
+                f"{shown(seen[bare])} and {shown(one)} are two nodes: are they meant to be one?"
+            )
             return
 
 
 # Tables.
+
 
 def word_of(title: str) -> str:
     """`Easting`, `x (km)` and `x_km` as a word of TITLES."""
@@ -81,28 +109,50 @@ def word_of(title: str) -> str:
 
 class Table:
     """The rows of a CSV text as (line, {column: field}), by the titles of its heading, or by the places of the columns
-    if it has none. What separates the fields is the mark with which the heading has all `wanted` columns."""
+    if it has none. What separates the fields is the mark with which the heading has all `wanted` columns.
+    """
 
-    def __init__(self, text: str, name: str, wanted: tuple[str, ...], others: tuple[str, ...] = (),
-                 named: dict[str, str] | None = None, is_headed: bool = True):
+    def __init__(
+        self,
+        text: str,
+        name: str,
+        wanted: tuple[str, ...],
+        others: tuple[str, ...] = (),
+        named: dict[str, str] | None = None,
+        is_headed: bool = True,
+    ):
         self.name, self.wanted, self.others, named = name, wanted, others, named or {}
         marks = [mark for mark in ",;\t" if mark in text.lstrip().partition("\n")[0]] or [","]
-        found = {mark: columns for mark in marks
-                 if (columns := self.columns_of(text, mark, named, is_headed)) and {*wanted} <= columns.keys()}
+        found = {
+            mark: columns
+            for mark in marks
+            if (columns := self.columns_of(text, mark, named, is_headed))
+            and {*wanted} <= columns.keys()
+        }
         if len(found) != 1:
             said = ",".join(f"{one}=TITLE" for one in wanted)
-            raise Wrong(f"{name}: no heading with a column {' and one '.join(wanted)}, each once, with commas, "
-                        f"semicolons or tabs between; --columns {said} says which they are, and --no-heading that the "
-                        "first columns are these, in this order")
-        (self.mark, columns), = found.items()
+            raise Wrong(
+                f"{name}: no heading with a column {' and one '.join(wanted)}, each once, with commas, "
+                f"semicolons or tabs between; --columns {said} says which they are, and --no-heading that the "
+                "first columns are these, in this order"
+            )
+        ((self.mark, columns),) = found.items()
         rows = self.rows_of(text, self.mark)
         self.width, titles = len(rows[0][1]), rows[0][1] if is_headed else []
         self.rows = []
         for line, fields in rows[is_headed:]:
             if len(fields) != self.width:
-                raise wrong_line(name, line, f"{counted(len(fields), 'field')}, and the first line has {self.width}")
+                raise wrong_line(
+                    name,
+                    line,
+                    f"{counted(len(fields), 'field')}, and the first line has {self.width}",
+                )
             self.rows.append((line, {column: fields[at] for column, at in columns.items()}))
-        left = [shown(title or f"number {at + 1}") for at, title in enumerate(titles) if at not in columns.values()]
+        left = [
+            shown(title or f"number {at + 1}")
+            for at, title in enumerate(titles)
+            if at not in columns.values()
+        ]
         self.notes = [f"{name}: columns that aren't read: {', '.join(left)}"] if left else []
         if not self.rows:
             raise Wrong(f"{name}: it has no row below its heading")
@@ -111,17 +161,27 @@ class Table:
         """(line, fields) of the rows in which something is."""
         reader = csv.reader(text.split("\n"), delimiter=mark, strict=True)
         try:
-            return [(reader.line_num, [field.strip() for field in row]) for row in reader if any(map(str.strip, row))]
+            return [
+                (reader.line_num, [field.strip() for field in row])
+                for row in reader
+                if any(map(str.strip, row))
+            ]
         except csv.Error as why:
             raise wrong_line(self.name, reader.line_num, f"no row of a table: {why}") from None
 
-    def columns_of(self, text: str, mark: str, named: dict[str, str], is_headed: bool) -> dict[str, int] | None:
+    def columns_of(
+        self, text: str, mark: str, named: dict[str, str], is_headed: bool
+    ) -> dict[str, int] | None:
         """The place of each column with this mark, or None if one comes twice."""
         rows = self.rows_of(text if not is_headed else text.lstrip().partition("\n")[0], mark)
         if not rows:
             return None
         if not is_headed:
-            return {one: at for at, one in enumerate(self.wanted)} if len(rows[0][1]) >= len(self.wanted) else None
+            return (
+                {one: at for at, one in enumerate(self.wanted)}
+                if len(rows[0][1]) >= len(self.wanted)
+                else None
+            )
         words, places = [*map(word_of, rows[0][1])], {}
         for column in (*self.wanted, *self.others):
             titles = [word_of(named[column])] if column in named else TITLES[column]
@@ -144,8 +204,14 @@ class Table:
 def pairs(text: str, name: str, named=None, is_headed=True) -> Listed:
     """Both ends of an edge in a row."""
     table = Table(text, name, ("source", "target"), (), named, is_headed)
-    return Listed("pairs", [(line, clean(row["source"], name, line), clean(row["target"], name, line))
-                            for line, row in table.rows], notes=table.notes)
+    return Listed(
+        "pairs",
+        [
+            (line, clean(row["source"], name, line), clean(row["target"], name, line))
+            for line, row in table.rows
+        ],
+        notes=table.notes,
+    )
 
 
 def lines_of(text: str):
@@ -159,11 +225,29 @@ def edges(text: str, name: str) -> Listed:
     found, data = Listed("edges"), 0
     for line, words in lines_of(text):
         more = words[2:]
-        if len(words) < 2 or more and not (more[0].startswith("{") and more[-1].endswith("}") or len(more) == 1 and
-                                           NUMBER.fullmatch(more[0])):
-            raise wrong_line(name, line, f"no two nodes, maybe with a number or {{data}}: `{shown(' '.join(words))}`")
-        if not found.edges and word_of(words[0]) in TITLES["source"] and word_of(words[1]) in TITLES["target"]:
-            raise wrong_line(name, line, "it is a heading, and lines of nodes have none: leave it out")
+        if (
+            len(words) < 2
+            or more
+            and not (
+                more[0].startswith("{")
+                and more[-1].endswith("}")
+                or len(more) == 1
+                and NUMBER.fullmatch(more[0])
+            )
+        ):
+            raise wrong_line(
+                name,
+                line,
+                f"no two nodes, maybe with a number or {{data}}: `{shown(' '.join(words))}`",
+            )
+        if (
+            not found.edges
+            and word_of(words[0]) in TITLES["source"]
+            and word_of(words[1]) in TITLES["target"]
+        ):
+            raise wrong_line(
+                name, line, "it is a heading, and lines of nodes have none: leave it out"
+            )
         found.edges.append((line, *(clean(word, name, line) for word in words[:2])))
         data += bool(more) and more != ["{}"]
     found.notes += [f"numbers or data behind {counted(data, 'edge')} aren't read"] if data else []
@@ -175,7 +259,9 @@ def adjacency(text: str, name: str) -> Listed:
     the node."""
     found = Listed("adjacency", nodes=[])
     for line, words in lines_of(text):
-        node, *others = (clean(word, name, line) for word in (words[0].removesuffix(":"), *words[1:]))
+        node, *others = (
+            clean(word, name, line) for word in (words[0].removesuffix(":"), *words[1:])
+        )
         if node in found.nodes:
             raise wrong_line(name, line, f"a second line of {shown(node)}")
         found.nodes.append(node)
@@ -183,20 +269,27 @@ def adjacency(text: str, name: str) -> Listed:
     known = set(found.nodes)
     strange = next((row for row in found.edges if row[2] not in known), None)
     if not found.edges:
-        raise Wrong(f"{name}: no node has a neighbour, with blanks between; a table of pairs is read --as pairs")
+        raise Wrong(
+            f"{name}: no node has a neighbour, with blanks between; a table of pairs is read --as pairs"
+        )
     if strange:
-        raise wrong_line(name, strange[0], f"{shown(strange[2])} has no line of its own: is the text cut?")
+        raise wrong_line(
+            name, strange[0], f"{shown(strange[2])} has no line of its own: is the text cut?"
+        )
     return found
 
 
 # Sites and bars.
+
 
 def known_ends(found: Listed, known: set[str], name: str, table: str) -> None:
     """Refuses an edge of a site that a table doesn't have."""
     for line, *ends in found.edges:
         for end in ends:
             if end not in known:
-                raise wrong_line(name, line, f"{shown(end)} isn't a site of {table}{nearest(end, known)}")
+                raise wrong_line(
+                    name, line, f"{shown(end)} isn't a site of {table}{nearest(end, known)}"
+                )
 
 
 def nearest(name: str, known: set[str]) -> str:
@@ -204,10 +297,14 @@ def nearest(name: str, known: set[str]) -> str:
     return f", is it {shown(alike[0])}?" if alike else ""
 
 
-def with_sites(found: Listed, text: str, name: str, path: str, reach: float | None, named=None) -> None:
+def with_sites(
+    found: Listed, text: str, name: str, path: str, reach: float | None, named=None
+) -> None:
     """The nodes are the sites of a table, in its order, with their places and identifiers; and those that are nearer
     than the reach are joined."""
-    table = Table(text, name, ("site",), ("identifier", *(one for pair in PLACES for one in pair[:2])), named)
+    table = Table(
+        text, name, ("site",), ("identifier", *(one for pair in PLACES for one in pair[:2])), named
+    )
     sites = [clean(row["site"], name, line) for line, row in table.rows]
     seen: set[str] = set()
     for (line, _), one in zip(table.rows, sites):
@@ -220,7 +317,9 @@ def with_sites(found: Listed, text: str, name: str, path: str, reach: float | No
     there = table.rows[0][1].keys()
     kinds = [kind for kind in PLACES if there & {*kind[:2]}]
     if len(kinds) > 1 or kinds and not {*kinds[0][:2]} <= there:
-        raise Wrong(f"{name}: places are in two columns, lat and lon, x_km and y_km, or x_m and y_m, and in no others")
+        raise Wrong(
+            f"{name}: places are in two columns, lat and lon, x_km and y_km, or x_m and y_m, and in no others"
+        )
     points = [None] * len(sites)
     for at, ((line, row), one) in enumerate(zip(table.rows, sites)):
         if row.get("identifier"):
@@ -233,12 +332,16 @@ def with_sites(found: Listed, text: str, name: str, path: str, reach: float | No
                 raise table.wrong(line, "no latitude and longitude in degrees: are they exchanged?")
             unit = kinds[0][2]
             found.places[one] = (first, second) if unit is None else (first * unit, -second * unit)
-            points[at] = on_ground(first, second) if unit is None else (first * unit, second * unit, 0.0)
+            points[at] = (
+                on_ground(first, second) if unit is None else (first * unit, second * unit, 0.0)
+            )
     if kinds and kinds[0][2] is None:
         found.places = on_map(found.places)
     if kinds and found.places:
         across = across_of(list(found.places.values()))
-        found.notes.append(f"the places of {name} are by {' and '.join(kinds[0][:2])}, and {across:,.3g} km across")
+        found.notes.append(
+            f"the places of {name} are by {' and '.join(kinds[0][:2])}, and {across:,.3g} km across"
+        )
     if reach is not None:
         join_near(found, points, name, reach, bool(kinds) and kinds[0][2] is None)
 
@@ -252,8 +355,10 @@ def join_near(found: Listed, points: list, name: str, reach: float, is_globe: bo
             found.edges.append((0, *sorted(ends)))
         if len(found.edges) > 2 * MAX_EDGES:
             raise Wrong(f"{name}: more than {MAX_EDGES} edges within {reach:g} km")
-    found.notes.append(f"{counted(len(found.edges) - before, 'pair')} of sites less than {reach:g} km apart, and "
-                       f"{counted(points.count(None), 'site')} without a place")
+    found.notes.append(
+        f"{counted(len(found.edges) - before, 'pair')} of sites less than {reach:g} km apart, and "
+        f"{counted(points.count(None), 'site')} without a place"
+    )
 
 
 def with_bars(found: Listed, text: str, name: str, licence: list[int] | None, named=None) -> None:
@@ -268,9 +373,13 @@ def with_bars(found: Listed, text: str, name: str, licence: list[int] | None, na
             raise table.wrong(line, f"{shown(site)} is no site{nearest(site, known)}")
         channel = real if licence is None else licence.index(real) + 1 if real in licence else None
         if real is None or licence is None and not 1 <= real <= MAX_CHANNEL:
-            raise table.wrong(line, f"no channel from 1 to {MAX_CHANNEL}: `{shown(row['channel'])}`")
+            raise table.wrong(
+                line, f"no channel from 1 to {MAX_CHANNEL}: `{shown(row['channel'])}`"
+            )
         outside += channel is None
         found.bars.setdefault(site, set()).update([channel] if channel else [])
         if len(found.bars[site]) > MAX_BARS:
             raise table.wrong(line, f"more than {MAX_BARS} channels are barred at {shown(site)}")
-    found.notes += [f"{counted(outside, 'bar')} of {name} of a channel outside the licence"] if outside else []
+    found.notes += (
+        [f"{counted(outside, 'bar')} of {name} of a channel outside the licence"] if outside else []
+    )

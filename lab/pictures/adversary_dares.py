@@ -12,10 +12,14 @@ from lab.pictures.schedules_space import fault_words
 def dares_of(space):
     """The dares of a space; those of links only if there is one."""
     made = [[value.pulse_number for value in values] for values in space.locals]
-    pulses = [{v: made[a][state[a]] for a, v in enumerate(space.vertices)} for state in space.states]
+    pulses = [
+        {v: made[a][state[a]] for a, v in enumerate(space.vertices)} for state in space.states
+    ]
     pairs, ways = space.net.edges, {v: distances(space.ports, v) for v in space.vertices}
     # The first two nodes that are farthest apart.
-    v, w = max(((v, w) for v in ways for w in sorted(ways[v])), key=lambda pair: ways[pair[0]][pair[1]])
+    v, w = max(
+        ((v, w) for v in ways for w in sorted(ways[v])), key=lambda pair: ways[pair[0]][pair[1]]
+    )
     dares = [wrong_dare(space), apart_dare(space, pulses, pairs)] if pairs else []
     dares.append(plan_dare(space))
     if ways[v][w] > 1:
@@ -46,30 +50,45 @@ def wrong_dare(space):
     if space.faults:
         s, e = space.first_fault()
         least, more = space.depth[s] + (e is not None), f": {fault_words(space)}"
-    return {"kind": "wrong", "words": "Have a node make a pulse without its round’s messages, or refuse a message.",
-            "answer": answer(space, least, "can a node do so", more)}
+    return {
+        "kind": "wrong",
+        "words": "Have a node make a pulse without its round’s messages, or refuse a message.",
+        "answer": answer(space, least, "can a node do so", more),
+    }
 
 
 def apart_dare(space, pulses, pairs):
     least = fewest(space, (any(abs(at[v] - at[w]) > 1 for v, w in pairs) for at in pulses))
-    return {"kind": "apart", "pairs": pairs, "least": 2, "words": "Bring two neighbours two pulses apart.",
-            "answer": answer(space, least, "are neighbours more than one pulse apart")}
+    return {
+        "kind": "apart",
+        "pairs": pairs,
+        "least": 2,
+        "words": "Bring two neighbours two pulses apart.",
+        "answer": answer(space, least, "are neighbours more than one pulse apart"),
+    }
 
 
 def plan_in(space):
     """What the nodes find in the rounds: their channels, or the words of another program."""
-    return [space.rounds.colours[v] + 1 if space.program is Colouring else space.rounds.results[v]
-            for v in space.vertices]
+    return [
+        space.rounds.colours[v] + 1 if space.program is Colouring else space.rounds.results[v]
+        for v in space.vertices
+    ]
 
 
 def plan_dare(space):
     plan, ends = plan_in(space), (s for s in space.ends if space.is_whole(space.states[s]))
-    least = min((space.depth[s] for s in ends if [found(node) for node in space.nodes(s).values()] != plan),
-                default=None)
+    least = min(
+        (space.depth[s] for s in ends if [found(node) for node in space.nodes(s).values()] != plan),
+        default=None,
+    )
     what = "channels" if space.program is Colouring else "results"
-    return {"kind": "plan", "plan": plan,
-            "words": f"Have them all halt with other {what} than {', '.join(map(str, plan))}.",
-            "answer": answer(space, least, f"have all halted with other {what}")}
+    return {
+        "kind": "plan",
+        "plan": plan,
+        "words": f"Have them all halt with other {what} than {', '.join(map(str, plan))}.",
+        "answer": answer(space, least, f"have all halted with other {what}"),
+    }
 
 
 def ends_dare(space, pulses, v, w, distance):
@@ -77,13 +96,21 @@ def ends_dare(space, pulses, v, w, distance):
     most = max(apart)
     least = fewest(space, (far == most for far in apart))
     more = "." if space.expanded == space.count else ", as far as this table goes."
-    return {"kind": "apart", "pairs": [(v, w)], "least": most,
-            "words": f"Bring {v} and {w}, {distance} links apart, as many pulses apart as can be.",
-            "answer": f"{most} pulses, with {events(least)}{more}"}
+    return {
+        "kind": "apart",
+        "pairs": [(v, w)],
+        "least": most,
+        "words": f"Bring {v} and {w}, {distance} links apart, as many pulses apart as can be.",
+        "answer": f"{most} pulses, with {events(least)}{more}",
+    }
 
 
 def few_dare(space, pulses, v):
     best = fewest(space, (at[v] >= 1 for at in pulses))
-    return {"kind": "few", "node": v, "best": best,
-            "words": f"Use as few takes and pulses as you can until node {v} has made pulse 1.",
-            "answer": f"{events(best).capitalize()}; puts make themselves."}
+    return {
+        "kind": "few",
+        "node": v,
+        "best": best,
+        "words": f"Use as few takes and pulses as you can until node {v} has made pulse 1.",
+        "answer": f"{events(best).capitalize()}; puts make themselves.",
+    }

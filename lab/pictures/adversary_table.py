@@ -50,15 +50,20 @@ def node_words(node):
     """What a node waits for, or what it can do."""
     if node.waits:
         return f"waits for {waiting(node.waits)}"
-    return {"ready": f"can make pulse {node.pulse + 1}", "whole": "has halted",
-            "last": "has only to put its close"}.get(node.stage, "waits for nothing")
+    return {
+        "ready": f"can make pulse {node.pulse + 1}",
+        "whole": "has halted",
+        "last": "has only to put its close",
+    }.get(node.stage, "waits for nothing")
 
 
 def besides_words(space, v, node, value):
     """For which safes a node waits, if it also waits for acknowledgements: it needs all of both."""
     if node.stage != "asks" or "safes" in space.without:
         return ""
-    lacks = [(f"safe {node.pulse}", w) for w, port in zip(space.ports[v], value.ports) if not port.safe]
+    lacks = [
+        (f"safe {node.pulse}", w) for w, port in zip(space.ports[v], value.ports) if not port.safe
+    ]
     return f", and for {waiting(lacks)}" if lacks else ""
 
 
@@ -69,9 +74,11 @@ def found(node):
 
 def held_words(value, neighbours):
     """What a node has taken: for its next pulse, and for the one after it, which it keeps apart."""
+
     def listed(slots, safes):
         said = [f"{slot[0].lower()} {slot[1]} of {w}" for slot, w in zip(slots, neighbours) if slot]
         return ", ".join(said + [f"safe of {w}" for safe, w in zip(safes, neighbours) if safe])
+
     ports = value.ports
     now = listed([port.present for port in ports], [port.safe for port in ports])
     early = listed([port.early for port in ports], [port.early_safe for port in ports])
@@ -80,8 +87,14 @@ def held_words(value, neighbours):
 
 def row_of_value(space, v, value):
     node = space.node_words(v, value)
-    return (node.pulse, node_words(node), found(node) if node.pulse == space.last else 0, int(node.wrong),
-            held_words(value, space.ports[v]), besides_words(space, v, node, value))
+    return (
+        node.pulse,
+        node_words(node),
+        found(node) if node.pulse == space.last else 0,
+        int(node.wrong),
+        held_words(value, space.ports[v]),
+        besides_words(space, v, node, value),
+    )
 
 
 def nodes_of(space):
@@ -96,16 +109,29 @@ def links_of(space, wires):
         contents, slot = Numbered(), space.slot[v, w]
         which = [contents.number(state[slot]) for state in space.states]
         held = [[wires.number(wire) for wire in space.contents[c]] for c in contents]
-        yield {"from": v, "to": w, "put": space.ports[v].index(w), "take": space.ports[w].index(v), "contents": held,
-               "column": column(which)}
+        yield {
+            "from": v,
+            "to": w,
+            "put": space.ports[v].index(w),
+            "take": space.ports[w].index(v),
+            "contents": held,
+            "column": column(which),
+        }
 
 
 def table_of(space):
     wires, events, sentences, faults = Numbered(), Numbered(), Numbered(), {}
     nodes, links = list(nodes_of(space)), list(links_of(space, wires))
-    steps = [[(events.number((int(event.kind == "take"), event.v, event.port or 0, event.place)),
-               0 if target is None else target - s) for event, target in space.steps(s)]
-             for s in range(space.expanded)]
+    steps = [
+        [
+            (
+                events.number((int(event.kind == "take"), event.v, event.port or 0, event.place)),
+                0 if target is None else target - s,
+            )
+            for event, target in space.steps(s)
+        ]
+        for s in range(space.expanded)
+    ]
     flat = [step for row in steps for step in row]
     least = min((by for _, by in flat), default=0)
     for (s, e), sentence in space.faults.items():

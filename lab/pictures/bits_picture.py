@@ -17,25 +17,40 @@ def draw(rounds, forest=0, vertex=None):
     if vertex is None:
         vertex = next((v for v in network.vertices if (v, forest) in rounds.parents), None)
     if (vertex, forest) not in rounds.parents:
-        raise Wrong(f"{network.name}: forest {forest} gives no parent to "
-                    + (f"node {vertex}" if vertex else "any node"))
+        raise Wrong(
+            f"{network.name}: forest {forest} gives no parent to "
+            + (f"node {vertex}" if vertex else "any node")
+        )
     parent = rounds.parents[vertex, forest]
-    pairs = [(rounds.pulses[p].colours[vertex, forest], rounds.pulses[p].colours[parent, forest])
-             for p in range(FIRST, LAST + 1)]
+    pairs = [
+        (rounds.pulses[p].colours[vertex, forest], rounds.pulses[p].colours[parent, forest])
+        for p in range(FIRST, LAST + 1)
+    ]
     most = max(digits(number) for pair in pairs for number in pair)
     cell = 7 if most > LONGER else 11 if most > LONG else 18 if most > 8 else 26
     lengths = ", ".join(str(max(map(digits, pair))) for pair in pairs)
     is_short = all(rounds.network.identifiers[v] == v for v in network.vertices)
-    said = ("Here the names are the nodes’ own numbers, which are short. Names of 128 digits become one of six colours "
-            "in four steps, too." if is_short else "Names of up to 128 digits become one of six colours in four steps.")
-    rule = ("It looks for the least place i in which its digits differ from its parent’s; with its own digit d there, "
-            "it becomes 2·i + d.")
+    said = (
+        "Here the names are the nodes’ own numbers, which are short. Names of 128 digits become one of six colours "
+        "in four steps, too."
+        if is_short
+        else "Names of up to 128 digits become one of six colours in four steps."
+    )
+    rule = (
+        "It looks for the least place i in which its digits differ from its parent’s; with its own digit d there, "
+        "it becomes 2·i + d."
+    )
     svg = Svg(LEFT + most * cell + 350, TOP + 5 * STEP - 12, f"Bit steps of {network.name}")
-    svg.heading(f"{network.name}: node {vertex} and its parent {parent} in forest {forest}: {lengths} digits", rule,
-                said)
+    svg.heading(
+        f"{network.name}: node {vertex} and its parent {parent} in forest {forest}: {lengths} digits",
+        rule,
+        said,
+    )
     for step, (own, above) in enumerate(pairs):
         with svg.group("pair", f"pulse {FIRST + step}: {own} under {above}"):
-            draw_pair(svg, TOP + step * STEP, FIRST + step, (vertex, own), (parent, above), most, cell)
+            draw_pair(
+                svg, TOP + step * STEP, FIRST + step, (vertex, own), (parent, above), most, cell
+            )
     return svg.document()
 
 
@@ -59,14 +74,44 @@ def draw_pair(svg, top, pulse, child, parent, most, cell):
         svg.text(x + 30, top + 13, "colours of 0 to 5 are left", 13, INK, bold=True)
         return
     digit = own >> place & 1
-    svg.text(LEFT + (most - 1 - place) * cell + cell / 2, top + 58, f"i = {place}", 10, RING, "middle", bold=True)
-    svg.text(x, top + 13, f"i = {place}, d = {digit}:  2·{place} + {digit} = {bit_step(own, above)}", 13, INK,
-             bold=True, mark="next")
-    svg.text(x, top + 39, f"{length} digit{'' if length == 1 else 's'} → at most {2 * (length - 1) + 1}", 11, SOFT)
+    svg.text(
+        LEFT + (most - 1 - place) * cell + cell / 2,
+        top + 58,
+        f"i = {place}",
+        10,
+        RING,
+        "middle",
+        bold=True,
+    )
+    svg.text(
+        x,
+        top + 13,
+        f"i = {place}, d = {digit}:  2·{place} + {digit} = {bit_step(own, above)}",
+        13,
+        INK,
+        bold=True,
+        mark="next",
+    )
+    svg.text(
+        x,
+        top + 39,
+        f"{length} digit{'' if length == 1 else 's'} → at most {2 * (length - 1) + 1}",
+        11,
+        SOFT,
+    )
 
 
 def digit_box(svg, x, y, cell, digit, is_ringed):
-    svg.rect(x + 1, y, cell - 2, 18, INK if digit else PAPER, RING if is_ringed else "#9A9A9A", 2.6 if is_ringed
-             else 0.8, 2, mark="ringed" if is_ringed else "digit")
+    svg.rect(
+        x + 1,
+        y,
+        cell - 2,
+        18,
+        INK if digit else PAPER,
+        RING if is_ringed else "#9A9A9A",
+        2.6 if is_ringed else 0.8,
+        2,
+        mark="ringed" if is_ringed else "digit",
+    )
     if cell > 12:
         svg.text(x + cell / 2, y + 13, digit, 11, PAPER if digit else INK, "middle")

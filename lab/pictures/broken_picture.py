@@ -29,15 +29,24 @@ def draw(network, without, program=Colouring):
     kind = OfEnd if isinstance(rounds, RuledSequel) else OfForest if rounds.clash.pulse else OfMerge
     picture = kind(rounds, ruled(program)(rounds.net, ()))
     width, (right, down) = max(picture.width, LEAST_WIDTH), picture.step
-    said = [f"{line[0].upper()}{line[1:]}.".replace("'", "’") for line in [where, *rounds.words().split("\n")]]
-    lines = [line for words in [left_out_words(without), *said] for line in wrapped(words, width - 40)]
+    said = [
+        f"{line[0].upper()}{line[1:]}.".replace("'", "’")
+        for line in [where, *rounds.words().split("\n")]
+    ]
+    lines = [
+        line for words in [left_out_words(without), *said] for line in wrapped(words, width - 40)
+    ]
     legend = wrapped(picture.legend, width - 40)
     top = 48 + 16 * len(lines)
     bottom = top + picture.height
     svg = Svg(width, bottom + 16 * len(legend) + 10, f"Broken without {' and '.join(without)}")
-    svg.heading(("W" if network is None else f"{network.name} w") + f"ithout {left_out}: {title(rounds)}", *lines)
-    for number, (mark, words, hue) in enumerate((("without", f"without {left_out}", WRONG),
-                                                 ("with", "with all rules", INK))):
+    svg.heading(
+        ("W" if network is None else f"{network.name} w") + f"ithout {left_out}: {title(rounds)}",
+        *lines,
+    )
+    for number, (mark, words, hue) in enumerate(
+        (("without", f"without {left_out}", WRONG), ("with", "with all rules", INK))
+    ):
         with svg.group(mark, words):
             x, y = number * right, top + number * down
             svg.text(x + 20, y + 16, words, 12.5, hue, bold=True)
@@ -51,16 +60,26 @@ def title(rounds):
     clash = rounds.clash
     if not isinstance(rounds, RuledSequel):
         return f"nodes {clash.v} and {clash.w} get the same colour"
-    return f"node {clash.nodes[0]} goes wrong" if len(clash.nodes) == 1 else f"nodes {in_words(clash.nodes)} go wrong"
+    return (
+        f"node {clash.nodes[0]} goes wrong"
+        if len(clash.nodes) == 1
+        else f"nodes {in_words(clash.nodes)} go wrong"
+    )
 
 
 def check_size(rounds):
-    at_most("broken", rounds.net.nodes, "nodes of a merge or of another program", MOST_DRAWN,
-            "`forestlab explore NETWORK --without RULES`, which says it in words")
+    at_most(
+        "broken",
+        rounds.net.nodes,
+        "nodes of a merge or of another program",
+        MOST_DRAWN,
+        "`forestlab explore NETWORK --without RULES`, which says it in words",
+    )
 
 
 # How each kind is drawn: `both` are the rounds without the rules and with all, of which the second ones are drawn a
 # `step` further.
+
 
 class OfForest:
     """A row for the node that goes wrong and for each one above it, the highest on top; a column for each pulse."""
@@ -75,35 +94,52 @@ class OfForest:
         self.parents = dict(reversed(above))
         block = LEFT + max(self.clash.pulse - 1, 5) * COLUMN + 24
         self.width, self.height, self.step = 2 * block, OVER + 32 + len(above) * ROW, (block, 0)
-        self.legend = (f"Square: the node’s colour in forest {self.clash.forest} after the pulse; grey: still a name. "
-                       "An arrow leads to the parent.")
+        self.legend = (
+            f"Square: the node’s colour in forest {self.clash.forest} after the pulse; grey: still a name. "
+            "An arrow leads to the parent."
+        )
 
     def draw(self, svg, left, top, number):
         lists = self.both[number].colours[self.clash.forest]
 
         def square(v, pulse, x, y):
             colour_square(svg, x, y, SQUARE, lists[pulse - 2][v], is_name=pulse == 2)
+
         draw_rows(svg, left, top, self.parents, self.clash.pulse, square)
         if number == 0:
             # Around the two squares with one colour.
             x, y = place_of(left, top, len(self.parents) - 2, self.clash.pulse)
-            svg.rect(x - SQUARE - 3, y - SQUARE - 3, 2 * SQUARE + 6, ROW + 2 * SQUARE + 6, "none", WRONG, 2.4, 4,
-                     mark="wrong")
+            svg.rect(
+                x - SQUARE - 3,
+                y - SQUARE - 3,
+                2 * SQUARE + 6,
+                ROW + 2 * SQUARE + 6,
+                "none",
+                WRONG,
+                2.4,
+                4,
+                mark="wrong",
+            )
 
 
 class OfMerge:
     """Three panels in a row: the channels before the merge, the colours in the forest, the channels after it."""
 
-    legend = ("Circle: the channel so far; square: the colour in this forest, with arrows to the parents, and pale at "
-              "a node without an edge in it. Nodes choose in the order of their turns: the colour in this forest, and "
-              "with all rules the colour so far, too, which is the channel less 1.")
+    legend = (
+        "Circle: the channel so far; square: the colour in this forest, with arrows to the parents, and pale at "
+        "a node without an edge in it. Nodes choose in the order of their turns: the colour in this forest, and "
+        "with all rules the colour so far, too, which is the channel less 1."
+    )
 
     def __init__(self, *both):
         check_size(both[0])
         self.both, self.clash, self.net = both, both[0].clash, both[0].net
         self.panel = Panel(self.net)
         self.forest_of = {e: self.net.number[frozenset(e)] for e in self.net.edges}
-        words = max(text_width(line, 11) for rounds in both for line in self.chooses(rounds)) * 0.95 + 10
+        words = (
+            max(text_width(line, 11) for rounds in both for line in self.chooses(rounds)) * 0.95
+            + 10
+        )
         block = self.panel.height + OVER
         self.width, self.height, self.step = 40 + 3 * PANEL + words, 2 * block, (0, block)
 
@@ -117,8 +153,14 @@ class OfMerge:
         self.panel.colours(svg, left + PANEL, top, parents, rounds.colours[f][-1])
         self.panel.channels(svg, left + 2 * PANEL, top, self.forest_of, f, f, rounds.merged[f + 1])
         for at, line in enumerate(self.chooses(rounds)):
-            svg.text(left + 3 * PANEL, top + self.panel.height / 2 - 20 + 17 * at, line, 11,
-                     INK if at % 2 == 0 else SOFT, mark="chooses")
+            svg.text(
+                left + 3 * PANEL,
+                top + self.panel.height / 2 - 20 + 17 * at,
+                line,
+                11,
+                INK if at % 2 == 0 else SOFT,
+                mark="chooses",
+            )
 
     def chooses(self, rounds):
         """How the two nodes that go wrong choose: in words, two lines for each."""
@@ -128,9 +170,14 @@ class OfMerge:
         lines = []
         for v in sorted((self.clash.v, self.clash.w), key=lambda v: (turn[v], v)):
             forests = {w: self.forest_of[min(v, w), max(v, w)] for w in self.net.neighbours[v]}
-            said = [f"{new[w] + 1} of {w}" for w, of in forests.items()
-                    if turn[w] < turn[v] and (of == f if "earlier" in without else of <= f)]
-            lines.append(f"node {v}, turn {', '.join(map(str, turn[v]))}: takes channel {new[v] + 1}")
+            said = [
+                f"{new[w] + 1} of {w}"
+                for w, of in forests.items()
+                if turn[w] < turn[v] and (of == f if "earlier" in without else of <= f)
+            ]
+            lines.append(
+                f"node {v}, turn {', '.join(map(str, turn[v]))}: takes channel {new[v] + 1}"
+            )
             lines.append(f"(it has heard {in_words(said) or 'nothing'})")
         return lines
 
@@ -142,14 +189,25 @@ class OfEnd:
         check_size(both[0])
         self.net, self.faults = both[0].net, [rounds.faults for rounds in both]
         self.found = [found_in(ProgramRounds(self.net, rounds.program)) for rounds in both]
-        self.box = box_of(self.net, [one for found in self.found for one in found.values()], LEAST_WIDTH / 2, 0)
+        self.box = box_of(
+            self.net, [one for found in self.found for one in found.values()], LEAST_WIDTH / 2, 0
+        )
         self.width, self.height, self.step = 2 * self.box[0], self.box[1] + OVER, (self.box[0], 0)
-        self.legend = f"What each node has found at the end{legend(self.found[1])}. Red: what isn’t right."
+        self.legend = (
+            f"What each node has found at the end{legend(self.found[1])}. Red: what isn’t right."
+        )
 
     def draw(self, svg, left, top, number):
         width, height, beside, _ = self.box
-        draw_map(svg, self.net, self.found[number], (width, height, beside, top - OVER / 2), ("#9A9A9A", 1.2),
-                 partial(draw_end, svg, self.found[number], self.faults[number]), left)
+        draw_map(
+            svg,
+            self.net,
+            self.found[number],
+            (width, height, beside, top - OVER / 2),
+            ("#9A9A9A", 1.2),
+            partial(draw_end, svg, self.found[number], self.faults[number]),
+            left,
+        )
 
 
 def draw_end(svg, found, faults, drawn):

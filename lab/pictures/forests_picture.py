@@ -17,12 +17,16 @@ class Panel(Map):
 
     def __init__(self, network):
         self.is_large = network.nodes > LARGE
-        radius, least = (4.5, 3) if self.is_large else (10, 7) if network.nodes > SMALL else (13, 10)
+        radius, least = (
+            (4.5, 3) if self.is_large else (10, 7) if network.nodes > SMALL else (13, 10)
+        )
         places, margin = places_of(network), 14 if self.is_large else 34
         self.height = box_height(places, PANEL, margin, 100)
         super().__init__(network, places, PANEL, self.height, margin, radius, least, OF_SQUARES)
         if not self.is_large:
-            self.label(self.radius * 1.25 + 8, {v: (text_width(v, 8.5) / 2, 4) for v in network.vertices})
+            self.label(
+                self.radius * 1.25 + 8, {v: (text_width(v, 8.5) / 2, 4) for v in network.vertices}
+            )
 
     def colours(self, svg, left, top, parents, colours):
         """A forest's edges as arrows to the parents, and colours in it; a pale chip where a vertex has no edge."""
@@ -44,10 +48,19 @@ class Panel(Map):
         """The channels once the forests up to `last` are merged: edges of forest `now` in ink, of others in grey; red
         is what has one channel."""
         drawn, thin = self.at(left, top), 0.6 if self.is_large else 1
-        wrong = {e for e in self.network.edges if forest_of[e] <= last and merged[e[0]] == merged[e[1]]}
+        wrong = {
+            e for e in self.network.edges if forest_of[e] <= last and merged[e[0]] == merged[e[1]]
+        }
         for e in sorted(self.network.edges, key=lambda e: (forest_of[e] <= last, forest_of[e])):
-            hue, width, mark = (WRONG, 3.4, "wrong") if e in wrong else (FAINT, 1, "edge") if forest_of[e] > last else (
-                INK, 1.8, "edge") if forest_of[e] == now else (BEFORE, 1.3, "edge")
+            hue, width, mark = (
+                (WRONG, 3.4, "wrong")
+                if e in wrong
+                else (FAINT, 1, "edge")
+                if forest_of[e] > last
+                else (INK, 1.8, "edge")
+                if forest_of[e] == now
+                else (BEFORE, 1.3, "edge")
+            )
             drawn.edge(svg, *e, hue, width * thin, mark=mark)
         drawn.numbers(svg, 8.5, 3)
         for v, (x, y) in sorted(drawn.places.items()):
@@ -61,8 +74,14 @@ class Panel(Map):
 def draw(rounds, asked=None):
     """The forests A to B that are asked for; else the first ones, as many as have room beside each other."""
     network, forests = rounds.network, list(rounds.asked_forests(asked, MOST_COLUMNS))
-    at_most("forests", len(forests), "forests side by side", MOST_COLUMNS, "--forest A..B with fewer")
-    panel, three, lines = Panel(network), rounds.pulses[LAST_COLOUR].colours, left_out_of(rounds, forests)
+    at_most(
+        "forests", len(forests), "forests side by side", MOST_COLUMNS, "--forest A..B with fewer"
+    )
+    panel, three, lines = (
+        Panel(network),
+        rounds.pulses[LAST_COLOUR].colours,
+        left_out_of(rounds, forests),
+    )
     upper = TOP + 18 * len(lines)
     lower, width = upper + panel.height + 54, len(forests) * (PANEL + SPACE) - SPACE + 2 * LEFT
     svg = Svg(max(width, LEGEND), lower + panel.height + 22, f"Forests of {network.name}")
@@ -74,11 +93,23 @@ def draw(rounds, asked=None):
         parents = dict(rounds.edges_of(forest))
         title(svg, left, upper, f"forest {forest}", counted(len(parents), "edge"))
         with svg.group("forest", f"forest {forest}"):
-            panel.colours(svg, left, upper, parents, {v: three[v, forest] for v in network.vertices})
-        title(svg, left, lower, "all merged: the plan" if forest == rounds.forests - 1 else
-              "merged: forest 0" if forest == 0 else f"merged: forests 0 to {forest}")
+            panel.colours(
+                svg, left, upper, parents, {v: three[v, forest] for v in network.vertices}
+            )
+        title(
+            svg,
+            left,
+            lower,
+            "all merged: the plan"
+            if forest == rounds.forests - 1
+            else "merged: forest 0"
+            if forest == 0
+            else f"merged: forests 0 to {forest}",
+        )
         with svg.group("merged", f"after forest {forest}"):
-            panel.channels(svg, left, lower, rounds.forest_of, forest, forest, rounds.merged[forest + 1])
+            panel.channels(
+                svg, left, lower, rounds.forest_of, forest, forest, rounds.merged[forest + 1]
+            )
     return svg.document()
 
 
@@ -90,9 +121,15 @@ def legend(svg, y):
     alone_chip(svg, 28, y + 22, 6, 1)
     for x, colour in ((292, INK), (412, BEFORE), (540, FAINT)):
         svg.line(x, y + 22, x + 18, y + 22, colour, 1.8)
-    for x, down, words in ((80, 0, "square: the colour in this forest"), (316, 0, "circle: the channel so far"),
-                           (524, 0, "to the parent"), (80, 22, "no edge in this forest"), (316, 22, "merged now"),
-                           (436, 22, "merged before"), (564, 22, "other edges")):
+    for x, down, words in (
+        (80, 0, "square: the colour in this forest"),
+        (316, 0, "circle: the channel so far"),
+        (524, 0, "to the parent"),
+        (80, 22, "no edge in this forest"),
+        (316, 22, "merged now"),
+        (436, 22, "merged before"),
+        (564, 22, "other edges"),
+    ):
         svg.text(x, y + down + 4, words, 11.5, SOFT)
 
 

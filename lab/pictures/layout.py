@@ -54,20 +54,29 @@ def landmarks_of(network, part):
 
 def placed(network, part):
     """The places of one part."""
-    landmarks, pulls = landmarks_of(network, part), {v: distances(network.neighbours, v, NEAR) for v in part}
+    landmarks, pulls = landmarks_of(network, part), {
+        v: distances(network.neighbours, v, NEAR) for v in part
+    }
     for mark, ways in landmarks:
         for v, far in ways.items():
             pulls[v][mark] = pulls[mark][v] = far
-    return relaxed(first_places(part, landmarks), {
-        v: [(w, far) for w, far in ways.items() if w != v] for v, ways in pulls.items()})
+    return relaxed(
+        first_places(part, landmarks),
+        {v: [(w, far) for w, far in ways.items() if w != v] for v, ways in pulls.items()},
+    )
 
 
 def first_places(part, landmarks):
     """By how much nearer each is to one landmark than to another: the first two give x, the next two y."""
     (_, left), (_, right), (_, above), (_, below) = (landmarks * 4)[:4]
     # A little of the number keeps apart vertices that all landmarks see alike.
-    return {v: complex(0.9 * (left[v] - right[v]) + 0.013 * (at * 7 % 11),
-                       0.9 * (above[v] - below[v]) + 0.017 * (at * 5 % 13)) for at, v in enumerate(part)}
+    return {
+        v: complex(
+            0.9 * (left[v] - right[v]) + 0.013 * (at * 7 % 11),
+            0.9 * (above[v] - below[v]) + 0.017 * (at * 5 % 13),
+        )
+        for at, v in enumerate(part)
+    }
 
 
 def relaxed(places, pulls):
@@ -105,8 +114,10 @@ def upright(network, places):
 def in_rows(parts):
     """Parts side by side from left to right, in rows about as wide as all of them are high."""
     boxes = [box_of(places) for places in parts]
-    row = max(1.5 * sqrt(sum((wide + SPACE) * (high + SPACE) for _, wide, high in boxes)),
-              max(wide for _, wide, _ in boxes))
+    row = max(
+        1.5 * sqrt(sum((wide + SPACE) * (high + SPACE) for _, wide, high in boxes)),
+        max(wide for _, wide, _ in boxes),
+    )
     found, left, top, tallest = {}, 0.0, 0.0, 0.0
     for places, (corner, wide, high) in zip(parts, boxes):
         if left and left + wide > row:

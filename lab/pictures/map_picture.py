@@ -1,6 +1,15 @@
 """The network alone: numbers in circles, joined where they interfere. What a question sheet shows; and the map of other
 pictures that have words beside the circles."""
-from lab.pictures.marks import LARGE, SMALL, Map, bar_row, bars_width, channel_circle, short_name, width_of_map
+from lab.pictures.marks import (
+    LARGE,
+    SMALL,
+    Map,
+    bar_row,
+    bars_width,
+    channel_circle,
+    short_name,
+    width_of_map,
+)
 from lab.pictures.palette import INK, PAPER, SOFT, text_on
 from lab.pictures.places import box_height, places_of
 from lab.pictures.svg import Svg, text_width
@@ -27,7 +36,9 @@ class Vertex:
 
     def room(self):
         """How wide its words and bars are."""
-        return text_width(self.words, self.size) + (GAP + bars_width(self.bars, BAR) if self.bars else 0)
+        return text_width(self.words, self.size) + (
+            GAP + bars_width(self.bars, BAR) if self.bars else 0
+        )
 
     def draw(self, svg, x, y, radius, spot):
         with svg.group("vertex", self.title):
@@ -35,12 +46,36 @@ class Vertex:
                 svg.circle(x, y, radius + 1.6, PAPER)
                 channel_circle(svg, x, y, radius, self.channel)
             else:
-                svg.circle(x, y, radius, self.fill, INK, 1.6, mark="blank" if self.fill == PAPER else "filled")
-                svg.text(x, y + 0.36 * radius, self.v, round(0.95 * radius, 1), text_on(self.fill), "middle", bold=True)
+                svg.circle(
+                    x,
+                    y,
+                    radius,
+                    self.fill,
+                    INK,
+                    1.6,
+                    mark="blank" if self.fill == PAPER else "filled",
+                )
+                svg.text(
+                    x,
+                    y + 0.36 * radius,
+                    self.v,
+                    round(0.95 * radius, 1),
+                    text_on(self.fill),
+                    "middle",
+                    bold=True,
+                )
         left, width = spot[0] - self.room() / 2, text_width(self.words, self.size)
         if self.words:
-            svg.text(left + width / 2, spot[1] + 0.37 * self.size, self.words, self.size, INK, "middle", halo=3,
-                     mark=self.mark)
+            svg.text(
+                left + width / 2,
+                spot[1] + 0.37 * self.size,
+                self.words,
+                self.size,
+                INK,
+                "middle",
+                halo=3,
+                mark=self.mark,
+            )
         bar_row(svg, left + width + GAP, spot[1], self.bars, BAR)
 
 
@@ -72,14 +107,27 @@ def box_of(network, vertices, least, top):
 def draw_map(svg, network, vertices, box, edge, draw_more=None, left=0):
     """The map in a box: its edges in a colour and a width, on them what else is drawn, and the vertices."""
     width, height, beside, top = box
-    radius, least = (8.5, 6.5) if network.nodes > LARGE else (14, 9) if network.nodes > SMALL else (17, 11)
-    drawn = Map(network, places_of(network), width - 2 * beside, height, MARGIN, radius, least, left=left + beside,
-                top=top)
+    radius, least = (
+        (8.5, 6.5) if network.nodes > LARGE else (14, 9) if network.nodes > SMALL else (17, 11)
+    )
+    drawn = Map(
+        network,
+        places_of(network),
+        width - 2 * beside,
+        height,
+        MARGIN,
+        radius,
+        least,
+        left=left + beside,
+        top=top,
+    )
     for v, w in network.edges:
         drawn.edge(svg, v, w, *edge)
     if draw_more:
         draw_more(drawn)
-    drawn.label(drawn.radius + (7 if network.nodes > LARGE else 11),
-                {v: (one.room() / 2, BAR if one.bars else 0.45 * one.size) for v, one in vertices.items()})
+    drawn.label(
+        drawn.radius + (7 if network.nodes > LARGE else 11),
+        {v: (one.room() / 2, BAR if one.bars else 0.45 * one.size) for v, one in vertices.items()},
+    )
     for v, (x, y) in sorted(drawn.places.items()):
         vertices[v].draw(svg, x, y, drawn.radius, drawn.labels[v])

@@ -2,8 +2,19 @@
 from copy import copy
 from math import sqrt
 
-from lab.pictures.palette import (FOREST_COLOURS, INK, PAPER, SOFT, WIRES, WRONG, channel_hue, grey, is_ring,
-                                  short, text_on)
+from lab.pictures.palette import (
+    FOREST_COLOURS,
+    INK,
+    PAPER,
+    SOFT,
+    WIRES,
+    WRONG,
+    channel_hue,
+    grey,
+    is_ring,
+    short,
+    text_on,
+)
 from lab.pictures.places import OF_CIRCLES, bends, label_places, middle, moved, spaced
 
 # Maps of more nodes than these are wider, and of more than the second have smaller circles and straight edges.
@@ -33,7 +44,10 @@ MOST_BARS = 4
 
 def bars_width(channels, radius):
     """How much room a row of barred channels takes."""
-    return min(len(channels), MOST_BARS) * (2 * radius + 2) + (len(channels) > MOST_BARS) * 1.5 * radius
+    return (
+        min(len(channels), MOST_BARS) * (2 * radius + 2)
+        + (len(channels) > MOST_BARS) * 1.5 * radius
+    )
 
 
 def bar_row(svg, x, y, channels, radius):
@@ -44,20 +58,55 @@ def bar_row(svg, x, y, channels, radius):
         svg.circle(middle_x, y, radius, PAPER, channel_hue(channel), 1, mark="bar")
         size = round(radius * (1.2, 1.0, 0.8, 0.62)[len(str(channel)) - 1], 1)
         svg.text(middle_x, y + size * 0.36, channel, size, INK, "middle", bold=True)
-        svg.line(middle_x - 0.9 * radius, y + 0.9 * radius, middle_x + 0.9 * radius, y - 0.9 * radius, WRONG, 1.5,
-                 opacity="0.9")
+        svg.line(
+            middle_x - 0.9 * radius,
+            y + 0.9 * radius,
+            middle_x + 0.9 * radius,
+            y - 0.9 * radius,
+            WRONG,
+            1.5,
+            opacity="0.9",
+        )
     if len(channels) > MOST_BARS:
-        svg.text(x + MOST_BARS * (2 * radius + 2), y + 0.4 * radius, "…", 1.5 * radius, SOFT, halo=2, mark="more")
+        svg.text(
+            x + MOST_BARS * (2 * radius + 2),
+            y + 0.4 * radius,
+            "…",
+            1.5 * radius,
+            SOFT,
+            halo=2,
+            mark="more",
+        )
 
 
 def colour_square(svg, x, y, half, colour, mark="colour", is_name=False, opacity=None):
     """A colour of 0 to 5 in one forest; or a name, or another number that is no such colour yet: grey, darker the
     longer it is."""
     is_grey, text = is_name or colour >= len(FOREST_COLOURS), short(colour)
-    fill, ink = grey(colour) if is_grey else (FOREST_COLOURS[colour], text_on(FOREST_COLOURS[colour]))
-    svg.rect(x - half, y - half, 2 * half, 2 * half, fill, PAPER, 1, half * 0.25, mark=mark, fill_opacity=opacity)
-    svg.text(x, y + half * 0.37, text, round(half * (1.1 if len(text) < 3 else 0.8), 1), INK if opacity else ink,
-             "middle", bold=True)
+    fill, ink = (
+        grey(colour) if is_grey else (FOREST_COLOURS[colour], text_on(FOREST_COLOURS[colour]))
+    )
+    svg.rect(
+        x - half,
+        y - half,
+        2 * half,
+        2 * half,
+        fill,
+        PAPER,
+        1,
+        half * 0.25,
+        mark=mark,
+        fill_opacity=opacity,
+    )
+    svg.text(
+        x,
+        y + half * 0.37,
+        text,
+        round(half * (1.1 if len(text) < 3 else 0.8), 1),
+        INK if opacity else ink,
+        "middle",
+        bold=True,
+    )
 
 
 def alone_chip(svg, x, y, half, colour):
@@ -69,13 +118,19 @@ class Map:
     """A network in a box: the places of its vertices, their radius, and how far its edges are bent, those of a large
     network not at all; and where `label` has put the vertices' numbers beside them."""
 
-    def __init__(self, network, places, width, height, margin, radius, least, apart=OF_CIRCLES, left=0, top=0):
+    def __init__(
+        self, network, places, width, height, margin, radius, least, apart=OF_CIRCLES, left=0, top=0
+    ):
         places, self.radius = spaced(places, width, height, margin, radius, least, apart)
         self.network, self.places, self.labels = network, moved(places, left, top), {}
-        self.bend = {} if network.nodes > LARGE else bends(self.places, network.edges, self.radius + 1)
+        self.bend = (
+            {} if network.nodes > LARGE else bends(self.places, network.edges, self.radius + 1)
+        )
 
     def label(self, distance, boxes):
-        self.labels = label_places(self.places, self.network.edges, self.bend, distance, boxes, self.radius + 2)
+        self.labels = label_places(
+            self.places, self.network.edges, self.bend, distance, boxes, self.radius + 2
+        )
 
     def at(self, left, top):
         """The same map elsewhere."""
@@ -85,7 +140,11 @@ class Map:
 
     def edge(self, svg, a, b, colour, width, head=0, distance=0, mark="edge"):
         """An edge from a to b; with a head, an arrow whose tip is at this distance of b."""
-        (x1, y1), (x2, y2), (mx, my) = self.places[a], self.places[b], middle(self.places, self.bend, a, b)
+        (x1, y1), (x2, y2), (mx, my) = (
+            self.places[a],
+            self.places[b],
+            middle(self.places, self.bend, a, b),
+        )
         ex, ey = x2 - mx, y2 - my
         length = sqrt(ex * ex + ey * ey) or 1
         ex, ey = ex / length, ey / length
@@ -117,8 +176,10 @@ LONGEST_NAME = 12
 
 def short_name(network, v, longest=LONGEST_NAME):
     """The name that the network's text gives a vertex, as there is room for it; `` if it gives none."""
-    name = "".join(letter if letter.isprintable() else "\ufffd" for letter in network.names.get(v, ""))
-    return name if len(name) <= longest else name[:longest - 1].rstrip() + "…"
+    name = "".join(
+        letter if letter.isprintable() else "\ufffd" for letter in network.names.get(v, "")
+    )
+    return name if len(name) <= longest else name[: longest - 1].rstrip() + "…"
 
 
 def label_of(network, v):

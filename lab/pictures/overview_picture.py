@@ -11,12 +11,16 @@ def draw(run, shown):
     first, last = shown
     window = Window(run, shown, TOP, min(22, max(7, 1000 / run.network.nodes)), 0)
     svg = Svg(window.width, window.bottom + 52, f"Overview of {run.name}")
-    svg.heading(f"{run.name}: pulses {first} to {last} of {run.last}, without a clock", time_words(run))
+    svg.heading(
+        f"{run.name}: pulses {first} to {last} of {run.last}, without a clock", time_words(run)
+    )
     draw_bands(svg, window)
     draw_lines(svg, window)
     draw_ticks(svg, window)
-    words = "Each band is one pulse, from the tick at which a node begins it to its next: " + said_of(
-        run.network, last - first + 1)
+    words = (
+        "Each band is one pulse, from the tick at which a node begins it to its next: "
+        + said_of(run.network, last - first + 1)
+    )
     if shown != (0, run.last):
         words += " Draw others with --pulses A..B."
     svg.text(20, window.bottom + 36, words, 11.5, SOFT)

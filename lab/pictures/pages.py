@@ -4,7 +4,17 @@ import json
 import os
 import re
 
-from lab.pictures.palette import BLACK, CHANNEL_HUES, DARK_FILLS, FOREST_COLOURS, INK, PALE, PAPER, WIRES, WRONG
+from lab.pictures.palette import (
+    BLACK,
+    CHANNEL_HUES,
+    DARK_FILLS,
+    FOREST_COLOURS,
+    INK,
+    PALE,
+    PAPER,
+    WIRES,
+    WRONG,
+)
 from lab.pictures.places import places_of, spaced
 from lab.pictures.svg import escaped
 
@@ -18,17 +28,38 @@ WIDE, HIGH, MARGIN, RADIUS, LEAST, APART = 1000, 700, 70, 22, 9, 3
 
 def hues():
     """The colours of all pictures, as the module hues.js."""
-    given = {"INK": INK, "BLACK": BLACK, "WHITE": PAPER, "WRONG": WRONG, "CHANNELS": CHANNEL_HUES,
-             "FORESTS": FOREST_COLOURS, "DARK": sorted(DARK_FILLS), "WIRES": WIRES, "PALE": PALE}
+    given = {
+        "INK": INK,
+        "BLACK": BLACK,
+        "WHITE": PAPER,
+        "WRONG": WRONG,
+        "CHANNELS": CHANNEL_HUES,
+        "FORESTS": FOREST_COLOURS,
+        "DARK": sorted(DARK_FILLS),
+        "WIRES": WIRES,
+        "PALE": PALE,
+    }
     return "".join(f"export const {name} = {json.dumps(value)};\n" for name, value in given.items())
 
 
 def net_of(network):
     """A network as the modules have it. Identifiers are texts: they may have 39 digits."""
     least = min(LEAST, 10 * LEAST / max(1, network.nodes) ** 0.5)
-    places = spaced(places_of(network), WIDE, HIGH, MARGIN, RADIUS, least, APART)[0] if network.nodes else {}
-    nodes = [{"x": round(places[v][0], 1), "y": round(places[v][1], 1), "id": str(network.said.get(v, "")),
-              "name": network.names.get(v, ""), "bars": network.bars.get(v, [])} for v in network.vertices]
+    places = (
+        spaced(places_of(network), WIDE, HIGH, MARGIN, RADIUS, least, APART)[0]
+        if network.nodes
+        else {}
+    )
+    nodes = [
+        {
+            "x": round(places[v][0], 1),
+            "y": round(places[v][1], 1),
+            "id": str(network.said.get(v, "")),
+            "name": network.names.get(v, ""),
+            "bars": network.bars.get(v, []),
+        }
+        for v in network.vertices
+    ]
     return {"name": network.name, "nodes": nodes, "edges": network.edges}
 
 
@@ -49,8 +80,13 @@ def page(template, main, data, **words):
     """A page whose body is a template of page/ and whose script is the module `main` and those before it; `words` are
     escaped."""
     given = {name.upper(): escaped(text) for name, text in words.items()}
-    return filled(text_of("frame.html").replace("@BODY@", text_of(template)), DATA=compact(data), SCRIPT=joined(main),
-                  STYLE=text_of("page.css").replace("\n", ""), **given)
+    return filled(
+        text_of("frame.html").replace("@BODY@", text_of(template)),
+        DATA=compact(data),
+        SCRIPT=joined(main),
+        STYLE=text_of("page.css").replace("\n", ""),
+        **given,
+    )
 
 
 def filled(template, **given):

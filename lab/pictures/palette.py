@@ -10,7 +10,16 @@ WRONG = "#CC0000"
 FONT = "DejaVu Sans, Verdana, Arial, sans-serif"
 
 # Okabe and Ito, reordered: 1 to 4 stay far apart for everyone.
-CHANNEL_HUES = ["#0072B2", "#E69F00", "#009E73", "#F0E442", "#CC79A7", "#56B4E9", "#D55E00", "#444444"]
+CHANNEL_HUES = [
+    "#0072B2",
+    "#E69F00",
+    "#009E73",
+    "#F0E442",
+    "#CC79A7",
+    "#56B4E9",
+    "#D55E00",
+    "#444444",
+]
 
 # Tol, medium contrast: 3, 4 and 5 are the pale twins of 0, 1 and 2, and are the ones that are dropped.
 FOREST_COLOURS = ["#004488", "#997700", "#994455", "#6699CC", "#EECC66", "#EE99AA"]

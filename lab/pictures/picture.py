@@ -16,17 +16,47 @@ from lab.definitions.programs import add_program, program_asked, program_words
 from lab.networks.named import network_bytes
 from lab.networks.network_text import network_of, stem
 from lab.networks.plan_text import read_plan
-from lab.pictures import (adversary_page, bits_picture, broken_picture, forests_picture, map_picture,
-                          overview_picture, plan_picture, player_page, program_picture, results_picture,
-                          rounds_picture, run_picture, schedules_picture, schedules_space,
-                          watch_page, why_picture, wrong_run)
+from lab.pictures import (
+    adversary_page,
+    bits_picture,
+    broken_picture,
+    forests_picture,
+    map_picture,
+    overview_picture,
+    plan_picture,
+    player_page,
+    program_picture,
+    results_picture,
+    rounds_picture,
+    run_picture,
+    schedules_picture,
+    schedules_space,
+    watch_page,
+    why_picture,
+    wrong_run,
+)
 from lab.pictures.places import unused_places
 from lab.pictures.program_rounds import ProgramRounds, is_own, least_wires, read_rounds, rounds_of
 from lab.pictures.transcripts import read_transcript, window_of
 from lab.pictures.watch_page import steps_of_text
-from lab.schedules.rules import OF_ANY_ROUNDS, OF_PROGRAMS as RULES_OF_PROGRAMS, OF_SCHEDULES, unknown_to
+from lab.schedules.rules import (
+    OF_ANY_ROUNDS,
+    OF_PROGRAMS as RULES_OF_PROGRAMS,
+    OF_SCHEDULES,
+    unknown_to,
+)
 from lab.schedules.simulate import played, text_of_run
-from lab.words import add_command, add_commands, add_options, add_output, called, parser_of, some_of, text_at, write
+from lab.words import (
+    add_command,
+    add_commands,
+    add_options,
+    add_output,
+    called,
+    parser_of,
+    some_of,
+    text_at,
+    write,
+)
 from lab.wrong import Wrong, at_most
 
 
@@ -37,6 +67,7 @@ MOST_WIRES = 4_000_000
 class Text(NamedTuple):
     """A text that is drawn: its form (plan, rounds, transcript or events), and what its faults call it; without folder
     and ending that is the name of a run."""
+
     form: str
     name: str
     text: str
@@ -47,7 +78,9 @@ class Asked(SimpleNamespace):
     a text of a form that is needed and isn't there; `progress` is told now and then how many states and events a search
     has found."""
 
-    network = forests = forest = pulses = vertex = only = stopped = columns = title = written = progress = None
+    network = (
+        forests
+    ) = forest = pulses = vertex = only = stopped = columns = title = written = progress = None
     program, texts, without, wrong, in_words, as_table = Colouring, (), (), False, False, False
 
     def text(self, form, is_needed=False):
@@ -72,7 +105,9 @@ class Asked(SimpleNamespace):
 
     def window(self, usual=None):
         """The pulses of a run that are drawn: those asked for, or else the `usual` first ones."""
-        return window_of(self.network.name, self.program.last_pulse(self.network), self.pulses, usual)
+        return window_of(
+            self.network.name, self.program.last_pulse(self.network), self.pulses, usual
+        )
 
     def run(self, until=None):
         """The run of a transcript; with `until`, as far as the pulses up to that one depend on it."""
@@ -88,6 +123,7 @@ class Asked(SimpleNamespace):
 
 
 # How each kind is drawn that isn't one call.
+
 
 def draw_rounds(asked):
     rounds = asked.rounds()
@@ -112,12 +148,23 @@ def draw_run(asked):
 
 def draw_watch(asked):
     texts = asked.texts or [asked.text("transcript", True)]
-    return watch_page.draw([watch_page.Run(text.name, asked.network, steps_of_text(
-        text.name, asked.network, text.text, asked.pulses, asked.program), asked.pulses) for text in texts])
+    return watch_page.draw(
+        [
+            watch_page.Run(
+                text.name,
+                asked.network,
+                steps_of_text(text.name, asked.network, text.text, asked.pulses, asked.program),
+                asked.pulses,
+            )
+            for text in texts
+        ]
+    )
 
 
 def space_in(kind, asked, beyond):
-    return schedules_space.space_of(asked.network, kind, asked.without, beyond, asked.program, asked.progress)
+    return schedules_space.space_of(
+        asked.network, kind, asked.without, beyond, asked.program, asked.progress
+    )
 
 
 def draw_schedules(asked):
@@ -127,12 +174,17 @@ def draw_schedules(asked):
 
 def draw_adversary(asked):
     space = space_in("adversary", asked, True)
-    return adversary_page.draw_table(space) if asked.as_table else adversary_page.draw(asked.network, space)
+    return (
+        adversary_page.draw_table(space)
+        if asked.as_table
+        else adversary_page.draw(asked.network, space)
+    )
 
 
 class Kind(NamedTuple):
     """A kind of picture: a line of help, more of it, and examples; how it is drawn; its most nodes and the kind to use
     above; and whether it draws any program."""
+
     does: str
     more: str
     example: str
@@ -146,12 +198,16 @@ KINDS = {
         "The network alone, without a plan: for a question sheet.",
         "Identifiers that differ from the numbers are written beside them.",
         "forestlab picture map examples/petersen.col > petersen-map.svg",
-        lambda asked: map_picture.draw(asked.network), (400, "a smaller network")),
+        lambda asked: map_picture.draw(asked.network),
+        (400, "a smaller network"),
+    ),
     "plan": Kind(
         "The plan on the map: who has which channel.",
         "A plan that is not proper is refused; `forestplan check` says where.",
         "forestlab picture plan examples/petersen.col > petersen-plan.svg",
-        lambda asked: plan_picture.draw(asked.network, asked.plan()), (400, "a smaller network")),
+        lambda asked: plan_picture.draw(asked.network, asked.plan()),
+        (400, "a smaller network"),
+    ),
     "results": Kind(
         "What the nodes of any program have found at their last pulse, on the map.",
         "A thick line is an edge that a node has chosen, with an arrow if the other end hasn't;\n"
@@ -159,24 +215,32 @@ KINDS = {
         "was before. All other results are written beside the nodes.",
         "forestlab picture results examples/petersen.col --program matching > petersen-pairs.svg",
         lambda asked: results_picture.draw(ProgramRounds(asked.network, asked.program)),
-        (400, "simulate, whose transcript ends in the same"), of_programs=True),
+        (400, "simulate, whose transcript ends in the same"),
+        of_programs=True,
+    ),
     "forests": Kind(
         "Each forest with its three colours, and the plan after each merge.",
         "Of more than six forests the first six, or others with --forest.",
         "forestlab picture forests examples/four_cycle.col > four_cycle-forests.svg",
-        lambda asked: forests_picture.draw(asked.rounds(), asked.forests), (400, "a smaller network")),
+        lambda asked: forests_picture.draw(asked.rounds(), asked.forests),
+        (400, "a smaller network"),
+    ),
     "rounds": Kind(
         "The colours of each node in each forest, and when it chooses which channel.",
         "A row for each node of each forest: without --forest the first forests, as many as have 40 rows\n"
         "together, and with it at most 400 rows.",
         "forestlab picture rounds examples/triangle.col > triangle-rounds.svg",
-        draw_rounds, (100, "forests"), of_programs=True),
+        draw_rounds,
+        (100, "forests"),
+        of_programs=True,
+    ),
     "bits": Kind(
         "One node above its parent, digit by digit, over the four bit steps.",
         "Without --vertex, the least one that has a parent. A vertex without a line `i V NUMBER` has its own\n"
         "number as its name, of few digits.",
         "forestlab picture bits examples/petersen.col --vertex 6 > petersen-bits.svg",
-        lambda asked: bits_picture.draw(asked.rounds(), asked.forest or 0, asked.vertex)),
+        lambda asked: bits_picture.draw(asked.rounds(), asked.forest or 0, asked.vertex),
+    ),
     "why": Kind(
         "Which messages decided the channel of --vertex, on the rounds or in words.",
         "At most 400 rows, a row for each node of each forest that mattered; what didn't decide it is\n"
@@ -185,26 +249,36 @@ KINDS = {
         "a channel is free, and, of the greetings, who is whose parent.",
         "forestlab picture why examples/triangle.col --vertex 2 > triangle-why.svg\n"
         "  forestlab picture why examples/petersen.col --vertex 6 --text",
-        draw_why),
+        draw_why,
+    ),
     "run": Kind(
         "Space and time of a run without a clock: what each node put, took and did, above its rounds.",
         "Above 6 nodes, payloads alone unless --only says more. Without a stored text two calls differ, as the\n"
         "runs do, but for --workers 1. With --wrong, a text that is refused, up to what is wrong.",
         "forestlab picture run examples/chain6.col --pulses 3..5 --transcript \\\n"
         "    examples/chain6_slow.transcript > chain6_slow-spacetime.svg",
-        draw_run, (12, "overview"), of_programs=True),
+        draw_run,
+        (12, "overview"),
+        of_programs=True,
+    ),
     "overview": Kind(
         "The pulses of a run without a clock, from beginning to end.",
         "Of a run of more than 100 pulses the first 40, or others with --pulses; of a long text only what they\n"
         "depend on is read, and checked.",
         "forestlab picture overview examples/petersen.col > petersen-overview.svg\n"
         "  forestlab picture overview examples/queen5_5.col --pulses 100..139 > queen5_5-overview.svg",
-        lambda asked: overview_picture.draw(*asked.part()), (100, "--pulses"), of_programs=True),
+        lambda asked: overview_picture.draw(*asked.part()),
+        (100, "--pulses"),
+        of_programs=True,
+    ),
     "player": Kind(
         "A page with a slider and a play button: the network at each pulse (HTML).",
         "Add #pulse-P to the page's address for a link to pulse P, and #pulse-P-forest-F for one of its forests.",
         "forestlab picture player examples/petersen.col > petersen.html",
-        lambda asked: player_page.draw(asked.rounds()), (40, "rounds"), of_programs=True),
+        lambda asked: player_page.draw(asked.rounds()),
+        (40, "rounds"),
+        of_programs=True,
+    ),
     "watch": Kind(
         "A page that plays a run without a clock, or two side by side: messages move (HTML).",
         "At most 20,000 entries: of a longer run the first pulses, or others with --pulses. TRANSCRIPT is a\n"
@@ -213,7 +287,10 @@ KINDS = {
         "forestlab simulate examples/chain6.col --slow 2-3 > slow.transcript\n"
         "  forestlab picture watch examples/chain6.col slow.transcript > slow.html\n"
         "  forestlab picture watch examples/chain6.col slow.transcript examples/chain6_slow.transcript > two.html",
-        draw_watch, (40, "overview"), of_programs=True),
+        draw_watch,
+        (40, "overview"),
+        of_programs=True,
+    ),
     "schedules": Kind(
         "Every order of events of a tiny network: its states as a lattice, one column an event.",
         "At most 200,000 states. Of long ones the first columns, or others with --columns.\n"
@@ -221,14 +298,20 @@ KINDS = {
         "comes after it, too.",
         "forestlab picture schedules examples/triangle.col --columns 0..24 > triangle-schedules.svg\n"
         "  forestlab picture schedules examples/path.col --without safes > path-without-safes.svg",
-        draw_schedules, (4, "run, which draws one schedule"), of_programs=True),
+        draw_schedules,
+        (4, "run, which draws one schedule"),
+        of_programs=True,
+    ),
     "adversary": Kind(
         "A page on which you are the network: you choose which message comes next (HTML).",
         "At most 200,000 states. With a rule left out, what goes wrong is there too, in a table that may end\n"
         "early, which the page says.",
         "forestlab picture adversary examples/triangle.col > triangle.html\n"
         "  forestlab picture adversary examples/path.col --without safes > path-without-safes.html",
-        draw_adversary, (4, "player"), of_programs=True),
+        draw_adversary,
+        (4, "player"),
+        of_programs=True,
+    ),
     "broken": Kind(
         "What goes wrong without a rule of the rounds, and the same rounds with all rules.",
         "At most 40 nodes if they go wrong in a merge or at the end of another program. Without NETWORK, a\n"
@@ -237,7 +320,9 @@ KINDS = {
         "  forestlab picture broken examples/petersen.col --without pair > petersen-without-pair.svg\n"
         "  forestlab picture broken --program independent-set --without class > set-without-class.svg",
         lambda asked: broken_picture.draw(asked.network, asked.without, asked.program),
-        (2000, "`forestlab explore NETWORK --without RULES`, which says it in words"), of_programs=True),
+        (2000, "`forestlab explore NETWORK --without RULES`, which says it in words"),
+        of_programs=True,
+    ),
 }
 
 
@@ -245,9 +330,13 @@ KINDS = {
 OF_PLAN, OF_ROUNDS = ("plan",), ("forests", "rounds", "bits", "why", "player")
 OF_RUN = "run", "overview"
 
-HELP = ("Draws plans, rounds and runs, as SVG on standard output; the last three kinds draw\n"
-        "what `forestlab explore` searches.\n\n"
-        + "".join(f"  {name:10} {kind.does[0].lower()}{kind.does[1:-1]}\n" for name, kind in KINDS.items()))
+HELP = (
+    "Draws plans, rounds and runs, as SVG on standard output; the last three kinds draw\n"
+    "what `forestlab explore` searches.\n\n"
+    + "".join(
+        f"  {name:10} {kind.does[0].lower()}{kind.does[1:-1]}\n" for name, kind in KINDS.items()
+    )
+)
 
 MORE_HELP = """\
 NETWORK is a file in the DIMACS format, - for standard input, as in
@@ -278,41 +367,114 @@ def numbers(text):
 
 def stored(form, said):
     """An option that names a text of a form."""
-    return {"dest": "stored", "action": "append", "type": lambda path: (form, path), "metavar": "FILE", "help": said}
+    return {
+        "dest": "stored",
+        "action": "append",
+        "type": lambda path: (form, path),
+        "metavar": "FILE",
+        "help": said,
+    }
 
 
 PULSES = {"type": numbers, "metavar": "A..B", "help": "these pulses alone"}
 VERTEX = {"type": int, "metavar": "V", "help": "a vertex, counted from 1"}
 # The options of the kinds, besides those of programs, in the order of the help.
 OPTIONS = (
-    (("watch",), "stored", {"metavar": "TRANSCRIPT", "nargs": "*", "type": lambda path: ("transcript", path),
-                            "help": "a stored run, or two of them"}),
-    (("schedules", "adversary"), "--without", {"type": some_of(*OF_SCHEDULES), "default": (), "metavar": "RULES",
-                                               "help": f"some of {','.join(OF_SCHEDULES)}"}),
-    (("broken",), "--without", {"type": some_of(*OF_ANY_ROUNDS), "required": True, "metavar": "RULES",
-                                "help": "some of " + "; or ".join(
-                                    f"{','.join(of)} of {name}" for name, of in RULES_OF_PROGRAMS.items())}),
+    (
+        ("watch",),
+        "stored",
+        {
+            "metavar": "TRANSCRIPT",
+            "nargs": "*",
+            "type": lambda path: ("transcript", path),
+            "help": "a stored run, or two of them",
+        },
+    ),
+    (
+        ("schedules", "adversary"),
+        "--without",
+        {
+            "type": some_of(*OF_SCHEDULES),
+            "default": (),
+            "metavar": "RULES",
+            "help": f"some of {','.join(OF_SCHEDULES)}",
+        },
+    ),
+    (
+        ("broken",),
+        "--without",
+        {
+            "type": some_of(*OF_ANY_ROUNDS),
+            "required": True,
+            "metavar": "RULES",
+            "help": "some of "
+            + "; or ".join(f"{','.join(of)} of {name}" for name, of in RULES_OF_PROGRAMS.items()),
+        },
+    ),
     (("schedules",), "--columns", PULSES | {"help": "the states after A to B events alone"}),
-    (("schedules",), "--events", stored("events", "the run drawn bold, a list of events; else the one in step")),
-    (("adversary",), "--json", {"action": "store_true", "dest": "as_table", "help": "the page's table alone"}),
-    *((kinds, f"--{form}", stored(form, f"a stored {form} text, or - for standard input"))
-      for kinds, form in ((OF_PLAN, "plan"), (OF_ROUNDS, "rounds"), (OF_RUN, "transcript"))),
+    (
+        ("schedules",),
+        "--events",
+        stored("events", "the run drawn bold, a list of events; else the one in step"),
+    ),
+    (
+        ("adversary",),
+        "--json",
+        {"action": "store_true", "dest": "as_table", "help": "the page's table alone"},
+    ),
+    *(
+        (kinds, f"--{form}", stored(form, f"a stored {form} text, or - for standard input"))
+        for kinds, form in ((OF_PLAN, "plan"), (OF_ROUNDS, "rounds"), (OF_RUN, "transcript"))
+    ),
     (("run", "overview"), "--workers", {"metavar": "N", "help": "the run's worker threads"}),
     (("run", "overview"), "--capacity", {"metavar": "N", "help": "how many wires its links hold"}),
     ((*OF_RUN, "watch"), "--pulses", PULSES),
-    (("forests", "rounds"), "--forest", {"dest": "forests", "type": numbers, "metavar": "A..B",
-                                         "help": "these forests alone, or one, as 2, counted from 0"}),
+    (
+        ("forests", "rounds"),
+        "--forest",
+        {
+            "dest": "forests",
+            "type": numbers,
+            "metavar": "A..B",
+            "help": "these forests alone, or one, as 2, counted from 0",
+        },
+    ),
     (("rounds",), "--pulses", PULSES | {"help": "these pulses alone, of another program"}),
     (("bits",), "--forest", {"type": int, "metavar": "F", "help": "one forest, counted from 0"}),
     (("bits",), "--vertex", VERTEX),
     (("why",), "--vertex", VERTEX | {"required": True}),
-    (("why",), "--text", {"action": "store_true", "dest": "in_words", "help": "in words, not as a picture"}),
-    (("run",), "--only", {"type": some_of(*run_picture.KINDS), "metavar": "KINDS",
-                          "help": f"some of {','.join(run_picture.KINDS)}"}),
-    (("run",), "--wrong", {"action": "store_true", "help": "draw a text up to its first entry that isn't possible, and "
-                           "that one in red"}),
-    (("run",), "--stopped", {"type": int, "metavar": "V", "help": "with --wrong, of a run that isn't whole: mark the "
-                             "vertex at which it stopped"}),
+    (
+        ("why",),
+        "--text",
+        {"action": "store_true", "dest": "in_words", "help": "in words, not as a picture"},
+    ),
+    (
+        ("run",),
+        "--only",
+        {
+            "type": some_of(*run_picture.KINDS),
+            "metavar": "KINDS",
+            "help": f"some of {','.join(run_picture.KINDS)}",
+        },
+    ),
+    (
+        ("run",),
+        "--wrong",
+        {
+            "action": "store_true",
+            "help": "draw a text up to its first entry that isn't possible, and " "that one in red",
+        },
+    ),
+    (
+        ("run",),
+        "--stopped",
+        {
+            "type": int,
+            "metavar": "V",
+            "help": "with --wrong, of a run that isn't whole: mark the "
+            "vertex at which it stopped",
+        },
+    ),
 )
 
 
@@ -323,10 +485,20 @@ def command_line():
     for name, does in KINDS.items():
         usage = "[NETWORK] --without RULES" if name == "broken" else "NETWORK [options]"
         most = f"At most {does.most[0]:,} nodes. " if does.most else ""
-        kind = add_command(kinds, f"picture {name}", usage, does.does, most + does.more, does.example)
-        kind.add_argument("network", metavar="NETWORK", nargs="?" if name == "broken" else None,
-                          help="a file, - for standard input, or a name, as petersen or path5")
-        kind.add_argument("--title", metavar="NAME", help="what the picture calls the network, in place of its file")
+        kind = add_command(
+            kinds, f"picture {name}", usage, does.does, most + does.more, does.example
+        )
+        kind.add_argument(
+            "network",
+            metavar="NETWORK",
+            nargs="?" if name == "broken" else None,
+            help="a file, - for standard input, or a name, as petersen or path5",
+        )
+        kind.add_argument(
+            "--title",
+            metavar="NAME",
+            help="what the picture calls the network, in place of its file",
+        )
         if does.of_programs:
             add_program(kind)
         add_options(kind, name, OPTIONS)
@@ -350,6 +522,7 @@ def drawing(kind, asked):
 
 # From the command line.
 
+
 def note(what):
     print(f"picture: {what}", file=sys.stderr)
 
@@ -358,7 +531,9 @@ def plan_text(network, network_text):
     """The plan of the proved program; where that isn't built, of the definitions, which is said."""
     if programs.built("forestplan"):
         return programs.text_of("forestplan", ["plain"], network_text)
-    note("forestplan isn't built, so the plan is that of the definitions in Python, which no proof covers")
+    note(
+        "forestplan isn't built, so the plan is that of the definitions in Python, which no proof covers"
+    )
     return plan_by_definition(network).decode()
 
 
@@ -366,15 +541,22 @@ def run_text(given, network, network_text, program):
     """The transcript of a run: by threads of a proved program, by seed of one from a file."""
     wires = least_wires(network, program)
     if wires > MOST_WIRES:
-        raise Wrong(f"{given.kind} draws a run of at most {MOST_WIRES:,} wires, and one of {network.name} has more "
-                    f"than {wires:,}")
+        raise Wrong(
+            f"{given.kind} draws a run of at most {MOST_WIRES:,} wires, and one of {network.name} has more "
+            f"than {wires:,}"
+        )
     if is_own(program):
         return text_of_run(network.nodes, played(network, program=program), program)
-    options = [f"--{name}={value}" for name in ("workers", "capacity") if (value := getattr(given, name, None))]
+    options = [
+        f"--{name}={value}"
+        for name in ("workers", "capacity")
+        if (value := getattr(given, name, None))
+    ]
     if program is Colouring:
         return programs.text_of("forestplan", ["transcript", *options], network_text)
-    return programs.text_of("forestplay", ["run", "--transcript", *program_words(program), *options],
-                            network_text)
+    return programs.text_of(
+        "forestplay", ["run", "--transcript", *program_words(program), *options], network_text
+    )
 
 
 def progress(states, events):
@@ -397,8 +579,11 @@ def drawn(given):
     network.name = given.title or ("this network" if given.network == "-" else network.name)
     asked.program = program_asked("picture", given, network)
     asked.texts = [Text(form, called(path), text_at(path)) for form, path in stored]
-    asked.written = lambda form: (plan_text(network, data) if form == "plan" else
-                                  run_text(given, network, data, asked.program))
+    asked.written = lambda form: (
+        plan_text(network, data)
+        if form == "plan"
+        else run_text(given, network, data, asked.program)
+    )
     picture = drawing(given.kind, asked)
     if said := unused_places(network):
         note(said)

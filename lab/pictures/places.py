@@ -50,7 +50,10 @@ def fit(places, width, height, margin):
     scale = min((width - 2 * margin) / wide, (height - 2 * margin) / high)
     least_x, least_y = min(x for x, _ in places.values()), min(y for _, y in places.values())
     off_x, off_y = (width - scale * wide) / 2, (height - scale * high) / 2
-    return {v: (off_x + scale * (x - least_x), off_y + scale * (y - least_y)) for v, (x, y) in places.items()}
+    return {
+        v: (off_x + scale * (x - least_x), off_y + scale * (y - least_y))
+        for v, (x, y) in places.items()
+    }
 
 
 def spaced(places, width, height, margin, radius, least, apart=OF_CIRCLES):
@@ -74,7 +77,7 @@ def near_pairs(places, least):
     """The pairs less than `least` apart, both one after the other."""
     order = sorted(places, key=lambda v: (places[v][0], v))
     for at, v in enumerate(order):
-        for w in order[at + 1:]:
+        for w in order[at + 1 :]:
             if places[w][0] - places[v][0] >= least:
                 break
             if gap(places[v], places[w]) < least:
@@ -87,7 +90,9 @@ def pushed_apart(places, near, least):
     for v, w in near:
         (x1, y1), (x2, y2) = places[v], places[w]
         far = gap(places[v], places[w])
-        dx, dy = ((x2 - x1) / far, (y2 - y1) / far) if far > 1e-6 else turned((5 * v + 3 * w) % 16 / 16)
+        dx, dy = (
+            ((x2 - x1) / far, (y2 - y1) / far) if far > 1e-6 else turned((5 * v + 3 * w) % 16 / 16)
+        )
         push = max(0, (least - far) / 2 + 0.01)
         places[v], places[w] = (x1 - dx * push, y1 - dy * push), (x2 + dx * push, y2 + dy * push)
     return places
@@ -106,9 +111,12 @@ def bends(places, edges, radius):
         (x1, y1), (x2, y2) = places[a], places[b]
         dx, dy = x2 - x1, y2 - y1
         length = sqrt(dx * dx + dy * dy) or 1
-        is_near = any(0 < (x - x1) * dx + (y - y1) * dy < length * length
-                      and abs((x - x1) * dy - (y - y1) * dx) / length < radius
-                      for v, (x, y) in places.items() if v not in (a, b))
+        is_near = any(
+            0 < (x - x1) * dx + (y - y1) * dy < length * length
+            and abs((x - x1) * dy - (y - y1) * dx) / length < radius
+            for v, (x, y) in places.items()
+            if v not in (a, b)
+        )
         found[a, b] = 0.75 * radius + 0.045 * length if is_near else 0
     return found
 
@@ -127,8 +135,10 @@ def points_along(places, bend, a, b, count=12):
     (x1, y1), (x2, y2), (mx, my) = places[a], places[b], middle(places, bend, a, b)
     for k in range(count + 1):
         t = k / count
-        yield ((1 - t) * (1 - t) * x1 + 2 * t * (1 - t) * mx + t * t * x2,
-               (1 - t) * (1 - t) * y1 + 2 * t * (1 - t) * my + t * t * y2)
+        yield (
+            (1 - t) * (1 - t) * x1 + 2 * t * (1 - t) * mx + t * t * x2,
+            (1 - t) * (1 - t) * y1 + 2 * t * (1 - t) * my + t * t * y2,
+        )
 
 
 def label_places(places, edges, bend, distance, boxes, radius):
@@ -142,15 +152,26 @@ def label_places(places, edges, bend, distance, boxes, radius):
         half_wide, half_high = boxes[v]
         aside = half_wide - SHORT if half_wide > SHORT + LITTLE else 0
         reach = near + half_wide
-        others = [p for w, p in places.items() if w != v and abs(p[0] - x) < reach and abs(p[1] - y) < reach]
-        points = [p for e in edges for p in drawn[e] if abs(p[0] - x) < reach and abs(p[1] - y) < reach]
+        others = [
+            p
+            for w, p in places.items()
+            if w != v and abs(p[0] - x) < reach and abs(p[1] - y) < reach
+        ]
+        points = [
+            p for e in edges for p in drawn[e] if abs(p[0] - x) < reach and abs(p[1] - y) < reach
+        ]
         best = None
         for k in (2, 14, 1, 15, 3, 13, 0, 4, 12, 6, 10, 5, 11, 7, 9, 8):
             dx, dy = turned(k / 16)
             spot = x + dx * distance + aside * max(-1, min(1, 2 * dx)), y + dy * distance
-            room = min([gap(spot, p) for p in points]
-                       + [gap(spot, p) - 0.45 * distance for p in others + [at for at, _ in taken]] + [near])
-            room -= 100 * covers((spot, boxes[v]), [*others, (x, y)] if aside else others, radius, taken)
+            room = min(
+                [gap(spot, p) for p in points]
+                + [gap(spot, p) - 0.45 * distance for p in others + [at for at, _ in taken]]
+                + [near]
+            )
+            room -= 100 * covers(
+                (spot, boxes[v]), [*others, (x, y)] if aside else others, radius, taken
+            )
             if best is None or room > best[0] + 1:
                 best = room, spot
         found[v] = best[1]
@@ -164,10 +185,14 @@ def covers(box, circles, radius, boxes):
     (x, y), (half_wide, half_high) = box
     depth = 0.0
     for other_x, other_y in circles:
-        nearest = max(x - half_wide, min(other_x, x + half_wide)), max(y - half_high, min(other_y, y + half_high))
+        nearest = max(x - half_wide, min(other_x, x + half_wide)), max(
+            y - half_high, min(other_y, y + half_high)
+        )
         depth += max(0.0, radius - gap(nearest, (other_x, other_y)))
     for (other_x, other_y), (other_wide, other_high) in boxes:
-        wide, high = half_wide + other_wide - abs(x - other_x), half_high + other_high - abs(y - other_y)
+        wide, high = half_wide + other_wide - abs(x - other_x), half_high + other_high - abs(
+            y - other_y
+        )
         depth += max(0.0, min(wide, high))
     return depth
 

@@ -26,16 +26,29 @@ def draw(network, plan):
     clash = clashes(network, plan)
     if clash:
         v, w = clash[0]
-        raise Wrong(
-            f"the plan is not proper: neighbours {v} and {w} share channel {plan[v]} (C4)"
-        )
+        raise Wrong(f"the plan is not proper: neighbours {v} and {w} share channel {plan[v]} (C4)")
     vertices = {v: Planned(network, v, plan[v]) for v in network.vertices}
     used = f"In the circles are the channels: {len(set(plan.values()))} of the {network.channels} allowed"
-    svg, box = begun(network, vertices, f"Channel plan of {network.name}", f"{network.name}: the plan is proper",
-                     said_of(network), used + ("; crossed out: barred" if network.bars else ""))
+    svg, box = begun(
+        network,
+        vertices,
+        f"Channel plan of {network.name}",
+        f"{network.name}: the plan is proper",
+        said_of(network),
+        used + ("; crossed out: barred" if network.bars else ""),
+    )
     is_dense = len(network.edges) > 5 * network.nodes
-    draw_map(svg, network, vertices, box,
-             ("#D0D0D0", 0.7) if is_dense else ("#B9B9B9", 0.9) if network.nodes > SMALL else ("#9A9A9A", 1.6))
+    draw_map(
+        svg,
+        network,
+        vertices,
+        box,
+        ("#D0D0D0", 0.7)
+        if is_dense
+        else ("#B9B9B9", 0.9)
+        if network.nodes > SMALL
+        else ("#9A9A9A", 1.6),
+    )
     return svg.document()
 
 
@@ -43,6 +56,8 @@ def said_of(network):
     """What there is, and what to look for."""
     if not network.edges:
         return f"{counted(network.nodes, 'transmitter')}, and no pair interferes"
-    return (f"{counted(network.nodes, 'transmitter')}, {counted(len(network.edges), 'pair')} that "
-            f"{'interferes' if len(network.edges) == 1 else 'interfere'}, at most "
-            f"{counted(network.greatest_degree, 'neighbour')}: on each line two different numbers")
+    return (
+        f"{counted(network.nodes, 'transmitter')}, {counted(len(network.edges), 'pair')} that "
+        f"{'interferes' if len(network.edges) == 1 else 'interfere'}, at most "
+        f"{counted(network.greatest_degree, 'neighbour')}: on each line two different numbers"
+    )

@@ -6,18 +6,27 @@ from lab.pictures.pages import net_of, page
 from lab.pictures.program_picture import is_new
 from lab.words import counted
 
-SAY = {"greet": "Every node tells its neighbours its identifier.",
-       "orient": "Each numbers its higher neighbours and tells each its forest: the edges are parted.",
-       "seed": "Each begins, in every forest, with its identifier as colour, and sends it to its children.",
-       "step": "Bit step: i is the lowest place in which its binary digits differ from its parent’s; its new colour is "
-       "2·i plus its own digit there.", "shift": "Shift: each takes its parent’s colour, a root another one.",
-       "drop": "Drop: who has colour {} takes the least of 0, 1, 2 that is free.",
-       "merge": "Merge: those whose turn it is choose the least free channel and tell it."}
+SAY = {
+    "greet": "Every node tells its neighbours its identifier.",
+    "orient": "Each numbers its higher neighbours and tells each its forest: the edges are parted.",
+    "seed": "Each begins, in every forest, with its identifier as colour, and sends it to its children.",
+    "step": "Bit step: i is the lowest place in which its binary digits differ from its parent’s; its new colour is "
+    "2·i plus its own digit there.",
+    "shift": "Shift: each takes its parent’s colour, a root another one.",
+    "drop": "Drop: who has colour {} takes the least of 0, 1, 2 that is free.",
+    "merge": "Merge: those whose turn it is choose the least free channel and tell it.",
+}
 
 
 def draw(rounds):
     name = f"{rounds.network.name}, pulse by pulse"
-    return page("alone.html", "player", {"net": net_of(rounds.network), "film": film_of(rounds)}, title=name, about="")
+    return page(
+        "alone.html",
+        "player",
+        {"net": net_of(rounds.network), "film": film_of(rounds)},
+        title=name,
+        about="",
+    )
 
 
 def film_of(rounds):
@@ -25,39 +34,59 @@ def film_of(rounds):
     vertices, pulses, is_colouring = rounds.network.vertices, [], isinstance(rounds, Rounds)
     for pulse in rounds.pulses:
         title, said = (caption if is_colouring else caption_of_program)(rounds, pulse.number)
-        row = {"caption": title, "said": said, "step": pulse.step, "chosen": pulse.chosen, "colours": None,
-               "puts": [[v, w, word, number(sent)] for v, w, word, sent in pulse.puts]}
+        row = {
+            "caption": title,
+            "said": said,
+            "step": pulse.step,
+            "chosen": pulse.chosen,
+            "colours": None,
+            "puts": [[v, w, word, number(sent)] for v, w, word, sent in pulse.puts],
+        }
         if pulse.colours:
-            row["colours"] = [[number(pulse.colours[v, f]) for f in range(rounds.forests)] for v in vertices]
+            row["colours"] = [
+                [number(pulse.colours[v, f]) for f in range(rounds.forests)] for v in vertices
+            ]
         if not is_colouring:
             row["results"], row["drawn"] = [pulse.results[v] for v in vertices], pulse.drawn
             row["new"] = [v for v in vertices if pulse.number and is_new(rounds, pulse, v)]
         pulses.append(row)
     parents = sorted(rounds.parents.items()) if is_colouring else []
-    return {"last": rounds.last, "forests": rounds.forests, "pulses": pulses, "first": list(rounds.first.values()),
-            "channels": not is_colouring and issubclass(rounds.program, Recolouring),
-            "parents": [[v, f, w] for (v, f), w in parents]}
+    return {
+        "last": rounds.last,
+        "forests": rounds.forests,
+        "pulses": pulses,
+        "first": list(rounds.first.values()),
+        "channels": not is_colouring and issubclass(rounds.program, Recolouring),
+        "parents": [[v, f, w] for (v, f), w in parents],
+    }
 
 
 def number(value):
     """A number that JavaScript can hold, or its digits."""
-    return value if value < 2 ** 53 else str(value)
+    return value if value < 2**53 else str(value)
 
 
 def caption(rounds, number):
     """The title of a pulse, and a sentence of what is done in it."""
     pulse, forests = rounds.pulses[number], rounds.forests
     # The pulses 8, 10 and 12 drop the colours 5, 4 and 3.
-    title, said = f"pulse {number} of {rounds.last} · {pulse.phase}", SAY[pulse.phase].format(9 - number // 2)
+    title, said = f"pulse {number} of {rounds.last} · {pulse.phase}", SAY[pulse.phase].format(
+        9 - number // 2
+    )
     if not forests and number >= SEED:
         least = "the least channel that isn't barred" if rounds.network.bars else "channel 1"
         return title, "No node has a neighbour, so there is no forest" + (
-            f", and nothing to merge: each has {least}." if number == rounds.last else " and no colour in it.")
+            f", and nothing to merge: each has {least}."
+            if number == rounds.last
+            else " and no colour in it."
+        )
     if pulse.step:
         forest, colour, old = pulse.step
         title += f" · forest {forest}"
-        said += (f" Now the pair K = {colour}, J = {old}: colour {colour} in forest {forest}, colour {old} "
-                 f"(channel {old + 1}) so far." + ("" if pulse.chosen else " There is no such node."))
+        said += (
+            f" Now the pair K = {colour}, J = {old}: colour {colour} in forest {forest}, colour {old} "
+            f"(channel {old + 1}) so far." + ("" if pulse.chosen else " There is no such node.")
+        )
     elif number >= SEED:
         title += " · forest 0" if forests == 1 else f" · forests 0 to {forests - 1}"
     return title, said
@@ -67,8 +96,11 @@ def caption_of_program(rounds, number):
     """The same of another program than the colouring."""
     pulse = rounds.pulses[number]
     found = [v for v in rounds.network.vertices if is_new(rounds, pulse, v)] if number else []
-    said = f"{counted(len(pulse.puts), 'message')} sent, to be read in the next pulse." if pulse.puts else (
-        "Nothing is sent.")
+    said = (
+        f"{counted(len(pulse.puts), 'message')} sent, to be read in the next pulse."
+        if pulse.puts
+        else ("Nothing is sent.")
+    )
     if found:
         named = ", ".join(map(str, found[:12])) + " .." * (len(found) > 12)
         said += f" Something new is found by {named}."

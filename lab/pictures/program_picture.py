@@ -11,18 +11,35 @@ LEFT, TOP, ROW, SIZE = 64, 112, 46, 11
 def draw(rounds, pulses=None):
     """All pulses at which something is sent or found, or those of A to B."""
     network, shown = rounds.network, columns_of(rounds, pulses)
-    at_most("rounds", len(shown), "pulses in which something happens", MOST_COLUMNS, "fewer pulses (--pulses A..B)")
+    at_most(
+        "rounds",
+        len(shown),
+        "pulses in which something happens",
+        MOST_COLUMNS,
+        "fewer pulses (--pulses A..B)",
+    )
     words = [result for pulse in rounds.pulses for result in pulse.results.values()]
-    missing = "" if len(shown) > rounds.last else (
-        f"{rounds.last + 1 - len(shown)} of {rounds.last + 1} pulses aren't drawn: nothing is sent in them and nothing "
-        "found, or they aren't asked for.")
+    missing = (
+        ""
+        if len(shown) > rounds.last
+        else (
+            f"{rounds.last + 1 - len(shown)} of {rounds.last + 1} pulses aren't drawn: nothing is sent in them and nothing "
+            "found, or they aren't asked for."
+        )
+    )
     column = max(88, max(text_width(result, SIZE) for result in words) + 22)
-    svg = Svg(max(LEFT + len(shown) * column + 24, 760), TOP + network.nodes * ROW + 30,
-              f"Rounds of {rounds.program.name} on {network.name}")
-    svg.heading(f"{network.name}: {rounds.program.name}, pulse by pulse to pulse {rounds.last}",
-                "Left in a column is what the node has found after the pulse, where it is new; an arrow is a message, "
-                "read in the next pulse.", missing,
-                f"It isn't right at the end: {rounds.wrong}." if rounds.wrong else "")
+    svg = Svg(
+        max(LEFT + len(shown) * column + 24, 760),
+        TOP + network.nodes * ROW + 30,
+        f"Rounds of {rounds.program.name} on {network.name}",
+    )
+    svg.heading(
+        f"{network.name}: {rounds.program.name}, pulse by pulse to pulse {rounds.last}",
+        "Left in a column is what the node has found after the pulse, where it is new; an arrow is a message, "
+        "read in the next pulse.",
+        missing,
+        f"It isn't right at the end: {rounds.wrong}." if rounds.wrong else "",
+    )
     x_of = {pulse.number: LEFT + k * column for k, pulse in enumerate(shown)}
     for k, pulse in enumerate(shown):
         x = x_of[pulse.number]
@@ -35,12 +52,27 @@ def draw(rounds, pulses=None):
     for pulse in shown:
         with svg.group("messages", f"pulse {pulse.number}"):
             for v, w, word, number in pulse.puts:
-                arrow(svg, x_of[pulse.number] + column * 0.62, row(v), x_of[pulse.number] + column - 3, row(w),
-                      f"{v} to {w}: {word} {number}")
+                arrow(
+                    svg,
+                    x_of[pulse.number] + column * 0.62,
+                    row(v),
+                    x_of[pulse.number] + column - 3,
+                    row(w),
+                    f"{v} to {w}: {word} {number}",
+                )
         for v in network.vertices:
             if is_new(rounds, pulse, v):
                 x = x_of[pulse.number]
-                svg.rect(x + 4, row(v) - 9, text_width(pulse.results[v], SIZE) + 8, 18, "#FFFFFF", "#8A8A8A", 1, 3)
+                svg.rect(
+                    x + 4,
+                    row(v) - 9,
+                    text_width(pulse.results[v], SIZE) + 8,
+                    18,
+                    "#FFFFFF",
+                    "#8A8A8A",
+                    1,
+                    3,
+                )
                 svg.text(x + 8, row(v) + 4, pulse.results[v], SIZE, INK, mark="found")
     return svg.document()
 
@@ -57,8 +89,11 @@ def is_new(rounds, pulse, v):
 def columns_of(rounds, pulses):
     """The pulses that are drawn: those at which something is sent or found, among those asked for."""
     first, last = pulses or (0, rounds.last)
-    return [pulse for pulse in rounds.pulses[first:last + 1]
-            if pulse.puts or any(is_new(rounds, pulse, v) for v in rounds.network.vertices)]
+    return [
+        pulse
+        for pulse in rounds.pulses[first : last + 1]
+        if pulse.puts or any(is_new(rounds, pulse, v) for v in rounds.network.vertices)
+    ]
 
 
 def arrow(svg, x1, y1, x2, y2, title):

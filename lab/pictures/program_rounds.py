@@ -13,7 +13,8 @@ MOST_STEPS = 2_000_000
 
 class ProgramRounds:
     """A synchronous run of a program: `pulses` are those from 0 to `last`, and `nodes` the nodes after the last one. It
-    has no forests. `wrong` is what the file of a program says isn't right at its end, or nothing."""
+    has no forests. `wrong` is what the file of a program says isn't right at its end, or nothing.
+    """
 
     forests, first = 0, {}
 
@@ -21,13 +22,24 @@ class ProgramRounds:
         self.network, self.program = network, program
         self.last = program.last_pulse(network)
         if self.last * network.nodes > MOST_STEPS:
-            raise Wrong(f"{network.name}: {self.last} pulses of {network.nodes} nodes are too many to be drawn")
+            raise Wrong(
+                f"{network.name}: {self.last} pulses of {network.nodes} nodes are too many to be drawn"
+            )
         check_repeats(network, program)
         self.pulses, ports = [], network.neighbours
         for p, nodes, _, sent in synchronous_pulses(network, program):
-            puts = [(v, w, slot[0].lower(), slot[1]) for v in nodes for w, slot in zip(ports[v], sent[v]) if slot]
-            drawn = {v: (colour, None if port is None else ports[v][port]) for v, node in nodes.items()
-                     if hasattr(node, "drawn") for colour, port in [node.drawn()]}
+            puts = [
+                (v, w, slot[0].lower(), slot[1])
+                for v in nodes
+                for w, slot in zip(ports[v], sent[v])
+                if slot
+            ]
+            drawn = {
+                v: (colour, None if port is None else ports[v][port])
+                for v, node in nodes.items()
+                if hasattr(node, "drawn")
+                for colour, port in [node.drawn()]
+            }
             results = {v: node.result() for v, node in nodes.items()}
             self.pulses.append(Pulse(p, puts, results=results, drawn=drawn))
         self.nodes = nodes

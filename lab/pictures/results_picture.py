@@ -23,7 +23,9 @@ class Found(Vertex):
     def __init__(self, rounds, v):
         super().__init__(rounds.network, v)
         node = rounds.nodes[v]
-        self.result, (self.colour, self.other) = node.result(), rounds.pulses[-1].drawn.get(v, (None, None))
+        self.result, (self.colour, self.other) = node.result(), rounds.pulses[-1].drawn.get(
+            v, (None, None)
+        )
         self.has_channel, is_shown = isinstance(node, OF_CHANNELS), isinstance(node, SHOWN)
         if self.has_channel:
             self.channel = self.colour + 1
@@ -31,11 +33,20 @@ class Found(Vertex):
             self.fill = channel_hue(self.colour + 1)
         self.before = node.first.merged if isinstance(node, Recolouring) else self.colour
         is_new = self.has_channel and self.before != self.colour
-        self.title = f"node {v}: {self.result}" + (f", was channel {self.before + 1}" if is_new else "")
+        self.title = f"node {v}: {self.result}" + (
+            f", was channel {self.before + 1}" if is_new else ""
+        )
         # Words of its result only as far as the marks don't show them.
-        said = f"was {self.before + 1}" if is_new else "" if self.has_channel or is_shown and (
-            self.colour, self.other) != (None, None) else self.result
-        self.words = " ".join(filter(None, [str(v) * self.has_channel, short_name(rounds.network, v), said]))
+        said = (
+            f"was {self.before + 1}"
+            if is_new
+            else ""
+            if self.has_channel or is_shown and (self.colour, self.other) != (None, None)
+            else self.result
+        )
+        self.words = " ".join(
+            filter(None, [str(v) * self.has_channel, short_name(rounds.network, v), said])
+        )
 
 
 def found_in(rounds):
@@ -44,12 +55,22 @@ def found_in(rounds):
 
 def draw(rounds):
     network, found = rounds.network, found_in(rounds)
-    lines = [f"What each node has found after pulse {rounds.last}{legend(found)}.", counts(found, network) + "."]
+    lines = [
+        f"What each node has found after pulse {rounds.last}{legend(found)}.",
+        counts(found, network) + ".",
+    ]
     if rounds.wrong:
         lines.append(f"It isn't right: {rounds.wrong}.")
-    svg, box = begun(network, found, f"{rounds.program.name} on {network.name}",
-                     f"{network.name}: {rounds.program.name}", *lines)
-    draw_map(svg, network, found, box, ("#9A9A9A", 1.2), lambda drawn: draw_chosen(svg, drawn, found))
+    svg, box = begun(
+        network,
+        found,
+        f"{rounds.program.name} on {network.name}",
+        f"{network.name}: {rounds.program.name}",
+        *lines,
+    )
+    draw_map(
+        svg, network, found, box, ("#9A9A9A", 1.2), lambda drawn: draw_chosen(svg, drawn, found)
+    )
     return svg.document()
 
 
@@ -58,12 +79,16 @@ def draw_chosen(svg, drawn, found):
     for v, one in found.items():
         is_mutual = one.other and found[one.other].other == v
         if one.other and (v < one.other or not is_mutual):
-            drawn.edge(svg, v, one.other, INK, 4, 0 if is_mutual else 10, drawn.radius + 1, mark="chosen")
+            drawn.edge(
+                svg, v, one.other, INK, 4, 0 if is_mutual else 10, drawn.radius + 1, mark="chosen"
+            )
 
 
 def legend(found):
     """What the marks mean, of those that there are."""
-    said = ["a thick line is an edge that a node has chosen"] * any(one.other for one in found.values())
+    said = ["a thick line is an edge that a node has chosen"] * any(
+        one.other for one in found.values()
+    )
     if any(one.has_channel for one in found.values()):
         said.append("in the circle is its channel")
     elif filled := {one.result for one in found.values() if one.colour is not None}:
@@ -74,10 +99,16 @@ def legend(found):
 def counts(found, network):
     """How much there is of what is found."""
     if all(one.has_channel for one in found.values()):
-        after, before = (len({colour(one) for one in found.values()}) for colour in
-                         (lambda one: one.colour, lambda one: one.before))
-        return counted(after, "channel") + (f"; before there were {before}" if before != after else "")
+        after, before = (
+            len({colour(one) for one in found.values()})
+            for colour in (lambda one: one.colour, lambda one: one.before)
+        )
+        return counted(after, "channel") + (
+            f"; before there were {before}" if before != after else ""
+        )
     chosen = len({tuple(sorted((v, one.other))) for v, one in found.items() if one.other})
     filled = sum(one.colour is not None for one in found.values())
-    return "; ".join([f"{counted(chosen, 'edge')} of {len(network.edges):,}"] * bool(chosen)
-                     + [f"{filled:,} of {counted(len(found), 'node')}"] * bool(filled)) or counted(len(found), "node")
+    return "; ".join(
+        [f"{counted(chosen, 'edge')} of {len(network.edges):,}"] * bool(chosen)
+        + [f"{filled:,} of {counted(len(found), 'node')}"] * bool(filled)
+    ) or counted(len(found), "node")

@@ -11,8 +11,16 @@ COLUMN, ROW, LEFT, TOP = 27, 27, 112, 100
 FULL_STEPS, SQUARE = 40, COLUMN / 2 - 2.5
 HEAD, FOOT = 68, 30
 BAR = 8
-GROUPS = [(2, 2, "start"), (3, 6, "bit steps"), (7, 7, "shift"), (8, 8, "drop 5"), (9, 9, "shift"), (10, 10, "drop 4"),
-          (11, 11, "shift"), (12, 12, "drop 3")]
+GROUPS = [
+    (2, 2, "start"),
+    (3, 6, "bit steps"),
+    (7, 7, "shift"),
+    (8, 8, "drop 5"),
+    (9, 9, "shift"),
+    (10, 10, "drop 4"),
+    (11, 11, "shift"),
+    (12, 12, "drop 3"),
+]
 MERGES = LEFT + 11 * COLUMN + 34
 
 
@@ -20,7 +28,13 @@ def draw(rounds, asked=None):
     """The forests A to B that are asked for; else the first ones, as many as a slide has room for."""
     network = rounds.network
     forests = list(rounds.asked_forests(asked, max(1, USUAL_ROWS // network.nodes)))
-    at_most("rounds", len(forests) * network.nodes, "rows", MOST_ROWS, "rounds --forest F, one forest at a time")
+    at_most(
+        "rounds",
+        len(forests) * network.nodes,
+        "rows",
+        MOST_ROWS,
+        "rounds --forest F, one forest at a time",
+    )
     title = f"{network.name}: six colours at pulse 6, three at pulse 12, the plan at pulse {rounds.last}"
     return draw_strips(rounds, forests, title, left_out_of(rounds, forests))
 
@@ -49,13 +63,17 @@ def left_out_of(rounds, forests):
     """A line that says which forests are drawn, if not all are."""
     if len(forests) == rounds.forests:
         return []
-    shown = f"forest {forests[0]}" if len(forests) == 1 else f"forests {forests[0]} to {forests[-1]}"
+    shown = (
+        f"forest {forests[0]}" if len(forests) == 1 else f"forests {forests[0]} to {forests[-1]}"
+    )
     return [f"Here {shown} of 0 to {rounds.forests - 1}; draw others with --forest A..B."]
 
 
 def columns_of(rounds, forests):
     """The merge steps shown of each forest: all of them, or, if that are many, those at which some node chooses."""
-    steps = {f: [pulse for pulse in rounds.pulses if pulse.step and pulse.step[0] == f] for f in forests}
+    steps = {
+        f: [pulse for pulse in rounds.pulses if pulse.step and pulse.step[0] == f] for f in forests
+    }
     if sum(map(len, steps.values())) > FULL_STEPS:
         return {f: [pulse for pulse in pulses if pulse.chosen] for f, pulses in steps.items()}
     return steps
@@ -82,8 +100,13 @@ def legend(svg, y, has_bars):
     svg.text(42, y + 4, "circle: the node chooses this channel", 11.5, SOFT)
     svg.line(276, y, 300, y, channel_hue(1), 3, opacity="0.35")
     svg.text(308, y + 4, "its channel meanwhile", 11.5, SOFT)
-    svg.text(452, y + 4, "K and J say whose turn it is: colour in the forest, colour so far (channel J + 1).", 11.5,
-             SOFT)
+    svg.text(
+        452,
+        y + 4,
+        "K and J say whose turn it is: colour in the forest, colour so far (channel J + 1).",
+        11.5,
+        SOFT,
+    )
 
 
 def draw_heads(svg, left, y, column, last):
@@ -137,8 +160,14 @@ class Strip:
         for v in vertices[::2]:
             svg.rect(16, self.row(v) - ROW / 2, self.right - 16, ROW, "#FAF8F2")
         with svg.group("colours", f"forest {self.forest}"):
-            draw_rows(svg, 0, self.top + 45, {v: self.rounds.parents.get((v, self.forest)) for v in vertices},
-                      LAST_COLOUR, self.square)
+            draw_rows(
+                svg,
+                0,
+                self.top + 45,
+                {v: self.rounds.parents.get((v, self.forest)) for v in vertices},
+                LAST_COLOUR,
+                self.square,
+            )
 
     def square(self, v, pulse, x, y):
         colour = self.rounds.pulses[pulse].colours[v, self.forest]
@@ -151,7 +180,9 @@ class Strip:
 
     def fade(self, x, y, side, number):
         """Makes a mark pale, and writes its number anew: white on a pale ground can't be read."""
-        self.svg.rect(x - side / 2, y - ROW / 2, side, ROW, PAPER, fill_opacity="0.84", mark="faded")
+        self.svg.rect(
+            x - side / 2, y - ROW / 2, side, ROW, PAPER, fill_opacity="0.84", mark="faded"
+        )
         self.svg.text(x, y + 3.6, number, 10 if len(str(number)) < 3 else 8.5, SOFT, "middle")
 
     def merge(self, is_full):
@@ -160,7 +191,13 @@ class Strip:
         words = f"merge of forest {self.forest}"
         svg.text(MERGES, top + 20, words, 13.5, INK, bold=True)
         if not is_full:
-            svg.text(MERGES + text_width(words, 13.5) + 22, top + 20, "(steps at which some node chooses)", 10, SOFT)
+            svg.text(
+                MERGES + text_width(words, 13.5) + 22,
+                top + 20,
+                "(steps at which some node chooses)",
+                10,
+                SOFT,
+            )
         self.step_heads()
         end = MERGES + len(self.steps) * self.column
         svg.text(end + 24, top + 63, "after", 9, SOFT, "middle")
@@ -181,23 +218,51 @@ class Strip:
             if colour != before:
                 if index:
                     svg.line(x, self.top + 26, x, self.top + HEAD + self.nodes * ROW, "#C4C4C4", 1)
-                svg.rect(x + self.column / 2 - 6, self.top + 27, 12, 12, FOREST_COLOURS[colour], round_by=2)
-                svg.text(x + self.column / 2, self.top + 36.5, colour, 9.5, "#FFFFFF", "middle", bold=True, mark="turn")
+                svg.rect(
+                    x + self.column / 2 - 6,
+                    self.top + 27,
+                    12,
+                    12,
+                    FOREST_COLOURS[colour],
+                    round_by=2,
+                )
+                svg.text(
+                    x + self.column / 2,
+                    self.top + 36.5,
+                    colour,
+                    9.5,
+                    "#FFFFFF",
+                    "middle",
+                    bold=True,
+                    mark="turn",
+                )
             before = colour
             svg.text(x + self.column / 2, self.top + 50, old, 9, INK, "middle", mark="old")
-            svg.text(x + self.column / 2, self.top + 63, pulse.number, 8 if pulse.number < 100 else 7, SOFT, "middle")
+            svg.text(
+                x + self.column / 2,
+                self.top + 63,
+                pulse.number,
+                8 if pulse.number < 100 else 7,
+                SOFT,
+                "middle",
+            )
 
     def choices_of(self, v, channel, end):
         svg, y, x0 = self.svg, self.row(v), MERGES
-        chosen = [(MERGES + (index + 0.5) * self.column, pulse) for index, pulse in enumerate(self.steps)
-                  if v in pulse.chosen]
+        chosen = [
+            (MERGES + (index + 0.5) * self.column, pulse)
+            for index, pulse in enumerate(self.steps)
+            if v in pulse.chosen
+        ]
         for x, pulse in chosen:
             if channel is not None:
                 svg.line(x0, y, x, y, channel_hue(channel + 1), 3, opacity="0.35")
             channel, x0 = pulse.chosen[v], x
         svg.line(x0, y, end + 12, y, channel_hue(channel + 1), 3, opacity="0.35")
         for x, pulse in chosen:
-            channel_circle(svg, x, y, min(self.column, ROW) / 2 - 1, pulse.chosen[v] + 1, mark="choice")
+            channel_circle(
+                svg, x, y, min(self.column, ROW) / 2 - 1, pulse.chosen[v] + 1, mark="choice"
+            )
             if self.cone and ("merged", v, self.forest) not in self.cone.facts:
                 self.fade(x, y, self.column, pulse.chosen[v] + 1)
         channel_circle(svg, end + 24, y, 11, channel + 1, mark="after")

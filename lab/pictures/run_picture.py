@@ -25,12 +25,19 @@ class Window:
     wide, and a band reaches `over` above the first row and below the last."""
 
     def __init__(self, run, pulses, top, row, least):
-        self.run, self.network, self.nodes, (self.first, self.last) = run, run.network, run.network.vertices, pulses
+        self.run, self.network, self.nodes, (self.first, self.last) = (
+            run,
+            run.network,
+            run.network.vertices,
+            pulses,
+        )
         self.top, self.row, self.size, self.over = top, row, min(15, row), min(30, 0.4 * row)
         self.left = left_of(run.network, self.size)
         if not any(self.first in ticks for ticks in run.ticks.values()):
             raise Wrong(f"{run.name}: no node begins pulse {self.first}")
-        self.ends = {v: ticks.get(self.last + 1, run.reached[v] + 1) for v, ticks in run.ticks.items()}
+        self.ends = {
+            v: ticks.get(self.last + 1, run.reached[v] + 1) for v, ticks in run.ticks.items()
+        }
         self.start = min(self.time(v, self.first) for v in self.nodes) - 1
         self.stop = max(self.ends.values()) + 1
         self.scale = max(least, min(19.0, 1130 / (self.stop - self.start)))
@@ -52,17 +59,30 @@ class Window:
     def border(self, pulse):
         """Where each node begins a pulse, from top to bottom."""
         points = [(self.x(self.time(v, pulse)), self.y(v)) for v in self.nodes]
-        return [(points[0][0], self.top - self.over), *points, (points[-1][0], self.bottom + self.over)]
+        return [
+            (points[0][0], self.top - self.over),
+            *points,
+            (points[-1][0], self.bottom + self.over),
+        ]
 
     def arrows(self, kinds):
         """The wires whose arrows are seen, payloads last, on top."""
-        return [wire for kind in ("ack", "safe", "close", "payload") if kind in kinds for wire in self.run.wires
-                if wire.kind == kind and wire.take and wire.take >= self.start and wire.put <= self.stop]
+        return [
+            wire
+            for kind in ("ack", "safe", "close", "payload")
+            if kind in kinds
+            for wire in self.run.wires
+            if wire.kind == kind and wire.take and wire.take >= self.start and wire.put <= self.stop
+        ]
 
 
 def left_of(network, size):
     """Where the lines of nodes begin: to the left are their numbers and names."""
-    names = [text_width(short_name(network, v), min(10, size)) for v in network.vertices if v in network.names]
+    names = [
+        text_width(short_name(network, v), min(10, size))
+        for v in network.vertices
+        if v in network.names
+    ]
     return LEFT + max(names, default=-6) + 6
 
 
@@ -72,16 +92,28 @@ def draw(run, shown, kinds=None, is_wrong_drawn=False, stopped=None):
     nodes = run.network.nodes
     row, lower_row = 88 if nodes <= 3 else 74 if nodes <= 5 else 50, 46 if nodes <= 5 else 30
     window = Window(run, shown, TOP, row, 9.0)
-    at_most("run", window.stop - window.start, "steps of time side by side", MOST_STEPS,
-            "fewer pulses (--pulses A..B), or overview")
+    at_most(
+        "run",
+        window.stop - window.start,
+        "steps of time side by side",
+        MOST_STEPS,
+        "fewer pulses (--pulses A..B), or overview",
+    )
     first, last = window.first, window.last
     wrong = wrapped(said_of(run, stopped), window.width - 40, 12.5 * BOLD) if is_wrong_drawn else []
-    lower = Window(run.in_rounds(first, last), shown, window.bottom + 150 + 12 * len(wrong), lower_row, 0)
+    lower = Window(
+        run.in_rounds(first, last), shown, window.bottom + 150 + 12 * len(wrong), lower_row, 0
+    )
     svg = Svg(window.width, lower.bottom + 66, f"Space and time of {run.name}")
-    said = ("what each node put, took and did" if set(kinds) == set(KINDS)
-            else " and ".join(f"{NAMES[kind]}s" for kind in kinds))
-    svg.heading(f"{run.name}: {said}, pulses {first} to {last} of {run.last}",
-                time_words(run, ", so every arrow points right"))
+    said = (
+        "what each node put, took and did"
+        if set(kinds) == set(KINDS)
+        else " and ".join(f"{NAMES[kind]}s" for kind in kinds)
+    )
+    svg.heading(
+        f"{run.name}: {said}, pulses {first} to {last} of {run.last}",
+        time_words(run, ", so every arrow points right"),
+    )
     legend(svg, kinds)
     svg.clip("window", window.left - 8, 0, window.width - window.left - 8, window.bottom + 62)
     draw_bands(svg, window)
@@ -96,9 +128,14 @@ def draw(run, shown, kinds=None, is_wrong_drawn=False, stopped=None):
     svg.text(20, words_y, early_words(window), 11.5, SOFT)
     for number, line in enumerate(wrong, 1):
         svg.text(20, words_y + 17 * number, line, 12.5, WRONG, bold=True)
-    svg.text(20, lower.top - 54,
-             "The same payloads, each from its own pulse to the one in which it is read: the synchronous rounds",
-             13.5, INK, bold=True)
+    svg.text(
+        20,
+        lower.top - 54,
+        "The same payloads, each from its own pulse to the one in which it is read: the synchronous rounds",
+        13.5,
+        INK,
+        bold=True,
+    )
     with svg.group("lower"):
         draw_bands(svg, lower)
         draw_lines(svg, lower)
@@ -115,8 +152,10 @@ def time_words(run, behind=""):
             "Time is the transcript's stamps, by Lamport's clock: one more than the node's last, and of a take also "
             f"than the put's{behind}. It is not real time."
         )
-    return ("No clock was kept. An event stands as far right as the longest chain of events that lead to it (found by "
-            f"replaying){behind}.")
+    return (
+        "No clock was kept. An event stands as far right as the longest chain of events that lead to it (found by "
+        f"replaying){behind}."
+    )
 
 
 def draw_lines(svg, window):
@@ -150,8 +189,13 @@ def draw_bands(svg, window):
     svg.text(20, y, "pulse", 11.5, PULSE, bold=True)
     for pulse in range(window.first, window.last + 1):
         left, right = window.border(pulse), window.border(pulse + 1)
-        svg.path(polygon(left + right[::-1]) + ["Z"], None, None, BAND if (pulse - window.first) % 2 == 0 else PAPER,
-                 mark="band")
+        svg.path(
+            polygon(left + right[::-1]) + ["Z"],
+            None,
+            None,
+            BAND if (pulse - window.first) % 2 == 0 else PAPER,
+            mark="band",
+        )
         svg.path(polygon(left), BORDER, thin)
         x = max(left[0][0] + 5, window.left)
         if x >= free:
@@ -171,8 +215,16 @@ def draw_bars(svg, window, kinds):
     """A bar for each payload, from where it is taken to its taker's tick p + 1, at which it is read."""
     for wire in window.arrows({"payload"} & set(kinds)):
         y = window.y(wire.w)
-        svg.line(window.x(wire.take), y, window.x(window.time(wire.w, wire.pulse + 1)), y, WIRES["payload"], 5,
-                 opacity="0.35", mark="bar")
+        svg.line(
+            window.x(wire.take),
+            y,
+            window.x(window.time(wire.w, wire.pulse + 1)),
+            y,
+            WIRES["payload"],
+            5,
+            opacity="0.35",
+            mark="bar",
+        )
 
 
 def draw_wires(svg, window, kinds):
@@ -199,7 +251,9 @@ def write_words(svg, window, words):
             is_free = all(abs(x - a) > half + b or abs(y - c) > 13 for a, c, b in used)
             if is_inside and is_free and min(off, window.row - off) > 11:
                 used.append((x, y, half))
-                svg.text(x, y, text, 9.5, WIRES["payload"], "middle", bold=True, halo=3, mark="words")
+                svg.text(
+                    x, y, text, 9.5, WIRES["payload"], "middle", bold=True, halo=3, mark="words"
+                )
                 break
 
 
@@ -212,12 +266,16 @@ def draw_ticks(svg, window):
             if window.first <= pulse <= window.last + 1:
                 svg.line(x, y - half, x, y + half, INK, width, mark="tick")
             elif pulse and window.start < time < window.stop:
-                svg.line(x, y - 0.8 * half, x, y + 0.8 * half, "#9A9A9A", 0.7 * width, mark="outside")
+                svg.line(
+                    x, y - 0.8 * half, x, y + 0.8 * half, "#9A9A9A", 0.7 * width, mark="outside"
+                )
 
 
 def early_words(window):
     """How many payloads came before their pulse had begun at the taker."""
-    put = [wire for wire in window.arrows(("payload",)) if window.first <= wire.pulse <= window.last]
+    put = [
+        wire for wire in window.arrows(("payload",)) if window.first <= wire.pulse <= window.last
+    ]
     early = sum(wire.take < window.time(wire.w, wire.pulse) for wire in put)
     return (
         f"No clock is shared: of {counted(len(put), 'payload')} put here, {early or 'none'} came before the taker had "
@@ -229,5 +287,7 @@ def rounds_words(run, last, count):
     """What the lower half has: all payloads of its pulses, if each node has come to the end of them."""
     if not all(last + 1 in ticks or run.whole for ticks in run.ticks.values()):
         return f"Payloads that are put in these pulses, as far as this text goes: {count:,}."
-    return (f"All payloads of these pulses: {count:,}. Draw another run of this network: the upper half changes, this "
-            "half does not.")
+    return (
+        f"All payloads of these pulses: {count:,}. Draw another run of this network: the upper half changes, this "
+        "half does not."
+    )

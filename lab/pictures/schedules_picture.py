@@ -21,8 +21,16 @@ def draw(network, space, asked, run_text):
     """The states after the events A to B that are `asked` for, or after the first ones; bold is the run of a list of
     events, or one of ours."""
     low, high = window_of(network.name, last_column(space), asked, 1 + columns_of(space), "events")
-    at_most("schedules", high - low, "events at a time", MOST_COLUMNS, "fewer events (--columns A..B)")
-    at_most("schedules", sum(steps_between(space)[low:high]), "steps", MOST_STEPS, "fewer events (--columns A..B)")
+    at_most(
+        "schedules", high - low, "events at a time", MOST_COLUMNS, "fewer events (--columns A..B)"
+    )
+    at_most(
+        "schedules",
+        sum(steps_between(space)[low:high]),
+        "steps",
+        MOST_STEPS,
+        "fewer events (--columns A..B)",
+    )
     if run_text is not None:
         bold = steps_of(space, events_given(network, space, run_text))
     elif space.faults:
@@ -36,8 +44,10 @@ def last_column(space):
     """The most events after which all states are known, one that is refused being a state of its own."""
     if space.expanded < space.count:
         return space.depth[space.expanded]
-    return max(space.depth[space.count - 1],
-               max((space.depth[s] + (e is not None) for s, e in space.faults), default=0))
+    return max(
+        space.depth[space.count - 1],
+        max((space.depth[s] + (e is not None) for s, e in space.faults), default=0),
+    )
 
 
 def steps_between(space):
@@ -55,14 +65,18 @@ def columns_of(space):
 
 # The run that is bold: its steps as (state, number of the step in it).
 
+
 def key_of(event):
     return event.kind, event.v, event.port, event.place
 
 
 def events_given(network, space, text):
     """(line, *key) of the events of a list; puts make themselves, so those that the network has are passed over."""
-    return (event for event in events_of(text, "the list", "fifo" in space.without)
-            if event[1] != "put" or event[3] >= len(network.neighbours.get(event[2], ())))
+    return (
+        event
+        for event in events_of(text, "the list", "fifo" in space.without)
+        if event[1] != "put" or event[3] >= len(network.neighbours.get(event[2], ()))
+    )
 
 
 def steps_of(space, events):
@@ -83,7 +97,10 @@ def in_step(space):
     s, found = 0, []
     while steps := space.steps(s):
         pulses = space.nodes(s)
-        e = min(range(len(steps)), key=lambda k: steps[k][0].kind == "pulse" and 1 + pulses[steps[k][0].v].pulse)
+        e = min(
+            range(len(steps)),
+            key=lambda k: steps[k][0].kind == "pulse" and 1 + pulses[steps[k][0].v].pulse,
+        )
         found.append((s, e))
         s = steps[e][1]
     return found
@@ -94,18 +111,31 @@ class Lattice:
     an end of its own, (s, e)."""
 
     def __init__(self, network, space, low, high, bold, is_given):
-        self.network, self.space, self.low, self.high, self.is_given = network, space, low, high, is_given
-        self.bold, self.passed = set(bold), {s for s, _ in bold} | {space.steps(s)[e][1] for s, e in bold} | {0}
+        self.network, self.space, self.low, self.high, self.is_given = (
+            network,
+            space,
+            low,
+            high,
+            is_given,
+        )
+        self.bold, self.passed = set(bold), {s for s, _ in bold} | {
+            space.steps(s)[e][1] for s, e in bold
+        } | {0}
         self.columns = [[] for _ in range(low, high + 1)]
         for s in range(space.count):
             if low <= space.depth[s] <= high:
                 self.columns[space.depth[s] - low].append(s)
-        self.steps = [(s, e, event, (s, e) if t is None else t) for column in self.columns for s in column
-                      for e, (event, t) in enumerate(space.steps(s)) if space.depth[s] < high]
+        self.steps = [
+            (s, e, event, (s, e) if t is None else t)
+            for column in self.columns
+            for s in column
+            for e, (event, t) in enumerate(space.steps(s))
+            if space.depth[s] < high
+        ]
         for s, _, _, end in self.steps:
             if isinstance(end, tuple):
                 self.columns[space.depth[s] + 1 - low].append(end)
-        self.columns = self.columns[:max(k for k, column in enumerate(self.columns) if column) + 1]
+        self.columns = self.columns[: max(k for k, column in enumerate(self.columns) if column) + 1]
         self.place()
 
     def place(self):
@@ -114,7 +144,9 @@ class Lattice:
         for s, _, _, end in self.steps:
             before.setdefault(end, []).append(s)
         for column in self.columns:
-            column.sort(key=lambda s: (self.lead(s), mean([self.row[t] for t in before.get(s, [])] or [0])))
+            column.sort(
+                key=lambda s: (self.lead(s), mean([self.row[t] for t in before.get(s, [])] or [0]))
+            )
             for place, s in enumerate(column):
                 self.row[s] = place - (len(column) - 1) / 2
         self.widest = max(map(len, self.columns))
@@ -128,7 +160,9 @@ class Lattice:
         return pulses[1] - pulses[0] if len(pulses) == 2 else 0
 
     def pulses(self, s):
-        return [node.pulse for node in self.space.nodes(s[0] if isinstance(s, tuple) else s).values()]
+        return [
+            node.pulse for node in self.space.nodes(s[0] if isinstance(s, tuple) else s).values()
+        ]
 
     def x(self, s):
         depth = self.space.depth[s[0]] + 1 if isinstance(s, tuple) else self.space.depth[s]
@@ -145,15 +179,26 @@ class Lattice:
         bottom = top + 2 * self.radius + self.gap * (self.widest - 1) + 20
         svg = Svg(width, bottom + 46, f"every schedule of {self.network.name}")
         svg.heading(self.fact(), *lines)
-        for k in range(0, len(self.columns), 1 if len(self.columns) <= 12 else 5 if len(self.columns) <= 60 else 10):
+        for k in range(
+            0,
+            len(self.columns),
+            1 if len(self.columns) <= 12 else 5 if len(self.columns) <= 60 else 10,
+        ):
             svg.text(LEFT + k * self.step, bottom, self.low + k, 9, SOFT, "middle")
-        svg.text(20, bottom + 16, "takes and pulses so far; a put is made as soon as it can be, and has no column",
-                 11.5, SOFT)
+        svg.text(
+            20,
+            bottom + 16,
+            "takes and pulses so far; a put is made as soon as it can be, and has no column",
+            11.5,
+            SOFT,
+        )
         self.draw_steps(svg)
         for column in self.columns:
             for s in column:
                 self.draw_state(svg, s)
-        self.most_apart = max(self.apart(s) for column in self.columns for s in column if not isinstance(s, tuple))
+        self.most_apart = max(
+            self.apart(s) for column in self.columns for s in column if not isinstance(s, tuple)
+        )
         self.legend(svg, bottom + 36)
         return svg
 
@@ -170,15 +215,21 @@ class Lattice:
         space = self.space
         said = [left_out_words(space.without)] if space.without else []
         inside = ", and inside are the nodes’ pulses" if self.number_size() >= 5 else ""
-        said.append(f"A mark is a state of the whole network{inside}; a line is one event. "
-                    f"{space.count:,} states, {len(space.target):,} steps"
-                    + ("." if space.schedules is None else f", {rounded(space.schedules)} schedules."))
+        said.append(
+            f"A mark is a state of the whole network{inside}; a line is one event. "
+            f"{space.count:,} states, {len(space.target):,} steps"
+            + ("." if space.schedules is None else f", {rounded(space.schedules)} schedules.")
+        )
         if (self.low, self.high) != (0, last := last_column(space)):
             said.append(f"Here are those after {self.low} to {self.high} of {last} events.")
         if any(self.low <= space.depth[s] < self.high for s, _ in self.bold):
-            said.append("Bold: the run that was given." if self.is_given else
-                        f"Bold: a shortest schedule that goes wrong: {fault_words(space)}." if space.faults else
-                        "Bold: the run in which all that is sent comes before a node makes its pulse.")
+            said.append(
+                "Bold: the run that was given."
+                if self.is_given
+                else f"Bold: a shortest schedule that goes wrong: {fault_words(space)}."
+                if space.faults
+                else "Bold: the run in which all that is sent comes before a node makes its pulse."
+            )
         return wrapped(" ".join(said), width - 40)
 
     def number_size(self):
@@ -198,32 +249,69 @@ class Lattice:
             with svg.group("bold" if is_bold else "step", title):
                 if is_bold:
                     svg.line(x1, y1, x2, y2, INK, round(max(3.2, self.radius * 0.6), 1))
-                svg.line(x1, y1, x2, y2, WRONG if is_wrong else PULSE if kind == "pulse" else WIRES[kind],
-                         round(max(1.2, self.radius * 0.3), 1) if is_bold else 0.8 if self.radius < 4 else 1.4)
+                svg.line(
+                    x1,
+                    y1,
+                    x2,
+                    y2,
+                    WRONG if is_wrong else PULSE if kind == "pulse" else WIRES[kind],
+                    round(max(1.2, self.radius * 0.3), 1)
+                    if is_bold
+                    else 0.8
+                    if self.radius < 4
+                    else 1.4,
+                )
 
     def apart(self, s):
         """The most pulses that two neighbours are apart, three for all above."""
         pulses = self.pulses(s)
-        return min(3, max((abs(pulses[v - 1] - pulses[w - 1]) for v, w in self.space.links), default=0))
+        return min(
+            3, max((abs(pulses[v - 1] - pulses[w - 1]) for v, w in self.space.links), default=0)
+        )
 
     def draw_state(self, svg, s):
         x, y = self.x(s), self.y(s)
         if isinstance(s, tuple):
             with svg.group("state wrong", fault_words(self.space, s)):
                 svg.circle(x, y, self.radius, WRONG, INK, 1)
-                svg.text(x, y + self.radius * 0.42, "×", round(1.5 * self.radius, 1), PAPER, "middle", bold=True)
+                svg.text(
+                    x,
+                    y + self.radius * 0.42,
+                    "×",
+                    round(1.5 * self.radius, 1),
+                    PAPER,
+                    "middle",
+                    bold=True,
+                )
             return
         # A node has made a pulse without its inbox, or nothing is possible though some node waits.
-        is_wrong = (s, None) in self.space.faults or any(node.wrong for node in self.space.nodes(s).values())
-        words = ", ".join(f"node {v} at pulse {node.pulse} {'has halted' if node.stage == 'whole' else node.stage}"
-                          for v, node in self.space.nodes(s).items())
+        is_wrong = (s, None) in self.space.faults or any(
+            node.wrong for node in self.space.nodes(s).values()
+        )
+        words = ", ".join(
+            f"node {v} at pulse {node.pulse} {'has halted' if node.stage == 'whole' else node.stage}"
+            for v, node in self.space.nodes(s).items()
+        )
         is_bold = s in self.passed
         with svg.group("state wrong" if is_wrong else "state", words):
-            svg.circle(x, y, self.radius, WRONG if is_wrong else APART[self.apart(s)], INK if is_bold else BORDER,
-                       (1.8 if is_bold else 0.8) if self.radius > 4 else 0.5)
+            svg.circle(
+                x,
+                y,
+                self.radius,
+                WRONG if is_wrong else APART[self.apart(s)],
+                INK if is_bold else BORDER,
+                (1.8 if is_bold else 0.8) if self.radius > 4 else 0.5,
+            )
             size = self.number_size()
             if size >= 5:
-                svg.text(x, y + size * 0.36, self.pulses_words(s), round(size, 1), PAPER if is_wrong else INK, "middle")
+                svg.text(
+                    x,
+                    y + size * 0.36,
+                    self.pulses_words(s),
+                    round(size, 1),
+                    PAPER if is_wrong else INK,
+                    "middle",
+                )
 
     def legend(self, svg, y):
         svg.text(20, y, "takes of", 11.5, SOFT)
@@ -233,7 +321,7 @@ class Lattice:
             svg.text(x + 27, y, name, 11.5, SOFT)
             x += 27 + text_width(name, 11.5) + 14
         meant = ["all at one pulse", "neighbours a pulse apart", "two", "more"]
-        for fill, words in list(zip(APART, meant))[:max(2, self.most_apart + 1)]:
+        for fill, words in list(zip(APART, meant))[: max(2, self.most_apart + 1)]:
             svg.circle(x + 6, y - 4, 6, fill, BORDER, 0.8)
             svg.text(x + 18, y, words, 11.5, SOFT)
             x += 24 + text_width(words, 11.5) * 0.95

@@ -58,14 +58,26 @@ class Sheet:
     def filled(self, answer, is_list=False):
         """`is_list` says that there has to be room for several numbers."""
         room = "blank list" if is_list else "blank"
-        return f'<b class="answer">{escaped(answer)}</b>' if self.answers else f'<span class="{room}">&nbsp;</span>'
+        return (
+            f'<b class="answer">{escaped(answer)}</b>'
+            if self.answers
+            else f'<span class="{room}">&nbsp;</span>'
+        )
 
     def table(self, head, rows):
         """A row of vertices, and rows of (name, entries, whether they are given)."""
-        lines = [f"<tr><th>{escaped(head)}</th>" + "".join(f"<td>{v}</td>" for v in self.vertices) + "</tr>"]
+        lines = [
+            f"<tr><th>{escaped(head)}</th>"
+            + "".join(f"<td>{v}</td>" for v in self.vertices)
+            + "</tr>"
+        ]
         for name, entries, is_given in rows:
-            cells = [f"<td>{entry}</td>" if is_given else
-                     f'<td>{f"<b class=answer>{entry}</b>" if self.answers else ""}</td>' for entry in entries]
+            cells = [
+                f"<td>{entry}</td>"
+                if is_given
+                else f'<td>{f"<b class=answer>{entry}</b>" if self.answers else ""}</td>'
+                for entry in entries
+            ]
             lines.append(f"<tr><th>{escaped(name)}</th>{''.join(cells)}</tr>")
         return f"<table>{''.join(lines)}</table>"
 
@@ -77,20 +89,33 @@ class Sheet:
         v, w = self.any_of(self.edges)
         wrong = plan | {v: plan[w]}
         pairs = [f"{a} and {b}" for a, b in self.edges if wrong[a] == wrong[b]]
-        yield (f"<p>The promise is: at most one channel more than the greatest number of neighbours. How many is that "
-               f"here? {self.filled(self.net.greatest_degree + 1)}</p>")
-        yield ("<p>Somebody has made this plan. Which neighbours have the same channel?</p>"
-               + self.table("node", [("channel", [wrong[v] for v in self.vertices], True)])
-               + f"<p>{self.filled('; '.join(pairs), True)}</p>")
+        yield (
+            f"<p>The promise is: at most one channel more than the greatest number of neighbours. How many is that "
+            f"here? {self.filled(self.net.greatest_degree + 1)}</p>"
+        )
+        yield (
+            "<p>Somebody has made this plan. Which neighbours have the same channel?</p>"
+            + self.table("node", [("channel", [wrong[v] for v in self.vertices], True)])
+            + f"<p>{self.filled('; '.join(pairs), True)}</p>"
+        )
 
     def lesson_2(self):
-        rows = [(f"parent in forest {f}", [self.net.parent(f, v) or "-" for v in self.vertices], False)
-                for f in range(FORESTS)]
-        yield ("<p>Cut the network into forests. Who is whose parent? (A root has a -.)</p>" + self.table("node", rows))
+        rows = [
+            (f"parent in forest {f}", [self.net.parent(f, v) or "-" for v in self.vertices], False)
+            for f in range(FORESTS)
+        ]
+        yield (
+            "<p>Cut the network into forests. Who is whose parent? (A root has a -.)</p>"
+            + self.table("node", rows)
+        )
 
     def lesson_3(self):
         table = self.rounds.colours[0]
-        children = [v for v in self.vertices if self.net.parent(0, v) and not self.net.parent(0, self.net.parent(0, v))]
+        children = [
+            v
+            for v in self.vertices
+            if self.net.parent(0, v) and not self.net.parent(0, self.net.parent(0, v))
+        ]
         v = self.any_of(children)
         w = self.net.parent(0, v)
         for name, node in ((f"node {v}", v), (f"its parent {w}", w)):
@@ -102,17 +127,24 @@ class Sheet:
         for p, x in ((7, 5), (9, 4), (11, 3)):
             shifted = shift(self.net, 0, colours)
             colours = drop(x, self.net, 0, shifted, colours)
-            rows += [(f"pulse {q}: {what}", [row[v] for v in self.vertices], False)
-                     for q, what, row in ((p, "shift", shifted), (p + 1, f"drop {x}", colours))]
-        yield ("<p>With names as small as these there is hardly ever a colour to drop. So suppose that the colours in "
-               "forest 0 after pulse 6 are these, and shift and drop:</p>" + self.table("node", rows))
+            rows += [
+                (f"pulse {q}: {what}", [row[v] for v in self.vertices], False)
+                for q, what, row in ((p, "shift", shifted), (p + 1, f"drop {x}", colours))
+            ]
+        yield (
+            "<p>With names as small as these there is hardly ever a colour to drop. So suppose that the colours in "
+            "forest 0 after pulse 6 are these, and shift and drop:</p>" + self.table("node", rows)
+        )
 
     def dropping(self):
         """Colours 0 to 5 in forest 0, no two neighbours there alike, of which each drop changes some: a shift moves a
-        colour one edge down, so a 5, a 4 and a 3 in a row are one after the other the colour of the node below it."""
+        colour one edge down, so a 5, a 4 and a 3 in a row are one after the other the colour of the node below it.
+        """
         row = self.any_of([row for row in map(self.row_above, self.vertices) if len(row) == 4])
         while True:
-            first = {v: self.any_of(range(6)) for v in self.vertices} | dict(zip(row[1:], (5, 4, 3)))
+            first = {v: self.any_of(range(6)) for v in self.vertices} | dict(
+                zip(row[1:], (5, 4, 3))
+            )
             if all(first[v] != at_parent(self.net, 0, first, v) for v in first):
                 return first
 
@@ -124,14 +156,21 @@ class Sheet:
         return row
 
     def lesson_4(self):
-        rows = [(name, [colours[v] for v in self.vertices], is_given) for f in range(FORESTS)
-                for name, colours, is_given in ((f"colour in forest {f}", self.rounds.colours[f][LAST_COLOUR], True),
-                                                ("after its merge", self.rounds.merged[f + 1], False))]
+        rows = [
+            (name, [colours[v] for v in self.vertices], is_given)
+            for f in range(FORESTS)
+            for name, colours, is_given in (
+                (f"colour in forest {f}", self.rounds.colours[f][LAST_COLOUR], True),
+                ("after its merge", self.rounds.merged[f + 1], False),
+            )
+        ]
         yield "<p>Merge the two forests; all begin with colour 0.</p>" + self.table("node", rows)
         v, f = self.any_of(self.vertices), FORESTS - 1
         turn = self.rounds.turn(f, v)
-        yield (f"<p>At which pulse does node {v} choose in the merge of forest {f}? {self.filled(turn)} Which pulse is "
-               f"the last? {self.filled(last_pulse(self.net))}</p>")
+        yield (
+            f"<p>At which pulse does node {v} choose in the merge of forest {f}? {self.filled(turn)} Which pulse is "
+            f"the last? {self.filled(last_pulse(self.net))}</p>"
+        )
 
     def lesson_5(self):
         pulses = range(last_pulse(self.net) + 1)
@@ -140,19 +179,26 @@ class Sheet:
         yield f"<p>A whole run without a clock has {payloads} payloads. How many wires? {self.filled(wires)}</p>"
         edge = self.any_of(self.edges)
         rows = [("pulse", list(farthest(self.net, edge).values()), False)]
-        yield (f"<p>Nothing goes over the edge {edge[0]}–{edge[1]}, in either direction, and all else goes on as far "
-               "as it can. Which pulse does each node come to?</p>" + self.table("node", rows))
+        yield (
+            f"<p>Nothing goes over the edge {edge[0]}–{edge[1]}, in either direction, and all else goes on as far "
+            "as it can. Which pulse does each node come to?</p>" + self.table("node", rows)
+        )
 
     def text(self, lessons):
         title = f"Sheet {escaped(self.name)}" + (", answers" if self.answers else "")
-        parts = [f"<section><h1>{title}<small>{'' if self.answers else 'Name: ' + '_' * 28}</small></h1>", self.map()]
+        parts = [
+            f"<section><h1>{title}<small>{'' if self.answers else 'Name: ' + '_' * 28}</small></h1>",
+            self.map(),
+        ]
         for lesson in LESSONS:
             questions = list(getattr(self, f"lesson_{lesson}")())
             if lesson in lessons:
-                parts.append(f'<h2>Lesson {lesson}</h2>')
+                parts.append(f"<h2>Lesson {lesson}</h2>")
                 parts += [f'<div class="question">{question}</div>' for question in questions]
         if self.answers:
-            parts.append(f"<p>The network, for the programs:</p>\n<pre>{plain_text(self.net).rstrip()}</pre>")
+            parts.append(
+                f"<p>The network, for the programs:</p>\n<pre>{plain_text(self.net).rstrip()}</pre>"
+            )
         return "\n".join([*parts, "</section>"])
 
     def map(self):
@@ -168,6 +214,7 @@ def farthest(net, edge):
 
     def is_free(kind, v, port):
         return kind == "Pulse" or {v, state.neighbours[v][port]} != set(edge)
+
     while event := next((event for event in state.possible() if is_free(*event)), None):
         state.step(*event)
     return {v: state.nodes[v].pulse_number for v in sorted(state.nodes)}
@@ -192,10 +239,21 @@ def draw(seed, count, answers, lessons):
 def command_line():
     words = parser_of("sheet", "[options]", HELP, MORE_HELP)
     add_seed(words)
-    words.add_argument("--sheets", type=partial(count, most=MOST_SHEETS), default=1, metavar="COUNT",
-                       help="how many sheets: WORD-1, WORD-2, ..")
-    words.add_argument("--lesson", type=int, choices=LESSONS, action="append", metavar="N",
-                       help="the questions of this lesson alone; may be given again")
+    words.add_argument(
+        "--sheets",
+        type=partial(count, most=MOST_SHEETS),
+        default=1,
+        metavar="COUNT",
+        help="how many sheets: WORD-1, WORD-2, ..",
+    )
+    words.add_argument(
+        "--lesson",
+        type=int,
+        choices=LESSONS,
+        action="append",
+        metavar="N",
+        help="the questions of this lesson alone; may be given again",
+    )
     words.add_argument("--answers", action="store_true", help="with the answers")
     add_output(words)
     return words
@@ -205,4 +263,3 @@ def main(words):
     given = command_line().parse_args(words)
     write(given, draw(given.seed, given.sheets, given.answers, given.lesson or LESSONS))
     return 0
-

@@ -18,11 +18,19 @@ def shown(number):
 
 
 # Letters that XML hasn't.
-CONTROLS = dict.fromkeys([*(code for code in range(32) if chr(code) not in "\t\n\r"), 0xFFFE, 0xFFFF])
+CONTROLS = dict.fromkeys(
+    [*(code for code in range(32) if chr(code) not in "\t\n\r"), 0xFFFE, 0xFFFF]
+)
 
 
 def escaped(text):
-    return str(text).translate(CONTROLS).replace("&", "&amp;").replace("<", "&lt;").replace(">", "&gt;")
+    return (
+        str(text)
+        .translate(CONTROLS)
+        .replace("&", "&amp;")
+        .replace("<", "&lt;")
+        .replace(">", "&gt;")
+    )
 
 
 def quoted(text):
@@ -37,7 +45,12 @@ def text_width(text, size):
 
 def wrapped(text, width, size=11.5):
     """The text in lines that are no wider; letters are a little narrower than they are reckoned."""
-    return wrap(text, int(width / text_width("a", 0.9 * size)), break_long_words=False, break_on_hyphens=False)
+    return wrap(
+        text,
+        int(width / text_width("a", 0.9 * size)),
+        break_long_words=False,
+        break_on_hyphens=False,
+    )
 
 
 def stretches(values):
@@ -68,36 +81,89 @@ class Svg:
     @contextmanager
     def group(self, mark, title=None, **attributes):
         """Elements that are one mark; a browser shows the title under the mouse."""
-        words = "".join(f' {key.replace("_", "-")}="{quoted(shown(value))}"' for key, value in attributes.items())
-        self.parts.append(f'<g class="{mark}"{words}>' + (f"<title>{escaped(title)}</title>" if title else ""))
+        words = "".join(
+            f' {key.replace("_", "-")}="{quoted(shown(value))}"'
+            for key, value in attributes.items()
+        )
+        self.parts.append(
+            f'<g class="{mark}"{words}>' + (f"<title>{escaped(title)}</title>" if title else "")
+        )
         yield
         self.parts.append("</g>")
 
     def clip(self, name, x, y, width, height):
         """A box out of which nothing is drawn of the groups that name it."""
-        self.parts.append(f'<clipPath id="{name}"><rect x="{shown(x)}" y="{shown(y)}" width="{shown(width)}" '
-                          f'height="{shown(height)}"/></clipPath>')
+        self.parts.append(
+            f'<clipPath id="{name}"><rect x="{shown(x)}" y="{shown(y)}" width="{shown(width)}" '
+            f'height="{shown(height)}"/></clipPath>'
+        )
 
     def line(self, x1, y1, x2, y2, colour=INK, width=1, dash=None, **more):
-        self.element("line", x1=x1, y1=y1, x2=x2, y2=y2, stroke=colour, stroke_width=width, stroke_dasharray=dash,
-                     **more)
+        self.element(
+            "line",
+            x1=x1,
+            y1=y1,
+            x2=x2,
+            y2=y2,
+            stroke=colour,
+            stroke_width=width,
+            stroke_dasharray=dash,
+            **more,
+        )
 
     def path(self, steps, colour=INK, width=1, fill="none", **more):
         """Steps are letters and numbers, as ["M", 0, 0, "L", 5, 5]."""
-        self.element("path", d=" ".join(map(shown, steps)), stroke=colour, stroke_width=width, fill=fill, **more)
+        self.element(
+            "path",
+            d=" ".join(map(shown, steps)),
+            stroke=colour,
+            stroke_width=width,
+            fill=fill,
+            **more,
+        )
 
-    def rect(self, x, y, width, height, fill, stroke=None, stroke_width=None, round_by=None, **more):
-        self.element("rect", x=x, y=y, width=width, height=height, rx=round_by, fill=fill, stroke=stroke,
-                     stroke_width=stroke_width, **more)
+    def rect(
+        self, x, y, width, height, fill, stroke=None, stroke_width=None, round_by=None, **more
+    ):
+        self.element(
+            "rect",
+            x=x,
+            y=y,
+            width=width,
+            height=height,
+            rx=round_by,
+            fill=fill,
+            stroke=stroke,
+            stroke_width=stroke_width,
+            **more,
+        )
 
     def circle(self, x, y, radius, fill, stroke=None, stroke_width=None, **more):
-        self.element("circle", cx=x, cy=y, r=radius, fill=fill, stroke=stroke, stroke_width=stroke_width, **more)
+        self.element(
+            "circle",
+            cx=x,
+            cy=y,
+            r=radius,
+            fill=fill,
+            stroke=stroke,
+            stroke_width=stroke_width,
+            **more,
+        )
 
     def text(self, x, y, text, size=11, fill=INK, anchor=None, bold=False, halo=None, **more):
         if halo:
             more.update(paint_order="stroke", stroke=PAPER, stroke_width=halo)
-        self.element("text", text, x=x, y=y, font_size=size, fill=fill, text_anchor=anchor,
-                     font_weight="bold" if bold else None, **more)
+        self.element(
+            "text",
+            text,
+            x=x,
+            y=y,
+            font_size=size,
+            fill=fill,
+            text_anchor=anchor,
+            font_weight="bold" if bold else None,
+            **more,
+        )
 
     def head(self, x, y, dx, dy, size, colour, hollow=False):
         """An arrow's head with its tip at x, y, pointing along dx, dy."""
@@ -105,7 +171,18 @@ class Svg:
         dx, dy = dx / length, dy / length
         back_x, back_y, half = x - dx * size, y - dy * size, size * 0.42
         self.path(
-            ["M", x, y, "L", back_x - dy * half, back_y + dx * half, "L", back_x + dy * half, back_y - dx * half, "Z"],
+            [
+                "M",
+                x,
+                y,
+                "L",
+                back_x - dy * half,
+                back_y + dx * half,
+                "L",
+                back_x + dy * half,
+                back_y - dx * half,
+                "Z",
+            ],
             colour,
             1,
             PAPER if hollow else colour,
@@ -124,8 +201,13 @@ class Svg:
         self.text(20, 28, title, 17, INK, bold=True)
         for number, line in enumerate(lines):
             self.text(20, 48 + 16 * number, line, 11.5, SOFT)
-        self.width = max([self.width, 40 + 1.1 * text_width(title, 17),
-                          *(40 + 0.9 * text_width(line, 11.5) for line in lines)])
+        self.width = max(
+            [
+                self.width,
+                40 + 1.1 * text_width(title, 17),
+                *(40 + 0.9 * text_width(line, 11.5) for line in lines),
+            ]
+        )
 
     def inner(self):
         return "\n".join(self.parts)

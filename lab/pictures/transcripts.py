@@ -22,6 +22,7 @@ OF_ROUND = 100
 class Wire(NamedTuple):
     """A wire from `v` to `w`, as lab/definitions/nodes.py has it, and the stamps of its put and of its take; the latter
     is None if nobody took it."""
+
     v: int
     w: int
     what: tuple
@@ -50,9 +51,15 @@ class Run:
     def __init__(self, name, network, program, order, wrong):
         self.name, self.network, self.program = name, network, program
         self.is_stamped, self.whole, self.wrong = order.is_stamped, order.is_whole(), wrong
-        self.made = [entry for entry in order.made if not wrong or not self.is_stamped or entry.line < wrong[1].line]
+        self.made = [
+            entry
+            for entry in order.made
+            if not wrong or not self.is_stamped or entry.line < wrong[1].line
+        ]
         self.last, self.wires = program.last_pulse(network), wires_of(self.made)
-        self.ticks, self.reached = {v: {0: 0} for v in network.vertices}, dict.fromkeys(network.vertices, 0)
+        self.ticks, self.reached = {v: {0: 0} for v in network.vertices}, dict.fromkeys(
+            network.vertices, 0
+        )
         for entry in self.made:
             self.reached[entry.vertex] = entry.stamp
             if entry.kind == "Pulse":
@@ -61,9 +68,14 @@ class Run:
     def in_rounds(self, first, last):
         """The payloads of these pulses in a run whose nodes make all pulses at once: the synchronous rounds."""
         run = copy(self)
-        run.ticks = dict.fromkeys(self.ticks, {pulse: OF_ROUND * pulse for pulse in range(first, last + 2)})
-        run.wires = sorted(wire._replace(put=OF_ROUND * wire.pulse, take=OF_ROUND * (wire.pulse + 1))
-                           for wire in self.wires if wire.kind == "payload" and first <= wire.pulse <= last)
+        run.ticks = dict.fromkeys(
+            self.ticks, {pulse: OF_ROUND * pulse for pulse in range(first, last + 2)}
+        )
+        run.wires = sorted(
+            wire._replace(put=OF_ROUND * wire.pulse, take=OF_ROUND * (wire.pulse + 1))
+            for wire in self.wires
+            if wire.kind == "payload" and first <= wire.pulse <= last
+        )
         return run
 
 
@@ -83,15 +95,24 @@ def wires_of(made):
     for entry in made:
         if entry.kind == "Take":
             taken.setdefault((entry.neighbour, entry.vertex), deque()).append(entry.stamp)
-    return [Wire(v, w, entry.what, entry.stamp, taken[v, w].popleft() if taken.get((v, w)) else None)
-            for entry in made if entry.kind == "Put" for v, w in [(entry.vertex, entry.neighbour)]]
+    return [
+        Wire(v, w, entry.what, entry.stamp, taken[v, w].popleft() if taken.get((v, w)) else None)
+        for entry in made
+        if entry.kind == "Put"
+        for v, w in [(entry.vertex, entry.neighbour)]
+    ]
 
 
 def read_transcript(text, name, network, until=None, program=Colouring, is_wrong_drawn=False):
     """The run of a program that a transcript records, or what is wrong with it, unless that is drawn. Of a long text,
     with `until`, only what the pulses up to that one depend on is read."""
     if until is not None and text.count("\n") > LONG_TEXT:
-        run = Run(name, network, program, *ordered(text, name, network, program, until + 1 + network.nodes))
+        run = Run(
+            name,
+            network,
+            program,
+            *ordered(text, name, network, program, until + 1 + network.nodes),
+        )
         if all(until + 1 in ticks or until >= run.last for ticks in run.ticks.values()):
             return run
     return Run(name, network, program, *ordered(text, name, network, program, None, is_wrong_drawn))
@@ -106,7 +127,9 @@ def ordered(text, name, network, program, stop=None, is_wrong_drawn=False):
     except WrongEntry as why:
         raise Wrong(f"{name} {why}") from None
     if head.nodes != network.nodes:
-        raise wrong_line(name, head.line, f"{head.nodes} nodes, and {network.name} has {network.nodes} (Nodes)")
+        raise wrong_line(
+            name, head.line, f"{head.nodes} nodes, and {network.name} has {network.nodes} (Nodes)"
+        )
     order = find_order(network, read, program)
     wrong = order.wrong(fault, is_part=stop is not None and stop <= program.last_pulse(network))
     if wrong and not (is_wrong_drawn and wrong.code not in ("X1", "NoSuch")):

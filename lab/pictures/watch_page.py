@@ -14,8 +14,10 @@ from lab.transcripts.reading import words
 from lab.wrong import Wrong
 
 MOST_ENTRIES = 20_000
-ORDER = ("The order is one of those that are possible, not that of real time: a stamp is Lamport’s clock, "
-         "and it only says that a node’s own steps, and a take after its put, come one after the other.")
+ORDER = (
+    "The order is one of those that are possible, not that of real time: a stamp is Lamport’s clock, "
+    "and it only says that a node’s own steps, and a take after its put, come one after the other."
+)
 
 
 def look_of(state, v):
@@ -28,12 +30,21 @@ def look_of(state, v):
     elif p == node.last:
         waits = [("close", w) for w, port in ports if not port.closed]
     else:
-        waits = [("ack", w) for w, port in ports if port.waits] + [("safe", w) for w, port in ports if not port.safe]
+        waits = [("ack", w) for w, port in ports if port.waits] + [
+            ("safe", w) for w, port in ports if not port.safe
+        ]
     has = [(payload_words(port.present), w) for w, port in ports if port.present]
     early = [(payload_words(port.early), w) for w, port in ports if port.early]
     early += [("safe", w) for w, port in ports if port.early_safe]
-    return {"p": p, "s": int(node.said), "e": int(node.drained()), "w": waits, "h": has, "k": early,
-            "c": found(node)}
+    return {
+        "p": p,
+        "s": int(node.said),
+        "e": int(node.drained()),
+        "w": waits,
+        "h": has,
+        "k": early,
+        "c": found(node),
+    }
 
 
 def found(node):
@@ -42,8 +53,11 @@ def found(node):
     if not isinstance(program, Colouring):
         return program.result()
     # Its turn in the first merge; if nothing is merged, it has a channel at the end.
-    turn = (FIRST_MERGE + program.colours[0] * (program.span + 1) + program.least_free(()) if program.forests
-            else node.last)
+    turn = (
+        FIRST_MERGE + program.colours[0] * (program.span + 1) + program.least_free(())
+        if program.forests
+        else node.last
+    )
     return program.merged + 1 if node.pulse_number >= turn else 0
 
 
@@ -79,7 +93,12 @@ def steps_of_text(name, network, text, pulses=None, program=Colouring):
         steps.add(entry)
         if entry.kind == "Pulse":
             made[entry.vertex] = entry.what
-        if not pulses and len(steps.every) > MOST_ENTRIES or pulses and min(made.values()) > pulses[1]:
+        if (
+            not pulses
+            and len(steps.every) > MOST_ENTRIES
+            or pulses
+            and min(made.values()) > pulses[1]
+        ):
             break
     return steps
 
@@ -91,7 +110,7 @@ class Run:
     def __init__(self, name, network, steps, pulses=None):
         self.name, self.network, nodes = name, network, steps.state.nodes
         self.last, self.is_whole = nodes[1].last, all(node.drained() for node in nodes.values())
-        every = steps.every if pulses else steps.every[:MOST_ENTRIES + 1]
+        every = steps.every if pulses else steps.every[: MOST_ENTRIES + 1]
         self.at_pulse = {v: {0: 0} for v in network.vertices}
         for entry, *_ in every:
             if entry.kind == "Pulse":
@@ -104,7 +123,9 @@ class Run:
         for v, w, wire, *_ in self.wires:
             if wire[0] == "Payload":
                 self.sent.setdefault(wire[1], []).append((v, w, payload_words(wire[2])))
-        self.stamps = (self.moments[0][0].stamp - 1, self.moments[-1][0].stamp) if self.moments else (0, 0)
+        self.stamps = (
+            (self.moments[0][0].stamp - 1, self.moments[-1][0].stamp) if self.moments else (0, 0)
+        )
 
     def window(self, every, pulses):
         """Which entries are shown: from where a first node begins the first pulse to where the last one ends the
@@ -117,11 +138,17 @@ class Run:
             pulses = 0, max(0, min(reached) - 1)
         self.pulses = pulses or (0, min(self.last, max(reached)))
         self.is_cut = pulses is not None and pulses != (0, self.last)
-        shown = [at for at, (_, during, _) in enumerate(every) if self.pulses[0] <= during <= self.pulses[1]]
+        shown = [
+            at
+            for at, (_, during, _) in enumerate(every)
+            if self.pulses[0] <= during <= self.pulses[1]
+        ]
         first, end = (shown[0], shown[-1] + 1) if shown else (0, 0)
         if end - first > MOST_ENTRIES:
-            raise Wrong(f"{self.name}: pulses {self.pulses[0]} to {self.pulses[1]} have {end - first:,} entries, and a "
-                        f"page shows at most {MOST_ENTRIES:,}: name fewer with --pulses")
+            raise Wrong(
+                f"{self.name}: pulses {self.pulses[0]} to {self.pulses[1]} have {end - first:,} entries, and a "
+                f"page shows at most {MOST_ENTRIES:,}: name fewer with --pulses"
+            )
         return first, end
 
     def payloads(self, pulse):
@@ -134,12 +161,22 @@ class Run:
 
         def text(said):
             return texts.setdefault(said, len(texts))
+
         return {
             "name": self.name,
             "start": [self.start[v] for v in self.network.vertices],
-            "rows": [[entry.stamp, entry.vertex, looks.setdefault(json.dumps(look), len(looks)),
-                      text(words(entry).split(" ", 2)[2])] for entry, _, look in self.moments],
-            "wires": [[v, w, text(wire_words(wire)), *flight] for v, w, wire, *flight in self.wires],
+            "rows": [
+                [
+                    entry.stamp,
+                    entry.vertex,
+                    looks.setdefault(json.dumps(look), len(looks)),
+                    text(words(entry).split(" ", 2)[2]),
+                ]
+                for entry, _, look in self.moments
+            ],
+            "wires": [
+                [v, w, text(wire_words(wire)), *flight] for v, w, wire, *flight in self.wires
+            ],
             "looks": [json.loads(look) for look in looks],
             "texts": list(texts),
             "stamps": self.stamps,
@@ -148,7 +185,11 @@ class Run:
 
     def all_at(self):
         """When the last node makes each pulse, as far as it is shown: the stamp, and how many entries are made then."""
-        made = {entry.what: at for at, (entry, *_) in enumerate(self.moments, 1) if entry.kind == "Pulse"}
+        made = {
+            entry.what: at
+            for at, (entry, *_) in enumerate(self.moments, 1)
+            if entry.kind == "Pulse"
+        }
         for pulse in range(self.pulses[0], self.pulses[1] + 1):
             stamps = [reached.get(pulse) for reached in self.at_pulse.values()]
             if None in stamps:
@@ -159,7 +200,8 @@ class Run:
 
 def wires_of(every, first):
     """[from, to, wire, number and stamp of its put, and of its take] of the wires that are on their links at or after
-    the first entry shown; an entry before it has a negative number, and one after those shown none."""
+    the first entry shown; an entry before it has a negative number, and one after those shown none.
+    """
     flying, found = {}, []
     for at, (entry, *_) in enumerate(every, -first):
         if entry.kind == "Put":
@@ -176,10 +218,21 @@ def draw(runs):
     pulses = max(run.pulses[0] for run in runs), min(run.pulses[1] for run in runs)
     title = "a run without a clock" if len(runs) == 1 else "two orders of events, the same rounds"
     each = range(pulses[0], pulses[1] + 1) if len(runs) == 2 else ()
-    data = {"net": net_of(network), "last": first.last, "pulses": pulses, "runs": [run.table() for run in runs],
-            "same": [all(run.payloads(p) == first.payloads(p) for run in runs) for p in each],
-            "sent": [[[v, w, said] for v, w, said in first.payloads(p)] for p in each]}
-    return page("alone.html", "watch", data, title=f"{network.name}: {title}", about=f"{about(runs, pulses)} {ORDER}")
+    data = {
+        "net": net_of(network),
+        "last": first.last,
+        "pulses": pulses,
+        "runs": [run.table() for run in runs],
+        "same": [all(run.payloads(p) == first.payloads(p) for run in runs) for p in each],
+        "sent": [[[v, w, said] for v, w, said in first.payloads(p)] for p in each],
+    }
+    return page(
+        "alone.html",
+        "watch",
+        data,
+        title=f"{network.name}: {title}",
+        about=f"{about(runs, pulses)} {ORDER}",
+    )
 
 
 def about(runs, pulses):
@@ -188,8 +241,10 @@ def about(runs, pulses):
     entries = " and ".join(f"{len(one.moments):,}" for one in runs)
     said = f"{shown_}, {entries} entries: each is a pulse, a put or a take of one node."
     if len(runs) == 2:
-        said += (" At a whole number of the slider each run is at the moment when the last of its nodes makes that "
-                 "pulse; its other nodes may be ahead.")
+        said += (
+            " At a whole number of the slider each run is at the moment when the last of its nodes makes that "
+            "pulse; its other nodes may be ahead."
+        )
     if any(one.is_too_long for one in runs):
         said += f" A page shows at most {MOST_ENTRIES:,} entries of a run; --pulses A..B shows other pulses."
     cut = [one for one in runs if not one.is_whole and not one.is_cut]

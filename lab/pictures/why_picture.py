@@ -11,8 +11,10 @@ from lab.words import counted, in_words
 from lab.wrong import Wrong, at_most
 
 
-NOT_FOLLOWED = ("not followed: that nobody had taken the channel that it has; and the greetings, which say who is "
-                "whose parent")
+NOT_FOLLOWED = (
+    "not followed: that nobody had taken the channel that it has; and the greetings, which say who is "
+    "whose parent"
+)
 
 
 class Cone:
@@ -23,15 +25,22 @@ class Cone:
         if vertex not in self.network.vertices:
             raise Wrong(f"{self.network.name} has no vertex {vertex}")
         self.messages = set()
-        self.facts = self.behind(("merged", vertex, rounds.forests - 1)) if rounds.forests else set()
+        self.facts = (
+            self.behind(("merged", vertex, rounds.forests - 1)) if rounds.forests else set()
+        )
 
     def behind(self, fact):
         """A fact and all those on which it depends."""
         found, left = {fact}, [fact]
         while left:
             kind, *of = left.pop()
-            causes = (self.causes_of_choice(*of) if kind == "merged" else
-                      self.causes_of_colour(*of) if kind == "colour" else ())
+            causes = (
+                self.causes_of_choice(*of)
+                if kind == "merged"
+                else self.causes_of_colour(*of)
+                if kind == "colour"
+                else ()
+            )
             new = set(causes) - found
             found |= new
             left += new
@@ -50,10 +59,19 @@ class Cone:
     def takers(self, v, f):
         """(lower colour, pulse, neighbour that took it first) of v's choice; no neighbour of one that is barred."""
         rounds, merged = self.rounds, self.rounds.merged[f + 1]
-        near = [(rounds.turn(f, w), w) for w in self.network.neighbours[v] if rounds.forest_of[v, w] <= f]
+        near = [
+            (rounds.turn(f, w), w)
+            for w in self.network.neighbours[v]
+            if rounds.forest_of[v, w] <= f
+        ]
         for lower in range(merged[v]):
-            yield lower, *((None, None) if lower in self.network.barred[v] else
-                           min((turn, w) for turn, w in near if merged[w] == lower and turn < rounds.turn(f, v)))
+            yield lower, *(
+                (None, None)
+                if lower in self.network.barred[v]
+                else min(
+                    (turn, w) for turn, w in near if merged[w] == lower and turn < rounds.turn(f, v)
+                )
+            )
 
     def causes_of_colour(self, v, f, p):
         if p == SEED:
@@ -72,7 +90,9 @@ class Cone:
 
     def told(self, v, parent, f, p):
         """The parent's colour before pulse p, which it told v in the pulse before."""
-        self.messages.add((p - 1, parent, v, f"colour {self.rounds.pulses[p - 1].colours[parent, f]}"))
+        self.messages.add(
+            (p - 1, parent, v, f"colour {self.rounds.pulses[p - 1].colours[parent, f]}")
+        )
         return "colour", parent, f, p - 1
 
     def identifiers(self):
@@ -90,9 +110,11 @@ def summary(cone):
     sent = sum(len(pulse.puts) for pulse in cone.rounds.pulses)
     far = distances(cone.network.neighbours, cone.vertex)
     most = max(far[v] for v in names)
-    return (f"{len(cone.messages)} of {sent} messages decided it, and the identifiers of {len(names)} of "
-            f"{counted(cone.network.nodes, 'node')}. The farthest, {counted(most, 'edge')} away by the shortest way: "
-            f"{in_words([v for v in names if far[v] == most])}.")
+    return (
+        f"{len(cone.messages)} of {sent} messages decided it, and the identifiers of {len(names)} of "
+        f"{counted(cone.network.nodes, 'node')}. The farthest, {counted(most, 'edge')} away by the shortest way: "
+        f"{in_words([v for v in names if far[v] == most])}."
+    )
 
 
 def channel_of(cone):
@@ -101,11 +123,23 @@ def channel_of(cone):
 
 def text(cone):
     """In words: each choice that mattered, the last one first, and the colours that gave the turns."""
-    lines = [f"why node {cone.vertex} of {cone.network.name} has channel {channel_of(cone)}", summary(cone)]
-    choices = sorted((-cone.rounds.turn(f, v), v, f) for kind, v, *of in cone.facts if kind == "merged" for f in of)
+    lines = [
+        f"why node {cone.vertex} of {cone.network.name} has channel {channel_of(cone)}",
+        summary(cone),
+    ]
+    choices = sorted(
+        (-cone.rounds.turn(f, v), v, f)
+        for kind, v, *of in cone.facts
+        if kind == "merged"
+        for f in of
+    )
     lines += [line for _, v, f in choices for line in choice_lines(cone, v, f)]
-    lines += [colour_line(cone, v, f) for f in cone.forests() for v in cone.network.vertices
-              if any(("colour", v, f, p) in cone.facts for p in range(SEED, LAST_COLOUR + 1))]
+    lines += [
+        colour_line(cone, v, f)
+        for f in cone.forests()
+        for v in cone.network.vertices
+        if any(("colour", v, f, p) in cone.facts for p in range(SEED, LAST_COLOUR + 1))
+    ]
     if cone.messages:
         lines.append("the messages that decided it, pulse by pulse:")
         lines += [message_words(cone, *message) for message in sorted(cone.messages)]
@@ -118,25 +152,34 @@ def text(cone):
 def message_words(cone, pulse, v, w, said):
     """A message, and the forest of which it is: of a colour that of the edge, of a choice the one that is merged."""
     step = cone.rounds.pulses[pulse].step
-    where = f"in the merge of forest {step[0]}" if step else f"in forest {cone.rounds.forest_of[v, w]}"
+    where = (
+        f"in the merge of forest {step[0]}" if step else f"in forest {cone.rounds.forest_of[v, w]}"
+    )
     return f"{v} told {w} {said} in pulse {pulse}, {where}"
 
 
 def choice_lines(cone, v, f):
     pulse, colour = cone.rounds.turn(f, v), cone.rounds.merged[f + 1][v]
     _, three, old = cone.rounds.pulses[pulse].step
-    yield (f"pulse {pulse}, merge of forest {f}: the turn of node {v}, with colour {three} in the forest and {old} so "
-           f"far; it chooses colour {colour}, channel {colour + 1}")
+    yield (
+        f"pulse {pulse}, merge of forest {f}: the turn of node {v}, with colour {three} in the forest and {old} so "
+        f"far; it chooses colour {colour}, channel {colour + 1}"
+    )
     for lower, when, w in cone.takers(v, f):
-        yield (f"  channel {lower + 1} is barred at it" if w is None else
-               f"  channel {lower + 1} is taken: node {w} told it so in pulse {when}")
+        yield (
+            f"  channel {lower + 1} is barred at it"
+            if w is None
+            else f"  channel {lower + 1} is taken: node {w} told it so in pulse {when}"
+        )
 
 
 def colour_line(cone, v, f):
     """The colours of a node in a forest that mattered, by pulse; a point stands for one that didn't."""
     parent = cone.rounds.parents.get((v, f))
-    said = " ".join(str(cone.rounds.pulses[p].colours[v, f]) if ("colour", v, f, p) in cone.facts else "."
-                    for p in range(SEED, LAST_COLOUR + 1))
+    said = " ".join(
+        str(cone.rounds.pulses[p].colours[v, f]) if ("colour", v, f, p) in cone.facts else "."
+        for p in range(SEED, LAST_COLOUR + 1)
+    )
     return f"forest {f}, node {v}, {f'parent {parent}' if parent else 'a root'}, pulses 2 to 12: {said}"
 
 
@@ -145,7 +188,9 @@ def draw(cone):
     rounds, network = cone.rounds, cone.network
     forests = cone.forests()
     if not forests:
-        raise Wrong(f"node {cone.vertex} of {network.name} is in no forest, so no message decided its channel")
+        raise Wrong(
+            f"node {cone.vertex} of {network.name} is in no forest, so no message decided its channel"
+        )
     at_most("why", len(forests) * network.nodes, "rows", MOST_ROWS, "--text, which has no limit")
     title = f"{network.name}: why node {cone.vertex} has channel {channel_of(cone)}"
     pale = "Pale is what didn’t decide it; the last column, with the channels after a merge, is never pale."

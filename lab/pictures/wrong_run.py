@@ -15,7 +15,11 @@ def said_of(run, stopped: int | None) -> str:
     if run.wrong:
         return f"Red: {run.wrong[1]}."
     where = "" if stopped is None else f": it stops at node {stopped}"
-    return "" if run.whole else f"Each entry is possible, but the run doesn't reach its end (NotWhole){where}."
+    return (
+        ""
+        if run.whole
+        else f"Each entry is possible, but the run doesn't reach its end (NotWhole){where}."
+    )
 
 
 def usual_pulses(run) -> tuple[int, int]:
@@ -38,16 +42,22 @@ def draw_wrong(svg, window, kinds, stopped: int | None) -> None:
         v, time = entry.vertex, run.reached[entry.vertex] + 1
         with svg.group("wrong", f"line {why.line}, not possible"):
             if entry.kind == "Pulse":
-                svg.line(window.x(time), window.y(v) - 14, window.x(time), window.y(v) + 14, WRONG, 5)
+                svg.line(
+                    window.x(time), window.y(v) - 14, window.x(time), window.y(v) + 14, WRONG, 5
+                )
             else:
-                draw_stub(svg, window, v, entry.neighbour, time, WRONG, 2.4, is_put=entry.kind == "Put")
+                draw_stub(
+                    svg, window, v, entry.neighbour, time, WRONG, 2.4, is_put=entry.kind == "Put"
+                )
             svg.circle(window.x(time), window.y(v), 4, WRONG)
     elif stopped and not run.whole:
         with svg.group("wrong", f"node {stopped}, where the run stops"):
             svg.circle(window.x(run.reached[stopped] + 0.5), window.y(stopped), 6, WRONG)
 
 
-def draw_stub(svg, window, v, w, time, colour: str, width: float, dash: str | None = None, is_put=True) -> None:
+def draw_stub(
+    svg, window, v, w, time, colour: str, width: float, dash: str | None = None, is_put=True
+) -> None:
     """A part of the arrow of a put or a take of v's, at v."""
     x, y = window.x(time), window.y(v)
     dx, dy = STEPS * window.scale, window.row * PART_OF_ROW * (1 if w > v else -1)

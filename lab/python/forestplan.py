@@ -30,7 +30,9 @@ class Refused(ValueError):
 
     def __init__(self, said, order):
         fault = said.partition(": ")[2] or said or "no words"
-        numbers = [int(word) for word in fault.split()[2:] if word.isdigit()] if " vert" in fault else []
+        numbers = (
+            [int(word) for word in fault.split()[2:] if word.isdigit()] if " vert" in fault else []
+        )
         self.code = fault.split()[0]
         self.nodes = [order[v - 1] for v in numbers if 0 < v <= len(order)]
         told = _lab(["network", "tell", fault]) if len(fault) < 200 else ""
@@ -41,7 +43,8 @@ class Refused(ValueError):
 
 class _Answer:
     """What a program wrote (`text`) of what it read (`network`), in which nodes have numbers and channels count from 1.
-    A notebook shows its picture: the first of `kinds`, or the second if the network has more than `most` lines."""
+    A notebook shows its picture: the first of `kinds`, or the second if the network has more than `most` lines.
+    """
 
     network = text = ""
 
@@ -50,7 +53,12 @@ class _Answer:
             file.write(self.text)
             file.flush()
             kind = self.kinds[self.network.count("\n") > self.most]
-            return _lab(["picture", kind, "-", self.option, file.name, "--title", "graph"], self.network) or None
+            return (
+                _lab(
+                    ["picture", kind, "-", self.option, file.name, "--title", "graph"], self.network
+                )
+                or None
+            )
 
 
 class Plan(_Answer, dict):
@@ -81,7 +89,9 @@ def plan(G, bars=None, licence=None, workers=None):
     found, lines, order = _asked(Plan(), "forestplan", words, G, bars, licence)
     numbers = [int(line.split()[1]) for line in lines]
     if licence is not None and max(numbers, default=0) > len(licence):
-        raise ValueError(f"the plan takes {max(numbers)} channels, and the licence has {len(licence)}")
+        raise ValueError(
+            f"the plan takes {max(numbers)} channels, and the licence has {len(licence)}"
+        )
     found.update(zip(order, numbers if licence is None else (licence[k - 1] for k in numbers)))
     return found
 
@@ -91,7 +101,9 @@ def check(G, plan, bars=None, licence=None):
     `Refused`."""
     network, order = text_of(G, bars, licence)
     if not isinstance(plan, collections.abc.Mapping):
-        raise TypeError(f"a {type(plan).__name__} is no plan: a dict with the channel of each node is wanted")
+        raise TypeError(
+            f"a {type(plan).__name__} is no plan: a dict with the channel of each node is wanted"
+        )
     number, counted, rows = {node: v for v, node in enumerate(order, 1)}, _counted(licence), []
     for node, channel in plan.items():
         if node not in number:
@@ -100,7 +112,9 @@ def check(G, plan, bars=None, licence=None):
         if own is None:
             raise ValueError(f"{node!r} has channel {channel!r}, which isn't in the licence")
         rows.append(f"{number[node]} {own}\n")
-    return int(_called("forestplan", ["check"], f"{network}plan\n{''.join(rows)}", order).split()[1])
+    return int(
+        _called("forestplan", ["check"], f"{network}plan\n{''.join(rows)}", order).split()[1]
+    )
 
 
 def rounds(G, bars=None):
@@ -121,7 +135,9 @@ def rounds(G, bars=None):
 def transcript(G, bars=None, workers=2):
     """A run without a clock, by worker threads: all events, in an order in which they were possible. Two calls differ,
     as runs do, unless there is one worker."""
-    found, lines, order = _asked(Transcript(), "forestplan", ["transcript", "--workers", str(workers)], G, bars)
+    found, lines, order = _asked(
+        Transcript(), "forestplan", ["transcript", "--workers", str(workers)], G, bars
+    )
     for line in lines:
         stamp, v, kind, other, *wire = line.split()
         beside = order[int(other) - 1] if kind != "pulse" else int(other)
@@ -146,7 +162,9 @@ def text_of(G, bars=None, licence=None):
     for node, own in (bars or {}).items():
         if node not in number:
             raise ValueError(f"{node!r} is no node of the graph")
-        channels = [counted(channel, f"a bar of {node!r}") for channel in _items(own, f"bars of {node!r}")]
+        channels = [
+            counted(channel, f"a bar of {node!r}") for channel in _items(own, f"bars of {node!r}")
+        ]
         barred |= {(number[node], channel) for channel in channels if channel is not None}
     edges = {tuple(sorted((number[one], number[other]))) for one, other in pairs if one != other}
     lines = [f"c name {v} {' '.join(str(node).split())}" for v, node in enumerate(order, 1)]
@@ -168,22 +186,30 @@ def _pairs(G):
     pairs = []
     for one, several in G.items():
         found = list(_items(several, f"neighbours of {one!r}"))
-        if len(found) == len(G) > 2 and all(isinstance(other, int) and other in (0, 1) for other in found):
+        if len(found) == len(G) > 2 and all(
+            isinstance(other, int) and other in (0, 1) for other in found
+        ):
             raise _no_graph(f"the neighbours of {one!r} may be a row of a matrix")
         for other in found:
             value = several[other] if isinstance(several, collections.abc.Mapping) else True
             if not isinstance(value, collections.abc.Mapping) and (not value or value != value):
-                raise _no_graph(f"the neighbour {other!r} of {one!r} has the value {value!r}, and may be none")
+                raise _no_graph(
+                    f"the neighbour {other!r} of {one!r} has the value {value!r}, and may be none"
+                )
             is_more = isinstance(other, tuple) and other[:1] and other[0] in G
             if other != other or other not in G and (is_more or other in (None, "")):
-                raise _no_graph(f"a neighbour of {one!r} is {other!r}, which isn't the name of a node alone")
+                raise _no_graph(
+                    f"a neighbour of {one!r} is {other!r}, which isn't the name of a node alone"
+                )
             pairs.append((one, other))
     return pairs
 
 
 def _no_graph(what):
-    return TypeError(f"{what}: a graph of networkx is wanted, which has functions that make one of pairs, tables and "
-                     "matrices, or a dict with a list of the neighbours of each node")
+    return TypeError(
+        f"{what}: a graph of networkx is wanted, which has functions that make one of pairs, tables and "
+        "matrices, or a dict with a list of the neighbours of each node"
+    )
 
 
 def _items(several, what):
@@ -196,6 +222,7 @@ def _items(several, what):
 def _counted(licence):
     """A function of a channel, and what it is: the one, counted from 1, that it is in the licence, or None; itself, if
     there is no licence."""
+
     def whole(value, what, least, most):
         if isinstance(value, bool) or not hasattr(value, "__index__"):
             raise TypeError(f"{what} is {value!r}, and has to be a whole number")
@@ -206,17 +233,25 @@ def _counted(licence):
     if licence is None:
         return lambda channel, what: whole(channel, what, 1, 2048)
     if isinstance(licence, (str, bytes)) or not isinstance(licence, collections.abc.Sequence):
-        raise TypeError(f"the licence is {licence!r}, and has to be a list of whole numbers, in order of preference")
-    real = {whole(channel, "a channel of the licence", 0, 10 ** 12): k for k, channel in enumerate(licence, 1)}
+        raise TypeError(
+            f"the licence is {licence!r}, and has to be a list of whole numbers, in order of preference"
+        )
+    real = {
+        whole(channel, "a channel of the licence", 0, 10**12): k
+        for k, channel in enumerate(licence, 1)
+    }
     if len(real) < len(licence):
         raise ValueError("the licence names a channel twice")
-    return lambda channel, what: real.get(whole(channel, what, 0, 10 ** 12))
+    return lambda channel, what: real.get(whole(channel, what, 0, 10**12))
 
 
 def home():
     """The folder with the programs: the one of this file, or what pip installed beside it."""
     here = os.path.dirname(os.path.dirname(os.path.dirname(os.path.realpath(__file__))))
-    for folder in (here, *(os.path.join(base, "share", "forestplan") for base in (sys.prefix, site.getuserbase()))):
+    for folder in (
+        here,
+        *(os.path.join(base, "share", "forestplan") for base in (sys.prefix, site.getuserbase())),
+    ):
         if os.path.isfile(os.path.join(folder, "lab", "programs.py")):
             return folder
     raise FileNotFoundError("there is no folder of forestplan that is installed or built")
@@ -231,7 +266,9 @@ def _program(name):
 
 
 def _called(name, words, text, order):
-    done = subprocess.run([_program(name), *words], input=text.encode("utf-8", "replace"), capture_output=True)
+    done = subprocess.run(
+        [_program(name), *words], input=text.encode("utf-8", "replace"), capture_output=True
+    )
     if done.returncode:
         raise Refused(done.stderr.decode("utf-8", "replace").strip(), order)
     return done.stdout.decode()
@@ -239,6 +276,9 @@ def _called(name, words, text, order):
 
 def _lab(words, text=""):
     """What a command in Python writes, or nothing if it refuses."""
-    done = subprocess.run([sys.executable, "-S", os.path.join(home(), "lab"), *words],
-                          input=text.encode("utf-8", "replace"), capture_output=True)
+    done = subprocess.run(
+        [sys.executable, "-S", os.path.join(home(), "lab"), *words],
+        input=text.encode("utf-8", "replace"),
+        capture_output=True,
+    )
     return "" if done.returncode else done.stdout.decode()

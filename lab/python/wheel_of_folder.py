@@ -18,10 +18,12 @@ def build_wheel(folder, config_settings=None, metadata_directory=None):
         version = file.readline().split()[1]
     tag = "py3-none-" + sysconfig.get_platform().replace("-", "_").replace(".", "_")
     name, info = f"forestplan-{version}-{tag}.whl", f"forestplan-{version}.dist-info"
-    texts = {f"{info}/METADATA": f"Metadata-Version: 2.1\nName: forestplan\nVersion: {version}\n"
-                                 "Summary: Channel plans of interference graphs, by proved programs\n"
-                                 "License: MIT OR Apache-2.0\nRequires-Python: >=3.10\n",
-             f"{info}/WHEEL": f"Wheel-Version: 1.0\nGenerator: forestplan\nRoot-Is-Purelib: false\nTag: {tag}\n"}
+    texts = {
+        f"{info}/METADATA": f"Metadata-Version: 2.1\nName: forestplan\nVersion: {version}\n"
+        "Summary: Channel plans of interference graphs, by proved programs\n"
+        "License: MIT OR Apache-2.0\nRequires-Python: >=3.10\n",
+        f"{info}/WHEEL": f"Wheel-Version: 1.0\nGenerator: forestplan\nRoot-Is-Purelib: false\nTag: {tag}\n",
+    }
     record = []
     with zipfile.ZipFile(os.path.join(folder, name), "w", zipfile.ZIP_DEFLATED) as wheel:
         for path, source in sorted(files(f"forestplan-{version}.data/data/share/forestplan")):

@@ -67,24 +67,48 @@ def rules_of(text):
         if word not in ALL:
             raise argparse.ArgumentTypeError(f"`{word}` is no rule: use some of {','.join(ALL)}")
     if not set(words) <= set(OF_SCHEDULES) and not program_of(words):
-        raise argparse.ArgumentTypeError("rules of the synchroniser, and of the rounds of a program, can't be left out "
-                                         "together with others")
+        raise argparse.ArgumentTypeError(
+            "rules of the synchroniser, and of the rounds of a program, can't be left out "
+            "together with others"
+        )
     return list(dict.fromkeys(words))
 
 
 def command_line():
     words = parser_of("explore", "[NETWORK] [options]", HELP, MORE_HELP)
-    words.add_argument("network", metavar="NETWORK", nargs="?",
-                       help="a file, - for standard input, or a name, as triangle or path3")
-    words.add_argument("--without", type=rules_of, default=[], metavar="RULES",
-                       help="the rules to leave out, with commas between")
-    words.add_argument("--limit", type=count, default=LIMIT, metavar="STATES",
-                       help=f"give up after this many states; default: {LIMIT}")
-    words.add_argument("--list", action="store_true",
-                       help="write one list of events alone, as `forestplay events` reads it")
-    words.add_argument("--reduce", action="store_true",
-                       help="take a safe or a close that comes next on its link at once and alone: far fewer states")
-    words.add_argument("--puts", action="store_true", help="count puts as events of their own, made at any time")
+    words.add_argument(
+        "network",
+        metavar="NETWORK",
+        nargs="?",
+        help="a file, - for standard input, or a name, as triangle or path3",
+    )
+    words.add_argument(
+        "--without",
+        type=rules_of,
+        default=[],
+        metavar="RULES",
+        help="the rules to leave out, with commas between",
+    )
+    words.add_argument(
+        "--limit",
+        type=count,
+        default=LIMIT,
+        metavar="STATES",
+        help=f"give up after this many states; default: {LIMIT}",
+    )
+    words.add_argument(
+        "--list",
+        action="store_true",
+        help="write one list of events alone, as `forestplay events` reads it",
+    )
+    words.add_argument(
+        "--reduce",
+        action="store_true",
+        help="take a safe or a close that comes next on its link at once and alone: far fewer states",
+    )
+    words.add_argument(
+        "--puts", action="store_true", help="count puts as events of their own, made at any time"
+    )
     words.add_argument("--json", action="store_true", help="write what was found for a program")
     add_program(words)
     add_output(words)
@@ -101,7 +125,9 @@ def main(words):
         line.error(why)
     if of_rounds and (given.list or given.puts or given.reduce):
         rules = ",".join(OF_SCHEDULES)
-        line.error(f"the rounds have no events: --list, --puts and --reduce are for the rules {rules}")
+        line.error(
+            f"the rounds have no events: --list, --puts and --reduce are for the rules {rules}"
+        )
     if given.reduce and set(given.without) & {"safes", "fifo"}:
         line.error("--reduce is right only if nodes keep the rules safes and fifo")
     found = rounds_found(given) if of_rounds else schedules_found(given)
@@ -122,6 +148,7 @@ class Found(NamedTuple):
 
 # The rounds.
 
+
 def rounds_found(given):
     """What the rounds of the network do without the rules, or a smallest network on which they go wrong."""
     net = None if given.network is None else network_at(given.network)
@@ -132,22 +159,31 @@ def rounds_found(given):
 
 def refused_words(without):
     """The wrong bodies that take these rules away."""
-    return "".join(f"wrong body of `{ALL[word].crate}`, which the prover refuses: {ALL[word].edit}\n"
-                   for word in without)
+    return "".join(
+        f"wrong body of `{ALL[word].crate}`, which the prover refuses: {ALL[word].edit}\n"
+        for word in without
+    )
 
 
 # The schedules.
 
+
 def schedules_found(given):
     net = network_at(given.network)
     if net.nodes > MOST_NODES:
-        raise Wrong(f"{net.name} has {net.nodes} nodes, and every schedule is played of at most {MOST_NODES}")
+        raise Wrong(
+            f"{net.name} has {net.nodes} nodes, and every schedule is played of at most {MOST_NODES}"
+        )
     space = searched(given, net)
     events = space.with_puts(space.path_to_fault() if space.faults else space.path(space.ends[0]))
     if given.list:
         text = "".join(f"{event}\n" for event in events)
     else:
-        text = broken_text(given, space, events) if space.faults else whole_text(given, net.name, space)
+        text = (
+            broken_text(given, space, events)
+            if space.faults
+            else whole_text(given, net.name, space)
+        )
     return Found(bool(space.faults), text, list(map(str, events)), space.count, len(space.target))
 
 
@@ -155,30 +191,50 @@ def searched(given, net):
     """The search, with a line of progress if somebody looks on."""
     show = sys.stderr.isatty()
     if show:
-        sys.stderr.write(f"explore: at most {given.limit:,} states, {given.limit * BYTES_A_STATE // 10 ** 6:,} MB")
+        sys.stderr.write(
+            f"explore: at most {given.limit:,} states, {given.limit * BYTES_A_STATE // 10 ** 6:,} MB"
+        )
 
     def progress(states, depth):
-        sys.stderr.write(f"\r\033[Kexplore: {states:,} states of at most {given.limit:,}, {depth} events far")
+        sys.stderr.write(
+            f"\r\033[Kexplore: {states:,} states of at most {given.limit:,}, {depth} events far"
+        )
         sys.stderr.flush()
 
     program = program_asked("explore", given, net)
     check_repeats(net, program)
     try:
-        space = Space(net, given.without, given.limit, given.puts, False, progress if show else None, given.reduce,
-                      program)
+        space = Space(
+            net,
+            given.without,
+            given.limit,
+            given.puts,
+            False,
+            progress if show else None,
+            given.reduce,
+            program,
+        )
     finally:
         if show:
             sys.stderr.write("\r\033[K")
     if space.is_cut:
-        raise Wrong(f"there are more than {given.limit:,} states: use --limit for more, "
-                    f"at some {BYTES_A_STATE} bytes each")
+        raise Wrong(
+            f"there are more than {given.limit:,} states: use --limit for more, "
+            f"at some {BYTES_A_STATE} bytes each"
+        )
     return space
 
 
 def whole_text(given, name, space):
     """All went right."""
-    what = f"not broken without {','.join(given.without)}" if given.without else f"every schedule of {name}"
-    schedules = "" if space.reduce or space.schedules is None else f", {rounded(space.schedules)} schedules"
+    what = (
+        f"not broken without {','.join(given.without)}"
+        if given.without
+        else f"every schedule of {name}"
+    )
+    schedules = (
+        "" if space.reduce or space.schedules is None else f", {rounded(space.schedules)} schedules"
+    )
     pulses = sum(node.pulse for node in space.nodes(space.ends[0]).values())
     rest = space.depth[space.ends[0]] - pulses
     kinds = f"{rest // 2:,} puts, {rest // 2:,} takes" if space.puts else f"{rest:,} takes"
@@ -189,8 +245,9 @@ def whole_text(given, name, space):
             f"{what}: {space.count:,} states, {len(space.target):,} steps{schedules}",
             f"each has {rest + pulses:,} events: {kinds} and {pulses:,} pulses",
             "each pulse had the round's inbox, and something was possible until all was done",
-            REDUCED if space.reduce else
-            f"neighbours at most {space.farthest} pulse{'s' * (space.farthest != 1)} apart, "
+            REDUCED
+            if space.reduce
+            else f"neighbours at most {space.farthest} pulse{'s' * (space.farthest != 1)} apart, "
             f"at most {space.most_wires} wires of a link under way",
             f"{'one end' if len(found) == 1 else f'{len(found)} ends'}: {' or '.join(dict.fromkeys(found))}",
             *([f"all this of the draws of --lots {given.lots} alone"] if has_drawn(space) else []),
@@ -223,9 +280,15 @@ def rounded(number):
 def broken_text(given, space, listed):
     s, _ = space.first_fault()
     what = space.faults[space.first_fault()]
-    if s not in space.broken and not given.without:     # the synchroniser keeps all its rules, so it is the file
-        raise Wrong(f"{given.program} does something else in another order of events: {AGAIN} ({what})")
-    first = f"broken after {events_words(listed)}{', maybe not the fewest' * space.reduce}: {what}\n"
+    if (
+        s not in space.broken and not given.without
+    ):  # the synchroniser keeps all its rules, so it is the file
+        raise Wrong(
+            f"{given.program} does something else in another order of events: {AGAIN} ({what})"
+        )
+    first = (
+        f"broken after {events_words(listed)}{', maybe not the fewest' * space.reduce}: {what}\n"
+    )
     return "".join([first, *event_lines(listed), refused_words(given.without)])
 
 
@@ -246,4 +309,3 @@ def event_lines(listed):
             yield f"{event}: {event.wire} for {event.w}\n"
         else:
             yield f"{event}: {event.wire} from {event.w}{', out of turn' if event.place else ''}\n"
-

@@ -22,6 +22,7 @@ class Step:
     0 of a pulse. `wire` is the kind of the wire: payload, ack, safe or close, and empty of a pulse. `since` says when
     the step became possible, so of a take when its wire was put: a number that grows over the run. `latest` says of a
     take when the newest wire of its link was put; of other steps it is `since`."""
+
     kind: str
     node: int
     neighbour: int = 0
@@ -39,16 +40,25 @@ class Step:
 
 # What each policy does, in words; and what waits under it until no other step is possible: of a step, and of the edge
 # or the node that the seed chooses.
-POLICIES = {"random": "any step that is possible, each as likely as any other",
-            "slow-link": "what goes over one edge, in either direction, waits", "slow-node": "what one node does waits",
-            "fast-node": "what one node does comes first",
-            "bursts": "one link until nothing is possible on it, then another",
-            "newest": "the link that was put on last",
-            "oldest": "the step that has been possible for longest: the friendliest order",
-            "in-turn": "each link in turn", "late-acks": "acknowledgements wait", "late-safes": "safes wait"}
-WAITS = {"slow-link": lambda step, edge: tuple(sorted(step.link)) == edge,
-         "slow-node": lambda step, v: step.node == v, "fast-node": lambda step, v: step.node != v,
-         "late-acks": lambda step, _: step.wire == "ack", "late-safes": lambda step, _: step.wire == "safe"}
+POLICIES = {
+    "random": "any step that is possible, each as likely as any other",
+    "slow-link": "what goes over one edge, in either direction, waits",
+    "slow-node": "what one node does waits",
+    "fast-node": "what one node does comes first",
+    "bursts": "one link until nothing is possible on it, then another",
+    "newest": "the link that was put on last",
+    "oldest": "the step that has been possible for longest: the friendliest order",
+    "in-turn": "each link in turn",
+    "late-acks": "acknowledgements wait",
+    "late-safes": "safes wait",
+}
+WAITS = {
+    "slow-link": lambda step, edge: tuple(sorted(step.link)) == edge,
+    "slow-node": lambda step, v: step.node == v,
+    "fast-node": lambda step, v: step.node != v,
+    "late-acks": lambda step, _: step.wire == "ack",
+    "late-safes": lambda step, _: step.wire == "safe",
+}
 
 
 class Policy:
@@ -56,8 +66,15 @@ class Policy:
     `chosen` is the edge or the node that waits or comes first, or None. Whatever the policy is, what goes over a `slow`
     edge and what a `lazy` node does waits until no other step is possible."""
 
-    def __init__(self, name: str, vertices: Sequence[int], edges: Sequence[tuple[int, int]], seed: str, slow=(),
-                 lazy=()):
+    def __init__(
+        self,
+        name: str,
+        vertices: Sequence[int],
+        edges: Sequence[tuple[int, int]],
+        seed: str,
+        slow=(),
+        lazy=(),
+    ):
         # Of a seed's generator only random() gives the same numbers in all versions of Python.
         self.name, self.source, self.last = name, random.Random(f"{seed} {name}"), ((0, 0), "")
         among = edges if name == "slow-link" else vertices if name.endswith("-node") else ()
@@ -70,17 +87,26 @@ class Policy:
     def choose(self, steps: Sequence[Step]) -> Step:
         """One of the steps, of which there is at least one."""
         if self.slow or self.lazy:
-            steps = [step for step in steps if not (step.node in self.lazy or tuple(sorted(step.link)) in self.slow)
-                     ] or steps
+            steps = [
+                step
+                for step in steps
+                if not (step.node in self.lazy or tuple(sorted(step.link)) in self.slow)
+            ] or steps
         if self.name == "newest":
-            return max(steps, key=lambda step: step.latest)     # it pulls the older wires of its link with it
+            return max(
+                steps, key=lambda step: step.latest
+            )  # it pulls the older wires of its link with it
         if self.name == "oldest":
             return min(steps, key=lambda step: step.since)
         if self.name == "in-turn":
-            step = min([step for step in steps if (step.link, step.kind) > self.last] or steps,
-                       key=lambda step: (step.link, step.kind))
+            step = min(
+                [step for step in steps if (step.link, step.kind) > self.last] or steps,
+                key=lambda step: (step.link, step.kind),
+            )
         elif self.name == "bursts":
-            step = next((step for step in steps if step.link == self.last[0]), None) or self.any_of(steps)
+            step = next((step for step in steps if step.link == self.last[0]), None) or self.any_of(
+                steps
+            )
         else:
             waits = WAITS.get(self.name, lambda step, chosen: False)
             return self.any_of([step for step in steps if not waits(step, self.chosen)] or steps)

@@ -83,8 +83,18 @@ class RuledNode(AlphaNode):
             self.said,
             self.wrong,
             self.key_of_program,
-            tuple((port.waits, port.safe, port.early_safe, port.closed, port.present, port.early, tuple(port.out))
-                  for port in self.ports),
+            tuple(
+                (
+                    port.waits,
+                    port.safe,
+                    port.early_safe,
+                    port.closed,
+                    port.present,
+                    port.early,
+                    tuple(port.out),
+                )
+                for port in self.ports
+            ),
         )
 
 
@@ -93,8 +103,10 @@ def kept(function, program):
     try:
         return function(program)
     except Exception as why:
-        raise Wrong(f"{program.file}: what `me` keeps can't be copied and compared, as each order of events needs it "
-                    f"({why}): keep plain values there") from None
+        raise Wrong(
+            f"{program.file}: what `me` keeps can't be copied and compared, as each order of events needs it "
+            f"({why}): keep plain values there"
+        ) from None
 
 
 class Rounds:
@@ -108,7 +120,9 @@ class Rounds:
             self.inbox |= {(v, p): inbox for v, inbox in inboxes.items()}
         self.results = {v: node.result() for v, node in nodes.items()}
         # Of the colouring alone.
-        self.colours = {v: node.merged if program is Colouring else None for v, node in nodes.items()}
+        self.colours = {
+            v: node.merged if program is Colouring else None for v, node in nodes.items()
+        }
 
     def fault(self, v, p, inbox):
         """How an inbox differs from the round's, at the first port at which it does; None if it doesn't."""
@@ -116,7 +130,9 @@ class Rounds:
             if got is None and due is not None:
                 return f"node {v} makes pulse {p} without `{payload_words(due)}` from {w}"
             if got != due:
-                instead = f", not with `{payload_words(due)}`" if due else ", which is of another round"
+                instead = (
+                    f", not with `{payload_words(due)}`" if due else ", which is of another round"
+                )
                 return f"node {v} makes pulse {p} with `{payload_words(got)}` from {w}{instead}"
         return None
 
@@ -130,8 +146,10 @@ def program_refuses(program, pulse, inbox):
     if isinstance(program, Colouring):
         return colouring_refuses(program, pulse, inbox)
     if isinstance(program, Sequel):
-        return pulse <= program.cut and (any(slot and slot[0] in program.kinds for slot in inbox)
-                                         or program_refuses(program.first, pulse, inbox))
+        return pulse <= program.cut and (
+            any(slot and slot[0] in program.kinds for slot in inbox)
+            or program_refuses(program.first, pulse, inbox)
+        )
     return not isinstance(program, OwnNode) and program.refuses(pulse, inbox)
 
 
@@ -142,15 +160,29 @@ def colouring_refuses(program, pulse, inbox):
     if pulse == 1:
         numbers = [slot[1] for slot in inbox if slot]
         higher = [number for number in numbers if number > program.id]
-        return bool(kinds - {"Hello"}) or len({*numbers, program.id}) <= len(numbers) or len(higher) > program.forests
+        return (
+            bool(kinds - {"Hello"})
+            or len({*numbers, program.id}) <= len(numbers)
+            or len(higher) > program.forests
+        )
     if pulse == 2:
-        return any(slot is not None if role else slot is None or slot[0] != "Label" or slot[1] >= program.forests
-                   for role, slot in zip(program.roles, inbox))
+        return any(
+            slot is not None
+            if role
+            else slot is None or slot[0] != "Label" or slot[1] >= program.forests
+            for role, slot in zip(program.roles, inbox)
+        )
     if pulse <= 12:
-        bound = {3: 2 ** 128, 4: 255, 5: 15, 6: 7, 7: 5, 8: 5, 9: 4, 10: 4, 11: 3, 12: 3}[pulse]
-        return any(slot is None or slot[0] != "Colour" or slot[1] > bound or slot[1] == program.colours[role[1]]
-                   if role[0] == "Up" else slot is not None for role, slot in zip(program.roles, inbox)) or (
-            pulse >= 7 and max(program.colours, default=0) > bound)
+        bound = {3: 2**128, 4: 255, 5: 15, 6: 7, 7: 5, 8: 5, 9: 4, 10: 4, 11: 3, 12: 3}[pulse]
+        return any(
+            slot is None
+            or slot[0] != "Colour"
+            or slot[1] > bound
+            or slot[1] == program.colours[role[1]]
+            if role[0] == "Up"
+            else slot is not None
+            for role, slot in zip(program.roles, inbox)
+        ) or (pulse >= 7 and max(program.colours, default=0) > bound)
     width = program.span + 1
     forest, step = divmod(pulse - 13, 3 * width)
     chosen = {slot[1] for slot in inbox if slot}
@@ -159,4 +191,6 @@ def colouring_refuses(program, pulse, inbox):
     if any(slot and role[1] > forest for role, slot in zip(program.roles, inbox)):
         return True
     old, taken = (program.merged, chosen) if step == 0 else (program.old, program.chosen | chosen)
-    return (program.colours[forest], old) == divmod(step, width) and set(range(width)) <= taken | program.barred
+    return (program.colours[forest], old) == divmod(step, width) and set(
+        range(width)
+    ) <= taken | program.barred

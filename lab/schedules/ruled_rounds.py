@@ -51,15 +51,25 @@ class RuledRounds:
         """A bit step, twice the place and the digit there; a shift; or a drop of 5, 4 or 3."""
         net, without, c = self.net, self.without, self.colours[f][-1]
         if pulse <= 6:
-            return {v: colour - colour % 2 if "digit" in without else colour for v, colour in bit(net, f, c).items()}
+            return {
+                v: colour - colour % 2 if "digit" in without else colour
+                for v, colour in bit(net, f, c).items()
+            }
         if pulse % 2 == 1:
+
             def is_kept(v):
                 return "shift" in without or "root" in without and net.parent(f, v) is None
+
             return {v: c[v] if is_kept(v) else colour for v, colour in shift(net, f, c).items()}
         before = self.colours[f][-2]
-        taken = {v: [before[v]] * ("children" not in without) + [at_parent(net, f, c, v)] * ("parent" not in without)
-                 for v in c}
-        return {v: other_than(*taken[v]) if c[v] == {8: 5, 10: 4, 12: 3}[pulse] else c[v] for v in c}
+        taken = {
+            v: [before[v]] * ("children" not in without)
+            + [at_parent(net, f, c, v)] * ("parent" not in without)
+            for v in c
+        }
+        return {
+            v: other_than(*taken[v]) if c[v] == {8: 5, 10: 4, 12: 3}[pulse] else c[v] for v in c
+        }
 
     def next_merged(self, f):
         net, old = self.net, self.merged[-1]
@@ -67,8 +77,10 @@ class RuledRounds:
             old = dict.fromkeys(old, 0)
         if "earlier" in self.without:
             net = copy.copy(net)
-            net.neighbours = {v: [w for w in ws if net.number[frozenset((v, w))] == f]
-                              for v, ws in net.neighbours.items()}
+            net.neighbours = {
+                v: [w for w in ws if net.number[frozenset((v, w))] == f]
+                for v, ws in net.neighbours.items()
+            }
         return merged(net, f, old, self.colours[f][-1])
 
     def forest_clashes(self, pulse):
@@ -86,20 +98,25 @@ class RuledRounds:
         """What goes wrong, in a sentence or two."""
         clash, v, w = self.clash, self.clash.v, self.clash.w
         if clash.pulse is None:
-            said = (
-                f"after the merge of forest {clash.forest} the neighbours {v} and {w} both have colour {clash.colour}"
-            )
+            said = f"after the merge of forest {clash.forest} the neighbours {v} and {w} both have colour {clash.colour}"
         else:
-            said = (f"after pulse {clash.pulse} node {v} and its parent {w} in forest {clash.forest} "
-                    f"both have colour {clash.colour}")
+            said = (
+                f"after pulse {clash.pulse} node {v} and its parent {w} in forest {clash.forest} "
+                f"both have colour {clash.colour}"
+            )
         if self.plan is None:
-            return f"{said}\nnode {v} hears its own colour in pulse {clash.pulse + 1}, and can't go on"
+            return (
+                f"{said}\nnode {v} hears its own colour in pulse {clash.pulse + 1}, and can't go on"
+            )
         same = [(a, b) for a, b in self.net.edges if self.plan[a] == self.plan[b]]
-        return said + "".join(f"\nthe plan gives {a} and {b} channel {self.plan[a] + 1}" for a, b in same[:1])
+        return said + "".join(
+            f"\nthe plan gives {a} and {b} channel {self.plan[a] + 1}" for a, b in same[:1]
+        )
 
 
 class Fault(NamedTuple):
     """What isn't right at one node, or at two that are neighbours."""
+
     nodes: tuple[int, ...]
     words: str
 
@@ -119,9 +136,18 @@ class RuledMatching(Matching):
 
     @staticmethod
     def faults(net, nodes):
-        partner = {v: None if node.partner is None else net.neighbours[v][node.partner] for v, node in nodes.items()}
-        return (Fault((v, w), f"the partner of node {v} is {w}, and that of node {w} is {partner[w] or 'none'}")
-                for v, w in partner.items() if w and partner[w] != v)
+        partner = {
+            v: None if node.partner is None else net.neighbours[v][node.partner]
+            for v, node in nodes.items()
+        }
+        return (
+            Fault(
+                (v, w),
+                f"the partner of node {v} is {w}, and that of node {w} is {partner[w] or 'none'}",
+            )
+            for v, w in partner.items()
+            if w and partner[w] != v
+        )
 
 
 class RuledSet(IndependentSet):
@@ -135,8 +161,11 @@ class RuledSet(IndependentSet):
 
     @staticmethod
     def faults(net, nodes):
-        return (Fault((v, w), f"the neighbours {v} and {w} are both in") for v, w in net.edges
-                if nodes[v].is_in and nodes[w].is_in)
+        return (
+            Fault((v, w), f"the neighbours {v} and {w} are both in")
+            for v, w in net.edges
+            if nodes[v].is_in and nodes[w].is_in
+        )
 
 
 class RuledRecolouring(Recolouring):
@@ -145,15 +174,25 @@ class RuledRecolouring(Recolouring):
             # The colouring has ended, so nothing else looks at them.
             self.first.barred = frozenset()
         sent = super().go_on(pulse, inbox)
-        return [slot and ("Anew", self.first.merged) for slot in sent] if "anew" in self.without else sent
+        return (
+            [slot and ("Anew", self.first.merged) for slot in sent]
+            if "anew" in self.without
+            else sent
+        )
 
     @staticmethod
     def faults(net, nodes):
         colour = {v: node.present() for v, node in nodes.items()}
-        yield from (Fault((v, w), f"the neighbours {v} and {w} both have channel {colour[v] + 1}")
-                    for v, w in net.edges if colour[v] == colour[w])
-        yield from (Fault((v,), f"node {v} has channel {c + 1}, which is barred at it") for v, c in colour.items()
-                    if c in net.barred[v])
+        yield from (
+            Fault((v, w), f"the neighbours {v} and {w} both have channel {colour[v] + 1}")
+            for v, w in net.edges
+            if colour[v] == colour[w]
+        )
+        yield from (
+            Fault((v,), f"node {v} has channel {c + 1}, which is barred at it")
+            for v, c in colour.items()
+            if c in net.barred[v]
+        )
 
 
 RULED = {Matching: RuledMatching, IndependentSet: RuledSet, Recolouring: RuledRecolouring}
@@ -164,7 +203,9 @@ class RuledSequel:
 
     def __init__(self, net, without, program):
         base = next(ruled for base, ruled in RULED.items() if issubclass(program, base))
-        self.net, self.program = net, type(program.__name__, (base, program), {"without": frozenset(without)})
+        self.net, self.program = net, type(
+            program.__name__, (base, program), {"without": frozenset(without)}
+        )
         self.nodes = synchronous_run(net, self.program)
         self.faults = list(base.faults(net, self.nodes))
         self.clash = self.faults[0] if self.faults else None
@@ -195,7 +236,9 @@ def smallest_wrong(without, program=Colouring):
     """(rounds, how many networks were tried, what these are called, of how many nodes at most) of a smallest network
     on which the rounds of a program go wrong; the rounds are None if there is none. Channel 1 is barred at node 1 if
     the bars are left out."""
-    most, what = (MOST_ROW, "rows") if set(without) <= set(OF_FORESTS) else (MOST_MERGED, "networks")
+    most, what = (
+        (MOST_ROW, "rows") if set(without) <= set(OF_FORESTS) else (MOST_MERGED, "networks")
+    )
     tried, bars = 0, {1: [1]} if "bars" in without else {}
     for nodes in range(2, most + 1):
         for edges in networks(nodes, without):
@@ -211,8 +254,11 @@ def looked_at(network, without, program=Colouring):
     words whether they do, and where."""
     if network is not None:
         rounds = ruled(program)(network, without)
-        return (rounds, f"broken on {network.name}") if rounds.clash else (
-            None, f"not broken: the rounds of {network.name} go right")
+        return (
+            (rounds, f"broken on {network.name}")
+            if rounds.clash
+            else (None, f"not broken: the rounds of {network.name} go right")
+        )
     rounds, tried, what, most = smallest_wrong(without, program)
     if rounds is None:
         return None, f"not broken: {tried:,} {what} of up to {most} nodes go right"

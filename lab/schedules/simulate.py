@@ -58,7 +58,9 @@ Examples:
 """
 
 
-EVENT = re.compile(r"(pulse) ([0-9]{1,10})|(put(?! \S+ \S+ )|take) ([0-9]{1,10}) ([0-9]{1,10})(?: ([0-9]{1,10}))?")
+EVENT = re.compile(
+    r"(pulse) ([0-9]{1,10})|(put(?! \S+ \S+ )|take) ([0-9]{1,10}) ([0-9]{1,10})(?: ([0-9]{1,10}))?"
+)
 
 
 class Player:
@@ -92,7 +94,10 @@ class Player:
 
     def make(self, kind, v, port=None):
         """Makes an event, and returns its entry; raises `Refused` if it isn't possible."""
-        what, w = self.state.step(kind.title(), v, port), None if port is None else self.state.neighbours[v][port]
+        what, w = (
+            self.state.step(kind.title(), v, port),
+            None if port is None else self.state.neighbours[v][port],
+        )
         entry = Entry(None, v, kind.title(), w, what, self.clock.next(kind.title(), v, w))
         self.made.append(entry)
         self.look_at(v)
@@ -108,14 +113,18 @@ class Player:
             except Refused as refused:
                 words = f"{kind} {v}" + ("" if port is None else f" {port}")
                 missing = missing_words(self.state, kind.title(), v, port)
-                raise wrong_line(name, line, f"`{words}` isn't possible there{missing} ({refused})") from None
+                raise wrong_line(
+                    name, line, f"`{words}` isn't possible there{missing} ({refused})"
+                ) from None
 
     def entries(self, policy):
         """The entries from here until nothing is possible, each as soon as it is made: so a caller can look at the
         state between them, report how far the run is, or stop."""
         while steps := [step for own in self.steps.values() for step in own]:
             step = policy.choose(steps)
-            yield self.make(step.kind, step.node, self.state.port_to.get((step.node, step.neighbour)))
+            yield self.make(
+                step.kind, step.node, self.state.port_to.get((step.node, step.neighbour))
+            )
 
 
 def played(net, policy="random", seed="1", slow=(), lazy=(), player=None, program=Colouring):
@@ -129,25 +138,42 @@ def played(net, policy="random", seed="1", slow=(), lazy=(), player=None, progra
 
 def events_of(text, name, overtakes=False):
     """(line, kind, vertex, port, place) of each event of a list; a note after a colon, as `forestlab explore` writes
-    it, is passed over. If links don't keep their order, a take may overtake `place` wires; else that is refused."""
+    it, is passed over. If links don't keep their order, a take may overtake `place` wires; else that is refused.
+    """
     for line, raw in enumerate(text.split("\n"), 1):
         event, _, note = raw.partition(":")
         words = event.split()
         if not words or words[0].startswith("c"):
             continue
-        if words[0] == "take" and len(words) == 4 and not overtakes or note.endswith(", out of turn"):
-            refusal = f"`{shown(raw.strip())}` overtakes another message, and links keep their order"
+        if (
+            words[0] == "take"
+            and len(words) == 4
+            and not overtakes
+            or note.endswith(", out of turn")
+        ):
+            refusal = (
+                f"`{shown(raw.strip())}` overtakes another message, and links keep their order"
+            )
             raise wrong_line(name, line, refusal)
         found = EVENT.fullmatch(" ".join(words))
         if found is None:
             raise wrong_line(name, line, f"`{shown(raw.strip())}` is no event (NoEvent)")
         pulse, node, kind, v, port, place = found.groups()
-        yield (line, pulse, int(node), None, 0) if pulse else (line, kind, int(v), int(port), int(place or 0))
+        yield (line, pulse, int(node), None, 0) if pulse else (
+            line,
+            kind,
+            int(v),
+            int(port),
+            int(place or 0),
+        )
 
 
 def text_of_run(nodes, entries, program=Colouring):
     """The transcript with stamps of a program: its lines by stamp, and lines of one stamp by node."""
-    lines = [f"{entry.stamp} {line_of(entry)}" for entry in sorted(entries, key=lambda one: (one.stamp, one.vertex))]
+    lines = [
+        f"{entry.stamp} {line_of(entry)}"
+        for entry in sorted(entries, key=lambda one: (one.stamp, one.vertex))
+    ]
     return "".join(line + "\n" for line in [first_line(nodes, program.name), *lines])
 
 
@@ -160,17 +186,43 @@ def edge(text):
 
 def command_line():
     words = parser_of("simulate", "NETWORK [options]", HELP, MORE_HELP)
-    words.add_argument("network", metavar="NETWORK",
-                       help="a file, - for standard input, or a name, as petersen or path5")
+    words.add_argument(
+        "network",
+        metavar="NETWORK",
+        help="a file, - for standard input, or a name, as petersen or path5",
+    )
     add_seed(words)
-    words.add_argument("--policy", choices=POLICIES, default="random", metavar="NAME",
-                       help="one of those below; default: random")
-    words.add_argument("--slow", type=edge, action="append", default=[], metavar="V-W",
-                       help="what goes over this edge waits, whatever the policy is; may be given again")
-    words.add_argument("--lazy", type=int, action="append", default=[], metavar="V",
-                       help="what this node does waits, whatever the policy is; may be given again")
-    words.add_argument("--events", metavar="LIST", help="play this list of events, a file or - for standard input")
-    words.add_argument("--to-the-end", action="store_true", help="after the events of LIST the policy plays the rest")
+    words.add_argument(
+        "--policy",
+        choices=POLICIES,
+        default="random",
+        metavar="NAME",
+        help="one of those below; default: random",
+    )
+    words.add_argument(
+        "--slow",
+        type=edge,
+        action="append",
+        default=[],
+        metavar="V-W",
+        help="what goes over this edge waits, whatever the policy is; may be given again",
+    )
+    words.add_argument(
+        "--lazy",
+        type=int,
+        action="append",
+        default=[],
+        metavar="V",
+        help="what this node does waits, whatever the policy is; may be given again",
+    )
+    words.add_argument(
+        "--events", metavar="LIST", help="play this list of events, a file or - for standard input"
+    )
+    words.add_argument(
+        "--to-the-end",
+        action="store_true",
+        help="after the events of LIST the policy plays the rest",
+    )
     add_program(words)
     add_output(words)
     return words
@@ -195,7 +247,10 @@ def run_asked(net, given, program):
     if given.to_the_end:
         return played(net, given.policy, given.seed, given.slow, given.lazy, player)
     if left := next(unfinished(player.state), None):
-        print(f"simulate: after the last event {left[1]}; --to-the-end plays the rest", file=sys.stderr)
+        print(
+            f"simulate: after the last event {left[1]}; --to-the-end plays the rest",
+            file=sys.stderr,
+        )
     return player.made
 
 
@@ -211,4 +266,3 @@ def main(words):
     program = program_asked("simulate", given, net)
     write(given, text_of_run(net.nodes, run_asked(net, given, program), program))
     return 0
-

@@ -48,7 +48,7 @@ from lab.definitions.own_program import OwnNode, what_is_wrong
 from lab.definitions.rounds import phase_words
 from lab.schedules.ruled_node import Rounds, RuledNode
 
-REFUSED = 2 ** 32 - 1
+REFUSED = 2**32 - 1
 
 Node = namedtuple("Node", "pulse stage waits wrong colour phase result")
 # An event that is possible: its number, the node's value after it or None, the link that it takes from or None, what
@@ -78,9 +78,24 @@ class Numbered(list):
 
 
 class Space:
-    def __init__(self, net, without=(), limit=1_000_000, puts=False, beyond=False, progress=None, reduce=False,
-                 program=Colouring):
-        self.net, self.without, self.limit, self.puts, self.beyond = net, tuple(without), limit, puts, beyond
+    def __init__(
+        self,
+        net,
+        without=(),
+        limit=1_000_000,
+        puts=False,
+        beyond=False,
+        progress=None,
+        reduce=False,
+        program=Colouring,
+    ):
+        self.net, self.without, self.limit, self.puts, self.beyond = (
+            net,
+            tuple(without),
+            limit,
+            puts,
+            beyond,
+        )
         self.reduce, self.program = reduce, program
         self.rounds = Rounds(net, program)
         self.vertices, self.ports, self.last = net.vertices, self.rounds.ports, self.rounds.last
@@ -88,7 +103,11 @@ class Space:
         self.slot = {link: k for k, link in enumerate(self.links, len(self.vertices))}
         self.arriving = [[self.slot[w, v] for w in self.ports[v]] for v in self.vertices]
         # The parts of a state, each kept once and known by its number.
-        self.locals, self.contents, self.events = [Numbered() for _ in self.vertices], Numbered(), Numbered()
+        self.locals, self.contents, self.events = (
+            [Numbered() for _ in self.vertices],
+            Numbered(),
+            Numbered(),
+        )
         self.contents.number(())
         self.moves, self.made = [{} for _ in self.vertices], {}
         self.faults, self.ends, self.broken, self.said = {}, [], set(), {}
@@ -137,7 +156,16 @@ class Space:
         v, node, moves = self.vertices[a], self.locals[a][i], []
         if node.can_pulse():
             j, gone, fault = self.once(self.pulse, a, i)
-            moves.append(Move(self.events.number(Event("pulse", v, None, None, None, 0)), j, None, 0, gone, fault))
+            moves.append(
+                Move(
+                    self.events.number(Event("pulse", v, None, None, None, 0)),
+                    j,
+                    None,
+                    0,
+                    gone,
+                    fault,
+                )
+            )
         for p, (w, c) in enumerate(zip(self.ports[v], arriving)):
             if node.ports[p].out:
                 moves.append(self.put_move(a, i, p))
@@ -145,7 +173,7 @@ class Space:
             for place in range(len(wires) if "fifo" in self.without else min(1, len(wires))):
                 j, gone, fault = self.once(self.take, a, i, p, wires[place])
                 e = self.events.number(Event("take", v, p, w, wire_words(wires[place]), place))
-                rest = self.contents.number(wires[:place] + wires[place + 1:])
+                rest = self.contents.number(wires[:place] + wires[place + 1 :])
                 moves.append(Move(e, j, self.slot[w, v], rest, gone, fault))
         return moves
 
@@ -153,7 +181,9 @@ class Space:
         v, node = self.vertices[a], self.locals[a][i].copied()
         w, wire = self.ports[v][p], node.ports[p].out.pop(0)
         e = self.events.number(Event("put", v, p, w, wire_words(wire), 0))
-        return Move(e, self.locals[a].number(node, node.key()), None, 0, ((self.slot[v, w], (wire,)),), None)
+        return Move(
+            e, self.locals[a].number(node, node.key()), None, 0, ((self.slot[v, w], (wire,)),), None
+        )
 
     def alone(self, moves):
         """With `reduce`, the take of a safe or a close that comes next on its link, if a node has one among its moves.
@@ -162,9 +192,22 @@ class Space:
         to the end of the link, and at its node a pulse, a put, or a take from another link neither needs what it
         changes to be as it was nor makes it impossible. So each list of events can be changed into one in which it
         comes first, by exchanging neighbours that don't depend on each other, and what each pulse finds and whatever
-        is refused stays as it is. Without `safes` or `fifo` that isn't so. (A take that is refused isn't meant.)"""
-        return next((move for move in moves if move.value is not None and move.link is not None
-                     and self.events[move.event].wire.split()[0] in ("safe", "close")), None) if self.reduce else None
+        is refused stays as it is. Without `safes` or `fifo` that isn't so. (A take that is refused isn't meant.)
+        """
+        return (
+            next(
+                (
+                    move
+                    for move in moves
+                    if move.value is not None
+                    and move.link is not None
+                    and self.events[move.event].wire.split()[0] in ("safe", "close")
+                ),
+                None,
+            )
+            if self.reduce
+            else None
+        )
 
     # The search.
 
@@ -189,10 +232,18 @@ class Space:
     def search(self, progress):
         start = self.start()
         self.states, self.number = [start], {start: 0}
-        self.depth, self.from_state, self.from_event = array("I", [0]), array("I", [0]), array("I", [0])
+        self.depth, self.from_state, self.from_event = (
+            array("I", [0]),
+            array("I", [0]),
+            array("I", [0]),
+        )
         said, s = time.monotonic(), 0
         while s < len(self.states) and not self.is_cut:
-            if self.faults and not self.beyond and self.depth[s] > self.depth[next(iter(self.faults))[0]]:
+            if (
+                self.faults
+                and not self.beyond
+                and self.depth[s] > self.depth[next(iter(self.faults))[0]]
+            ):
                 break
             self.expand(s)
             s += 1
@@ -231,7 +282,9 @@ class Space:
                 self.faults[s, len(self.target) - self.first[s]] = move.fault
             self.event_of.append(move.event)
             is_refused = move.value is None
-            self.target.append(REFUSED if is_refused else self.reached(self.moved(state, a, move), s, move.event))
+            self.target.append(
+                REFUSED if is_refused else self.reached(self.moved(state, a, move), s, move.event)
+            )
         self.first.append(len(self.target))
         if not possible:
             self.ends.append(s)
@@ -247,7 +300,8 @@ class Space:
         if (found, is_end) not in self.said:
             results = dict(zip(self.vertices, found))
             self.said[found, is_end] = what_is_wrong(self.net, self.program, results, "always") or (
-                what_is_wrong(self.net, self.program, results) if is_end else "")
+                what_is_wrong(self.net, self.program, results) if is_end else ""
+            )
         return self.said[found, is_end]
 
     def reached(self, state, s, e):
@@ -271,21 +325,38 @@ class Space:
         return self.count > self.limit
 
     def steps(self, s):
-        return [(self.events[self.event_of[k]], None if self.target[k] == REFUSED else self.target[k])
-                for k in range(self.first[s], self.first[s + 1])] if s < self.expanded else []
-
-    def is_whole(self, state):
-        return all(self.locals[a][state[a]].drained() for a in range(len(self.vertices))) and not any(
-            state[len(self.vertices) :]
+        return (
+            [
+                (
+                    self.events[self.event_of[k]],
+                    None if self.target[k] == REFUSED else self.target[k],
+                )
+                for k in range(self.first[s], self.first[s + 1])
+            ]
+            if s < self.expanded
+            else []
         )
 
+    def is_whole(self, state):
+        return all(
+            self.locals[a][state[a]].drained() for a in range(len(self.vertices))
+        ) and not any(state[len(self.vertices) :])
+
     def stuck_words(self, s):
-        waiting = [f"node {v} waits for {' and '.join(f'{wire} from {w}' for wire, w in node.waits)}"
-                   for v, node in self.nodes(s).items() if node.waits]
-        return ", and ".join(["nothing is possible before the end", *[", ".join(waiting)] * bool(waiting)])
+        waiting = [
+            f"node {v} waits for {' and '.join(f'{wire} from {w}' for wire, w in node.waits)}"
+            for v, node in self.nodes(s).items()
+            if node.waits
+        ]
+        return ", and ".join(
+            ["nothing is possible before the end", *[", ".join(waiting)] * bool(waiting)]
+        )
 
     def nodes(self, s):
-        return {v: self.node_words(v, self.locals[a][self.states[s][a]]) for a, v in enumerate(self.vertices)}
+        return {
+            v: self.node_words(v, self.locals[a][self.states[s][a]])
+            for a, v in enumerate(self.vertices)
+        }
 
     def node_words(self, v, node):
         p, ports = node.pulse_number, list(zip(self.ports[v], node.ports))
@@ -295,7 +366,11 @@ class Space:
         elif not node.said:
             stage, waits = "asks", [(f"ack {p}", w) for w, port in ports if port.waits]
         else:
-            waits = [] if "safes" in self.without else [(f"safe {p}", w) for w, port in ports if not port.safe]
+            waits = (
+                []
+                if "safes" in self.without
+                else [(f"safe {p}", w) for w, port in ports if not port.safe]
+            )
             stage = "safe" if waits else "ready"
         colour = node.program.merged if self.program is Colouring else None
         return Node(p, stage, waits, node.wrong, colour, self.phase(p), node.program.result())
@@ -304,14 +379,23 @@ class Space:
         return phase_words(self.net, p) if self.program is Colouring else ""
 
     def wires(self, s):
-        return {link: [wire_words(wire) for wire in self.contents[self.states[s][k]]] for link, k in self.slot.items()}
+        return {
+            link: [wire_words(wire) for wire in self.contents[self.states[s][k]]]
+            for link, k in self.slot.items()
+        }
 
     @property
     def farthest(self):
         places = [(self.vertices.index(v), self.vertices.index(w)) for v, w in self.links if v < w]
         pulses = [[node.pulse_number for node in nodes] for nodes in self.locals]
-        return max((abs(pulses[a][state[a]] - pulses[b][state[b]]) for state in self.states for a, b in places),
-                   default=0)
+        return max(
+            (
+                abs(pulses[a][state[a]] - pulses[b][state[b]])
+                for state in self.states
+                for a, b in places
+            ),
+            default=0,
+        )
 
     @property
     def most_wires(self):
@@ -324,7 +408,7 @@ class Space:
         ways, found = [0] * self.count, 0
         ways[0] = 1
         for s in range(self.count):
-            targets = self.target[self.first[s]:self.first[s + 1]]
+            targets = self.target[self.first[s] : self.first[s + 1]]
             for t in targets:
                 if t == REFUSED or self.depth[t] != self.depth[s] + 1:
                     return None
@@ -354,7 +438,11 @@ class Space:
         """The events with the puts between them, each only as a take needs its wire."""
         if self.puts:
             return list(events)
-        sent, held, put = {link: [] for link in self.links}, {link: [] for link in self.links}, Counter()
+        sent, held, put = (
+            {link: [] for link in self.links},
+            {link: [] for link in self.links},
+            Counter(),
+        )
         state, gone, listed = self.states[0], self.first_puts, []
         for event in events:
             for slot, wires in gone:
@@ -364,11 +452,15 @@ class Space:
             if event.kind == "take":
                 v, w = link = event.w, event.v
                 number = held[link].pop(event.place)
-                listed += [Event("put", v, self.ports[v].index(w), w, wire_words(wire), 0)
-                           for wire in sent[link][put[link]:number + 1]]
+                listed += [
+                    Event("put", v, self.ports[v].index(w), w, wire_words(wire), 0)
+                    for wire in sent[link][put[link] : number + 1]
+                ]
                 put[link] = max(put[link], number + 1)
             listed.append(event)
             a = self.vertices.index(event.v)
-            move = next(move for move in self.moves_in(state, a)[0] if self.events[move.event] == event)
+            move = next(
+                move for move in self.moves_in(state, a)[0] if self.events[move.event] == event
+            )
             state, gone = self.moved(state, a, move), move.gone
         return listed

@@ -58,7 +58,12 @@ class Stepwise(Player):
         """The events of a list. Puts make themselves as soon as they can, so one of the list has been made before."""
         puts = []
         for line, kind, v, port, place in events_of(text, "the list", "fifo" in self.without):
-            words, near = f"{kind} {v}" if port is None else f"{kind} {v} {port}", self.state.neighbours.get(v, ())
+            (
+                words,
+                near,
+            ) = f"{kind} {v}" if port is None else f"{kind} {v} {port}", self.state.neighbours.get(
+                v, ()
+            )
             if kind == "put":
                 puts.append(words)
                 is_made = puts.count(words) <= self.lines.count(words)
@@ -72,7 +77,12 @@ class Stepwise(Player):
     def makes(self, kind, v, w, place):
         """Makes a step if it is possible now, and says whether it was; a take may overtake `place` wires."""
         own = [one for one in self.steps.get(v, ()) if (one.kind, one.neighbour) == (kind, w)]
-        if self.is_over or not own or place and not ("fifo" in self.without and place < len(self.words_on(w, v))):
+        if (
+            self.is_over
+            or not own
+            or place
+            and not ("fifo" in self.without and place < len(self.words_on(w, v)))
+        ):
             return False
         self.step(own[0], place)
         return True
@@ -97,13 +107,20 @@ class Stepwise(Player):
                 self.make(step.kind, v, port)
                 self.put_all(v)
             except Refused:
-                self.is_over, self.fault = True, self.fault or f"node {v} can't take what came from {w}"
+                self.is_over, self.fault = (
+                    True,
+                    self.fault or f"node {v} can't take what came from {w}",
+                )
 
     def free(self, slow, lazy):
         """The steps that can come next and that nothing holds: what goes over a slow edge, (v, w) with v < w, and the
         pulse of a node that waits."""
-        return [step for own in self.steps.values() for step in own if not (
-            step.node in lazy if step.kind == "pulse" else tuple(sorted(step.link)) in slow)]
+        return [
+            step
+            for own in self.steps.values()
+            for step in own
+            if not (step.node in lazy if step.kind == "pulse" else tuple(sorted(step.link)) in slow)
+        ]
 
     def by_chance(self, count, seed, slow, lazy):
         """As many steps more, each as likely as any other."""
@@ -120,8 +137,11 @@ class Stepwise(Player):
         while not self.is_over and not (goal <= last and self.lowest() >= goal):
             steps = self.free(slow, lazy)
             takes = [step for step in steps if step.kind == "take"]
-            behind = [step for step in steps if step.kind == "pulse"
-                      and self.state.nodes[step.node].pulse_number < goal]
+            behind = [
+                step
+                for step in steps
+                if step.kind == "pulse" and self.state.nodes[step.node].pulse_number < goal
+            ]
             if not takes and not behind:
                 return
             self.step((takes or behind)[0])

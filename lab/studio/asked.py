@@ -17,9 +17,16 @@ def network_asked(asked, most=MOST_DRAWN):
     try:
         network = read_network(asked["network"], "the network")
     except Wrong as why:
-        same = re.fullmatch(r"the network: vertices (\d+) and (\d+) have one identifier \(N2\)", str(why))
-        raise Wrong("nodes {} and {} have one identifier now: give one of them another".format(*same.groups())
-                    if same else str(why)) from None
+        same = re.fullmatch(
+            r"the network: vertices (\d+) and (\d+) have one identifier \(N2\)", str(why)
+        )
+        raise Wrong(
+            "nodes {} and {} have one identifier now: give one of them another".format(
+                *same.groups()
+            )
+            if same
+            else str(why)
+        ) from None
     network.name = str(asked.get("name") or "this network")[:60]
     if network.nodes == 0:
         raise Wrong("no node yet")
@@ -32,7 +39,9 @@ def program_asked(asked):
     name, passes = asked.get("program") or Colouring.name, asked.get("passes")
     if passes not in (None, *PASSES):
         raise Wrong(f"there are {PASSES[0]} to {PASSES[-1]} passes")
-    return program_at(OPENED["own"].get(name, name) if name in (*PROGRAMS, *OPENED["own"]) else "?", passes=passes)
+    return program_at(
+        OPENED["own"].get(name, name) if name in (*PROGRAMS, *OPENED["own"]) else "?", passes=passes
+    )
 
 
 def rules_asked(asked, among):

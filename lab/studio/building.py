@@ -30,7 +30,10 @@ def are_built():
 
 
 def is_built(name):
-    return built(name) is not None and not subprocess.run([*BUILD, "--ask", name], stdin=subprocess.DEVNULL).returncode
+    return (
+        built(name) is not None
+        and not subprocess.run([*BUILD, "--ask", name], stdin=subprocess.DEVNULL).returncode
+    )
 
 
 class Building:
@@ -47,13 +50,22 @@ class Building:
         """Begins what is wanted, and takes note of what is done. Called again and again."""
         if self.is_wanted and self.process is None and not OPENED["is_proved"]:
             with open(OPENED["log"], "w", encoding="utf-8") as log:
-                self.process = subprocess.Popen([*BUILD, *PROGRAMS], stdin=subprocess.DEVNULL, stdout=log, stderr=log,
-                                                start_new_session=True)
+                self.process = subprocess.Popen(
+                    [*BUILD, *PROGRAMS],
+                    stdin=subprocess.DEVNULL,
+                    stdout=log,
+                    stderr=log,
+                    start_new_session=True,
+                )
         self.is_wanted = False
         if self.process and self.process.poll() is not None:
             OPENED["is_proved"] = self.process.returncode == 0 and are_built()
             with open(OPENED["log"], "a", encoding="utf-8") as log:
-                log.write("the programs are proved and built\n" if OPENED["is_proved"] else "ended: it isn't built\n")
+                log.write(
+                    "the programs are proved and built\n"
+                    if OPENED["is_proved"]
+                    else "ended: it isn't built\n"
+                )
             self.process = None
 
     def end(self):
@@ -69,7 +81,9 @@ class Building:
 def begin(_asked, _tell):
     """Asks for the build, and waits until it has begun."""
     if shutil.which("rt") is None:
-        raise Wrong("the toolchain's command rt is not on the PATH, and without it nothing can be proved")
+        raise Wrong(
+            "the toolchain's command rt is not on the PATH, and without it nothing can be proved"
+        )
     if so_far({}, None)["ended"]:
         os.unlink(OPENED["log"])
     os.kill(os.getppid(), WANTED)
@@ -86,5 +100,9 @@ def so_far(_asked, _tell):
     except (OSError, TypeError):
         return {"proved": OPENED["is_proved"], "lines": [], "ended": False}
     ended = lines[-1:] in (["the programs are proved and built"], ["ended: it isn't built"])
-    return {"proved": OPENED["is_proved"], "lines": lines[-12:] or ["it begins"], "ended": ended,
-            "quiet": time.time() - begun.st_mtime}
+    return {
+        "proved": OPENED["is_proved"],
+        "lines": lines[-12:] or ["it begins"],
+        "ended": ended,
+        "quiet": time.time() - begun.st_mtime,
+    }

@@ -12,7 +12,8 @@ def adversary(asked, _tell):
     network = network_asked(asked, MOST_SEARCHED)
     without = rules_asked(asked, OF_SCHEDULES)
     return adversary_page.draw(
-        network, schedules_space.space_of(network, "adversary", without, True, program_asked(asked)))
+        network, schedules_space.space_of(network, "adversary", without, True, program_asked(asked))
+    )
 
 
 def page_of_words(words):
@@ -20,8 +21,22 @@ def page_of_words(words):
 
 
 CALLS = {
-    "hello": networks.hello, "example": networks.example, "read": networks.file_read, "make": networks.make,
-    "tidy": networks.tidy, "plan": rounds.plan, "check": rounds.check, "rounds": rounds.rounds, "why": rounds.why,
-    "broken": rounds.broken, "picture": rounds.picture, "run": runs.run, "replay": runs.replay, "judge": runs.judge,
-    "steps": runs.steps, "build": building.begin, "built": building.so_far}
+    "hello": networks.hello,
+    "example": networks.example,
+    "read": networks.file_read,
+    "make": networks.make,
+    "tidy": networks.tidy,
+    "plan": rounds.plan,
+    "check": rounds.check,
+    "rounds": rounds.rounds,
+    "why": rounds.why,
+    "broken": rounds.broken,
+    "picture": rounds.picture,
+    "run": runs.run,
+    "replay": runs.replay,
+    "judge": runs.judge,
+    "steps": runs.steps,
+    "build": building.begin,
+    "built": building.so_far,
+}
 FRAMES = {"adversary": adversary}

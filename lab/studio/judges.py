@@ -35,13 +35,19 @@ def text_from(name, words, network_text):
 
 def plan_of(network, text):
     """The plan of a network, as a text."""
-    return text_from("forestplan", ["plain"], text) if OPENED["is_proved"] else plan_text(network).decode()
+    return (
+        text_from("forestplan", ["plain"], text)
+        if OPENED["is_proved"]
+        else plan_text(network).decode()
+    )
 
 
 def rounds_of(network, text):
     """The rounds of the colouring."""
     if OPENED["is_proved"]:
-        return read_rounds(text_from("forestplay", ["rounds"], text), "the rounds", network, Colouring)
+        return read_rounds(
+            text_from("forestplay", ["rounds"], text), "the rounds", network, Colouring
+        )
     return Rounds(network)
 
 
@@ -77,7 +83,9 @@ def judged(network, network_text, text, program):
     entries = {"entries": max(0, text.count("\n") - 1)}
     if not OPENED["is_proved"] or is_own(program):
         return entries | by_definitions(network, text, program)
-    status, output, said = said_by("forestplay", ["replay", *program_words(program)], network_text, "\n", text)
+    status, output, said = said_by(
+        "forestplay", ["replay", *program_words(program)], network_text, "\n", text
+    )
     return entries | {"ok": status == 0, "said": said or output, "by": MACHINE}
 
 
@@ -85,7 +93,9 @@ def beginning_judged(network, network_text, entries, program):
     """What is said of the first entries of a run, each without its stamp: {ok, said, pulses, wires, by}."""
     text = "\n".join([f"transcript 1 {network.nodes}", *entries]) + "\n"
     if OPENED["is_proved"] and not is_own(program):
-        status, output, said = said_by("forestplay", ["replay", *program_words(program)], network_text, "\n", text)
+        status, output, said = said_by(
+            "forestplay", ["replay", *program_words(program)], network_text, "\n", text
+        )
         at = [int(found.group(1)) for found in re.finditer(r"^node \d+ pulse (\d+)", output, re.M)]
         flying = len(re.findall(r"\b(?:payload|ack|safe|close)\b", output))
         return {"ok": status == 0, "said": said, "pulses": at, "wires": flying, "by": MACHINE}
@@ -95,8 +105,15 @@ def beginning_judged(network, network_text, entries, program):
             try:
                 make(state, entry)
             except Refused as refused:
-                raise WrongEntry(entry.line, str(refused), entry_words(state, entry, refused)[2:]) from None
+                raise WrongEntry(
+                    entry.line, str(refused), entry_words(state, entry, refused)[2:]
+                ) from None
     except WrongEntry as fault:
         said = str(fault)
-    return {"ok": not said, "said": said, "pulses": [state.nodes[v].pulse_number for v in network.vertices],
-            "wires": sum(map(len, state.link.values())), "by": PYTHON}
+    return {
+        "ok": not said,
+        "said": said,
+        "pulses": [state.nodes[v].pulse_number for v in network.vertices],
+        "wires": sum(map(len, state.link.values())),
+        "by": PYTHON,
+    }

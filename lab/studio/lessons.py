@@ -6,37 +6,51 @@ import re
 from lab.programs import TOP
 
 PLACES = [
-    ("example=petersen&tab=draw",
-     "In a circle is a node's channel, and beside it its number. No edge has one channel at both its ends. Four "
-     "channels would always be enough: whoever chooses last avoids three others. Move, join and part nodes: the plan "
-     "follows.",
-     "Number four in a row so that the plan takes three channels: clear, click four nodes, and join them in another "
-     "order than 1 – 2 – 3 – 4. Then make a path of 4 and one of 400: both take rounds 0 to 21."),
-    ("example=four_cycle&tab=rounds&at=1",
-     "An arrow goes from a child to its parent, always to the higher identifier, so arrows never close a ring. "
-     "Every edge is in one forest.",
-     "Open the example star, click its centre, and give it the least identifier (0 is one): how many forests are "
-     "there?"),
-    ("example=petersen&tab=rounds&at=2&forest=0&node=1",
-     "From pulse 2 on a square has a node's colour in this forest. After pulse 6 all are of 0 to 5, after pulse "
-     "12 of 0 to 2, and never is it the parent's.",
-     "Work out the colours of nodes 8 and 10 in forest 0 after the pulses 2 to 6, before you look."),
-    ("example=triangle&tab=rounds&at=13",
-     "Below a node is its pair: its colour in the forest, and its old colour. The pairs have their turns one "
-     "after another, and whose turn it is chooses.",
-     "Bar channel 1 at a node (in Draw: click it), and see here who chooses something else."),
-    ("example=chain6&tab=run&slow=2-3&seed=7",
-     "What goes over the dotted link waits as long as it can. Nodes are at different pulses, and still each "
-     "reads what it would with a clock: the lines in green compare all payloads.",
-     "Make another link slow. How far apart can the pulses of two neighbours be, and of two ends?"),
-    ("example=path&tab=adversary&without=safes",
-     "You choose which message is taken next. Here nodes don't wait for the safes of their neighbours.",
-     "Make a node pulse with a wrong inbox, in as few steps as you can; then search every order, and try the dares."),
-    ("example=triangle&tab=rounds&program=matching",
-     "After pulse 12 each forest has a turn for each of its three colours, and a free node of the turn's colour "
-     "takes one of the children that are free. A partner is a port, counted from 0.",
-     "Choose the program independent-set, then recolouring: what has each node found at the end? The tab Pictures has "
-     "it on the map, as results."),
+    (
+        "example=petersen&tab=draw",
+        "In a circle is a node's channel, and beside it its number. No edge has one channel at both its ends. Four "
+        "channels would always be enough: whoever chooses last avoids three others. Move, join and part nodes: the plan "
+        "follows.",
+        "Number four in a row so that the plan takes three channels: clear, click four nodes, and join them in another "
+        "order than 1 – 2 – 3 – 4. Then make a path of 4 and one of 400: both take rounds 0 to 21.",
+    ),
+    (
+        "example=four_cycle&tab=rounds&at=1",
+        "An arrow goes from a child to its parent, always to the higher identifier, so arrows never close a ring. "
+        "Every edge is in one forest.",
+        "Open the example star, click its centre, and give it the least identifier (0 is one): how many forests are "
+        "there?",
+    ),
+    (
+        "example=petersen&tab=rounds&at=2&forest=0&node=1",
+        "From pulse 2 on a square has a node's colour in this forest. After pulse 6 all are of 0 to 5, after pulse "
+        "12 of 0 to 2, and never is it the parent's.",
+        "Work out the colours of nodes 8 and 10 in forest 0 after the pulses 2 to 6, before you look.",
+    ),
+    (
+        "example=triangle&tab=rounds&at=13",
+        "Below a node is its pair: its colour in the forest, and its old colour. The pairs have their turns one "
+        "after another, and whose turn it is chooses.",
+        "Bar channel 1 at a node (in Draw: click it), and see here who chooses something else.",
+    ),
+    (
+        "example=chain6&tab=run&slow=2-3&seed=7",
+        "What goes over the dotted link waits as long as it can. Nodes are at different pulses, and still each "
+        "reads what it would with a clock: the lines in green compare all payloads.",
+        "Make another link slow. How far apart can the pulses of two neighbours be, and of two ends?",
+    ),
+    (
+        "example=path&tab=adversary&without=safes",
+        "You choose which message is taken next. Here nodes don't wait for the safes of their neighbours.",
+        "Make a node pulse with a wrong inbox, in as few steps as you can; then search every order, and try the dares.",
+    ),
+    (
+        "example=triangle&tab=rounds&program=matching",
+        "After pulse 12 each forest has a turn for each of its three colours, and a free node of the turn's colour "
+        "takes one of the children that are free. A partner is a port, counted from 0.",
+        "Choose the program independent-set, then recolouring: what has each node found at the end? The tab Pictures has "
+        "it on the map, as results.",
+    ),
 ]
 
 
@@ -44,5 +58,7 @@ def lessons():
     """All lessons, as the studio's page has them."""
     with open(os.path.join(TOP, "docs", "learn", "TUTORIAL.md"), encoding="utf-8") as file:
         heads = re.findall(r"^## (\d)\. (.*)\n\n\*(.*?)\*", file.read(), re.M)
-    return [{"number": int(number), "title": title, "ask": ask, "open": place, "see": see, "do": do}
-            for (number, title, ask), (place, see, do) in zip(heads, PLACES, strict=True)]
+    return [
+        {"number": int(number), "title": title, "ask": ask, "open": place, "see": see, "do": do}
+        for (number, title, ask), (place, see, do) in zip(heads, PLACES, strict=True)
+    ]

@@ -23,7 +23,9 @@ EXAMPLES = os.path.join(TOP, "examples")
 def shown(network, said=()):
     """A network as the page has it, and how it was read."""
     if network.nodes > MOST_DRAWN:
-        raise Wrong(f"{network.name}: the studio draws at most {MOST_DRAWN} nodes, and here are {network.nodes}")
+        raise Wrong(
+            f"{network.name}: the studio draws at most {MOST_DRAWN} nodes, and here are {network.nodes}"
+        )
     return net_of(network) | {"said": list(said)}
 
 
@@ -33,11 +35,15 @@ def hello(_asked, _tell):
         "proved": OPENED["is_proved"],
         "opened": OPENED["network"],
         "examples": sorted(stem(file) for file in os.listdir(EXAMPLES) if file.endswith(".col")),
-        "kinds": {name: {"sizes": kind.sizes, "chance": kind.is_by_chance} for name, kind in KINDS.items()},
+        "kinds": {
+            name: {"sizes": kind.sizes, "chance": kind.is_by_chance} for name, kind in KINDS.items()
+        },
         "programs": [*PROGRAMS, *OPENED["own"]],
         "policies": POLICIES,
-        "rules": {"orders": said_of(OF_SCHEDULES),
-                  "rounds": {name: said_of(of) for name, of in OF_PROGRAMS.items()}},
+        "rules": {
+            "orders": said_of(OF_SCHEDULES),
+            "rounds": {name: said_of(of) for name, of in OF_PROGRAMS.items()},
+        },
         "lessons": lessons(),
     }
 
@@ -62,7 +68,12 @@ def file_read(asked, _tell):
 def make(asked, _tell):
     kind = asked["kind"]
     sizes = [int(asked["sizes"][size]) for size in KINDS[kind].sizes]
-    if max(sizes) > MOST_DRAWN or len(sizes) == 2 and kind != "random" and sizes[0] * sizes[1] > MOST_DRAWN:
+    if (
+        max(sizes) > MOST_DRAWN
+        or len(sizes) == 2
+        and kind != "random"
+        and sizes[0] * sizes[1] > MOST_DRAWN
+    ):
         raise Wrong(f"the studio draws at most {MOST_DRAWN} nodes")
     seed = [int(asked["seed"])] if KINDS[kind].is_by_chance else []
     more = [float(asked.get("reach") or 0.26), *seed] if kind == "disk" else seed
@@ -78,7 +89,10 @@ def by_shape(kind, nodes, *_):
         return {}
     wide = isqrt(3 * nodes // 2)
     rows = [divmod(k, wide) for k in range(nodes)]
-    return {k + 1: (wide - 1 - column if row % 2 else column, row) for k, (row, column) in enumerate(rows)}
+    return {
+        k + 1: (wide - 1 - column if row % 2 else column, row)
+        for k, (row, column) in enumerate(rows)
+    }
 
 
 def tidy(asked, _tell):

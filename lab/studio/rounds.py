@@ -25,9 +25,14 @@ def plan(asked, _tell):
     network = network_asked(asked)
     channels = read_plan(plan_of(network, asked["network"]), "the plan", network)
     last = last_pulse(network)
-    return {"plan": [channels[v] for v in network.vertices], "allowed": network.channels,
-            "degree": network.greatest_degree, "bars": network.greatest_bars, "last": last,
-            "forests": network.forest_count}
+    return {
+        "plan": [channels[v] for v in network.vertices],
+        "allowed": network.channels,
+        "degree": network.greatest_degree,
+        "bars": network.greatest_bars,
+        "last": last,
+        "forests": network.forest_count,
+    }
 
 
 def check(asked, _tell):
@@ -41,8 +46,14 @@ def check(asked, _tell):
     if found is None:
         raise Wrong(said)
     at = [int(n) for n in re.findall(r"\d+", said.partition(" ")[2])]
-    return {"ok": False, "said": said, "code": found.name, "at": at if found.name != "C6" else [],
-            "words": of_nodes(found.what), "do": of_nodes(found.do)}
+    return {
+        "ok": False,
+        "said": said,
+        "code": found.name,
+        "at": at if found.name != "C6" else [],
+        "words": of_nodes(found.what),
+        "do": of_nodes(found.do),
+    }
 
 
 def of_nodes(words):
@@ -63,8 +74,11 @@ def why(asked, _tell):
     """Why a node has its channel."""
     network = network_asked(asked, MOST_ROUNDS)
     cone = why_picture.Cone(Rounds(network), int(asked["vertex"]))
-    return {"lines": why_picture.text(cone).splitlines(), "identifiers": cone.identifiers(),
-            "messages": [[p, v, w] for p, v, w, _ in sorted(cone.messages)]}
+    return {
+        "lines": why_picture.text(cone).splitlines(),
+        "identifiers": cone.identifiers(),
+        "messages": [[p, v, w] for p, v, w, _ in sorted(cone.messages)],
+    }
 
 
 def broken(asked, _tell):
@@ -76,15 +90,27 @@ def broken(asked, _tell):
         raise Wrong("which rule is left out?")
     found = ruled(program)(network, without)
     if found.clash is not None:
-        return {"here": True, "words": found.words().split("\n"), "found": None,
-                "picture": broken_picture.draw(network, without, program)}
+        return {
+            "here": True,
+            "words": found.words().split("\n"),
+            "found": None,
+            "picture": broken_picture.draw(network, without, program),
+        }
     said = "the rounds of this network go right without it"
     least, tried, what, most = smallest_wrong(without, program)
     if least is None:
-        return {"here": False, "words": [f"{said}, and so do those of all {tried:,} {what} of up to {most} nodes"],
-                "found": None, "picture": None}
-    return {"here": False, "words": [said], "found": net_of(least.net),
-            "picture": broken_picture.draw(None, without, program)}
+        return {
+            "here": False,
+            "words": [f"{said}, and so do those of all {tried:,} {what} of up to {most} nodes"],
+            "found": None,
+            "picture": None,
+        }
+    return {
+        "here": False,
+        "words": [said],
+        "found": net_of(least.net),
+        "picture": broken_picture.draw(None, without, program),
+    }
 
 
 def picture(asked, _tell):
@@ -97,5 +123,15 @@ def picture(asked, _tell):
     if kind in OF_RUN:
         texts = [Text("transcript", "the run", str(asked["transcript"]))]
     pulses = tuple(int(pulse) for pulse in asked.get("pulses") or ()) or None
-    return drawing(kind, Asked(network=network, texts=texts, program=program_asked(asked), forest=asked.get("forest"),
-                               vertex=asked.get("vertex"), pulses=pulses, title=network.name))
+    return drawing(
+        kind,
+        Asked(
+            network=network,
+            texts=texts,
+            program=program_asked(asked),
+            forest=asked.get("forest"),
+            vertex=asked.get("vertex"),
+            pulses=pulses,
+            title=network.name,
+        ),
+    )

@@ -8,7 +8,15 @@ from lab.schedules.policies import POLICIES, Policy
 from lab.schedules.rules import OF_SCHEDULES
 from lab.schedules.simulate import Player, events_of, text_of_run
 from lab.schedules.stepwise import Stepwise
-from lab.studio.asked import MOST_DRAWN, MOST_RUN, OPENED, network_asked, pairs_asked, program_asked, rules_asked
+from lab.studio.asked import (
+    MOST_DRAWN,
+    MOST_RUN,
+    OPENED,
+    network_asked,
+    pairs_asked,
+    program_asked,
+    rules_asked,
+)
 from lab.studio.judges import beginning_judged, by_definitions, judged, text_from
 from lab.transcripts.reading import line_of
 from lab.wrong import Wrong
@@ -33,11 +41,18 @@ def played(asked, network, program, tell):
     """(transcript, run) by a seed, which no thread made; steps of somebody's may come first."""
     most = least_wires(network, program)
     if most > MOST_WIRES_PLAYED:
-        raise Wrong(f"a run has more than {most:,} wires: take the threads, since a seeded run is played slowly")
+        raise Wrong(
+            f"a run has more than {most:,} wires: take the threads, since a seeded run is played slowly"
+        )
     if asked["policy"] not in POLICIES:
         raise Wrong(f"there is no policy {asked['policy']}")
-    policy = Policy(asked["policy"], network.vertices, network.edges, str(asked.get("seed", "1")),
-                    *held_of(asked, network))
+    policy = Policy(
+        asked["policy"],
+        network.vertices,
+        network.edges,
+        str(asked.get("seed", "1")),
+        *held_of(asked, network),
+    )
     player = Player(network, program)
     made = Steps(player.state)
     for step in first_steps(asked, network, program):
@@ -51,7 +66,9 @@ def played(asked, network, program, tell):
         if len(player.made) == next_part:
             next_part *= 2
             tell(part=shown(Run("the run", network, made.by_stamp())))
-    return text_of_run(network.nodes, player.made, program), Run("the run", network, made.by_stamp())
+    return text_of_run(network.nodes, player.made, program), Run(
+        "the run", network, made.by_stamp()
+    )
 
 
 def first_steps(asked, net, program):
@@ -71,9 +88,13 @@ def by_threads(asked, program):
     if not OPENED["is_proved"]:
         raise Wrong("threads run the proved programs, which aren't built yet: take a run by a seed")
     name = "forestplan" if program is Colouring else "forestplay"
-    words = ["transcript"] if program is Colouring else ["run", "--transcript", *program_words(program)]
+    words = (
+        ["transcript"] if program is Colouring else ["run", "--transcript", *program_words(program)]
+    )
     workers, capacity = int(asked.get("workers", 4)), int(asked.get("capacity", 4))
-    return text_from(name, [*words, f"--workers={workers}", f"--capacity={capacity}"], asked["network"])
+    return text_from(
+        name, [*words, f"--workers={workers}", f"--capacity={capacity}"], asked["network"]
+    )
 
 
 def run(asked, tell):
@@ -89,15 +110,22 @@ def run(asked, tell):
         text, found = played(asked, network, program, tell)
     if found is None:
         # Of a text in the order of a run only its beginning is read: a part, and then as much as is shown.
-        counts = (PART, MOST_ENTRIES + 2) if text.startswith("transcript 2 ") else (text.count("\n"),)
+        counts = (
+            (PART, MOST_ENTRIES + 2) if text.startswith("transcript 2 ") else (text.count("\n"),)
+        )
         for count in counts if text.count("\n") > 2 * PART else counts[-1:]:
-            lines = "".join(line + "\n" for line in text.split("\n", count + 1)[:count + 1])
+            lines = "".join(line + "\n" for line in text.split("\n", count + 1)[: count + 1])
             found = Run("the run", network, steps_of_text("the run", network, lines, None, program))
             if count != counts[-1]:
                 tell(part=shown(found))
     same, results = compared(found, network, program)
-    return shown(found) | {"text": text, "judge": judged(network, asked["network"], text, program), "same": same,
-                           "results": results, "of": singled_out(asked, network)}
+    return shown(found) | {
+        "text": text,
+        "judge": judged(network, asked["network"], text, program),
+        "same": same,
+        "results": results,
+        "of": singled_out(asked, network),
+    }
 
 
 def singled_out(asked, network):
@@ -117,7 +145,10 @@ def compared(found, network, program):
     else:
         results = [there.merged[-1][v] + 1 for v in network.vertices]
     pulses = range(found.pulses[0], found.pulses[1] + 1)
-    sent = {p: sorted((v, w, f"{word} {what}") for v, w, word, what in there.pulses[p].puts) for p in pulses}
+    sent = {
+        p: sorted((v, w, f"{word} {what}") for v, w, word, what in there.pulses[p].puts)
+        for p in pulses
+    }
     same = sum(sent[p] == found.payloads(p) for p in pulses)
     return [same, len(pulses), sum(map(len, sent.values()))], results
 
@@ -128,14 +159,23 @@ def replay(asked, _tell):
     network = network_asked(asked, MOST_RUN)
     lines = str(asked["transcript"]).splitlines()
     entries = [line.partition(" ")[2] for line in lines[1:]]
-    return {"entries": len(entries)} | beginning_judged(network, asked["network"], entries, program_asked(asked))
+    return {"entries": len(entries)} | beginning_judged(
+        network, asked["network"], entries, program_asked(asked)
+    )
 
 
 def judge(asked, _tell):
     """What is said of a transcript, whoever wrote it: in words by the definitions, and by the proved machine."""
-    program, network, text = program_asked(asked), network_asked(asked, MOST_DRAWN), str(asked["transcript"])
+    program, network, text = (
+        program_asked(asked),
+        network_asked(asked, MOST_DRAWN),
+        str(asked["transcript"]),
+    )
     proved = judged(network, asked["network"], text, program) if OPENED["is_proved"] else None
-    return by_definitions(network, text, program) | {"proved": proved, "before": asked["network"].count("\n") + 1}
+    return by_definitions(network, text, program) | {
+        "proved": proved,
+        "before": asked["network"].count("\n") + 1,
+    }
 
 
 def steps(asked, _tell):
@@ -156,10 +196,17 @@ def steps(asked, _tell):
         player.in_step(*held)
     wires = [[v, w, player.words_on(v, w)] for v in network.vertices for w in network.neighbours[v]]
     told = {
-        "made": player.chosen, "steps": [] if player.is_over else player.possible(), "last": player.state.nodes[1].last,
-        "looks": [look_of(player.state, v) for v in network.vertices], "wires": [row for row in wires if row[2]],
-        "said": player.said, "fault": player.fault, "over": player.is_over, "list": player.lines,
-        "entries": len(player.made)}
+        "made": player.chosen,
+        "steps": [] if player.is_over else player.possible(),
+        "last": player.state.nodes[1].last,
+        "looks": [look_of(player.state, v) for v in network.vertices],
+        "wires": [row for row in wires if row[2]],
+        "said": player.said,
+        "fault": player.fault,
+        "over": player.is_over,
+        "list": player.lines,
+        "entries": len(player.made),
+    }
     if asked.get("without") or player.is_over:
         return told
     lines = [line_of(entry) for entry in player.made]

@@ -30,16 +30,25 @@ from lab.wrong import Wrong
 HOST = "127.0.0.1"
 FOLDERS = os.path.join(os.path.dirname(os.path.abspath(__file__)), "page"), pages.FOLDER
 FILES = {name: os.path.join(folder, name) for folder in FOLDERS for name in os.listdir(folder)}
-KINDS = {".html": "text/html", ".css": "text/css", ".js": "text/javascript", ".svg": "image/svg+xml"}
+KINDS = {
+    ".html": "text/html",
+    ".css": "text/css",
+    ".js": "text/javascript",
+    ".svg": "image/svg+xml",
+}
 # In bytes, seconds of the clock, seconds of processor time, and bytes.
 MOST_ASKED, SECONDS, PROCESSOR_SECONDS, MEMORY = 8 << 20, 120, 110, 2 << 30
 # A browser opens connections on which it says nothing yet.
 SECONDS_TO_ASK, MOST_AT_ONCE = 10, 32
 # The page runs its own scripts alone, and a frame of an answer can reach nothing: it has no origin.
-OF_PAGE = ("default-src 'none'; script-src 'self'; style-src 'self' 'unsafe-inline'; img-src 'self' data: blob:; "
-           "connect-src 'self'; frame-src 'self'; form-action 'self'; frame-ancestors 'none'; base-uri 'none'")
-OF_FRAME = ("sandbox allow-scripts; default-src 'none'; script-src 'unsafe-inline'; style-src 'unsafe-inline'; "
-            "img-src data:; frame-ancestors 'self'; base-uri 'none'")
+OF_PAGE = (
+    "default-src 'none'; script-src 'self'; style-src 'self' 'unsafe-inline'; img-src 'self' data: blob:; "
+    "connect-src 'self'; frame-src 'self'; form-action 'self'; frame-ancestors 'none'; base-uri 'none'"
+)
+OF_FRAME = (
+    "sandbox allow-scripts; default-src 'none'; script-src 'unsafe-inline'; style-src 'unsafe-inline'; "
+    "img-src data:; frame-ancestors 'self'; base-uri 'none'"
+)
 
 
 class Server(socketserver.ForkingMixIn, http.server.HTTPServer):
@@ -111,17 +120,29 @@ class Handler(http.server.BaseHTTPRequestHandler):
     def is_from_page(self):
         """Whether the request was sent to this server by its name, and by no page of another origin: a name that
         another server's owner has pointed here isn't answered."""
-        own, origin, site = self.own_names(), self.headers.get("Origin"), self.headers.get("Sec-Fetch-Site")
-        return (self.headers.get("Host") in own and origin in [None, *(f"http://{name}" for name in own)]
-                and site in (None, "same-origin", "none"))
+        own, origin, site = (
+            self.own_names(),
+            self.headers.get("Origin"),
+            self.headers.get("Sec-Fetch-Site"),
+        )
+        return (
+            self.headers.get("Host") in own
+            and origin in [None, *(f"http://{name}" for name in own)]
+            and site in (None, "same-origin", "none")
+        )
 
     def headed(self, status, kind, policy, length=None):
         self.send_response(status)
-        for name, value in (("Content-Type", f"{kind}; charset=utf-8"), ("Content-Length", length),
-                            ("Content-Security-Policy", policy), ("Cache-Control", "no-store"),
-                            ("X-Content-Type-Options", "nosniff"), ("Referrer-Policy", "same-origin"),
-                            ("Cross-Origin-Resource-Policy", "same-origin"),
-                            ("Cross-Origin-Opener-Policy", "same-origin")):
+        for name, value in (
+            ("Content-Type", f"{kind}; charset=utf-8"),
+            ("Content-Length", length),
+            ("Content-Security-Policy", policy),
+            ("Cache-Control", "no-store"),
+            ("X-Content-Type-Options", "nosniff"),
+            ("Referrer-Policy", "same-origin"),
+            ("Cross-Origin-Resource-Policy", "same-origin"),
+            ("Cross-Origin-Opener-Policy", "same-origin"),
+        ):
             if value is not None:
                 self.send_header(name, str(value))
         self.end_headers()
@@ -154,17 +175,24 @@ class Handler(http.server.BaseHTTPRequestHandler):
         if not self.is_from_page():
             return self.refuse(403, "This call isn't from the studio's own page.")
         length = self.headers.get("Content-Length", "")
-        if not (length.isascii() and length.isdigit() and len(length) < 10 and int(length) <= MOST_ASKED):
+        if not (
+            length.isascii() and length.isdigit() and len(length) < 10 and int(length) <= MOST_ASKED
+        ):
             return self.refuse(413, f"A call has at most {MOST_ASKED:,} bytes.")
         body = self.rfile.read(int(length))
         if way == "frame":
-            asked = {key: values[-1] for key, values in parse_qs(body.decode("utf-8", "replace")).items()}
+            asked = {
+                key: values[-1] for key, values in parse_qs(body.decode("utf-8", "replace")).items()
+            }
             given = asked.pop("token", "")
         else:
             given = self.headers.get("X-Token", "")
         if not hmac.compare_digest(given.encode(), self.server.token.encode()):
-            return self.refuse(403, "The token is missing or another: open the address that `studio` has printed; if "
-                                    "it is open, reload this page.")
+            return self.refuse(
+                403,
+                "The token is missing or another: open the address that `studio` has printed; if "
+                "it is open, reload this page.",
+            )
         if way == "frame" and name in calls.FRAMES:
             return self.answer_frame(calls.FRAMES[name], asked)
         if way != "call" or name not in calls.CALLS:
@@ -202,8 +230,10 @@ def outcome(call, asked, tell):
         return {"wrong": "it took too much memory, so it was ended"}
     except (KeyError, TypeError, ValueError, AttributeError) as why:
         at = traceback.extract_tb(why.__traceback__)[-1]
-        return {"wrong": f"a fault of the studio itself: {type(why).__name__}: {why} "
-                         f"({os.path.basename(at.filename)} line {at.lineno})"}
+        return {
+            "wrong": f"a fault of the studio itself: {type(why).__name__}: {why} "
+            f"({os.path.basename(at.filename)} line {at.lineno})"
+        }
 
 
 @contextlib.contextmanager
@@ -215,8 +245,12 @@ def limited(connection, say):
     gc.disable()
     # What pictures note for a terminal is for nobody here; and files can't grow any more.
     sys.stderr = open(os.devnull, "w", encoding="utf-8")
-    for what, most in ((resource.RLIMIT_AS, MEMORY), (resource.RLIMIT_CPU, PROCESSOR_SECONDS),
-                       (resource.RLIMIT_FSIZE, 0), (resource.RLIMIT_CORE, 0)):
+    for what, most in (
+        (resource.RLIMIT_AS, MEMORY),
+        (resource.RLIMIT_CPU, PROCESSOR_SECONDS),
+        (resource.RLIMIT_FSIZE, 0),
+        (resource.RLIMIT_CORE, 0),
+    ):
         resource.setrlimit(what, (most, most))
     done = threading.Event()
     threading.Thread(target=watch, args=(connection, done, say, os.getppid()), daemon=True).start()

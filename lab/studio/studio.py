@@ -49,14 +49,28 @@ Example:
 
 
 def command_line():
-    words = Parser(prog="forestlab studio", usage="forestlab studio [NETWORK] [options]",
-                   description=HELP, epilog=MORE_HELP,
-                   formatter_class=argparse.RawDescriptionHelpFormatter)
+    words = Parser(
+        prog="forestlab studio",
+        usage="forestlab studio [NETWORK] [options]",
+        description=HELP,
+        epilog=MORE_HELP,
+        formatter_class=argparse.RawDescriptionHelpFormatter,
+    )
     words.add_argument("network", metavar="NETWORK", nargs="?", help="the network to begin with")
-    words.add_argument("--port", type=int, metavar="N", help=f"the port, and no other; else {PORT} or one of the next")
+    words.add_argument(
+        "--port",
+        type=int,
+        metavar="N",
+        help=f"the port, and no other; else {PORT} or one of the next",
+    )
     words.add_argument("--no-browser", action="store_true", help="only print the address")
-    words.add_argument("--own", action="append", default=[], metavar="FILE.py", help="a program of your own; may be "
-                       "given again")
+    words.add_argument(
+        "--own",
+        action="append",
+        default=[],
+        metavar="FILE.py",
+        help="a program of your own; may be " "given again",
+    )
     return words
 
 
@@ -84,14 +98,18 @@ def server_at(port, folder):
 
 def can_open():
     """Whether there is a browser with a window: one of the terminal would take the terminal."""
-    return sys.platform == "darwin" or any(os.environ.get(name) for name in ("DISPLAY", "WAYLAND_DISPLAY"))
+    return sys.platform == "darwin" or any(
+        os.environ.get(name) for name in ("DISPLAY", "WAYLAND_DISPLAY")
+    )
 
 
 def open_browser(address, folder):
     """Opens the address by a file that only its owner can read, since all can see the words that a browser was called
     with."""
     path = os.path.join(folder, "studio.html")
-    with open(path, "x", encoding="ascii", opener=lambda name, how: os.open(name, how, 0o600)) as file:
+    with open(
+        path, "x", encoding="ascii", opener=lambda name, how: os.open(name, how, 0o600)
+    ) as file:
         file.write(f'<!doctype html><meta http-equiv="refresh" content="0;url={address}">')
     webbrowser.open("file://" + path)
 
@@ -101,7 +119,9 @@ def main(words):
     with tempfile.TemporaryDirectory(prefix="forestplan-studio-") as folder:
         try:
             if given.network is not None:
-                OPENED["network"] = shown(*read_any(network_bytes(given.network), called(given.network)))
+                OPENED["network"] = shown(
+                    *read_any(network_bytes(given.network), called(given.network))
+                )
             OPENED.update(own=own_programs(given.own), is_proved=are_built())
             server = server_at(given.port, folder)
         except Wrong as why:
@@ -109,7 +129,9 @@ def main(words):
             return 1
         moved = server.server_port != PORT and given.port is None
         also = f"; port {PORT} is taken, so lessons' links don't lead here" if moved else ""
-        print(f"studio: {server.address()}\nstudio: Ctrl-C ends it{also}", file=sys.stderr, flush=True)
+        print(
+            f"studio: {server.address()}\nstudio: Ctrl-C ends it{also}", file=sys.stderr, flush=True
+        )
         return serve(server, None if given.no_browser or not can_open() else folder)
 
 

@@ -31,7 +31,10 @@ class Found:
         except Refused as refused:
             self.refusals[v] = str(refused)
             return
-        stamp, last = self.clock.next(entry.kind, v, entry.neighbour), self.made[-1] if self.made else entry
+        stamp, last = (
+            self.clock.next(entry.kind, v, entry.neighbour),
+            self.made[-1] if self.made else entry,
+        )
         if not self.is_stamped:
             entry.stamp = stamp
         elif entry.stamp != stamp or (last.stamp, last.vertex) > (stamp, v):
@@ -44,9 +47,11 @@ class Found:
         """Of the entries that are next and not possible: with stamps the first. Else the first that its own node can't
         make, whatever the others do; if they all wait for a neighbour, the first that waits for one which is through;
         else the first."""
+
         def rank(entry):
             waits = self.waits(entry)
             return waits, waits and bool(self.left.get(entry.neighbour)), entry.line
+
         return min((own[0] for own in self.left.values() if own), key=rank, default=None)
 
     def waits(self, entry):
@@ -57,7 +62,13 @@ class Found:
         """What is wrong first, if something is: `fault` is that of a line after the entries, which comes before an
         entry that waits for a neighbour. If the entries are only a part, nodes may wait."""
         entry = self.first_refused()
-        if entry is None or fault and self.waits(entry) or is_part and set(self.refusals.values()) == {"LinkEmpty"}:
+        if (
+            entry is None
+            or fault
+            and self.waits(entry)
+            or is_part
+            and set(self.refusals.values()) == {"LinkEmpty"}
+        ):
             return fault
         return refusal(self.state, entry, self.refusals[entry.vertex], self.entries, self.clock)
 
@@ -77,7 +88,8 @@ def find_order(net, entries, program=Colouring):
     all those before it made: so it is possible, and the search wouldn't have stopped. The entries that are left, and
     why, are the same in every search.
 
-    A node is looked at again only if a neighbour has put the wire that it waits for; so the time is linear."""
+    A node is looked at again only if a neighbour has put the wire that it waits for; so the time is linear.
+    """
     found = Found(net, entries, program)
     if found.is_stamped:
         for entry in entries:
@@ -102,7 +114,9 @@ def whole_run(net, text, program=Colouring):
     `Wrong`."""
     head, entries, fault = read_to_fault(text, program.name)
     if head.nodes != net.nodes:
-        raise Wrong(head.line, "Nodes", f"the transcript has {head.nodes} nodes, the network {net.nodes}")
+        raise Wrong(
+            head.line, "Nodes", f"the transcript has {head.nodes} nodes, the network {net.nodes}"
+        )
     found = find_order(net, entries, program)
     if wrong := found.wrong(fault):
         raise wrong

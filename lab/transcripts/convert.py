@@ -10,8 +10,12 @@ def entries_of(text):
     """The first line; and (entry, the entry of its put if it is a take), in the order of the text."""
     head, entries = read(text, None)
     if not head.is_stamped:
-        raise Wrong(head.line, "X1", "edition 1 has no order of all entries: only editions 2 and 3 are written in "
-                                     "other forms")
+        raise Wrong(
+            head.line,
+            "X1",
+            "edition 1 has no order of all entries: only editions 2 and 3 are written in "
+            "other forms",
+        )
     links, found = {}, []
     for entry in entries:
         put = None
@@ -20,7 +24,11 @@ def entries_of(text):
         elif entry.kind == "Take":
             link = links.get((entry.neighbour, entry.vertex))
             if not link:
-                raise Wrong(entry.line, "LinkEmpty", f"node {entry.vertex} takes what {entry.neighbour} hasn't put")
+                raise Wrong(
+                    entry.line,
+                    "LinkEmpty",
+                    f"node {entry.vertex} takes what {entry.neighbour} hasn't put",
+                )
             put = link.popleft()
         found.append((entry, put))
     return head, found
@@ -30,7 +38,12 @@ def as_json(head, entries):
     named = {"program": head.program} if head.program else {}
     yield json.dumps({"edition": head.edition, "nodes": head.nodes} | named)
     for entry, put in entries:
-        row = {"line": entry.line, "stamp": entry.stamp, "node": entry.vertex, "kind": entry.kind.lower()}
+        row = {
+            "line": entry.line,
+            "stamp": entry.stamp,
+            "node": entry.vertex,
+            "kind": entry.kind.lower(),
+        }
         if entry.kind == "Pulse":
             row["pulse"] = entry.what
         else:
@@ -54,7 +67,9 @@ def as_shiviz(_, entries):
                 own[v] = max(own.get(v, 0), count)
         if entry.kind == "Put":
             carried[entry.line] = dict(own)
-        yield f"node{entry.vertex} " + json.dumps({f"node{v}": count for v, count in sorted(own.items())})
+        yield f"node{entry.vertex} " + json.dumps(
+            {f"node{v}": count for v, count in sorted(own.items())}
+        )
         if entry.kind == "Pulse":
             yield f"pulse {entry.what}"
         else:

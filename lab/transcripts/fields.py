@@ -4,9 +4,14 @@ import functools
 # The words of the payloads of each proved program, and the bound of each one's number; those that go on after the
 # colouring have its words, too. Another program's payloads have any word of small letters.
 OF_COLOURING = {b"hello": 2**128, b"label": 2**16, b"colour": 2**128, b"chosen": 2**16}
-PAYLOADS = {"colouring": OF_COLOURING, "leader": {b"leader": 2**128}, "layers": {b"hops": 2**32},
-            "matching": OF_COLOURING | {b"free": 2**16, b"take": 2**16},
-            "independent-set": OF_COLOURING | {b"joined": 2**16}, "recolouring": OF_COLOURING | {b"anew": 2**16}}
+PAYLOADS = {
+    "colouring": OF_COLOURING,
+    "leader": {b"leader": 2**128},
+    "layers": {b"hops": 2**32},
+    "matching": OF_COLOURING | {b"free": 2**16, b"take": 2**16},
+    "independent-set": OF_COLOURING | {b"joined": 2**16},
+    "recolouring": OF_COLOURING | {b"anew": 2**16},
+}
 COLOURING = "colouring"
 WIRES = "`payload P WORD NUMBER`, `ack P`, `safe P` and `close`"
 
@@ -22,12 +27,19 @@ def fields_of(line):
 
 def name_in_texts(program):
     """The name of a program as the first line of a transcript has it: one field, whatever its file is called."""
-    return "".join(letter if letter.isascii() and (letter.isalnum() or letter in "-_") else "_" for letter in program)
+    return "".join(
+        letter if letter.isascii() and (letter.isalnum() or letter in "-_") else "_"
+        for letter in program
+    )
 
 
 def first_line(nodes, program=COLOURING):
     """The first line of a transcript with stamps: of edition 2, or of edition 3 if it isn't the colouring's."""
-    return f"transcript 2 {nodes}" if program == COLOURING else f"transcript 3 {name_in_texts(program)} {nodes}"
+    return (
+        f"transcript 2 {nodes}"
+        if program == COLOURING
+        else f"transcript 3 {name_in_texts(program)} {nodes}"
+    )
 
 
 def bound_of(program, word):
@@ -45,7 +57,9 @@ def bound_of(program, word):
 def number(field, what, bound=2**32):
     digits = field.lstrip(b"0") or field[-1:]
     if not digits.isdigit() or len(digits) > len(str(bound)) or int(digits) >= bound:
-        raise NoEntry(f"{shown(field)} is no number of a {what}, which is below 2^{bound.bit_length() - 1}")
+        raise NoEntry(
+            f"{shown(field)} is no number of a {what}, which is below 2^{bound.bit_length() - 1}"
+        )
     return int(digits)
 
 
@@ -54,7 +68,9 @@ def wire_of(program, *fields):
     """A wire as lab/definitions/nodes.py has it, with a payload of the program."""
     match fields:
         case [b"payload", pulse, word, of_word]:
-            payload = word.decode("latin-1").title(), number(of_word, word.decode("latin-1"), bound_of(program, word))
+            payload = word.decode("latin-1").title(), number(
+                of_word, word.decode("latin-1"), bound_of(program, word)
+            )
             return "Payload", number(pulse, "pulse"), payload
         case [b"ack" | b"safe" as kind, pulse]:
             return kind.decode().title(), number(pulse, "pulse")

@@ -10,6 +10,7 @@ from lab.wrong import Wrong
 class Verdict:
     """`name` is the refusal's name, or None if the run is right and whole. `at` is the index of the entry
     that is refused, `words` what the judge says of it, `line` the judge's own line."""
+
     name: str | None = None
     at: int | None = None
     words: str = ""

@@ -5,7 +5,15 @@ from typing import NamedTuple
 
 from lab import wrong
 from lab.definitions.nodes import wire_words
-from lab.transcripts.fields import COLOURING, NoEntry, fields_of, name_in_texts, number, shown, wire_of
+from lab.transcripts.fields import (
+    COLOURING,
+    NoEntry,
+    fields_of,
+    name_in_texts,
+    number,
+    shown,
+    wire_of,
+)
 
 # What begins the lines of a network.
 NETWORK = (b"p", b"c", b"e", b"i", b"b")
@@ -15,6 +23,7 @@ NETWORK = (b"p", b"c", b"e", b"i", b"b")
 class Entry:
     """`kind` is Pulse, Put or Take; `what` is the number of the pulse, or the wire, as lab/definitions/nodes.py has it.
     A pulse has no neighbour. Edition 1 has no `stamp`, until an order is found."""
+
     line: int | None
     vertex: int
     kind: str
@@ -25,6 +34,7 @@ class Entry:
 
 class Head(NamedTuple):
     """The first line: where it is, and what it says; `program` is the name that edition 3 has."""
+
     line: int
     edition: int
     nodes: int
@@ -56,7 +66,9 @@ def entry_of(line, fields, program, is_stamped=False):
             v, w = number(vertex, "node"), number(neighbour, "neighbour")
             return Entry(line, v, kind.decode().title(), w, wire_of(program, *of_wire), stamp)
     after = " after its stamp" if is_stamped else ""
-    raise NoEntry(f"{shown(b' '.join(own))}{after} is neither `V pulse P`, `V put W WIRE` nor `V take W WIRE`")
+    raise NoEntry(
+        f"{shown(b' '.join(own))}{after} is neither `V pulse P`, `V put W WIRE` nor `V take W WIRE`"
+    )
 
 
 def read(text, program=COLOURING):
@@ -74,8 +86,10 @@ def read_to_fault(text, program=COLOURING, stop=None):
     lines, entries, stopped = text.split(b"\n"), [], set()
     head = head_of(lines, program)
     program = program or head.program or COLOURING
-    for line, raw in enumerate(lines[head.line:], head.line + 1):
-        if stopped and stopped.issuperset(raw.split(b" ", head.is_stamped + 1)[head.is_stamped:head.is_stamped + 1]):
+    for line, raw in enumerate(lines[head.line :], head.line + 1):
+        if stopped and stopped.issuperset(
+            raw.split(b" ", head.is_stamped + 1)[head.is_stamped : head.is_stamped + 1]
+        ):
             continue
         try:
             if fields := fields_of(raw):
@@ -92,20 +106,35 @@ def read_to_fault(text, program=COLOURING, stop=None):
 
 def head_of(lines, program):
     """The first line that has a field; that it names another program than the one asked for is its first fault."""
-    line, fields = next(((at, found) for at, found in enumerate(map(fields_of, lines), 1) if found), (1, [b""]))
-    named = fields[2].decode("latin-1") if fields[:2] == [b"transcript", b"3"] and fields[2:] else ""
+    line, fields = next(
+        ((at, found) for at, found in enumerate(map(fields_of, lines), 1) if found), (1, [b""])
+    )
+    named = (
+        fields[2].decode("latin-1") if fields[:2] == [b"transcript", b"3"] and fields[2:] else ""
+    )
     is_name = name_in_texts(named) == named and not named.isdecimal() and named != ""
     if is_name and program is not None and named != name_in_texts(program):
-        raise Wrong(line, "WrongProgram", f"a transcript of {named}, not of {program}: --program {named}")
+        raise Wrong(
+            line, "WrongProgram", f"a transcript of {named}, not of {program}: --program {named}"
+        )
     with contextlib.suppress(NoEntry):
         match fields:
             case [b"transcript", b"1" | b"2" as edition, nodes]:
                 return Head(line, int(edition), number(nodes, "node"))
             case [b"transcript", b"3", _, nodes] if is_name:
                 return Head(line, 3, number(nodes, "node"), named)
-    what = "; this is a network: it is a file of its own, named before the transcript" if fields[0] in NETWORK else (
-        "; save it as UTF-8 without a byte order mark" if not fields[0].isascii() or b"\0" in fields[0] else "")
-    raise Wrong(line, "X1", f"neither `transcript 1 N`, `transcript 2 N` nor `transcript 3 NAME N`{what}")
+    what = (
+        "; this is a network: it is a file of its own, named before the transcript"
+        if fields[0] in NETWORK
+        else (
+            "; save it as UTF-8 without a byte order mark"
+            if not fields[0].isascii() or b"\0" in fields[0]
+            else ""
+        )
+    )
+    raise Wrong(
+        line, "X1", f"neither `transcript 1 N`, `transcript 2 N` nor `transcript 3 NAME N`{what}"
+    )
 
 
 def line_of(entry):

@@ -11,6 +11,7 @@ class Standing:
     """Where a node is before an entry: its pulse, and its last one; `can_pulse`, whether it can make its next
     pulse, and `lacks`, what it waits for otherwise, as `ack 0 of 2; safe 0 of 2 and 3`; `puts`, the wire that it
     has to put now, by link; `link`, how a link is named, as `by port {}`."""
+
     pulse: int
     last: int
     can_pulse: bool
@@ -20,8 +21,9 @@ class Standing:
 
     def dues(self) -> list[str]:
         """What it can do."""
-        return [f"put {link} {wire}" for link, wire in self.puts.items()] + \
-            ([f"pulse {self.pulse + 1}"] if self.can_pulse else [])
+        return [f"put {link} {wire}" for link, wire in self.puts.items()] + (
+            [f"pulse {self.pulse + 1}"] if self.can_pulse else []
+        )
 
     def undone(self) -> str:
         """The same, of a node that doesn't do it."""
@@ -29,7 +31,9 @@ class Standing:
 
     def why_not_safe(self) -> str:
         """Why it can't have said safe yet; nothing if no acknowledgement is missing."""
-        acks = [part.removeprefix("ack ") for part in self.lacks.split("; ") if part.startswith("ack ")]
+        acks = [
+            part.removeprefix("ack ") for part in self.lacks.split("; ") if part.startswith("ack ")
+        ]
         if not acks:
             return ""
         whose = acks[0].replace(" of ", " from ")
@@ -44,19 +48,27 @@ class Standing:
     def why_payload(self, link: int) -> str:
         """Why a payload is due there, or none."""
         right = self.puts.get(link, "")
-        return f"the rounds have {right} there" if right.startswith("payload") else "the rounds have no payload there"
+        return (
+            f"the rounds have {right} there"
+            if right.startswith("payload")
+            else "the rounds have no payload there"
+        )
 
     def owes(self, payloads: str) -> str:
         return f"in pulse {self.pulse} it has to send {payloads} first"
 
 
 PULSE = "a node makes its next pulse once it has said safe and has the safes of all its neighbours"
-SAFE = "safe P is said once in each pulse P but the last, to each neighbour, once each payload that it sent in P is " \
-       "acknowledged"
+SAFE = (
+    "safe P is said once in each pulse P but the last, to each neighbour, once each payload that it sent in P is "
+    "acknowledged"
+)
 # Of a wire that is due: when it is put.
-DUE = {"ack": "a payload is acknowledged with its own pulse as soon as it is taken",
-       "safe": "safe P is said as soon as all payloads of P are acknowledged, and at once if none was sent",
-       "close": "close is put on each link as the node makes its last pulse"}
+DUE = {
+    "ack": "a payload is acknowledged with its own pulse as soon as it is taken",
+    "safe": "safe P is said as soon as all payloads of P are acknowledged, and at once if none was sent",
+    "close": "close is put on each link as the node makes its last pulse",
+}
 
 
 def rules_of_dues(at: Standing) -> str:
@@ -87,21 +99,37 @@ def rule_of_put(at: Standing, link: int, wire: list[str]) -> str:
     if due == "ack":
         return f"{DUE['ack']}, before anything else is put on that link"
     if kind == "payload":
-        return at.why_payload(link) if int(wire[1]) == at.pulse else (
-            f"the node is at pulse {at.pulse}, and a payload of pulse P is put after pulse P is made")
+        return (
+            at.why_payload(link)
+            if int(wire[1]) == at.pulse
+            else (
+                f"the node is at pulse {at.pulse}, and a payload of pulse P is put after pulse P is made"
+            )
+        )
     if due == "payload":
         return at.owes(at.named(right, link))
     if kind == "ack":
-        return f"this link has to get {right} before: {DUE['safe']}" if due == "safe" else (
-            "each payload is acknowledged once, with the payload's own pulse")
+        return (
+            f"this link has to get {right} before: {DUE['safe']}"
+            if due == "safe"
+            else ("each payload is acknowledged once, with the payload's own pulse")
+        )
     if kind == "close":
-        return "close is put once on each link" if at.pulse == at.last else (
-            f"close is the last wire of a link, put as the node makes its last pulse, {at.last}; it is at pulse "
-            f"{at.pulse}")
+        return (
+            "close is put once on each link"
+            if at.pulse == at.last
+            else (
+                f"close is the last wire of a link, put as the node makes its last pulse, {at.last}; it is at pulse "
+                f"{at.pulse}"
+            )
+        )
     if int(wire[1]) != at.pulse:
         return f"the node is at pulse {at.pulse}, and safe P is said in pulse P"
-    done = f"its pulse, {at.pulse}, is the last" if at.pulse == at.last else (
-        f"it has put {at.named(' '.join(wire), link)} already")
+    done = (
+        f"its pulse, {at.pulse}, is the last"
+        if at.pulse == at.last
+        else (f"it has put {at.named(' '.join(wire), link)} already")
+    )
     return f"{SAFE}; {at.why_not_safe() or done}"
 
 

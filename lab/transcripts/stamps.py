@@ -29,27 +29,41 @@ def check_whole(state, last):
     last entry, or the first line."""
     if undone := next(unfinished(state), None):
         is_on_its_way = any(state.link.values())
-        what = f"{undone[1]} (is the text cut?)" if is_on_its_way else stuck_words(
-            [(v, standing(state, v)) for v in state.nodes])
+        what = (
+            f"{undone[1]} (is the text cut?)"
+            if is_on_its_way
+            else stuck_words([(v, standing(state, v)) for v in state.nodes])
+        )
         raise Wrong(last.line, "NotWhole", f"after the last entry {what}")
 
 
 def standing(state, v):
     """Where a node is, for the words on its next entry."""
     node = state.nodes[v]
-    puts = {w: wire_words(port.out[0]) for w, port in zip(state.neighbours[v], node.ports) if port.out}
-    lacks = "" if node.can_pulse() or node.pulse_number == node.last else missing_words(state, "Pulse", v)[2:]
+    puts = {
+        w: wire_words(port.out[0]) for w, port in zip(state.neighbours[v], node.ports) if port.out
+    }
+    lacks = (
+        ""
+        if node.can_pulse() or node.pulse_number == node.last
+        else missing_words(state, "Pulse", v)[2:]
+    )
     return Standing(node.pulse_number, node.last, node.can_pulse(), lacks, puts, "for {}")
 
 
 # What an entry lacks, of the refusals that say no more of it.
-LACKED = {"NoSuch": ", but there is no such node or neighbour", "NothingToPut": ", for which it has nothing"}
+LACKED = {
+    "NoSuch": ", but there is no such node or neighbour",
+    "NothingToPut": ", for which it has nothing",
+}
 
 
 def refusal(state, entry, code, entries, clock):
     """Of an entry that isn't possible: what it lacks or what is due there, and the rule that a pulse or a put
     breaks."""
-    said, at = words(entry) + LACKED.get(code, ""), code != "NoSuch" and standing(state, entry.vertex)
+    said, at = words(entry) + LACKED.get(code, ""), code != "NoSuch" and standing(
+        state, entry.vertex
+    )
     if code == "NotReady" and at.lacks:
         said += f", but it lacks {at.lacks}"
     elif code == "WrongWire":
@@ -60,9 +74,16 @@ def refusal(state, entry, code, entries, clock):
     elif code == "WrongStamp":
         due = clock.counters[entry.vertex]
         said += f" with stamp {entry.stamp}, but " + (
-            f"the clock there gives {due}" if entry.stamp != due else "entries ascend by stamp, and then by node")
+            f"the clock there gives {due}"
+            if entry.stamp != due
+            else "entries ascend by stamp, and then by node"
+        )
     if code in ("NotReady", "NothingToPut", "WrongWire") and entry.kind != "Take":
-        what = f"pulse {entry.what}" if entry.kind == "Pulse" else f"put {entry.neighbour} {wire_words(entry.what)}"
+        what = (
+            f"pulse {entry.what}"
+            if entry.kind == "Pulse"
+            else f"put {entry.neighbour} {wire_words(entry.what)}"
+        )
         said += f"; {rule_of(at, what, says_lacks=False)}"
     return Wrong(entry.line, code, said)
 
@@ -70,11 +91,17 @@ def refusal(state, entry, code, entries, clock):
 def why_link_empty(entry, entries):
     """Of a wire that isn't there: where it is put, or that it never is."""
     link = entry.neighbour, entry.vertex
-    taken = sum(e.kind == "Take" and (e.neighbour, e.vertex) == link and e.line < entry.line for e in entries)
+    taken = sum(
+        e.kind == "Take" and (e.neighbour, e.vertex) == link and e.line < entry.line
+        for e in entries
+    )
     puts = [e for e in entries if e.kind == "Put" and (e.vertex, e.neighbour) == link][taken:]
     put = next((e for e in puts if e.what == entry.what), None)
-    return f"; it is put in line {put.line}, which can't have come before" if put else (
-        f", and {entry.neighbour} never puts it (is the text cut?)")
+    return (
+        f"; it is put in line {put.line}, which can't have come before"
+        if put
+        else (f", and {entry.neighbour} never puts it (is the text cut?)")
+    )
 
 
 def unfinished(state):

@@ -28,7 +28,10 @@ built, 2 the command line is refused; else what forestplay ends with.
 """
 # By command: its words, what it does, more of that, and an example.
 COMMANDS = {
-    "check": ("NETWORK [TRANSCRIPT] [options]", "Checks a transcript of a run of nodes without a common clock.", """\
+    "check": (
+        "NETWORK [TRANSCRIPT] [options]",
+        "Checks a transcript of a run of nodes without a common clock.",
+        """\
 The nodes of a network find channels by sending each other wires: payloads,
 acknowledgements, safes and a closing mark. A transcript lists, for each node and
 in its own order, the pulses (rounds) that it made and the wires that it put on
@@ -58,9 +61,13 @@ and what is wrong there, as
   WrongStamp    another stamp than the clock of the node gives, or out of order
   NotWhole      all entries are a run, but it does not reach the end
   Nodes         the first line names another number of nodes than the network has""",
-              "forestplan transcript < examples/triangle.col > triangle.transcript\n"
-              "  forestlab transcript check examples/triangle.col triangle.transcript"),
-    "replay": ("NETWORK [TRANSCRIPT] [options]", "Has the proved machine of forestplay play a transcript.", """\
+        "forestplan transcript < examples/triangle.col > triangle.transcript\n"
+        "  forestlab transcript check examples/triangle.col triangle.transcript",
+    ),
+    "replay": (
+        "NETWORK [TRANSCRIPT] [options]",
+        "Has the proved machine of forestplay play a transcript.",
+        """\
 A transcript of edition 1 lists all entries of node 1, then all of node 2, and so on.
 They can't have happened in this order, so `forestplay replay` refuses it (LinkEmpty).
 One of edition 2, which `forestplan transcript` writes without `--edition 1`, or 3, of
@@ -70,8 +77,12 @@ replay`.
 
 It prints the state that the entries lead to, as `forestplay replay --help` says.
 Of a transcript that isn't right it prints what `forestlab transcript check` says.""",
-               "forestlab transcript replay examples/chain6.col examples/chain6_slow.transcript"),
-    "convert": ("FORM [TRANSCRIPT]", "Writes a transcript with stamps, edition 2 or 3, for other tools.", """\
+        "forestlab transcript replay examples/chain6.col examples/chain6_slow.transcript",
+    ),
+    "convert": (
+        "FORM [TRANSCRIPT]",
+        "Writes a transcript with stamps, edition 2 or 3, for other tools.",
+        """\
   json:   a JSON object a line: the first with the number of nodes, and in edition 3
           with the program; then one for each entry, {"stamp", "node", "kind",
           "neighbour", "wire", "pulse", ..}; a take has the number of the line of its put
@@ -86,7 +97,9 @@ The other way, from the list of events of `forestlab picture adversary` to a tra
 
 In ShiViz, give this as the parser of the log:
   (?<host>\\S*) (?<clock>{.*})\\n(?<event>.*)""",
-                "forestlab simulate examples/triangle.col | forestlab transcript convert shiviz > triangle.log")}
+        "forestlab simulate examples/triangle.col | forestlab transcript convert shiviz > triangle.log",
+    ),
+}
 
 
 def command_line():
@@ -97,16 +110,29 @@ def command_line():
         if name == "convert":
             command.add_argument("form", choices=FORMS, metavar="FORM", help="json or shiviz")
         else:
-            command.add_argument("network", metavar="NETWORK",
-                                 help="a file that `forestplan` reads without a fault, or a name, as petersen or path5")
+            command.add_argument(
+                "network",
+                metavar="NETWORK",
+                help="a file that `forestplan` reads without a fault, or a name, as petersen or path5",
+            )
             add_program(command)
-        command.add_argument("transcript", nargs="?", default="-", metavar="TRANSCRIPT",
-                             help="a file, or - for standard input; default: -")
+        command.add_argument(
+            "transcript",
+            nargs="?",
+            default="-",
+            metavar="TRANSCRIPT",
+            help="a file, or - for standard input; default: -",
+        )
         if name == "check":
-            command.add_argument("--order", action="store_true",
-                                 help="instead of that line print the transcript in the order found, in which it is a "
-                                 "run line by line; with stamps as it is")
-            command.add_argument("--json", action="store_true", help="write the verdict for a program")
+            command.add_argument(
+                "--order",
+                action="store_true",
+                help="instead of that line print the transcript in the order found, in which it is a "
+                "run line by line; with stamps as it is",
+            )
+            command.add_argument(
+                "--json", action="store_true", help="write the verdict for a program"
+            )
         add_output(command)
     return words
 
@@ -114,7 +140,9 @@ def command_line():
 def texts_of(given):
     """The network, the texts of both, and the program of a command line."""
     if given.network == given.transcript == "-":
-        raise Wrong("standard input has one text: name a file for the network or for the transcript")
+        raise Wrong(
+            "standard input has one text: name a file for the network or for the transcript"
+        )
     data = network_bytes(given.network)
     net = network_of(data, called(given.network))
     return net, data, bytes_at(given.transcript), program_asked("transcript", given, net)
@@ -136,7 +164,9 @@ def replayed(given):
         raise Wrong(f"no proved program runs {program.name}")
     made, _ = whole_run(net, text, program)
     # The network may not end in a line feed.
-    return programs.text_of("forestplay", ["replay", *program_words(program)], network + b"\n" + in_order(made, text))
+    return programs.text_of(
+        "forestplay", ["replay", *program_words(program)], network + b"\n" + in_order(made, text)
+    )
 
 
 def converted(given):
@@ -148,7 +178,10 @@ def main(words):
     # Nothing that is made here goes round in a circle that would have to be collected before the end.
     gc.disable()
     try:
-        write(given, {"check": checked, "replay": replayed, "convert": converted}[given.command](given))
+        write(
+            given,
+            {"check": checked, "replay": replayed, "convert": converted}[given.command](given),
+        )
     except WrongEntry as wrong:
         if getattr(given, "json", False):
             found = {"right": False, "line": wrong.line, "code": wrong.code, "words": wrong.what}

@@ -17,6 +17,7 @@ OWN_DATA = "its own data"
 
 class Entry(NamedTuple):
     """What a node did: `words` as a transcript has them, with the neighbour's vertex; `stamp` is Lamport's."""
+
     stamp: int
     vertex: int
     words: str
@@ -39,6 +40,7 @@ class Link(Step):
 class AlphaRun:
     """`entries` in the order in which they happened; `results[v]`, what v said that it has found; `stop`, of a node
     that gave no answer (node, fault, the last line of the message)."""
+
     kept = "run.transcript"
 
     def __init__(self, rounds: RightRounds, policy: Policy):
@@ -53,7 +55,9 @@ class AlphaRun:
         """Until nothing is on its way, a node gives no answer, or there are more entries than any right run has: then
         one of them is wrong, for certain."""
         for v in self.network.vertices:
-            if not self.is_answered(nodes, v, own_data(self.network, v, "alpha", self.rounds), OWN_DATA):
+            if not self.is_answered(
+                nodes, v, own_data(self.network, v, "alpha", self.rounds), OWN_DATA
+            ):
                 return
         while self.links and len(self.entries) <= self.rounds.events:
             link = self.policy.choose(list(self.links.values()))
@@ -107,8 +111,10 @@ class AlphaRun:
         return sorted(self.entries, key=lambda entry: entry[:2])
 
     def text(self) -> str:
-        lines = [first_line(self.network.nodes, self.rounds.program),
-                 *(f"{stamp} {v} {words}" for stamp, v, words in self.in_order())]
+        lines = [
+            first_line(self.network.nodes, self.rounds.program),
+            *(f"{stamp} {v} {words}" for stamp, v, words in self.in_order()),
+        ]
         return "".join(line + "\n" for line in lines)
 
     def verdict(self) -> Verdict:

@@ -19,6 +19,7 @@ IMPOSSIBLE = (1 << 32) - 1
 @dataclass
 class At(Standing):
     """Node `v`, which has done what is in `own`; links are named by their ports."""
+
     rounds: RightRounds
     own: list[str]
     v: int
@@ -44,17 +45,26 @@ class At(Standing):
                 case ["pulse", _]:
                     pulse += 1
                 case ["take", _, "safe" | "payload" as wire, of, *_] if (
-                        pulse + 1 == int(of) >= self.pulse - (wire == "payload")):
-                    early.append(f"`{words}` came at pulse {pulse}, and is to be kept until pulse {of} is made")
-        return [*[("came", self.rounds.came(self.pulse, self.v))] * bool(self.pulse),
-                *(("early", words) for words in last_of(early)), ("so far", "; ".join(last_of(self.own)) or "nothing")]
+                    pulse + 1 == int(of) >= self.pulse - (wire == "payload")
+                ):
+                    early.append(
+                        f"`{words}` came at pulse {pulse}, and is to be kept until pulse {of} is made"
+                    )
+        return [
+            *[("came", self.rounds.came(self.pulse, self.v))] * bool(self.pulse),
+            *(("early", words) for words in last_of(early)),
+            ("so far", "; ".join(last_of(self.own)) or "nothing"),
+        ]
 
 
 def at_node(rounds: RightRounds, before: list[Entry], v: int) -> At:
     """Asks the machine what v can do after these entries, all of which are right: by entries that can't be right, since
-    it refuses each, and says what would be possible there, or that v lacks `ack 0 of 2; safe 0 of 2 and 3`."""
+    it refuses each, and says what would be possible there, or that v lacks `ack 0 of 2; safe 0 of 2 and 3`.
+    """
     network, ports = plain_text(rounds.network), rounds.ports[v]
-    text = "".join([f"transcript 1 {rounds.network.nodes}\n", *(f"{u} {words}\n" for _, u, words in before)])
+    text = "".join(
+        [f"transcript 1 {rounds.network.nodes}\n", *(f"{u} {words}\n" for _, u, words in before)]
+    )
 
     def refusal_of(words):
         return verdict_of(network, f"{text}{v} {words} {IMPOSSIBLE}\n", words_of(rounds.program))
@@ -62,10 +72,22 @@ def at_node(rounds: RightRounds, before: list[Entry], v: int) -> At:
     def by_ports(found):
         return " by " + listed("port", [ports[int(w)] for w in re.findall("[0-9]+", found[1])])
 
-    of_pulse, of_puts = refusal_of("pulse"), {port: refusal_of(f"put {w} ack") for w, port in ports.items()}
-    can_pulse, own = of_pulse.name == "WrongWire", [with_port(rounds, v, words) for _, u, words in before if u == v]
-    lacks = "" if can_pulse else re.sub(r" of ([0-9]+(?:(?:, | and )[0-9]+)*)", by_ports, of_pulse.words)
-    puts = {port: put.words.removeprefix("expected ") for port, put in of_puts.items() if put.name == "WrongWire"}
+    of_pulse, of_puts = refusal_of("pulse"), {
+        port: refusal_of(f"put {w} ack") for w, port in ports.items()
+    }
+    can_pulse, own = of_pulse.name == "WrongWire", [
+        with_port(rounds, v, words) for _, u, words in before if u == v
+    ]
+    lacks = (
+        ""
+        if can_pulse
+        else re.sub(r" of ([0-9]+(?:(?:, | and )[0-9]+)*)", by_ports, of_pulse.words)
+    )
+    puts = {
+        port: put.words.removeprefix("expected ")
+        for port, put in of_puts.items()
+        if put.name == "WrongWire"
+    }
     pulse = sum(words.startswith("pulse") for words in own)
     return At(pulse, rounds.last, can_pulse, lacks, puts, "by port {}", rounds, own, v)
 
@@ -90,11 +112,19 @@ def finding_of(run: AlphaRun) -> Finding | None:
 
 def wrong_entry(run: AlphaRun, entries: list[Entry], verdict: Verdict) -> Finding:
     stamp, v, words = entries[verdict.at]
-    at, own = at_node(run.rounds, entries[:verdict.at], v), with_port(run.rounds, v, words)
+    at, own = at_node(run.rounds, entries[: verdict.at], v), with_port(run.rounds, v, words)
     neighbour = f" (to node {words.split()[1]})" * words.startswith("put")
-    lines = [("where", f"node {v} at pulse {at.pulse}, entry {verdict.at + 1} of the run, stamp {stamp}"),
-             ("wrong", own + neighbour), ("right", at.right()), ("why", rule_of(at, own)),
-             *at.hints(), ("judge", verdict.line)]
+    lines = [
+        (
+            "where",
+            f"node {v} at pulse {at.pulse}, entry {verdict.at + 1} of the run, stamp {stamp}",
+        ),
+        ("wrong", own + neighbour),
+        ("right", at.right()),
+        ("why", rule_of(at, own)),
+        *at.hints(),
+        ("judge", verdict.line),
+    ]
     return Finding(verdict.name, v, at.pulse, lines, verdict.at, way=kind_of(words))
 
 
@@ -102,8 +132,13 @@ def no_answer(run: AlphaRun, entries: list[Entry]) -> Finding:
     v, fault, asked = run.stop
     at = at_node(run.rounds, entries, v)
     inbox = f", for which {run.rounds.came(at.pulse + 1, v)} came" if at.can_pulse else ""
-    lines = [("where", f"node {v} at pulse {at.pulse}, after it got {asked}"), ("wrong", fault.words),
-             ("right", at.right() + inbox), *at.hints(), ("judge", "all that was done before is right")]
+    lines = [
+        ("where", f"node {v} at pulse {at.pulse}, after it got {asked}"),
+        ("wrong", fault.words),
+        ("right", at.right() + inbox),
+        *at.hints(),
+        ("judge", "all that was done before is right"),
+    ]
     return Finding(fault.kind, v, at.pulse, lines, is_first=asked == OWN_DATA)
 
 
@@ -111,12 +146,23 @@ def stuck(run: AlphaRun, entries: list[Entry], verdict: Verdict) -> Finding:
     """Nothing is on its way, and not all is done: who could do something, and who waits for what."""
     all_at = [at_node(run.rounds, entries, v) for v in run.network.vertices]
     owing = [at for at in all_at if at.dues()]
-    waiting = [f"node {at.v} for {at.lacks}" for at in all_at if not at.dues() and at.pulse < at.last]
-    wrong, *others = [("wrong", f"node {at.v} at pulse {at.pulse} doesn't {at.undone()}") for at in owing]
+    waiting = [
+        f"node {at.v} for {at.lacks}" for at in all_at if not at.dues() and at.pulse < at.last
+    ]
+    wrong, *others = [
+        ("wrong", f"node {at.v} at pulse {at.pulse} doesn't {at.undone()}") for at in owing
+    ]
     where = f"nothing is on its way after {len(entries)} of {run.rounds.events} entries, and not all is done"
     first, waits = owing[0], [("waits", " | ".join(first_of(waiting)))] * bool(waiting)
-    lines = [("where", where), wrong, ("why", rules_of_dues(first)), *first.hints(), *others[:3], *waits,
-             ("judge", verdict.line)]
+    lines = [
+        ("where", where),
+        wrong,
+        ("why", rules_of_dues(first)),
+        *first.hints(),
+        *others[:3],
+        *waits,
+        ("judge", verdict.line),
+    ]
     return Finding("stuck", first.v, first.pulse, lines, way=kind_of(first.dues()[0]))
 
 
@@ -125,7 +171,11 @@ def wrong_result(run: AlphaRun) -> Finding | None:
     for v, result in run.rounds.results.items():
         if run.results.get(v) != result:
             said = run.results.get(v, f"no line `{result}`")
-            lines = [("where", f"node {v}, at its end"), ("wrong", said), ("right", result),
-                     ("why", Why(run.rounds, v).of())]
+            lines = [
+                ("where", f"node {v}, at its end"),
+                ("wrong", said),
+                ("right", result),
+                ("why", Why(run.rounds, v).of()),
+            ]
             return Finding("result", v, run.rounds.last, lines)
     return None

@@ -22,6 +22,7 @@ class Case:
     """One run. `number` counts the runs of a seed; `owners`, by vertex from 1 on, the numbers of the commands that run
     there; `finding` is None if it was right; `run` is what was played, and `league` what a right run of an own
     algorithm took."""
+
     number: int
     network: Network
     policy: str
@@ -45,29 +46,43 @@ known = lru_cache(network_at)
 def network_of(name: str, chance: Random) -> Network:
     """The network of a name: one by chance, or what all commands mean by it."""
     found = re.fullmatch(r"random([1-9][0-9]{0,2})", name)
-    return random_network(name, int(found[1]), chance) if found and path_of(name) is None else known(name)
+    return (
+        random_network(name, int(found[1]), chance)
+        if found and path_of(name) is None
+        else known(name)
+    )
 
 
 def random_network(name: str, nodes: int, chance: Random) -> Network:
     """About one or two edges a node."""
     pairs = [(v, w) for v in range(1, nodes + 1) for w in range(v + 1, nodes + 1)]
-    return Network(nodes, chance.sample(pairs, min(len(pairs), nodes - 1 + chance.randrange(nodes + 2))), name=name)
+    return Network(
+        nodes,
+        chance.sample(pairs, min(len(pairs), nodes - 1 + chance.randrange(nodes + 2))),
+        name=name,
+    )
 
 
 def varied(network: Network, chance: Random, program: str) -> Network:
     """The same edges with other identifiers; for programs that heed bars also sometimes with other bars, and for the
     layers with identifier 1, their root, at one node in most networks."""
     vertices, how = list(network.vertices), chance.choice(["own", "mixed", "sparse", "long"])
-    names = {"own": lambda: [network.identifiers[v] for v in vertices],
-             "mixed": lambda: chance.sample(vertices, len(vertices)),
-             "sparse": lambda: chance.sample(range(max(100, 4 * len(vertices))), len(vertices)),
-             "long": lambda: [chance.getrandbits(128) for _ in vertices]}[how]()
+    names = {
+        "own": lambda: [network.identifiers[v] for v in vertices],
+        "mixed": lambda: chance.sample(vertices, len(vertices)),
+        "sparse": lambda: chance.sample(range(max(100, 4 * len(vertices))), len(vertices)),
+        "long": lambda: [chance.getrandbits(128) for _ in vertices],
+    }[how]()
     if program == "layers" and 1 not in names and chance.random() < 0.8:
         names[chance.randrange(len(names))] = 1
     bars = network.bars
     if program in WITH_BARS and network.greatest_degree and chance.random() < 0.4:
         channels = range(1, network.greatest_degree + 2)
-        bars = {v: chance.sample(channels, 1 + chance.randrange(2)) for v in vertices if chance.random() < 0.3}
+        bars = {
+            v: chance.sample(channels, 1 + chance.randrange(2))
+            for v in vertices
+            if chance.random() < 0.3
+        }
     return remade(network, network.edges, dict(zip(vertices, names)), bars)
 
 
@@ -82,11 +97,17 @@ def cases_of(options: Namespace) -> list[Case]:
         network = network_of(names[at], chance)
         if number >= len(names):
             network = varied(network, chance, options.program)
-        cases.append(Case(number, network, policies[(number // len(names) + at) % len(policies)], own_seed))
-    return sorted(cases, key=lambda case: (case.network.nodes, len(case.network.edges), case.number))
+        cases.append(
+            Case(number, network, policies[(number // len(names) + at) % len(policies)], own_seed)
+        )
+    return sorted(
+        cases, key=lambda case: (case.network.nodes, len(case.network.edges), case.number)
+    )
 
 
-def remade(network: Network, edges: Iterable, identifiers: dict[int, int], bars: dict[int, list[int]]) -> Network:
+def remade(
+    network: Network, edges: Iterable, identifiers: dict[int, int], bars: dict[int, list[int]]
+) -> Network:
     """A network of this name with other edges, identifiers and bars."""
     return Network(len(identifiers), edges, identifiers, bars, name=network.name)
 
@@ -98,12 +119,23 @@ def smaller(network: Network) -> Iterator[tuple[Network, list[int]]]:
     for gone in same:
         left = [v for v in same if v != gone]
         new = {v: k for k, v in enumerate(left, 1)}
-        yield remade(network, [(new[v], new[w]) for v, w in network.edges if gone not in (v, w)],
-                     {new[v]: names[v] for v in left}, {new[v]: network.bars.get(v, []) for v in left}), left
+        yield remade(
+            network,
+            [(new[v], new[w]) for v, w in network.edges if gone not in (v, w)],
+            {new[v]: names[v] for v in left},
+            {new[v]: network.bars.get(v, []) for v in left},
+        ), left
     for edge in network.edges:
-        yield remade(network, [other for other in network.edges if other != edge], names, network.bars), same
+        yield remade(
+            network, [other for other in network.edges if other != edge], names, network.bars
+        ), same
     for gone in network.bars:
-        yield remade(network, network.edges, names, {v: bars for v, bars in network.bars.items() if v != gone}), same
+        yield remade(
+            network,
+            network.edges,
+            names,
+            {v: bars for v, bars in network.bars.items() if v != gone},
+        ), same
     small = {v: k for k, v in enumerate(sorted(same, key=names.get), 1)}
     if small != names:
         yield remade(network, network.edges, small, network.bars), same

@@ -11,16 +11,47 @@ from lab.programs import FIRST, SCRIPT, TOP, program_file
 from lab.words import parser_of
 
 # Files and whole folders, each at the path that it has here; a folder means all files below it.
-COPIED = ("LICENSE-MIT", "LICENSE-APACHE", "bin/forestlab", "docs/learn/TUTORIAL.md", "docs/learn/GALLERY.md",
-          "docs/learn/OWN_NETWORK.md", "docs/learn/PROTOCOL.md", "docs/learn/WORKSHOP.md", "docs/pictures", "examples",
-          "lab/__init__.py", "lab/__main__.py", "lab/checksums.py", "lab/door.py", "lab/door.sh", "lab/help",
-          "lab/network.py", "lab/programs.py", "lab/progress.py", "lab/python", "lab/version.py", "lab/words.py",
-          "lab/wrong.py", "lab/networks", "lab/workshop", "lab/schedules/__init__.py", "lab/schedules/policies.py",
-          "lab/transcripts/__init__.py", "lab/transcripts/fields.py", "lab/transcripts/proved_judge.py",
-          "lab/transcripts/rules.py")
+COPIED = (
+    "LICENSE-MIT",
+    "LICENSE-APACHE",
+    "bin/forestlab",
+    "docs/learn/TUTORIAL.md",
+    "docs/learn/GALLERY.md",
+    "docs/learn/OWN_NETWORK.md",
+    "docs/learn/PROTOCOL.md",
+    "docs/learn/WORKSHOP.md",
+    "docs/pictures",
+    "examples",
+    "lab/__init__.py",
+    "lab/__main__.py",
+    "lab/checksums.py",
+    "lab/door.py",
+    "lab/door.sh",
+    "lab/help",
+    "lab/network.py",
+    "lab/programs.py",
+    "lab/progress.py",
+    "lab/python",
+    "lab/version.py",
+    "lab/words.py",
+    "lab/wrong.py",
+    "lab/networks",
+    "lab/workshop",
+    "lab/schedules/__init__.py",
+    "lab/schedules/policies.py",
+    "lab/transcripts/__init__.py",
+    "lab/transcripts/fields.py",
+    "lab/transcripts/proved_judge.py",
+    "lab/transcripts/rules.py",
+)
 # Of these folders, what stays with the teacher.
-LEFT_OUT = ("examples/workshop/python", "examples/workshop/c", "examples/workshop/java",
-            "examples/workshop/mistakes.py", "examples/algorithms")
+LEFT_OUT = (
+    "examples/workshop/python",
+    "examples/workshop/c",
+    "examples/workshop/java",
+    "examples/workshop/mistakes.py",
+    "examples/algorithms",
+)
 # The line of its VERSION by which it is known.
 IS_CLASS = "for a class"
 
@@ -59,9 +90,12 @@ LINK = re.compile(r"(?<!!)\[([^]]+)\]\(([^)#\s]+)(?:#[^)\s]*)?\)")
 
 def page_for_a_class(text: str, path: str, paths: Collection[str]) -> str:
     """A page without its links to what isn't copied; their words stay, but for what is in brackets beside others."""
+
     def is_there(target):
         found = os.path.normpath(os.path.join(os.path.dirname(path), target))
-        return ":" in target or found in paths or any(other.startswith(found + "/") for other in paths)
+        return (
+            ":" in target or found in paths or any(other.startswith(found + "/") for other in paths)
+        )
 
     text = BESIDE.sub(lambda beside: beside[0] if is_there(beside[1]) else "", text)
     return LINK.sub(lambda link: link[0] if is_there(link[2]) else link[1], text)
@@ -111,7 +145,9 @@ def copy_class(room: str) -> None:
     found = {os.path.join("lib", name): program_file(name) for name in FIRST}
     found |= {path: os.path.join(TOP, path) for path in class_files()}
     for at, _, names in os.walk(os.path.join(TOP, "share")):
-        found |= {os.path.relpath(os.path.join(at, name), TOP): os.path.join(at, name) for name in names}
+        found |= {
+            os.path.relpath(os.path.join(at, name), TOP): os.path.join(at, name) for name in names
+        }
     for path, source in found.items():
         os.makedirs(os.path.join(room, os.path.dirname(path)), exist_ok=True)
         shutil.copy(source, os.path.join(room, path))
@@ -121,5 +157,8 @@ def copy_class(room: str) -> None:
     write_scripts(room)
     write(os.path.join(room, "README.md"), README)
     text = version.text()
-    write(os.path.join(room, "VERSION"), text if IS_CLASS in text.splitlines() else f"{text}{IS_CLASS}\n")
+    write(
+        os.path.join(room, "VERSION"),
+        text if IS_CLASS in text.splitlines() else f"{text}{IS_CLASS}\n",
+    )
     write(os.path.join(room, checksums.NAME), checksums.text_of(room))

@@ -17,6 +17,7 @@ from lab.wrong import Wrong
 class ClockRun(Rounds):
     """`puts` is what the nodes sent so far, and `rounds` the right rounds, if there are any. The two kinds have
     `assignment`; `hear(v, line, fields)`, which takes any line but `put`; and `is_over(p)`."""
+
     rounds = league = None
 
     def difference(self, p: int, v: int) -> Finding | None:
@@ -31,7 +32,11 @@ class ClockRun(Rounds):
         while True:
             self.puts.append({})
             answers = nodes.ask_all(questions)
-            found = [finding for v in self.network.vertices if (finding := self.answered(p, v, answers[v]))]
+            found = [
+                finding
+                for v in self.network.vertices
+                if (finding := self.answered(p, v, answers[v]))
+            ]
             if len(found) > 1:
                 others = listed("node", first_of([finding.node for finding in found[1:]]))
                 found[0].lines.append(("also", f"in the same pulse {others}"))
@@ -41,8 +46,13 @@ class ClockRun(Rounds):
                 nodes.stop(PATIENCE)
                 return self.judged(p)
             p += 1
-            questions = {v: [f"pulse {p}", *(f"take {port} {words}" for port, words in self.inbox(p, v).items())]
-                         for v in self.network.vertices}
+            questions = {
+                v: [
+                    f"pulse {p}",
+                    *(f"take {port} {words}" for port, words in self.inbox(p, v).items()),
+                ]
+                for v in self.network.vertices
+            }
 
     def first_message(self, v: int) -> list[str]:
         return own_data(self.network, v, self.assignment, self.rounds)
@@ -59,7 +69,9 @@ class ClockRun(Rounds):
     def finding(self, kind: str, p: int, v: int, lines: list[tuple[str, str]], **more) -> Finding:
         """What is wrong at a node in a pulse, with what it knew."""
         knew = ("came", self.came(p, v)) if p else ("knows", "; ".join(self.first_message(v)[1:]))
-        return Finding(kind, v, p, [("where", f"node {v}, {self.pulse_words(p)}"), knew, *lines], **more)
+        return Finding(
+            kind, v, p, [("where", f"node {v}, {self.pulse_words(p)}"), knew, *lines], **more
+        )
 
     def pulse_words(self, p: int) -> str:
         return f"pulse {p}"
@@ -71,7 +83,10 @@ class ClockRun(Rounds):
             match fields_of(line, forms, len(self.ports[v])):
                 case "put", port, *words:
                     if int(port) in puts:
-                        raise Fault("garbage", f"{shown(line)} is a second payload by this port in one pulse")
+                        raise Fault(
+                            "garbage",
+                            f"{shown(line)} is a second payload by this port in one pulse",
+                        )
                     puts[int(port)] = " ".join(words)
                 case fields:
                     self.hear(v, line, fields)
@@ -79,6 +94,7 @@ class ClockRun(Rounds):
 
 class RoundsRun(ClockRun):
     """`said[v]`, what a node said of itself in this pulse, by what it is about: `colour 0`, `chose`, `result`."""
+
     assignment, kept = "rounds", "said.puts"
 
     def __init__(self, rounds: RightRounds):
@@ -111,8 +127,10 @@ class RoundsRun(ClockRun):
         yield said.get("chose", right), right, {"p": p}
         right_puts = rounds.puts[p].get(v, {})
         for port in sorted(right_puts.keys() | puts.keys()):
-            wrong, right = (f"put {port} {found[port]}" if port in found else f"nothing by port {port}"
-                            for found in (puts, right_puts))
+            wrong, right = (
+                f"put {port} {found[port]}" if port in found else f"nothing by port {port}"
+                for found in (puts, right_puts)
+            )
             yield wrong, right, {"p": p, "port": port}
         if p == rounds.last:
             yield said.get("result", f"no line `{rounds.results[v]}`"), rounds.results[v], {}
@@ -122,29 +140,39 @@ class RoundsRun(ClockRun):
 
     def text(self) -> str:
         """What the nodes sent, as `forestplay rounds` writes it."""
-        return "".join(f"{v} put {self.network.neighbours[v][port]} payload {p} {words}\n"
-                       for p, by in enumerate(self.puts) for v, puts in by.items()
-                       for port, words in sorted(puts.items()))
+        return "".join(
+            f"{v} put {self.network.neighbours[v][port]} payload {p} {words}\n"
+            for p, by in enumerate(self.puts)
+            for v, puts in by.items()
+            for port, words in sorted(puts.items())
+        )
 
 
 class OpenRun(ClockRun):
     """An algorithm of the students' own: `channels[v]` as nodes said them; `league` once the plan is right: the pulses
     after pulse 0, the payloads and the greatest channel. A run has at most `most_pulses`, 20 for each node and each
     pulse of the lessons' algorithm."""
+
     assignment, kept = "open", "plan"
 
     def __init__(self, network: Network):
         super().__init__(network)
-        self.most_pulses = 20 * (network.nodes + 12 + 3 * network.greatest_degree * network.channels)
+        self.most_pulses = 20 * (
+            network.nodes + 12 + 3 * network.greatest_degree * network.channels
+        )
         self.channels: dict[int, int] = {}
         self.payloads = 0
 
     def hear(self, v, line, fields):
         channel = int(fields[1])
         if channel == 0:
-            raise Fault("garbage", f"{shown(line)}: channels count from 1; a channel is a colour plus 1")
+            raise Fault(
+                "garbage", f"{shown(line)}: channels count from 1; a channel is a colour plus 1"
+            )
         if self.channels.setdefault(v, channel) != channel:
-            raise Fault("garbage", f"{shown(line)}, but it has said channel {self.channels[v]} before")
+            raise Fault(
+                "garbage", f"{shown(line)}, but it has said channel {self.channels[v]} before"
+            )
 
     def is_done(self) -> bool:
         """Whether every node has said its channel, and nothing is on its way."""
@@ -153,31 +181,44 @@ class OpenRun(ClockRun):
     def is_over(self, p):
         self.payloads += sum(map(len, self.puts[p].values()))
         if p:
-            self.puts[p - 1] = {}           # it has come
+            self.puts[p - 1] = {}  # it has come
         return self.is_done() or p == self.most_pulses
 
     def text(self) -> str:
-        return "plan\n" + "".join(f"{v} {channel}\n" for v, channel in sorted(self.channels.items()))
+        return "plan\n" + "".join(
+            f"{v} {channel}\n" for v, channel in sorted(self.channels.items())
+        )
 
     def judged(self, p):
         """The verdict of the proved check. A channel that is too great for it to be read has C6."""
         if not self.is_done():
             silent = [v for v in self.network.vertices if v not in self.channels]
-            words = f"after {p} pulses " + (f"{listed('node', first_of(silent))} said no channel" if silent else
-                                            "all nodes have their channels, and payloads are still sent")
+            words = f"after {p} pulses " + (
+                f"{listed('node', first_of(silent))} said no channel"
+                if silent
+                else "all nodes have their channels, and payloads are still sent"
+            )
             return self.finding("endless", p, (silent or [1])[0], [("wrong", words)])
         status, _, line = ask("forestplan", "check", plain_text(self.network) + self.text())
         if status == 0:
-            self.league = {"pulses": p, "payloads": self.payloads, "channels": max(self.channels.values(), default=0)}
+            self.league = {
+                "pulses": p,
+                "payloads": self.payloads,
+                "channels": max(self.channels.values(), default=0),
+            }
             return None
-        found = re.fullmatch(r"forestplan: (C[4568]) (?:vertex|vertices|line) (\d+)(?: (\d+))?", line)
+        found = re.fullmatch(
+            r"forestplan: (C[4568]) (?:vertex|vertices|line) (\d+)(?: (\d+))?", line
+        )
         if status != 1 or not found:
             raise Wrong(f"forestplan check ends with status {status}: {line}")
         code, v, w = found[1], int(found[2]), found[3]
-        if code == "C6":                # its lines are `plan`, and then one for each node in turn
+        if code == "C6":  # its lines are `plan`, and then one for each node in turn
             code, v = "C5", v - 1
         channel = self.channels[v]
-        words = {"C4": f"nodes {v} and {w} are neighbours, and both have channel {channel}",
-                 "C5": f"channel {channel} of node {v} isn't one of 1 to {self.network.channels}, which are enough",
-                 "C8": f"channel {channel} of node {v} is barred there"}[code]
+        words = {
+            "C4": f"nodes {v} and {w} are neighbours, and both have channel {channel}",
+            "C5": f"channel {channel} of node {v} isn't one of 1 to {self.network.channels}, which are enough",
+            "C8": f"channel {channel} of node {v} is barred there",
+        }[code]
         return self.finding(code, p, v, [("wrong", words), ("judge", line)])

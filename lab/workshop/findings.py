@@ -3,7 +3,7 @@ from dataclasses import dataclass, field
 
 from lab.words import in_words
 
-MOST = 8                    # of a list of words
+MOST = 8  # of a list of words
 
 
 class Fault(Exception):
@@ -23,6 +23,7 @@ class Finding:
     in a few words what is wrong, without numbers: two findings of one kind and way may have the same cause. `owner` is
     the number of the command that runs at the node, if there are several; `is_first`, that a program gave no answer to
     its first message."""
+
     kind: str
     node: int
     pulse: int

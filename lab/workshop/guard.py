@@ -27,21 +27,21 @@ from typing import Collection, Iterator, Sequence
 from lab.door import STOPS
 from lab.workshop.findings import Fault
 
-PROCESSOR_SECONDS = 600     # so that an endless loop ends even if the workshop itself is killed
+PROCESSOR_SECONDS = 600  # so that an endless loop ends even if the workshop itself is killed
 OPEN_FILES = 256
 WRITTEN_IN_ALL = 256 << 20  # by all programs of a run
-CHILDREN, CHILDREN_EACH = 256, 64       # processes and threads of a run, and more for each program
+CHILDREN, CHILDREN_EACH = 256, 64  # processes and threads of a run, and more for each program
 MEGABYTE = 1 << 20
-MOST_KEPT, MOST_FILES, DEEPEST = 256 * MEGABYTE, 10_000, 64     # in a folder of their own
-LOOK = 0.5                  # seconds between two looks at it, and at the memory that is used
+MOST_KEPT, MOST_FILES, DEEPEST = 256 * MEGABYTE, 10_000, 64  # in a folder of their own
+LOOK = 0.5  # seconds between two looks at it, and at the memory that is used
 # What programs are for grading if the workshop is root: each submission another of the numbers that nobody has.
 USERS = range(61184, 65520)
 NAMES = ("HOME", "LANG", "PATH", "TMPDIR")
 
 # Numbers of Linux, the same on all machines.
 PDEATHSIG, DUMPABLE, DROP_CAPABILITY, SUBREAPER, IS_SUBREAPER, NO_NEW_PRIVS = 1, 4, 24, 36, 37, 38
-CAPABILITIES = 64           # more than there are
-OWN_MESSAGES = 0x08000000   # a namespace for memory that is shared, semaphores and queues
+CAPABILITIES = 64  # more than there are
+OWN_MESSAGES = 0x08000000  # a namespace for memory that is shared, semaphores and queues
 CREATE_RULESET, ADD_RULE, RESTRICT_SELF = 444, 445, 446
 EXECUTE, WRITE, READ, LIST, MAKE_BLOCK, TRUNCATE = (1 << bit for bit in (0, 1, 2, 3, 11, 14))
 OF_FILES, LOOKS = EXECUTE | WRITE | READ | TRUNCATE, EXECUTE | READ | LIST
@@ -50,8 +50,38 @@ TCP, SIGNALS_AND_SOCKETS = 3, 3
 # watch folders; memory, semaphores, queues and keys by name; sockets, but for pairs of them, and calls by way of a
 # ring; priorities; and of limits and schedules those of other processes.
 SECCOMP, FILTER, X86_64, OTHER_NUMBERS = 22, 2, 0xC000003E, 0x40000000
-REFUSED = (90, 91, 92, 93, 94, 260, 268, 452, 188, 189, 190, 463, 132, 235, 261, 280, 254, 301, 29, 64, 68, 240, 248,
-           249, 250, 41, 425, 141, 251, 73)
+REFUSED = (
+    90,
+    91,
+    92,
+    93,
+    94,
+    260,
+    268,
+    452,
+    188,
+    189,
+    190,
+    463,
+    132,
+    235,
+    261,
+    280,
+    254,
+    301,
+    29,
+    64,
+    68,
+    240,
+    248,
+    249,
+    250,
+    41,
+    425,
+    141,
+    251,
+    73,
+)
 OF_ITSELF = (142, 144, 203, 302, 314)
 FCNTL, LOCKS = 72, (5, 6, 7, 36, 37, 38)
 SYSTEM = ctypes.CDLL(None, use_errno=True)
@@ -81,10 +111,16 @@ class Limits:
 
 def limit(limits: Limits, tasks: int) -> None:
     """Sets them for this process and what it starts. Memory is what it can write to, since some languages reserve far
-    more than they use. Processes are counted with those that the user has already, `tasks`; of root none is counted."""
-    rules = {resource.RLIMIT_FSIZE: limits.written, resource.RLIMIT_CPU: PROCESSOR_SECONDS,
-             resource.RLIMIT_DATA: limits.memory, resource.RLIMIT_NOFILE: OPEN_FILES, resource.RLIMIT_CORE: 0,
-             resource.RLIMIT_NPROC: tasks + limits.children}
+    more than they use. Processes are counted with those that the user has already, `tasks`; of root none is counted.
+    """
+    rules = {
+        resource.RLIMIT_FSIZE: limits.written,
+        resource.RLIMIT_CPU: PROCESSOR_SECONDS,
+        resource.RLIMIT_DATA: limits.memory,
+        resource.RLIMIT_NOFILE: OPEN_FILES,
+        resource.RLIMIT_CORE: 0,
+        resource.RLIMIT_NPROC: tasks + limits.children,
+    }
     for what, most in rules.items():
         hard = resource.getrlimit(what)[1]
         most = most if hard == resource.RLIM_INFINITY else min(most, hard)
@@ -110,8 +146,14 @@ class Guard:
     that run. With `is_open` nothing is restricted: for a container, which guards by itself and whose command may need
     more rights."""
 
-    def __init__(self, folder: str | None = None, hidden: Sequence[str] = (), needed: Sequence[str] = (),
-                 is_open: bool = False, user: int = USERS[-1]):
+    def __init__(
+        self,
+        folder: str | None = None,
+        hidden: Sequence[str] = (),
+        needed: Sequence[str] = (),
+        is_open: bool = False,
+        user: int = USERS[-1],
+    ):
         self.folder, self.is_open, self.rules, self.looked = folder, is_open, None, 0.0
         self.user = user if folder and not is_open and os.geteuid() == 0 else None
         self.programs: set[int] = set()
@@ -121,8 +163,12 @@ class Guard:
             return
         # Some rule on files has to be there; without a folder it is one that no program minds.
         files = (1 << 12 + min(self.edition, 3)) - 1 if folder else MAKE_BLOCK
-        rules = struct.pack("3Q", files, TCP if folder and self.edition >= 4 else 0,
-                            SIGNALS_AND_SOCKETS if self.edition >= 6 else 0)
+        rules = struct.pack(
+            "3Q",
+            files,
+            TCP if folder and self.edition >= 4 else 0,
+            SIGNALS_AND_SOCKETS if self.edition >= 6 else 0,
+        )
         self.rules = checked(SYSTEM.syscall(CREATE_RULESET, rules, ctypes.c_size_t(len(rules)), 0))
         if folder:
             for path in [*beside([*hidden, "/proc"]), *needed]:
@@ -139,7 +185,9 @@ class Guard:
             shutil.copytree(self.folder, folder, symlinks=True)
             if self.user is not None:
                 give(folder, self.user)
-            self.others[number] = Guard(folder, self.hidden, self.needed, user=self.user or USERS[-1])
+            self.others[number] = Guard(
+                folder, self.hidden, self.needed, user=self.user or USERS[-1]
+            )
             self.others[number].programs = self.programs
         return self.others[number]
 
@@ -173,7 +221,9 @@ class Guard:
             code = call_filter()
             text = ctypes.create_string_buffer(code, len(code))
             program = struct.pack("HxxxxxxP", len(code) // 8, ctypes.addressof(text))
-            SYSTEM.prctl(SECCOMP, ctypes.c_ulong(FILTER), ctypes.create_string_buffer(program, len(program)))
+            SYSTEM.prctl(
+                SECCOMP, ctypes.c_ulong(FILTER), ctypes.create_string_buffer(program, len(program))
+            )
 
     def environment(self) -> dict[str, str]:
         """Few names, so that a program that is right here is right elsewhere."""
@@ -187,22 +237,31 @@ class Guard:
         started; looks now and then."""
         if self.is_open or time.monotonic() - self.looked <= LOOK:
             return
-        running = [process for process in below_this(self.programs - {program}) if not process.is_over]
+        running = [
+            process for process in below_this(self.programs - {program}) if not process.is_over
+        ]
         if (kept_in(self.folder) if self.folder else 0) + unnamed(running) > MOST_KEPT:
-            raise Fault("flood", f"it wrote more than {MOST_KEPT >> 20} megabytes or {MOST_FILES} files, or folders "
-                                 f"deeper than {DEEPEST}")
+            raise Fault(
+                "flood",
+                f"it wrote more than {MOST_KEPT >> 20} megabytes or {MOST_FILES} files, or folders "
+                f"deeper than {DEEPEST}",
+            )
         if sum(process.memory for process in running) > memory:
             raise Fault("flood", f"it takes more than {memory >> 20} megabytes of memory")
         self.looked = time.monotonic()
 
     def owner(self) -> dict:
         """What a process is started with, so that it is of the programs' user."""
-        return {} if self.user is None else {"user": self.user, "group": self.user, "extra_groups": []}
+        return (
+            {} if self.user is None else {"user": self.user, "group": self.user, "extra_groups": []}
+        )
 
     def tasks(self) -> int:
         """How many processes and threads the programs' user has now."""
         user = os.geteuid() if self.user is None else self.user
-        return sum(process.threads for process in processes() if process.user == user) if user else 0
+        return (
+            sum(process.threads for process in processes() if process.user == user) if user else 0
+        )
 
 
 def give(folder: str, user: int) -> None:
@@ -214,18 +273,32 @@ def call_filter() -> bytes:
     """The program by which Linux judges each call: the machine's kind, the call's number, of `fcntl` what it does, and
     of some the process that they are about."""
     load, is_equal, is_least, answer = 0x20, 0x15, 0x35, 0x06
-    rows = [(load, 0, 0, 4), (is_equal, 0, "no", X86_64), (load, 0, 0, 0), (is_least, "no", 0, OTHER_NUMBERS),
-            *((is_equal, "no", 0, number) for number in REFUSED),
-            *((is_equal, "own", 0, number) for number in OF_ITSELF), (is_equal, 1, 0, FCNTL),
-            (answer, 0, 0, 0x7FFF0000), (load, 0, 0, 24), *((is_equal, "no", 0, number) for number in LOCKS),
-            (answer, 0, 0, 0x7FFF0000), (load, 0, 0, 16), (is_equal, 0, "no", 0), (answer, 0, 0, 0x7FFF0000),
-            (answer, 0, 0, 0x50001)]
+    rows = [
+        (load, 0, 0, 4),
+        (is_equal, 0, "no", X86_64),
+        (load, 0, 0, 0),
+        (is_least, "no", 0, OTHER_NUMBERS),
+        *((is_equal, "no", 0, number) for number in REFUSED),
+        *((is_equal, "own", 0, number) for number in OF_ITSELF),
+        (is_equal, 1, 0, FCNTL),
+        (answer, 0, 0, 0x7FFF0000),
+        (load, 0, 0, 24),
+        *((is_equal, "no", 0, number) for number in LOCKS),
+        (answer, 0, 0, 0x7FFF0000),
+        (load, 0, 0, 16),
+        (is_equal, 0, "no", 0),
+        (answer, 0, 0, 0x7FFF0000),
+        (answer, 0, 0, 0x50001),
+    ]
     places = {"own": len(rows) - 4, "no": len(rows) - 1}
 
     def jump(to: int | str, at: int) -> int:
         return places[to] - at - 1 if to in places else to
-    return b"".join(struct.pack("HBBI", code, jump(one, at), jump(other, at), number)
-                    for at, (code, one, other, number) in enumerate(rows))
+
+    return b"".join(
+        struct.pack("HBBI", code, jump(one, at), jump(other, at), number)
+        for at, (code, one, other, number) in enumerate(rows)
+    )
 
 
 def kept_in(folder: str) -> int:
@@ -234,7 +307,7 @@ def kept_in(folder: str) -> int:
     size, files, folders = 0, 0, [(folder, 0)]
     try:
         for at, depth in folders:
-            with contextlib.suppress(FileNotFoundError):        # it has gone meanwhile
+            with contextlib.suppress(FileNotFoundError):  # it has gone meanwhile
                 for entry in os.scandir(at):
                     files += 1
                     if files > MOST_FILES or depth > DEEPEST:
@@ -252,7 +325,7 @@ def unnamed(running: "list[Running]") -> int:
     """The bytes of all files that processes have open and that no folder has, some of them in memory alone."""
     sizes = {}
     for process in running:
-        with contextlib.suppress(OSError):      # it has ended meanwhile
+        with contextlib.suppress(OSError):  # it has ended meanwhile
             for entry in os.scandir(f"/proc/{process.number}/fd"):
                 with contextlib.suppress(OSError):
                     file = entry.stat()
@@ -278,15 +351,20 @@ def beside(hidden: Sequence[str]) -> Iterator[str]:
     above = {folder for path in hidden for folder in path.parents}
     for folder in above:
         with contextlib.suppress(OSError):
-            yield from (str(path) for path in folder.iterdir()
-                        if path not in hidden and path not in above and not path.is_symlink())
+            yield from (
+                str(path)
+                for path in folder.iterdir()
+                if path not in hidden and path not in above and not path.is_symlink()
+            )
 
 
 # What programs leave behind.
 
+
 @dataclass
 class Running:
     """A process of this machine."""
+
     number: int
     parent: int
     user: int
@@ -300,8 +378,14 @@ def processes() -> Iterator[Running]:
         with contextlib.suppress(OSError):
             with open(f"/proc/{name}/stat", "rb") as file:
                 fields = file.read().rpartition(b") ")[2].split()
-                yield Running(int(name), int(fields[1]), os.fstat(file.fileno()).st_uid, int(fields[17]),
-                              int(fields[21]) * resource.getpagesize(), fields[0] in (b"Z", b"X"))
+                yield Running(
+                    int(name),
+                    int(fields[1]),
+                    os.fstat(file.fileno()).st_uid,
+                    int(fields[17]),
+                    int(fields[21]) * resource.getpagesize(),
+                    fields[0] in (b"Z", b"X"),
+                )
 
 
 def is_reaper() -> bool:

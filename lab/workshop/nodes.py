@@ -7,15 +7,21 @@ from lab.workshop.guard import Guard, Limits, end_all, held, is_reaper
 from lab.workshop.processes import Process
 
 Answer = list[str] | Fault
-PATIENCE = 1.0              # seconds that programs have to end at the end of their input
+PATIENCE = 1.0  # seconds that programs have to end at the end of their input
 
 
 class Nodes:
     """A program for each vertex, by the number of its command. Used in `with`, so that all are stopped, whatever
     happens."""
 
-    def __init__(self, owners: list[int], commands: list[list[str]], limits: Limits, guard: Guard,
-                 is_shared: bool = False):
+    def __init__(
+        self,
+        owners: list[int],
+        commands: list[list[str]],
+        limits: Limits,
+        guard: Guard,
+        is_shared: bool = False,
+    ):
         self.owners, self.commands, self.limits, self.guard = owners, commands, limits, guard
         self.is_shared, self.tasks = is_shared, guard.tasks()
         self.processes: list[Process] = []

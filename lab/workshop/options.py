@@ -44,36 +44,81 @@ Examples:
 
 
 def command_line() -> argparse.ArgumentParser:
-    words = parser_of("workshop", "{rounds,alpha,open} [NETWORK ..] [options] -- COMMAND .. [-- COMMAND ..]", HELP,
-                      MORE_HELP)
-    words.add_argument("assignment", choices=["rounds", "alpha", "open"],
-                       help="with a clock, without one, or your own algorithm")
-    words.add_argument("networks", nargs="*", metavar="NETWORK", help=f"default: {NETWORKS.replace(',', ' ')}")
-    words.add_argument("--program", metavar="P", choices=list(PAYLOADS),
-                       help=f"of rounds and alpha, what nodes do: {', '.join(PAYLOADS)}; default: {COLOURING}")
-    words.add_argument("--runs", type=count, metavar="N",
-                       help="the number of runs; default: 1 for each NETWORK, or 100")
+    words = parser_of(
+        "workshop",
+        "{rounds,alpha,open} [NETWORK ..] [options] -- COMMAND .. [-- COMMAND ..]",
+        HELP,
+        MORE_HELP,
+    )
+    words.add_argument(
+        "assignment",
+        choices=["rounds", "alpha", "open"],
+        help="with a clock, without one, or your own algorithm",
+    )
+    words.add_argument(
+        "networks", nargs="*", metavar="NETWORK", help=f"default: {NETWORKS.replace(',', ' ')}"
+    )
+    words.add_argument(
+        "--program",
+        metavar="P",
+        choices=list(PAYLOADS),
+        help=f"of rounds and alpha, what nodes do: {', '.join(PAYLOADS)}; default: {COLOURING}",
+    )
+    words.add_argument(
+        "--runs",
+        type=count,
+        metavar="N",
+        help="the number of runs; default: 1 for each NETWORK, or 100",
+    )
     add_seed(words)
-    words.add_argument("--policies", type=policies, metavar="LIST",
-                       help=f"of alpha, with commas: {', '.join(POLICIES)}; default: all, in turn")
+    words.add_argument(
+        "--policies",
+        type=policies,
+        metavar="LIST",
+        help=f"of alpha, with commas: {', '.join(POLICIES)}; default: all, in turn",
+    )
     words.add_argument("--case", type=int, metavar="K", help="run number K of these alone")
-    words.add_argument("--first", action="store_true", help="end with the first run that isn't right")
+    words.add_argument(
+        "--first", action="store_true", help="end with the first run that isn't right"
+    )
     add_limits(words)
-    words.add_argument("--no-guard", action="store_true",
-                       help="let programs reach other processes: for a container's command that needs more rights")
-    words.add_argument("--one-process", action="store_true",
-                       help="one process for all nodes of a command: each message begins with `to K`; not for grading")
+    words.add_argument(
+        "--no-guard",
+        action="store_true",
+        help="let programs reach other processes: for a container's command that needs more rights",
+    )
+    words.add_argument(
+        "--one-process",
+        action="store_true",
+        help="one process for all nodes of a command: each message begins with `to K`; not for grading",
+    )
     words.add_argument("--json", action="store_true", help="print the result for a program")
-    words.add_argument("--keep", metavar="DIR", help="write network, run and verdict of the case that is shown")
-    words.add_argument("--picture", metavar="FILE", help="of alpha: draw the run that is shown, up to what is wrong")
+    words.add_argument(
+        "--keep", metavar="DIR", help="write network, run and verdict of the case that is shown"
+    )
+    words.add_argument(
+        "--picture",
+        metavar="FILE",
+        help="of alpha: draw the run that is shown, up to what is wrong",
+    )
     return words
 
 
 def add_limits(words: argparse.ArgumentParser) -> None:
-    words.add_argument("--timeout", type=seconds, default=10.0, metavar="S",
-                       help="seconds that an answer may take; default: 10")
-    words.add_argument("--memory", type=count, default=2048, metavar="MB",
-                       help="megabytes that a program may use; default: 2048")
+    words.add_argument(
+        "--timeout",
+        type=seconds,
+        default=10.0,
+        metavar="S",
+        help="seconds that an answer may take; default: 10",
+    )
+    words.add_argument(
+        "--memory",
+        type=count,
+        default=2048,
+        metavar="MB",
+        help="megabytes that a program may use; default: 2048",
+    )
 
 
 def seconds(text: str) -> float:
@@ -85,7 +130,9 @@ def seconds(text: str) -> float:
 def policies(text: str) -> list[str]:
     for name in text.split(","):
         if name not in POLICIES:
-            raise argparse.ArgumentTypeError(f"there is no policy {name}, which are {', '.join(POLICIES)}")
+            raise argparse.ArgumentTypeError(
+                f"there is no policy {name}, which are {', '.join(POLICIES)}"
+            )
     return text.split(",")
 
 
@@ -94,7 +141,9 @@ def parsed(words: list[str]) -> argparse.Namespace:
     at = words.index("--") if "--" in words else len(words)
     line = command_line()
     options = line.parse_intermixed_args(words[:at])
-    options.commands = [list(command) for is_mark, command in groupby(words[at + 1:], "--".__eq__) if not is_mark]
+    options.commands = [
+        list(command) for is_mark, command in groupby(words[at + 1 :], "--".__eq__) if not is_mark
+    ]
     if not options.commands:
         line.error("there is no command after `--`")
     if options.assignment == "open" and options.program:
@@ -102,7 +151,9 @@ def parsed(words: list[str]) -> argparse.Namespace:
     if options.assignment != "alpha" and (options.policies or options.picture):
         line.error("--policies and --picture are of alpha alone")
     options.program = options.program or COLOURING
-    options.policies = options.policies or (list(POLICIES) if options.assignment == "alpha" else [""])
+    options.policies = options.policies or (
+        list(POLICIES) if options.assignment == "alpha" else [""]
+    )
     options.runs = options.runs or len(options.networks) or 100
     options.networks = options.networks or NETWORKS.split(",")
     return options

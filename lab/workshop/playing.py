@@ -26,9 +26,19 @@ class Player:
     """Plays what the options of the command line ask for, until the time is over; if it is shown, it says on standard
     error how far it is."""
 
-    def __init__(self, options: Namespace, guard: Guard | None = None, over: float = float("inf"),
-                 is_shown: bool = False):
-        self.options, self.commands, self.over, self.is_shown = options, options.commands, over, is_shown
+    def __init__(
+        self,
+        options: Namespace,
+        guard: Guard | None = None,
+        over: float = float("inf"),
+        is_shown: bool = False,
+    ):
+        self.options, self.commands, self.over, self.is_shown = (
+            options,
+            options.commands,
+            over,
+            is_shown,
+        )
         self.guard, self.said = guard or Guard(is_open=options.no_guard), time.monotonic()
 
     def say(self, words: str) -> None:
@@ -48,7 +58,7 @@ class Player:
         try:
             with self.nodes(case) as nodes:
                 found = case.finding = case.run.play(nodes)
-        except Fault as fault:              # a command can't be started
+        except Fault as fault:  # a command can't be started
             raise Wrong(fault.words) from None
         if self.options.assignment == "alpha":
             found = case.finding = finding_of(case.run)
@@ -66,7 +76,9 @@ class Player:
         rounds = RightRounds(case.network, self.options.program)
         if self.options.assignment == "rounds":
             return RoundsRun(rounds)
-        return AlphaRun(rounds, Policy(case.policy, case.network.vertices, case.network.edges, case.seed))
+        return AlphaRun(
+            rounds, Policy(case.policy, case.network.vertices, case.network.edges, case.seed)
+        )
 
     def name_owner(self, case: Case) -> None:
         """Says whose node is wrong, and whose the others are."""
@@ -74,7 +86,9 @@ class Player:
         found.owner = case.owners[found.node - 1]
         words = []
         for owner, command in enumerate(self.commands):
-            nodes = [v for v in case.network.vertices if case.owners[v - 1] == owner and v != found.node]
+            nodes = [
+                v for v in case.network.vertices if case.owners[v - 1] == owner and v != found.node
+            ]
             if nodes:
                 words.append(f"{listed('node', nodes)}: {shown(shlex.join(command))}")
         whose = f"node {found.node}: {shown(shlex.join(self.commands[found.owner]))}"
@@ -91,22 +105,30 @@ class Player:
 
     def play_all(self, cases: list[Case]) -> list[Case]:
         """The cases that were played: all, or those up to the first that isn't right. Once the time is over no more is
-        played, and none if nothing answers its first message in two runs, on two networks if there are two."""
-        other = next((case for case in cases if case.network.name != cases[0].network.name), cases[-1])
-        if not self.options.first and other is not cases[0] and self.is_mute(cases[0]) and self.is_mute(other):
+        played, and none if nothing answers its first message in two runs, on two networks if there are two.
+        """
+        other = next(
+            (case for case in cases if case.network.name != cases[0].network.name), cases[-1]
+        )
+        if (
+            not self.options.first
+            and other is not cases[0]
+            and self.is_mute(cases[0])
+            and self.is_mute(other)
+        ):
             for case in (cases[0], other):
                 case.finding.lines.append(("note", UNPLAYED))
             return left_out(cases, other.finding)
         for count, case in enumerate(cases, 1):
             if time.monotonic() > self.over:
-                return cases[:count - 1] + left_out(cases[count - 1:], LATE)
+                return cases[: count - 1] + left_out(cases[count - 1 :], LATE)
             self.say(f"run {count} of {len(cases)}")
             if case.run is None:
                 self.play(case)
             if case.finding and self.options.first:
                 return cases[:count]
             if case.finding is None and count < len(cases):
-                case.run = None             # nobody asks for it any more
+                case.run = None  # nobody asks for it any more
         return cases
 
     def is_mute(self, case: Case) -> bool:
@@ -122,7 +144,13 @@ class Player:
             for network, vertices in smaller(case.network):
                 left -= 1
                 self.say(f"looking for a smaller case that is wrong, {MOST_SHRINKS - left} tried")
-                other = Case(case.number, network, case.policy, case.seed, [case.owners[v - 1] for v in vertices])
+                other = Case(
+                    case.number,
+                    network,
+                    case.policy,
+                    case.seed,
+                    [case.owners[v - 1] for v in vertices],
+                )
                 if not self.play(other) and other.finding.is_like(case.finding):
                     found = other
                 if found or not left:

@@ -15,17 +15,19 @@ from lab.workshop.findings import Fault
 from lab.workshop.guard import Guard, Limits
 from lab.workshop.protocol import END, MOST_BYTES, lines_of, shown
 
-SOON = 0.3                  # seconds after which an answer is late, and it is looked whether it still matters
-LOOK = 0.004                # seconds between two looks whether a program has ended
-LOOK_AT_FILES = 1.0         # seconds between two looks at what a program that says nothing writes
-FIRST_FACTOR = 3            # the first answer may take so many times as long
+SOON = 0.3  # seconds after which an answer is late, and it is looked whether it still matters
+LOOK = 0.004  # seconds between two looks whether a program has ended
+LOOK_AT_FILES = 1.0  # seconds between two looks at what a program that says nothing writes
+FIRST_FACTOR = 3  # the first answer may take so many times as long
 FIRST_HINT = " (does it flush standard output after `end`, and answer before it reads on after the line `end`?)"
 LAST_LINES, LAST_LETTERS, LAST_BYTES = 5, 600, 1 << 14
 # What isn't shown: lines with which Python marks a place in the line above, and of a list of calls, as Java and
 # JavaScript print it, all but the two innermost.
 UNSHOWN = re.compile(r"(?m)^[ \t\r^~]*\n|((?:^[ \t]*at .*\n){2})(?:^[ \t]*at .*\n)+")
-START_HINT = ("; is it `chmod +x`, does its first line say what runs it, as `#!/usr/bin/env python3`, and is it called "
-              "as `./FILE` or `python3 FILE`?")
+START_HINT = (
+    "; is it `chmod +x`, does its first line say what runs it, as `#!/usr/bin/env python3`, and is it called "
+    "as `./FILE` or `python3 FILE`?"
+)
 
 
 class Process:
@@ -37,10 +39,18 @@ class Process:
         workshop = os.getpid()
         try:
             self.errors = tempfile.TemporaryFile()
-            self.process = subprocess.Popen(command, stdin=subprocess.PIPE, stdout=subprocess.PIPE, stderr=self.errors,
-                                            bufsize=0, start_new_session=True, env=guard.environment(),
-                                            cwd=guard.folder, **guard.owner(),
-                                            preexec_fn=lambda: guard.enter(limits, tasks, workshop))
+            self.process = subprocess.Popen(
+                command,
+                stdin=subprocess.PIPE,
+                stdout=subprocess.PIPE,
+                stderr=self.errors,
+                bufsize=0,
+                start_new_session=True,
+                env=guard.environment(),
+                cwd=guard.folder,
+                **guard.owner(),
+                preexec_fn=lambda: guard.enter(limits, tasks, workshop),
+            )
         except OSError as why:
             if self.errors:
                 self.errors.close()
@@ -67,7 +77,7 @@ class Process:
         text = "".join(line + "\n" for line in [*lines, "end"]).encode()
         while text:
             try:
-                text = text[os.write(self.input, text):]
+                text = text[os.write(self.input, text) :]
             except BlockingIOError:
                 self.wait(self.writable, "it doesn't read what it is sent")
             except BrokenPipeError:
@@ -82,14 +92,16 @@ class Process:
             if len(got) > MOST_BYTES:
                 raise Fault("flood", f"it wrote more than {MOST_BYTES} bytes without a line `end`")
             nothing = "it wrote nothing" + FIRST_HINT * (self.asked == 1)
-            self.wait(self.readable, f"it wrote {shown(got)}, and no line `end`" if got else nothing)
+            self.wait(
+                self.readable, f"it wrote {shown(got)}, and no line `end`" if got else nothing
+            )
             part = os.read(self.output, 1 << 16)
             if not part:
                 raise self.ended(got)
             got += part
         if len(got) > end.end():
-            raise after_its_end(got[end.end():])
-        return lines_of(got[:end.start()])
+            raise after_its_end(got[end.end() :])
+        return lines_of(got[: end.start()])
 
     def wait(self, poll: select.poll, silent: str) -> None:
         until = min(self.until, self.limits.over)
@@ -97,7 +109,10 @@ class Process:
             self.look()
             found = exit_of(self.process.pid, 0)
             if found and not poll.poll(0):
-                raise Fault("ended", f"it ended with {found}, and what it has started goes on{self.last_errors()}")
+                raise Fault(
+                    "ended",
+                    f"it ended with {found}, and what it has started goes on{self.last_errors()}",
+                )
             if time.monotonic() < until:
                 continue
             if until < self.until:
@@ -112,15 +127,22 @@ class Process:
         """How it ended in the middle."""
         found = exit_of(self.process.pid, time.monotonic() + 1)
         if found is None:
-            return Fault("ended", f"it closed its standard input or output, and goes on running{self.last_errors()}")
+            return Fault(
+                "ended",
+                f"it closed its standard input or output, and goes on running{self.last_errors()}",
+            )
         after = f" after {shown(got)}" if got else ""
-        return Fault("ended", f"it ended with {found}{after} instead of an answer{self.last_errors()}")
+        return Fault(
+            "ended", f"it ended with {found}{after} instead of an answer{self.last_errors()}"
+        )
 
     def last_errors(self) -> str:
         size = self.errors.seek(0, os.SEEK_END)
         self.errors.seek(max(0, size - LAST_BYTES))
         words = last_errors(self.errors.read())
-        full = f"; standard error has {size >> 20} megabytes, the most that it may have" * (size >= self.limits.written)
+        full = f"; standard error has {size >> 20} megabytes, the most that it may have" * (
+            size >= self.limits.written
+        )
         return full + (f"; on standard error: {words}" if words else "")
 
     def end(self) -> None:
@@ -160,9 +182,13 @@ def exit_of(pid: int, until: float) -> str | None:
 
 def name_of(number: int) -> str:
     """A signal's name, and what it means if it is one of a limit."""
-    why = {signal.SIGXFSZ: " (it wrote too much to a file or to standard error)",
-           signal.SIGXCPU: " (it used too much processor time)"}
-    return next((one.name for one in signal.Signals if one == number), str(number)) + why.get(number, "")
+    why = {
+        signal.SIGXFSZ: " (it wrote too much to a file or to standard error)",
+        signal.SIGXCPU: " (it used too much processor time)",
+    }
+    return next((one.name for one in signal.Signals if one == number), str(number)) + why.get(
+        number, ""
+    )
 
 
 def last_errors(text: bytes) -> str:

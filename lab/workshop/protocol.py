@@ -10,30 +10,56 @@ from lab.workshop.findings import Fault
 EDITION = 1
 COLOURING = "colouring"
 # The forms of the lines of an answer: by assignment, and by program those in which a node says what it has found.
-LINES = {"rounds": ["put PORT WORD NUMBER"], "alpha": ["put PORT WIRE", "pulse P"], "open": ["put PORT WORDS.."]}
+LINES = {
+    "rounds": ["put PORT WORD NUMBER"],
+    "alpha": ["put PORT WIRE", "pulse P"],
+    "open": ["put PORT WORDS.."],
+}
 OF_COLOURING = ["colour FOREST COLOUR", "chose COLOUR"]
-FOUND = {COLOURING: ["channel C"], "leader": ["leader IDENTIFIER"], "recolouring": ["channel C"],
-         "layers": ["layer N by PORT", "layer 0", "layer none"], "matching": ["partner PORT", "partner none"],
-         "independent-set": ["in", "out"]}
+FOUND = {
+    COLOURING: ["channel C"],
+    "leader": ["leader IDENTIFIER"],
+    "recolouring": ["channel C"],
+    "layers": ["layer N by PORT", "layer 0", "layer none"],
+    "matching": ["partner PORT", "partner none"],
+    "independent-set": ["in", "out"],
+}
 # Those that go on after the colouring, by forests and colours.
 SEQUELS = ("matching", "independent-set", "recolouring")
 MOST_BYTES = 1 << 20
 MOST_LINES = 20_000
-MOST_LETTERS = 1000         # of a payload of an own algorithm
+MOST_LETTERS = 1000  # of a payload of an own algorithm
 # The line that ends an answer: as in all lines, blanks around it count for nothing.
 END = re.compile(rb"(?m)^[ \t\r]*end[ \t\r]*\n")
 # What there is for the words of a form: those in small letters are themselves, and all others are numbers.
-FIELDS = {"WORD": r"(\S+)", "WIRE": "(.+)", "WORDS..": f"(.{{1,{MOST_LETTERS}}})", "P": "0{0,40}([0-9]{1,9})"}
+FIELDS = {
+    "WORD": r"(\S+)",
+    "WIRE": "(.+)",
+    "WORDS..": f"(.{{1,{MOST_LETTERS}}})",
+    "P": "0{0,40}([0-9]{1,9})",
+}
 NUMBER = "0{0,40}([0-9]{1,39})"
 
 
 def own_data(network: Network, v: int, assignment: str, rounds=None) -> list[str]:
     """The lines before `end`; two of them are of the right rounds, which an own algorithm hasn't."""
-    barred, of_rounds = network.bars.get(v, []), {"forests": rounds.forests, "last": rounds.last} if rounds else {}
-    numbers = {"identifier": network.identifiers[v], "degree": len(network.neighbours[v]), "nodes": network.nodes,
-               "delta": network.greatest_degree, "bars": network.greatest_bars, **of_rounds}
-    return [f"workshop {EDITION} {assignment}", *(f"{word} {n}" for word, n in numbers.items() if n is not None),
-            " ".join(map(str, ["barred", len(barred), *barred]))]
+    barred, of_rounds = (
+        network.bars.get(v, []),
+        {"forests": rounds.forests, "last": rounds.last} if rounds else {},
+    )
+    numbers = {
+        "identifier": network.identifiers[v],
+        "degree": len(network.neighbours[v]),
+        "nodes": network.nodes,
+        "delta": network.greatest_degree,
+        "bars": network.greatest_bars,
+        **of_rounds,
+    }
+    return [
+        f"workshop {EDITION} {assignment}",
+        *(f"{word} {n}" for word, n in numbers.items() if n is not None),
+        " ".join(map(str, ["barred", len(barred), *barred])),
+    ]
 
 
 def lines_of(text: bytes | bytearray) -> list[str]:
@@ -60,7 +86,11 @@ def forms_of(assignment: str, program: str) -> list[str]:
 
 @cache
 def pattern(form: str) -> re.Pattern:
-    return re.compile(" ".join(f"({word})" if word.islower() else FIELDS.get(word, NUMBER) for word in form.split()))
+    return re.compile(
+        " ".join(
+            f"({word})" if word.islower() else FIELDS.get(word, NUMBER) for word in form.split()
+        )
+    )
 
 
 def fields_of(line: str, forms: list[str], degree: int) -> tuple[str, ...]:
@@ -71,12 +101,25 @@ def fields_of(line: str, forms: list[str], degree: int) -> tuple[str, ...]:
         if found := pattern(form).fullmatch(words):
             break
     else:
-        what, lines = shown(line) if words else "an empty line", ", ".join(f"`{form}`" for form in forms)
-        raise Fault("garbage", f"{what} is no line of an answer, which are {lines} and `end`; what a program prints to "
-                               "find mistakes goes to standard error")
+        what, lines = shown(line) if words else "an empty line", ", ".join(
+            f"`{form}`" for form in forms
+        )
+        raise Fault(
+            "garbage",
+            f"{what} is no line of an answer, which are {lines} and `end`; what a program prints to "
+            "find mistakes goes to standard error",
+        )
     if found[1] == "put" and int(found[2]) >= degree:
-        ports = "no port" if degree == 0 else "port 0 alone" if degree == 1 else f"ports 0 to {degree - 1}"
-        raise Fault("garbage", f"{shown(line)}: there is no port {found[2][:9]}; the node has {ports}")
+        ports = (
+            "no port"
+            if degree == 0
+            else "port 0 alone"
+            if degree == 1
+            else f"ports 0 to {degree - 1}"
+        )
+        raise Fault(
+            "garbage", f"{shown(line)}: there is no port {found[2][:9]}; the node has {ports}"
+        )
     return found.groups()
 
 

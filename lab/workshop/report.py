@@ -33,8 +33,12 @@ def league(cases: list[Case]) -> list[str]:
 def aligned(rows: list[list[str]]) -> list[str]:
     """The first column to the left, the others to the right."""
     widths = [max(len(row[k]) for row in rows) for k in range(len(rows[0]))]
-    return ["  ".join([row[0].ljust(widths[0]), *(cell.rjust(w) for cell, w in zip(row[1:], widths[1:]))]).rstrip()
-            for row in rows]
+    return [
+        "  ".join(
+            [row[0].ljust(widths[0]), *(cell.rjust(w) for cell, w in zip(row[1:], widths[1:]))]
+        ).rstrip()
+        for row in rows
+    ]
 
 
 def described(case: Case) -> list[str]:
@@ -43,12 +47,21 @@ def described(case: Case) -> list[str]:
     edges = ", ".join(first_of([f"{v}-{w}" for v, w in network.edges]))
     edges = f"edges {edges}" if edges else "no edges"
     policy = f", {case.policy}" if case.policy else ""
-    lines = [f"case   {case.number}: {network.name}{policy}; {network.nodes} node{'s' * (network.nodes != 1)}, {edges}"]
-    names = [f"node {v} is {network.identifiers[v]}" for v in network.vertices if network.identifiers[v] != v]
+    lines = [
+        f"case   {case.number}: {network.name}{policy}; {network.nodes} node{'s' * (network.nodes != 1)}, {edges}"
+    ]
+    names = [
+        f"node {v} is {network.identifiers[v]}"
+        for v in network.vertices
+        if network.identifiers[v] != v
+    ]
     if names:
         lines.append(f"names  {', '.join(first_of(names))}")
     if network.bars:
-        bars = [f"{' and '.join(map(str, channels))} at node {v}" for v, channels in network.bars.items()]
+        bars = [
+            f"{' and '.join(map(str, channels))} at node {v}"
+            for v, channels in network.bars.items()
+        ]
         lines.append(f"bars   {', '.join(first_of(bars))}")
     return lines + case.finding.text()
 
@@ -56,7 +69,10 @@ def described(case: Case) -> list[str]:
 def report(cases: list[Case], shown: Case | None, seconds: float) -> list[str]:
     """For people."""
     right = sum(case.finding is None for case in cases)
-    lines = [*(table(cases) if len(cases) > 1 else []), f"{right} of {len(cases)} runs right, {seconds:.1f} seconds"]
+    lines = [
+        *(table(cases) if len(cases) > 1 else []),
+        f"{right} of {len(cases)} runs right, {seconds:.1f} seconds",
+    ]
     rows = league(cases)
     lines += ["", *rows] if rows else []
     if shown:
@@ -67,8 +83,13 @@ def report(cases: list[Case], shown: Case | None, seconds: float) -> list[str]:
 
 def as_json(options: Namespace, cases: list[Case], shown: Case | None, seconds: float) -> dict:
     """For an autograder. `workshop` is the edition of this form."""
+
     def one(case):
-        found, row = case.finding, {"case": case.number, "network": case.network.name, "nodes": case.network.nodes}
+        found, row = case.finding, {
+            "case": case.number,
+            "network": case.network.name,
+            "nodes": case.network.nodes,
+        }
         if case.policy:
             row["policy"] = case.policy
         row["verdict"] = found.kind if found else "right"
@@ -78,8 +99,17 @@ def as_json(options: Namespace, cases: list[Case], shown: Case | None, seconds: 
         elif case.league:
             row |= case.league
         return row
+
     program = {} if options.assignment == "open" else {"program": options.program}
-    return {"workshop": EDITION, "assignment": options.assignment, **program, "commands": options.commands,
-            "seed": options.seed, "runs": len(cases), "right": sum(case.finding is None for case in cases),
-            "seconds": round(seconds, 2), "cases": [one(case) for case in cases],
-            "shown": described(shown) if shown else None}
+    return {
+        "workshop": EDITION,
+        "assignment": options.assignment,
+        **program,
+        "commands": options.commands,
+        "seed": options.seed,
+        "runs": len(cases),
+        "right": sum(case.finding is None for case in cases),
+        "seconds": round(seconds, 2),
+        "cases": [one(case) for case in cases],
+        "shown": described(shown) if shown else None,
+    }

@@ -23,17 +23,25 @@ class Rounds:
 
     def __init__(self, network: Network):
         self.network, self.puts = network, []
-        self.ports = {v: {w: port for port, w in enumerate(network.neighbours[v])} for v in network.vertices}
+        self.ports = {
+            v: {w: port for port, w in enumerate(network.neighbours[v])} for v in network.vertices
+        }
 
     def inbox(self, p: int, v: int) -> dict[int, str]:
         """What came to a node for a pulse, by port."""
         puts = self.puts[p - 1] if p else {}
-        return {port: puts[w][self.ports[w][v]] for w, port in self.ports[v].items()
-                if self.ports[w][v] in puts.get(w, ())}
+        return {
+            port: puts[w][self.ports[w][v]]
+            for w, port in self.ports[v].items()
+            if self.ports[w][v] in puts.get(w, ())
+        }
 
     def came(self, p: int, v: int) -> str:
         """The same in words."""
-        return ", ".join(f"{words} by port {port}" for port, words in self.inbox(p, v).items()) or "nothing"
+        return (
+            ", ".join(f"{words} by port {port}" for port, words in self.inbox(p, v).items())
+            or "nothing"
+        )
 
 
 class RightRounds(Rounds):

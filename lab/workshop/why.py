@@ -6,47 +6,47 @@ from lab.words import in_words
 
 NOT_COLOURED = ("leader", "layers")
 DROPPED = {8: 5, 10: 4, 12: 3}
-SHORT = 1 << 16             # numbers below it are shown in binary digits too
+SHORT = 1 << 16  # numbers below it are shown in binary digits too
 # Of each phase of the colouring, and of the pulses of the other programs.
 RULES = {
     "greet": "in pulse 0 a node sends `hello` and its identifier, {name}, by each port",
     "orient": "its parents are the neighbours above its own identifier, {name}, by ascending identifier: {higher}; "
-              "each gets the label of its forest",
+    "each gets the label of its forest",
     "seed": "in each forest a node begins with its identifier, {name}, and sends it to its children there",
     "step": "bit step: 2*d + b, where d is the first digit in which its colour differs from its parent's, counted "
-            "from the right, from 0, and b is its own digit there; at a root d is 0. Its children get it",
+    "from the right, from 0, and b is its own digit there; at a root d is 0. Its children get it",
     "shift": "shift: it takes its parent's colour, and a root the least of 0, 1, 2 other than its own; its children "
-             "get it",
+    "get it",
     "drop": "drop of {dropped}: who has {dropped} takes the least of 0, 1, 2 that neither its parent nor its children "
-            "have; these have what it had itself before the shift. In pulse 12 nothing is sent, before that its "
-            "children get it",
+    "have; these have what it had itself before the shift. In pulse 12 nothing is sent, before that its "
+    "children get it",
     "choice": "nodes choose in the pulses after 12 alone",
     "merge": "pulse {p} is the turn of the nodes that have colour {colour} in forest {forest} and had merged colour "
-             "{old} before this merge: such a node takes the least colour that isn't barred at it and that didn't come "
-             "in this merge, and sends it to its neighbours in forests 0 to {forest}, but nothing in the last pulse of "
-             "a merge",
+    "{old} before this merge: such a node takes the least colour that isn't barred at it and that didn't come "
+    "in this merge, and sends it to its neighbours in forests 0 to {forest}, but nothing in the last pulse of "
+    "a merge",
     "leader": "a node sends its own identifier in pulse 0, and later an identifier that is greater than all that it "
-              "knew, as soon as it has heard it",
+    "knew, as soon as it has heard it",
     "layers": "a node sends `hops N` by each port as soon as it knows that it is in layer N, the node of identifier 1 "
-              "in pulse 0, and nothing in any other pulse",
+    "in pulse 0, and nothing in any other pulse",
     "free": "pulse {p} is the first of the turn of colour {colour} in forest {forest}: a node without a partner sends "
-            "`free {forest}` to its parent in this forest, and nothing else is sent",
+    "`free {forest}` to its parent in this forest, and nothing else is sent",
     "take": "pulse {p} is the second of the turn of colour {colour} in forest {forest}: a node of this colour there "
-            "that has no partner takes the child of the least port by which `free {forest}` has come, and sends it "
-            "`take {forest}`",
+    "that has no partner takes the child of the least port by which `free {forest}` has come, and sends it "
+    "`take {forest}`",
     "independent-set": "pulse {p} is the turn of the nodes of colour {turn}, channel {channel}: one of them joins if "
-                       "no neighbour has sent `joined`, and then sends `joined {turn}` by each port, but nothing in "
-                       "the last pulse",
+    "no neighbour has sent `joined`, and then sends `joined {turn}` by each port, but nothing in "
+    "the last pulse",
     "recolouring": "pulse {p} is the turn of the nodes that have colour {turn}, channel {channel}, by the plan: such a "
-                   "node takes the least colour that isn't barred at it and that no neighbour has sent as `anew`, and "
-                   "sends it by each port as `anew`, but nothing in the last pulse",
+    "node takes the least colour that isn't barred at it and that no neighbour has sent as `anew`, and "
+    "sends it by each port as `anew`, but nothing in the last pulse",
 }
 FOUND = {
     "colouring": "the channel is the merged colour and one: the colour that it chose last, or, if it never chose, the "
-                 "least that isn't barred to it",
+    "least that isn't barred to it",
     "leader": "the leader is the greatest identifier that a node knows, its own or one that came",
     "layers": "the node of identifier 1 is in layer 0, any other in layer N + 1 where N is the number of the first "
-              "`hops N` that comes, by the least port by which it comes; if none comes, in none",
+    "`hops N` that comes, by the least port by which it comes; if none comes, in none",
     "matching": "a node's partner is by the port by which it sent `take`, or by which `take` came",
     "independent-set": "a node is in if it has joined in the turn of its colour",
     "recolouring": "a node's channel is the colour that it has chosen anew, plus one",
@@ -55,7 +55,8 @@ FOUND = {
 
 class Why:
     """Sentences on node v: `up[forest]` is the port of its parent, `forest_by[port]` the forest of an edge. What goes
-    on after the colouring makes pulses of its own from `start` on, and `first` has the rounds before."""
+    on after the colouring makes pulses of its own from `start` on, and `first` has the rounds before.
+    """
 
     def __init__(self, rounds: RightRounds, v: int):
         self.rounds, self.v, self.program, self.network = rounds, v, rounds.program, rounds.network
@@ -65,7 +66,9 @@ class Why:
         self.start = 13 if self.program == "matching" else self.first.last + 1
         parents, children = self.first.puts[1].get(v, {}), self.first.inbox(2, v)
         self.up = {int(words.split()[1]): port for port, words in parents.items()}
-        self.forest_by = {port: int(words.split()[1]) for port, words in (parents | children).items()}
+        self.forest_by = {
+            port: int(words.split()[1]) for port, words in (parents | children).items()
+        }
 
     def of(self, p: int | None = None, port: int | None = None, forest: int | None = None) -> str:
         """Why it sends what it sends by a port in a pulse, or has its colour in a forest after it, or chooses; without
@@ -73,13 +76,19 @@ class Why:
         if self.program in NOT_COLOURED:
             return (FOUND if p is None else RULES)[self.program]
         if p is None:
-            passed = [self.merged(self.start)] * (self.program in ("independent-set", "recolouring"))
+            passed = [self.merged(self.start)] * (
+                self.program in ("independent-set", "recolouring")
+            )
             passed += [self.passed(self.start, self.rounds.last)] * (self.program in SEQUELS)
             return "; ".join([FOUND[self.program], *passed])
-        rule, given, numbers = self.of_colouring(p, port, forest) if p < self.start else self.of_sequel(p)
+        rule, given, numbers = (
+            self.of_colouring(p, port, forest) if p < self.start else self.of_sequel(p)
+        )
         return "; ".join([RULES[rule].format(p=p, **given), *numbers])
 
-    def of_colouring(self, p: int, port: int | None, forest: int | None) -> tuple[str, dict, list[str]]:
+    def of_colouring(
+        self, p: int, port: int | None, forest: int | None
+    ) -> tuple[str, dict, list[str]]:
         """The rule, its numbers, and this node's."""
         phase, *turn = self.first.phase[p]
         if phase == "merge":
@@ -90,9 +99,18 @@ class Why:
         if port is None and forest is None:
             return "choice", {}, []
         names, neighbours = self.network.identifiers, self.network.neighbours[self.v]
-        higher = ", ".join(f"{names[neighbours[up]]} (port {up}) in forest {f}" for f, up in sorted(self.up.items()))
+        higher = ", ".join(
+            f"{names[neighbours[up]]} (port {up}) in forest {f}"
+            for f, up in sorted(self.up.items())
+        )
         given = {"name": names[self.v], "higher": higher or "none", "dropped": DROPPED.get(p)}
-        return phase, given, [self.in_forest(p, self.forest_by[port] if forest is None else forest)] if p > 1 else []
+        return (
+            phase,
+            given,
+            [self.in_forest(p, self.forest_by[port] if forest is None else forest)]
+            if p > 1
+            else [],
+        )
 
     def of_sequel(self, p: int) -> tuple[str, dict, list[str]]:
         """The same of a pulse after the colouring."""
@@ -115,9 +133,15 @@ class Why:
             came = self.first.inbox(p, self.v).get(up)
             sent = f" and sent {in_digits(p, int(came.split()[1]))}" if came else ""
             said.append(f"its parent is by port {up}{sent}")
-        children = [port for port, f in sorted(self.forest_by.items()) if f == forest and port != up]
+        children = [
+            port for port, f in sorted(self.forest_by.items()) if f == forest and port != up
+        ]
         have = f" and have {colours[p - 2][self.v][forest]}" if p in DROPPED else ""
-        said.append(f"its children are by {listed('port', children)}{have}" if children else "it has no child")
+        said.append(
+            f"its children are by {listed('port', children)}{have}"
+            if children
+            else "it has no child"
+        )
         return f"in forest {forest} {in_words(said)}"
 
     def merged(self, before: int) -> str:
@@ -125,16 +149,23 @@ class Why:
         chosen = [chose[self.v] for chose in self.first.chose[:before] if self.v in chose]
         barred = [channel - 1 for channel in self.network.bars.get(self.v, ())]
         colour = chosen[-1] if chosen else min(set(range(self.network.channels)) - set(barred))
-        return f"it had merged colour {colour}" + (f", and barred at it: {listed('colour', barred)}" if barred else "")
+        return f"it had merged colour {colour}" + (
+            f", and barred at it: {listed('colour', barred)}" if barred else ""
+        )
 
     def passed(self, first: int, last: int) -> str:
         """What came in these pulses, and what it sent before the last of them."""
         said = []
         for p in range(first, last + 1):
-            said += [f"`{words}` came by port {port} in pulse {p}"
-                     for port, words in self.rounds.inbox(p, self.v).items()]
+            said += [
+                f"`{words}` came by port {port} in pulse {p}"
+                for port, words in self.rounds.inbox(p, self.v).items()
+            ]
             puts = self.rounds.puts[p].get(self.v, {}) if p < last else {}
-            said += [f"it sent `{words}` by port {port} in pulse {p}" for port, words in sorted(puts.items())]
+            said += [
+                f"it sent `{words}` by port {port} in pulse {p}"
+                for port, words in sorted(puts.items())
+            ]
         return ", ".join(last_of(said)) or "nothing has come"
 
 

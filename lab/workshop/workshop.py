@@ -23,11 +23,15 @@ OTHERS = {"grade": grade.main, "class": class_files.main}
 DOOR = os.path.join(TOP, "bin")
 # By what a run keeps, the commands that give the verdict again.
 REPEAT = {
-    "run.transcript": ["cat {at}/network.col {at}/run.transcript | {door}/forestplay replay{words}",
-                       "{door}/forestlab transcript check {at}/network.col {at}/run.transcript{words}"],
+    "run.transcript": [
+        "cat {at}/network.col {at}/run.transcript | {door}/forestplay replay{words}",
+        "{door}/forestlab transcript check {at}/network.col {at}/run.transcript{words}",
+    ],
     "plan": ["cat {at}/network.col {at}/plan | {door}/forestplan check"],
-    "said.puts": ["{door}/forestplay rounds{words} < {at}/network.col | grep ' put ' > {at}/right.puts",
-                  "diff {at}/said.puts {at}/right.puts"],
+    "said.puts": [
+        "{door}/forestplay rounds{words} < {at}/network.col | grep ' put ' > {at}/right.puts",
+        "diff {at}/said.puts {at}/right.puts",
+    ],
 }
 
 
@@ -50,8 +54,11 @@ def run(options: Namespace, cases: list[Case]) -> int:
     case = shown or cases[-1]
     if options.keep:
         keep(case, options.keep, options.program)
-    write(json.dumps(as_json(options, cases, shown, seconds)) if options.json else
-          "\n".join(report(cases, shown, seconds)))
+    write(
+        json.dumps(as_json(options, cases, shown, seconds))
+        if options.json
+        else "\n".join(report(cases, shown, seconds))
+    )
     if options.picture and (why := draw(case, options.picture, options.program)):
         print(f"workshop: there is no picture: {why}", file=sys.stderr)
     return 1 if shown else 0
@@ -69,14 +76,24 @@ def keep(case: Case, folder: str, program: str) -> None:
     """Writes network, run and verdict into a folder, and with them the commands that repeat it, for the folder in which
     the workshop was called. The folder of a class has no `forestlab transcript`."""
     os.makedirs(folder, exist_ok=True)
-    given = {"at": shlex.quote(folder), "door": shlex.quote(min(os.path.relpath(DOOR), DOOR, key=len)),
-             "words": "".join(f" {word}" for word in words_of(program))}
-    commands = [f"  {command.format(**given)}" for command in REPEAT[case.run.kept]
-                if "transcript check" not in command or os.path.exists(os.path.join(TOP, "lab/transcripts/check.py"))]
+    given = {
+        "at": shlex.quote(folder),
+        "door": shlex.quote(min(os.path.relpath(DOOR), DOOR, key=len)),
+        "words": "".join(f" {word}" for word in words_of(program)),
+    }
+    commands = [
+        f"  {command.format(**given)}"
+        for command in REPEAT[case.run.kept]
+        if "transcript check" not in command
+        or os.path.exists(os.path.join(TOP, "lab/transcripts/check.py"))
+    ]
     words = described(case) if case.finding else [f"case   {case.number}: right"]
     words += ["", "The same without the workshop:", *commands, ""]
-    for name, text in {"network.col": plain_text(case.network), case.run.kept: case.run.text(),
-                       "verdict.txt": "\n".join(words)}.items():
+    for name, text in {
+        "network.col": plain_text(case.network),
+        case.run.kept: case.run.text(),
+        "verdict.txt": "\n".join(words),
+    }.items():
         with open(os.path.join(folder, name), "w", encoding="utf-8") as file:
             file.write(text)
 
@@ -88,8 +105,23 @@ def draw(case: Case, file: str, program: str) -> str | None:
     stopped = ["--stopped", str(found.node)] if found and found.entry is None else []
     with tempfile.TemporaryDirectory() as folder:
         keep(case, folder, program)
-        done = subprocess.run([os.path.join(DOOR, "forestlab"), "picture", "run", os.path.join(folder, "network.col"),
-                               "--transcript", os.path.join(folder, case.run.kept), "--wrong", "--pulses",
-                               f"{max(0, last - 1)}..{last}", "-o", file, *stopped, *words_of(program)],
-                              capture_output=True, text=True)
+        done = subprocess.run(
+            [
+                os.path.join(DOOR, "forestlab"),
+                "picture",
+                "run",
+                os.path.join(folder, "network.col"),
+                "--transcript",
+                os.path.join(folder, case.run.kept),
+                "--wrong",
+                "--pulses",
+                f"{max(0, last - 1)}..{last}",
+                "-o",
+                file,
+                *stopped,
+                *words_of(program),
+            ],
+            capture_output=True,
+            text=True,
+        )
         return done.stderr.strip().replace(folder, "the run") if done.returncode else None

@@ -27,8 +27,11 @@ LARGE = ("row of four", "all of four")
 # Of each network: rules left out, puts as events, reduced.
 PLAIN, PUTS, WITHOUT_ACKS = ("", False, False), ("", True, False), ("acks", False, False)
 REDUCED, REDUCED_PUTS = ("", False, True), ("", True, True)
-CASES = [(name, *case) for case in (PLAIN, PUTS, WITHOUT_ACKS, REDUCED, REDUCED_PUTS)
-         for name in ("two", "path", "triangle")]
+CASES = [
+    (name, *case)
+    for case in (PLAIN, PUTS, WITHOUT_ACKS, REDUCED, REDUCED_PUTS)
+    for name in ("two", "path", "triangle")
+]
 CASES += [("two", "acks", True, False)]
 CASES += [(name, *case) for name in ("star of four", "ring of four") for case in (PLAIN, REDUCED)]
 ALL = [(name, *case) for name in LARGE for case in (PLAIN, REDUCED)]
@@ -60,26 +63,37 @@ def header_of(net):
         by_pulse.setdefault(p, []).append((f"v == {v - 1} && w == {w - 1}", number + 1))
     links = [(v - 1, w - 1) for v in vertices for w in net.neighbours[v]]
     lower = " || ".join(f"({a} < v || {a} == v && {b} < w) && NEXT({a},{b})" for a, b in links)
-    return "".join(f"#define {line}\n" for line in [
-        f"N {len(vertices)}",
-        f"DELTA {net.greatest_degree}",
-        f"U {net.forest_count}",
-        f"R {last_pulse(net)}",
-        f"ADJ(v,w) ({' || '.join(joined)})",
-        f"DEGREE(v) {chain([(f'v == {v - 1}', len(net.neighbours[v])) for v in vertices])}",
-        f"CHANNEL(v) {chain([(f'v == {v - 1}', end[v]) for v in vertices])}",
-        f"DUE(v,p,w) {chain([(f'p == {p}', chain(items)) for p, items in sorted(by_pulse.items())])}",
-        f"ANY_NEXT ({' || '.join(f'NEXT({a},{b})' for a, b in links)})",
-        f"LOWER_NEXT(v,w) ({lower})",
-    ])
+    return "".join(
+        f"#define {line}\n"
+        for line in [
+            f"N {len(vertices)}",
+            f"DELTA {net.greatest_degree}",
+            f"U {net.forest_count}",
+            f"R {last_pulse(net)}",
+            f"ADJ(v,w) ({' || '.join(joined)})",
+            f"DEGREE(v) {chain([(f'v == {v - 1}', len(net.neighbours[v])) for v in vertices])}",
+            f"CHANNEL(v) {chain([(f'v == {v - 1}', end[v]) for v in vertices])}",
+            f"DUE(v,p,w) {chain([(f'p == {p}', chain(items)) for p, items in sorted(by_pulse.items())])}",
+            f"ANY_NEXT ({' || '.join(f'NEXT({a},{b})' for a, b in links)})",
+            f"LOWER_NEXT(v,w) ({lower})",
+        ]
+    )
 
 
 def searched(net, without, puts, reduce):
     """(states, steps, errors) by Spin."""
-    options = ["-DPUTS"] * puts + ["-DREDUCE"] * reduce + (["-DWITHOUT_ACKS", "-DCAP=8"] if without == "acks" else [])
+    options = (
+        ["-DPUTS"] * puts
+        + ["-DREDUCE"] * reduce
+        + (["-DWITHOUT_ACKS", "-DCAP=8"] if without == "acks" else [])
+    )
     with tempfile.TemporaryDirectory() as folder:
+
         def run(*words):
-            return subprocess.run(words, cwd=folder, check=True, capture_output=True, text=True).stdout
+            return subprocess.run(
+                words, cwd=folder, check=True, capture_output=True, text=True
+            ).stdout
+
         with open(os.path.join(folder, "net.h"), "w", encoding="ascii") as file:
             file.write(header_of(net))
         with open(os.path.join(folder, "model.pml"), "w", encoding="ascii") as file:
@@ -87,14 +101,23 @@ def searched(net, without, puts, reduce):
         run("spin", "-o3", "-a", "model.pml")
         run("gcc", "-O2", "-DSAFETY", "-DNOREDUCE", "-DCOLLAPSE", "-w", "-o", "pan", "pan.c")
         said = run("./pan", "-m1000000", "-w22")
-    states, steps = (int(re.search(rf"(\d+) {what}", said).group(1)) for what in ("states, stored", "transitions"))
+    states, steps = (
+        int(re.search(rf"(\d+) {what}", said).group(1))
+        for what in ("states, stored", "transitions")
+    )
     return states, steps, int(re.search(r"errors: (\d+)", said).group(1))
 
 
 def main():
-    words = argparse.ArgumentParser(description=__doc__, formatter_class=argparse.RawDescriptionHelpFormatter)
-    words.add_argument("--all", action="store_true", help="also four nodes in a row, and four that are all neighbours, "
-                       "which takes some minutes and 1.2 GB")
+    words = argparse.ArgumentParser(
+        description=__doc__, formatter_class=argparse.RawDescriptionHelpFormatter
+    )
+    words.add_argument(
+        "--all",
+        action="store_true",
+        help="also four nodes in a row, and four that are all neighbours, "
+        "which takes some minutes and 1.2 GB",
+    )
     given = words.parse_args()
     if not (shutil.which("spin") and shutil.which("gcc")):
         words.error("spin and gcc are needed")
@@ -105,8 +128,10 @@ def main():
         got = searched(net, without, puts, reduce)
         good = got == (space.count + 3, len(space.target) + 4, 0) and not space.faults
         what = f"{name}{f' without {without}' if without else ''}{', puts apart' * puts}{', reduced' * reduce}"
-        print(f"{'' if good else 'FAILED '}{what}: {space.count:,} states and {len(space.target):,} steps"
-              f"{'' if good else f', and Spin has {got}'}")
+        print(
+            f"{'' if good else 'FAILED '}{what}: {space.count:,} states and {len(space.target):,} steps"
+            f"{'' if good else f', and Spin has {got}'}"
+        )
         passed += good
     print(f"{passed} passed, {len(cases) - passed} failed")
     return 0 if passed == len(cases) else 1

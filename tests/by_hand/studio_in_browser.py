@@ -25,11 +25,14 @@ from tests.running import Counting
 from tests.settings import PLAY
 
 SHOWN = {
-    "draw": "example=barred&tab=draw&node=3", "rounds": "example=petersen&tab=rounds&at=4.5&forest=0&node=6",
-    "merge": "example=petersen&tab=rounds&at=15", "broken": "example=petersen&tab=rounds&at=4&broken=digit",
+    "draw": "example=barred&tab=draw&node=3",
+    "rounds": "example=petersen&tab=rounds&at=4.5&forest=0&node=6",
+    "merge": "example=petersen&tab=rounds&at=15",
+    "broken": "example=petersen&tab=rounds&at=4&broken=digit",
     "pairs": "example=path&tab=rounds&program=matching&broken=partner",
     "passes": "example=two&tab=pictures&kind=run&program=recolouring&passes=2",
-    "layers": "example=petersen&tab=rounds&program=layers&at=2", "run": "example=chain6&tab=run&slow=2-3&seed=7&at=150",
+    "layers": "example=petersen&tab=rounds&program=layers&at=2",
+    "run": "example=chain6&tab=run&slow=2-3&seed=7&at=150",
     "beside": "example=petersen&tab=run&seed=7&at=150&beside=1&node=3",
     "two": "example=petersen&tab=run&seed=7&at=8.5&other=newest.2",
     "adversary": "example=triangle&tab=adversary&steps=2-1_1-2_2-1_1-2_3-1_1-3_3-2&slow=1-3",
@@ -37,7 +40,9 @@ SHOWN = {
     "check": "example=petersen&tab=check&plan=1_1_2_3_2_3_2_2_1_3",
     "pictures": "example=petersen&tab=pictures&kind=forests",
     "results": "example=drops&tab=pictures&kind=results&program=recolouring&passes=2",
-    "lesson": "lesson=3", "hundred": "example=disk100&tab=rounds&at=14"}
+    "lesson": "lesson=3",
+    "hundred": "example=disk100&tab=rounds&at=14",
+}
 EVIL = """<!doctype html><script>
 (async () => {
   const said = [], at = "ADDRESS", call = {method: "POST", body: "{}"}, tries = {
@@ -56,10 +61,15 @@ EVIL = """<!doctype html><script>
 </script><body>"""
 TWO, ALL_OF_FOUR = "p edge 2 1\ne 1 2\n", "p edge 4 6\ne 1 2\ne 1 3\ne 1 4\ne 2 3\ne 2 4\ne 3 4\n"
 ADVERSARIES = {
-    "two": (TWO, ()), "triangle": ("p edge 3 3\ne 1 2\ne 1 3\ne 2 3\n", ()),
-    "row": ("p edge 4 3\ne 1 2\ne 2 3\ne 3 4\n", ()), "star": ("p edge 4 3\ne 1 4\ne 2 4\ne 3 4\n", ()),
-    "ring": ("p edge 4 4\ne 1 2\ne 2 3\ne 3 4\ne 1 4\n", ()), "two without safes": (TWO, ("--without", "safes")),
-    "two without early": (TWO, ("--without", "early")), "four without safes": (ALL_OF_FOUR, ("--without", "safes"))}
+    "two": (TWO, ()),
+    "triangle": ("p edge 3 3\ne 1 2\ne 1 3\ne 2 3\n", ()),
+    "row": ("p edge 4 3\ne 1 2\ne 2 3\ne 3 4\n", ()),
+    "star": ("p edge 4 3\ne 1 4\ne 2 4\ne 3 4\n", ()),
+    "ring": ("p edge 4 4\ne 1 2\ne 2 3\ne 3 4\ne 1 4\n", ()),
+    "two without safes": (TWO, ("--without", "safes")),
+    "two without early": (TWO, ("--without", "early")),
+    "four without safes": (ALL_OF_FOUR, ("--without", "safes")),
+}
 # What the page does for a place of the slider; and from frame to frame while it plays.
 FRAMES = {
     "a place of the slider": """(() => { const s = document.getElementById('slider'), took = [];
@@ -69,7 +79,8 @@ FRAMES = {
     "a frame while it plays": """(async () => { const took = [], {time} = studio; time.set(13); time.toggle();
       for (let before = 0; took.length < 300; ) { const now = await new Promise(requestAnimationFrame);
         if (before) took.push(now - before); before = now; }
-      time.stop(); return took; })()"""}
+      time.stop(); return took; })()""",
+}
 EVENTS, WIRE = "run.length - 1", "#net [data-step]"
 READY = "T.nodes.map((_, a) => a + 1).filter(v => possible().some(one => !one.take && one.v === v))"
 # The texts and messages of the map that lie outside of it.
@@ -93,8 +104,9 @@ BROKEN = """(() => { const from = {0: null}, queue = [0];
 
 def lab(*words):
     """What a command writes."""
-    return subprocess.run([sys.executable, "-S", os.path.join(TOP, "lab"), *words], capture_output=True,
-                          check=True).stdout
+    return subprocess.run(
+        [sys.executable, "-S", os.path.join(TOP, "lab"), *words], capture_output=True, check=True
+    ).stdout
 
 
 class More(studio_page.Page):
@@ -110,7 +122,9 @@ class More(studio_page.Page):
         self.note("three taps, three nodes", self.page.value("studio.net.nodes.length") == 3)
         self.page.tap(*self.at(1))
         self.page.tap(*self.at(2))
-        self.note("two taps, an edge", self.page.value("JSON.stringify(studio.net.edges)") == "[[1,2]]")
+        self.note(
+            "two taps, an edge", self.page.value("JSON.stringify(studio.net.edges)") == "[[1,2]]"
+        )
         self.page.size(1280, 800)
         self.page.value("document.getElementById('clear').click()")
         for _ in range(2):
@@ -118,7 +132,9 @@ class More(studio_page.Page):
         for v in (1, 2):
             self.page.value(f"document.querySelector('#net .node[data-node=\"{v}\"]').focus()")
             self.page.key("Enter", windowsVirtualKeyCode=13)
-        self.note("keys add and join", self.page.value("JSON.stringify(studio.net.edges)") == "[[1,2]]")
+        self.note(
+            "keys add and join", self.page.value("JSON.stringify(studio.net.edges)") == "[[1,2]]"
+        )
         scale = self.page.value("studio.stage.to.scale")
         self.page.key("+", text="+")
         self.note("a key zooms", self.page.value("studio.stage.to.scale") > scale)
@@ -128,42 +144,67 @@ class More(studio_page.Page):
         for words in ("Oslo", "77"):
             self.page.ask("Input.insertText", text=words)
             self.page.key("Tab", code="Tab", windowsVirtualKeyCode=9)
-        self.sees("Tab goes from field to field", "studio.net.nodes[0].name + studio.net.nodes[0].id === 'Oslo77'")
+        self.sees(
+            "Tab goes from field to field",
+            "studio.net.nodes[0].name + studio.net.nodes[0].id === 'Oslo77'",
+        )
 
     def test_widths(self):
         for name, words in SHOWN.items():
             self.go_to(words)
-            self.sees(f"{name} is there", "document.getElementById('busy').hidden && studio.net.nodes.length > 0")
+            self.sees(
+                f"{name} is there",
+                "document.getElementById('busy').hidden && studio.net.nodes.length > 0",
+            )
             time.sleep(1.5)
-            for kind, wide, high, phone, dark in (("desk", 1280, 800, False, False), ("phone", 360, 780, True, False),
-                                                  ("side", 740, 360, True, False), ("dark", 1280, 800, False, True)):
+            for kind, wide, high, phone, dark in (
+                ("desk", 1280, 800, False, False),
+                ("phone", 360, 780, True, False),
+                ("side", 740, 360, True, False),
+                ("dark", 1280, 800, False, True),
+            ):
                 self.page.size(wide, high, phone)
                 self.page.dark(dark)
                 time.sleep(0.4)
-                shown = self.page.value("(({scrollWidth: w, scrollHeight: h}) => [w, h])(document.documentElement)")
+                shown = self.page.value(
+                    "(({scrollWidth: w, scrollHeight: h}) => [w, h])(document.documentElement)"
+                )
                 self.note(f"{name}, {kind}: no wider than the window", shown[0] <= wide, shown)
-                self.note(f"{name}, {kind}: and no higher", kind == "phone" or shown[1] <= high, shown)
+                self.note(
+                    f"{name}, {kind}: and no higher", kind == "phone" or shown[1] <= high, shown
+                )
                 if self.shots:
                     self.page.shot(os.path.join(self.shots, f"{name}-{kind}.png"))
             self.page.size(1280, 800)
             self.page.dark(False)
-            self.note(f"{name}: nothing is wrong", not self.page.text("wrong"), self.page.text("wrong"))
+            self.note(
+                f"{name}: nothing is wrong", not self.page.text("wrong"), self.page.text("wrong")
+            )
 
     def test_frames(self):
         """A hundred nodes stay under 50 ms a frame on a free machine. Alone by
         `python3 -m unittest tests.by_hand.studio_in_browser.More.test_frames`."""
         self.go_to("example=disk100&tab=rounds&at=14")
-        self.sees("a hundred nodes", "studio.rounds.film && document.querySelectorAll('#net .node').length === 100")
+        self.sees(
+            "a hundred nodes",
+            "studio.rounds.film && document.querySelectorAll('#net .node').length === 100",
+        )
         for name, words in FRAMES.items():
             took = sorted(self.page.value(words))
             middle, most = took[len(took) // 2], took[len(took) * 95 // 100]
-            print(f"100 nodes, {name}: median {middle:.1f} ms, 95th percentile {most:.1f} ms, of {len(took)}")
+            print(
+                f"100 nodes, {name}: median {middle:.1f} ms, 95th percentile {most:.1f} ms, of {len(took)}"
+            )
             self.note(name, most < 50, most)
 
     def test_own_program(self):
         self.go_to("example=petersen&tab=run&program=independent_set&seed=3")
         self.sees("it runs", "document.getElementById('judge').textContent.startsWith('✓')")
-        self.note("and isn't said to be proved", "not proved" in self.page.text("judge"), self.page.text("judge"))
+        self.note(
+            "and isn't said to be proved",
+            "not proved" in self.page.text("judge"),
+            self.page.text("judge"),
+        )
 
     def test_transcripts(self):
         text = lab("simulate", os.path.join(TOP, "examples", "two.col")).decode()
@@ -171,44 +212,77 @@ class More(studio_page.Page):
         self.sees("two nodes", "studio.net.nodes.length === 2 && studio.check.verdict")
         judge = "document.getElementById('transcript').value = {}; document.getElementById('judged').click()"
         self.page.value(judge.format(json.dumps(text)))
-        self.sees("a whole run", "document.getElementById('judgement').textContent.includes('whole run')")
+        self.sees(
+            "a whole run", "document.getElementById('judgement').textContent.includes('whole run')"
+        )
         self.page.value(judge.format(json.dumps(text.replace("ack 3", "ack 4", 1))))
-        self.sees("a wrong wire", "document.getElementById('judgement').textContent.includes('WrongWire')")
+        self.sees(
+            "a wrong wire", "document.getElementById('judgement').textContent.includes('WrongWire')"
+        )
         line = 1 + text.split("\n").index(next(row for row in text.split("\n") if "ack 3" in row))
-        self.note("its line", f"line {line}:" in self.page.text("judgement"), self.page.text("judgement"))
+        self.note(
+            "its line", f"line {line}:" in self.page.text("judgement"), self.page.text("judgement")
+        )
         self.page.value(f"document.getElementById('transcript').value = {json.dumps(text)}")
         self.page.click_on("#watchit")
-        self.sees("it is watched", "studio.seen.tab === 'run' && studio.run.found && studio.run.found.judge.ok")
+        self.sees(
+            "it is watched",
+            "studio.seen.tab === 'run' && studio.run.found && studio.run.found.judge.ok",
+        )
 
     def test_files(self):
         self.go_to("tab=draw")
 
         def drop(what, name):
-            self.page.value(f"(() => {{ const d = new DataTransfer(); d.items.add(new File([{json.dumps(what)}], "
-                            f"'{name}')); document.dispatchEvent(new DragEvent('drop', {{dataTransfer: d, "
-                            "cancelable: true})); })()")
-        drop("<graphml><graph edgedefault='undirected'><node id='a'/><node id='b'/><edge source='a' target='b'/>"
-             "</graph></graphml>", "x.graphml")
+            self.page.value(
+                f"(() => {{ const d = new DataTransfer(); d.items.add(new File([{json.dumps(what)}], "
+                f"'{name}')); document.dispatchEvent(new DragEvent('drop', {{dataTransfer: d, "
+                "cancelable: true})); })()"
+            )
+
+        drop(
+            "<graphml><graph edgedefault='undirected'><node id='a'/><node id='b'/><edge source='a' target='b'/>"
+            "</graph></graphml>",
+            "x.graphml",
+        )
         self.sees("GraphML", "studio.net.nodes.length === 2 && studio.net.nodes[0].name === 'a'")
         drop("p edge 2 1\ne 1 3\n", "x.col")
-        self.sees("a wrong text is said", "document.getElementById('wrong').textContent.includes('F5')")
+        self.sees(
+            "a wrong text is said", "document.getElementById('wrong').textContent.includes('F5')"
+        )
         drop("a,b\nOslo,Ulm\nUlm,Rom\n", "x.csv")
         self.sees("a table may have a heading", "!document.getElementById('heading').hidden")
         self.page.click_on("#heading [data-heading=yes]")
-        self.sees("which is said", "studio.net.nodes.length === 3 && studio.net.nodes[0].name === 'Oslo'")
+        self.sees(
+            "which is said", "studio.net.nodes.length === 3 && studio.net.nodes[0].name === 'Oslo'"
+        )
         self.page.click_on("#make button")
         self.sees("a random network", "studio.net.nodes.length === 8")
 
     def test_links(self):
         """Each picture is drawn, and each lesson opens."""
-        for kind in ("plan", "results", "matrix", "forests", "rounds", "bits", "why", "run", "overview", "node",
-                     "tally"):
+        for kind in (
+            "plan",
+            "results",
+            "matrix",
+            "forests",
+            "rounds",
+            "bits",
+            "why",
+            "run",
+            "overview",
+            "node",
+            "tally",
+        ):
             self.go_to(f"example=triangle&tab=pictures&kind={kind}")
             self.sees(kind, f"document.querySelector('#picture img[alt={kind}]')")
         for number in range(1, 8):
             self.go_to(f"lesson={number}")
-            self.sees(f"lesson {number}", "document.querySelector('#lesson b') && document.querySelector('#lesson b')"
-                                          f".textContent.startsWith('{number}.') && studio.net.nodes.length")
+            self.sees(
+                f"lesson {number}",
+                "document.querySelector('#lesson b') && document.querySelector('#lesson b')"
+                f".textContent.startsWith('{number}.') && studio.net.nodes.length",
+            )
 
     def test_cancel(self):
         """A search that takes minutes is ended by its button, and its process with it."""
@@ -230,60 +304,95 @@ class More(studio_page.Page):
         self.page.click_on("#unsearch")
         self.page.click_on("[data-tab=draw]")
         time.sleep(0.5)
-        self.note("which is gone in another tab", self.page.value("document.getElementById('frame').hidden"))
+        self.note(
+            "which is gone in another tab",
+            self.page.value("document.getElementById('frame').hidden"),
+        )
 
     def test_between_tabs(self):
         """What one tab has on the stage isn't left there; a place is kept, and the browser's way back leads to it."""
         self.go_to("example=chain6&tab=run&seed=7&other=newest.2&at=5")
         self.sees("another order", "document.querySelectorAll('#second .node').length === 6")
         self.go_to("example=petersen&tab=run&seed=7&beside=1")
-        self.sees("the rounds beside", "document.querySelectorAll('#small .node').length === 10 && "
-                                       "document.getElementById('judge').textContent.startsWith('✓')")
+        self.sees(
+            "the rounds beside",
+            "document.querySelectorAll('#small .node').length === 10 && "
+            "document.getElementById('judge').textContent.startsWith('✓')",
+        )
         self.go_to("example=path&tab=adversary")
         self.sees("another network", "studio.steps.found && studio.net.nodes.length === 3")
         high = self.page.value("[studio.stage.high, document.getElementById('stage').clientHeight]")
         self.note("the stage is as high as it was", high[1] - high[0] < 40, high)
         for tab in ("run", "adversary"):
             self.go_to(f"example=disk100&tab={tab}")
-            self.sees(f"too many nodes in {tab}", "document.getElementById('wrong').textContent.includes('at most 40')")
+            self.sees(
+                f"too many nodes in {tab}",
+                "document.getElementById('wrong').textContent.includes('at most 40')",
+            )
             self.note("nothing plays", self.page.value("document.getElementById('play').disabled"))
-            self.note("and the nodes are blank", not self.page.value("document.querySelector('#net [data-step]')"))
+            self.note(
+                "and the nodes are blank",
+                not self.page.value("document.querySelector('#net [data-step]')"),
+            )
         self.go_to("example=path&tab=adversary")
         self.sees("that network again", "studio.steps.found && studio.net.nodes.length === 3")
         self.page.click_on("[data-tab=rounds]")
-        self.sees("its rounds", "studio.rounds.film && document.getElementById('when').textContent.startsWith('pulse')")
+        self.sees(
+            "its rounds",
+            "studio.rounds.film && document.getElementById('when').textContent.startsWith('pulse')",
+        )
         self.page.click_on("#next")
         self.page.click_on("[data-tab=check]")
         self.page.click_on("[data-tab=rounds]")
-        self.note("the same pulse", self.page.value("studio.time.at") == 1, self.page.value("studio.time.at"))
+        self.note(
+            "the same pulse",
+            self.page.value("studio.time.at") == 1,
+            self.page.value("studio.time.at"),
+        )
         self.page.value("history.back()")
         self.sees("the way back", "studio.seen.tab === 'check'")
         self.page.click_on("[data-tab=run]")
         self.sees("a run", "document.getElementById('judgehere').textContent.startsWith('✓')")
         self.page.click_on("#play")
-        self.sees("what was said of another place is gone", "document.getElementById('judgehere').textContent === ''")
+        self.sees(
+            "what was said of another place is gone",
+            "document.getElementById('judgehere').textContent === ''",
+        )
 
     def working(self):
         found = []
         for process in processes_of(self.process.pid):
-            with contextlib.suppress(OSError), open(f"/proc/{process}/stat", encoding="ascii") as file:
+            with contextlib.suppress(OSError), open(
+                f"/proc/{process}/stat", encoding="ascii"
+            ) as file:
                 found += [process] * (file.read().rpartition(")")[2].split()[0] == "R")
         return found
 
     def test_other_pages(self):
         """The pages of picture player and watch, which stand alone."""
         with tempfile.TemporaryDirectory() as folder:
-            for kind, words in (("player", []), ("watch", [os.path.join(TOP, "examples", "chain6_slow.transcript")])):
+            for kind, words in (
+                ("player", []),
+                ("watch", [os.path.join(TOP, "examples", "chain6_slow.transcript")]),
+            ):
                 path = os.path.join(folder, kind + ".html")
                 with open(path, "wb") as file:
-                    file.write(lab("picture", kind, os.path.join(TOP, "examples", "chain6.col"), *words))
+                    file.write(
+                        lab("picture", kind, os.path.join(TOP, "examples", "chain6.col"), *words)
+                    )
                 self.page.go(f"file://{path}#pulse-3")
                 self.sees(f"{kind}: nodes", "document.querySelectorAll('#net .node').length === 6")
-                self.note(f"{kind}: a link", self.page.value("time.at") >= 3, self.page.value("time.at"))
+                self.note(
+                    f"{kind}: a link", self.page.value("time.at") >= 3, self.page.value("time.at")
+                )
                 before = self.page.value("time.at")
                 self.page.click_on("#next")
                 self.page.key("ArrowRight", windowsVirtualKeyCode=39)
-                self.note(f"{kind}: two steps on", self.page.value("time.at") > before, self.page.text("said"))
+                self.note(
+                    f"{kind}: two steps on",
+                    self.page.value("time.at") > before,
+                    self.page.text("said"),
+                )
                 self.page.click_on("#play")
                 time.sleep(1.2)
                 self.note(f"{kind}: it plays", self.page.value("time.at") > before + 2)
@@ -305,12 +414,18 @@ class More(studio_page.Page):
                 self.wfile.write(b"HTTP/1.0 200 OK\r\nContent-Type: text/html\r\n\r\n" + evil)
 
         faults = list(self.page.faults)
-        self.note("no script complained", not [fault for fault in faults if "favicon" not in fault], faults[:5])
+        self.note(
+            "no script complained",
+            not [fault for fault in faults if "favicon" not in fault],
+            faults[:5],
+        )
         server = http.server.ThreadingHTTPServer(("127.0.0.1", 0), Evil)
         threading.Thread(target=server.serve_forever, daemon=True).start()
         for host in ("127.0.0.1", "localhost"):
             self.page.go(f"http://{host}:{server.server_port}/")
-            self.note(f"a page of {host} has tried", self.page.until("document.title.startsWith('tried')"))
+            self.note(
+                f"a page of {host} has tried", self.page.until("document.title.startsWith('tried')")
+            )
             got = self.page.value("document.title")
             self.note(f"and got nothing from {host}", got == "tried:", got)
         server.shutdown()
@@ -326,7 +441,9 @@ class Adversary(studio_page.Page):
         for name, (network, options) in ADVERSARIES.items():
             for wide, high in ((1024, 768), (390, 844)):
                 with tempfile.TemporaryDirectory() as folder:
-                    self.net, page = os.path.join(folder, "net.col"), os.path.join(folder, "page.html")
+                    self.net, page = os.path.join(folder, "net.col"), os.path.join(
+                        folder, "page.html"
+                    )
                     with open(self.net, "w", encoding="ascii") as file:
                         file.write(network)
                     with open(page, "wb") as file:
@@ -334,9 +451,15 @@ class Adversary(studio_page.Page):
                     self.page.faults.clear()
                     self.page.size(wide, high, wide < 600)
                     self.page.go(f"file://{page}")
-                    self.page.until(f"location.pathname === {json.dumps(page)} && document.readyState === 'complete'")
+                    self.page.until(
+                        f"location.pathname === {json.dumps(page)} && document.readyState === 'complete'"
+                    )
                     self.name, self.network = f"{name}, {wide} wide", network.encode()
-                    for rows in [self.broken] if options else [self.looks, self.steps, self.refused, self.listed]:
+                    for rows in (
+                        [self.broken]
+                        if options
+                        else [self.looks, self.steps, self.refused, self.listed]
+                    ):
                         rows()
                         self.page.value("restart(); show()")
                     self.row("no script complained", not self.page.faults, self.page.faults[:1])
@@ -359,10 +482,16 @@ class Adversary(studio_page.Page):
             self.type("r")
         self.has("no wider than the window", "document.documentElement.scrollWidth <= innerWidth")
         self.has("nothing of the map is cut off", CUT, [])
-        self.has("buttons are large enough for a finger", "Array.from(document.querySelectorAll('button')).filter("
-                 "one => one.offsetHeight && one.offsetHeight < 30).length", 0)
+        self.has(
+            "buttons are large enough for a finger",
+            "Array.from(document.querySelectorAll('button')).filter("
+            "one => one.offsetHeight && one.offsetHeight < 30).length",
+            0,
+        )
         if self.shots:
-            self.page.shot(os.path.join(self.shots, f"adversary-{self.name.replace(', ', '-')}.png"))
+            self.page.shot(
+                os.path.join(self.shots, f"adversary-{self.name.replace(', ', '-')}.png")
+            )
 
     def steps(self):
         self.page.click_on(WIRE)
@@ -370,13 +499,19 @@ class Adversary(studio_page.Page):
         self.page.click_on("#undo")
         self.node(1)
         self.has("undo, and a node that can't pulse", EVENTS, 0)
-        self.has("nodes say what they wait for", "Array.from(document.querySelectorAll('#net .node')).every(one => "
-                 "one.textContent.includes('waits for '))")
+        self.has(
+            "nodes say what they wait for",
+            "Array.from(document.querySelectorAll('#net .node')).every(one => "
+            "one.textContent.includes('waits for '))",
+        )
         while not self.page.value(READY):
             self.page.click_on(WIRE)
         before = self.page.value("pulses().join()")
         self.node(self.page.value(READY)[0])
-        self.has("a node that is clicked makes its pulse", f"pulses().join() !== '{before}' && !now().step.take")
+        self.has(
+            "a node that is clicked makes its pulse",
+            f"pulses().join() !== '{before}' && !now().step.take",
+        )
         self.page.value("restart(); show()")
         self.type("1")
         self.type("u")
@@ -391,23 +526,45 @@ class Adversary(studio_page.Page):
         self.has("twice in step", "pulses().every(p => p === 2)")
         self.page.value("restart(); show()")
         v, w = self.page.value("D.net.edges[0]")
-        self.page.click(*self.page.value("(() => { const b = stage.svg.getBoundingClientRect(), "
-                                         f"p = stage.along({v}, {w}, 0.5); return [b.x + p[0], b.y + p[1]]; }})()"))
+        self.page.click(
+            *self.page.value(
+                "(() => { const b = stage.svg.getBoundingClientRect(), "
+                f"p = stage.along({v}, {w}, 0.5); return [b.x + p[0], b.y + p[1]]; }})()"
+            )
+        )
         self.page.click_on("#rest")
-        self.has("nothing comes over a frozen line", f"frozen['{v}–{w}'] && T.links.filter(link => edgeOf(link) === "
-                 f"'{v}–{w}').every(link => held(link, now().state).length)")
+        self.has(
+            "nothing comes over a frozen line",
+            f"frozen['{v}–{w}'] && T.links.filter(link => edgeOf(link) === "
+            f"'{v}–{w}').every(link => held(link, now().state).length)",
+        )
         self.page.value(f"document.querySelector('#net [data-edge=\"{v}-{w}\"]').focus()")
         self.type("Enter", text="\r", windowsVirtualKeyCode=13)
         self.has("a key thaws it", f"!frozen['{v}–{w}'] && possible().length > 0")
 
     def refused(self):
         """What isn't possible is said, in a list and in an address."""
-        for words, line in (("put 9 0", 1), ("put 1 0\nput 1 0", 2), ("take 1 9", 1), ("pulse 9", 1), ("put 1", 1),
-                            ("c x\nputt 1 0", 2)):
-            self.page.value(f"element('list').value = {json.dumps(words)}; element('paste').click()")
+        for words, line in (
+            ("put 9 0", 1),
+            ("put 1 0\nput 1 0", 2),
+            ("take 1 9", 1),
+            ("pulse 9", 1),
+            ("put 1", 1),
+            ("c x\nputt 1 0", 2),
+        ):
+            self.page.value(
+                f"element('list').value = {json.dumps(words)}; element('paste').click()"
+            )
             said = self.page.text("said")
-            self.row(f"a list with {words!r}", said.startswith(f"Line {line}, ") and "isn’t possible" in said, said)
-        for place, words in (("#run-z", "Step 1 of the address"), ("#entry-3", "no place of this page")):
+            self.row(
+                f"a list with {words!r}",
+                said.startswith(f"Line {line}, ") and "isn’t possible" in said,
+                said,
+            )
+        for place, words in (
+            ("#run-z", "Step 1 of the address"),
+            ("#entry-3", "no place of this page"),
+        ):
             self.page.value(f"location.hash = {json.dumps(place)}")
             self.sees(f"{self.name}: {place}", f"element('said').textContent.includes('{words}')")
         self.page.value("location.hash = ''")
@@ -429,17 +586,27 @@ class Adversary(studio_page.Page):
         made = called(FORESTLAB, "simulate", self.net, "--events", "-", data=text)
         again = called(PLAY, "replay", data=self.network + made[1])
         self.row("forestplay replays its transcript", again[:2] == (0, done[1]), again)
-        self.has("the end", r"/All have halted, with channels \d+(, \d+)*\.$/.test(element('said').textContent)")
-        self.has("what can't be won isn't", "D.dares.filter(dare => ['wrong', 'plan'].includes(dare.kind) && "
-                 "judged(dare)[0]).length", 0)
+        self.has(
+            "the end",
+            r"/All have halted, with channels \d+(, \d+)*\.$/.test(element('said').textContent)",
+        )
+        self.has(
+            "what can't be won isn't",
+            "D.dares.filter(dare => ['wrong', 'plan'].includes(dare.kind) && "
+            "judged(dare)[0]).length",
+            0,
+        )
 
     def broken(self):
         """Along the first list that goes wrong, event by event, by its buttons."""
         path = self.page.value(BROKEN)
         for key in path:
             self.page.click_on(f'#nodes [data-key="{key}"]')
-        self.has("what goes wrong is said, and a dare won", f"element('said').className === 'bad' && {EVENTS} === "
-                 f"{len(path)} && judged(D.dares[0])[0]")
+        self.has(
+            "what goes wrong is said, and a dare won",
+            f"element('said').className === 'bad' && {EVENTS} === "
+            f"{len(path)} && judged(D.dares[0])[0]",
+        )
         _, done = self.played()
         # The proved machine keeps what comes early apart, so without `early` the events are possible there.
         good = done[0] == 0 if "early" in self.name else done[0] == 1 and b" line " in done[2]
@@ -447,7 +614,9 @@ class Adversary(studio_page.Page):
 
 
 def main():
-    words = argparse.ArgumentParser(description=__doc__, formatter_class=argparse.RawDescriptionHelpFormatter)
+    words = argparse.ArgumentParser(
+        description=__doc__, formatter_class=argparse.RawDescriptionHelpFormatter
+    )
     words.add_argument("--shots", metavar="FOLDER")
     More.shots = Adversary.shots = words.parse_args().shots
     suite, counted = unittest.TestSuite(), Counting()

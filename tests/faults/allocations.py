@@ -32,8 +32,13 @@ class Allocations(Case):
         for words in ([PLAN, "plain"], *RUNS):
             few, more = (self.asked(words, star)[0] for star in (STAR_AT_6, STAR_AT_1))
             self.same(f"{words[1]}: allocations of 30 rounds and 102", few, more)
-        for test in ("sync_rounds_checks::greatest_within_{}_link{}", "alpha_core_checks::runs::a_node_of_{}_pulse{}"):
-            one, fifty = (self.asked([CRATE_TESTS, test.format(*which)])[0] for which in ((1, ""), (50, "s")))
+        for test in (
+            "sync_rounds_checks::greatest_within_{}_link{}",
+            "alpha_core_checks::runs::a_node_of_{}_pulse{}",
+        ):
+            one, fifty = (
+                self.asked([CRATE_TESTS, test.format(*which)])[0] for which in ((1, ""), (50, "s"))
+            )
             self.same(f"{test}: allocations of 1 pulse and 50", one, fifty)
 
     def test_capacity(self):
@@ -41,9 +46,24 @@ class Allocations(Case):
         for words in RUNS:
             sizes = set()
             for directions, network in ((2, text(EDGE)), (6, text(TRIANGLE))):
-                asked = [self.asked([*words, "--turns", "0", "--capacity", str(capacity)], network, status=3)
-                         for capacity in CAPACITIES]
-                self.same(f"{words[1]}: calls by {directions} directions", len({calls for calls, _ in asked}), 1)
-                sizes |= {(more - asked[0][1]) / (directions * (capacity - 1))
-                          for capacity, (_, more) in zip(CAPACITIES, asked) if capacity > 1}
-            self.note(f"{words[1]}: memory of each wire in a direction", len(sizes) == 1 and min(sizes) > 0, sizes)
+                asked = [
+                    self.asked(
+                        [*words, "--turns", "0", "--capacity", str(capacity)], network, status=3
+                    )
+                    for capacity in CAPACITIES
+                ]
+                self.same(
+                    f"{words[1]}: calls by {directions} directions",
+                    len({calls for calls, _ in asked}),
+                    1,
+                )
+                sizes |= {
+                    (more - asked[0][1]) / (directions * (capacity - 1))
+                    for capacity, (_, more) in zip(CAPACITIES, asked)
+                    if capacity > 1
+                }
+            self.note(
+                f"{words[1]}: memory of each wire in a direction",
+                len(sizes) == 1 and min(sizes) > 0,
+                sizes,
+            )

@@ -16,8 +16,14 @@ MOST_WORKERS = 64
 TRIANGLE, ONE_EDGE = text(THREE), text(EDGE)
 MEMORY = (4, b"", b"forestplan: memory\n")
 # Network, workers, and how many microseconds a worker is stopped at a time.
-STOPPED = [(ONE_EDGE, 4, 5), (TRIANGLE, 4, 5), (TRIANGLE, 4, 20), (ONE_EDGE, 3, 200), (TRIANGLE, 8, 20),
-           (TRIANGLE, 1, 5)]
+STOPPED = [
+    (ONE_EDGE, 4, 5),
+    (TRIANGLE, 4, 5),
+    (TRIANGLE, 4, 20),
+    (ONE_EDGE, 3, 200),
+    (TRIANGLE, 8, 20),
+    (TRIANGLE, 1, 5),
+]
 
 
 def is_right(command, answer, data=TRIANGLE):
@@ -39,21 +45,36 @@ class RefusedThreads(Case):
     def run_of(self, program, words, data=TRIANGLE, growth=0, thread=0):
         """The answer; how many growths were asked for; and how many threads were, how many started, and how many
         ended."""
-        answer, counts = under(self.front, [program, *words], data, REFUSE=growth, REFUSE_THREAD=thread)
+        answer, counts = under(
+            self.front, [program, *words], data, REFUSE=growth, REFUSE_THREAD=thread
+        )
         return answer, counts[0], counts[2:]
 
     def test_threads(self):
         """With each number of workers: as many threads are asked for, and if the first, the second, .. of them is
         refused, no other is asked for, and those before it end."""
-        rows = [*((TRIANGLE, workers) for workers in range(1, MOST_WORKERS + 1)), (example("queen5_5"), 4)]
+        rows = [
+            *((TRIANGLE, workers) for workers in range(1, MOST_WORKERS + 1)),
+            (example("queen5_5"), 4),
+        ]
         for data, workers in rows:
             wrong, plan = [], plan_text(network_of(data))
             for thread in range(workers + 1):
-                answer, _, threads = self.run_of(PLAN, ["plan", "--workers", str(workers)], data, thread=thread)
-                wanted = (THREADS, [thread, thread - 1, thread - 1]) if thread else ((0, plan, b""), [workers] * 3)
+                answer, _, threads = self.run_of(
+                    PLAN, ["plan", "--workers", str(workers)], data, thread=thread
+                )
+                wanted = (
+                    (THREADS, [thread, thread - 1, thread - 1])
+                    if thread
+                    else ((0, plan, b""), [workers] * 3)
+                )
                 if (answer, threads) != wanted:
                     wrong.append((thread, answer, threads))
-            self.note(f"each of {workers} threads refused in turn: plan of {data[:12]}", not wrong, wrong[:3])
+            self.note(
+                f"each of {workers} threads refused in turn: plan of {data[:12]}",
+                not wrong,
+                wrong[:3],
+            )
         got = [self.run_of(PLAN, ["plan", word])[2] for word in ("--workers=+7", "--workers=007")]
         self.same("a number of workers with a sign or zeros before it", got, [[7, 7, 7]] * 2)
 
@@ -81,8 +102,12 @@ class RefusedThreads(Case):
                     if not (is_refused or is_right(command, answer)) or ended != started:
                         wrong.append((workers, growth, answer, started, ended))
             good = not wrong and whole > 0 and (late > 0 or command == "plan")
-            self.note(f"each growth refused in turn: {command} with 2, 4 and 16 workers, {late} of them once all "
-                      "threads were started", good, wrong[:3] or (late, whole))
+            self.note(
+                f"each growth refused in turn: {command} with 2, 4 and 16 workers, {late} of them once all "
+                "threads were started",
+                good,
+                wrong[:3] or (late, whole),
+            )
 
     def test_pushes(self, enough=8, patience=5 * LIMIT):
         """Runs of several workers that are refused all memory they ask for, until `enough` of them were refused some;
@@ -93,13 +118,23 @@ class RefusedThreads(Case):
         the run wouldn't end, or the nodes couldn't be gathered."""
         front = build_front(self.folder, "refuse_in_threads")
         wrong, counts, begin = [], [], time.monotonic()
-        while sum(map(bool, counts)) < enough and not wrong and (
-                time.monotonic() - begin < (LIMIT if any(counts) else patience)):
+        while (
+            sum(map(bool, counts)) < enough
+            and not wrong
+            and (time.monotonic() - begin < (LIMIT if any(counts) else patience))
+        ):
             for data, workers, stop in STOPPED:
-                answer, refused = under(front, [PLAN, "plan", "--workers", str(workers)], data, STOP=stop)
+                answer, refused = under(
+                    front, [PLAN, "plan", "--workers", str(workers)], data, STOP=stop
+                )
                 counts.append(sum(refused))
-                if answer != (0, plan_text(network_of(data)), b"") or (workers == 1 and counts[-1] > 0):
+                if answer != (0, plan_text(network_of(data)), b"") or (
+                    workers == 1 and counts[-1] > 0
+                ):
                     wrong.append((data, workers, stop, answer, counts[-1]))
-        self.note(f"pushes refused in the middle of a run: in {sum(map(bool, counts))} of {len(counts)} runs of plan "
-                  f"with up to 8 workers, {sum(counts)} refusals", not wrong and any(counts),
-                  wrong[:3] or f"none in {patience} seconds")
+        self.note(
+            f"pushes refused in the middle of a run: in {sum(map(bool, counts))} of {len(counts)} runs of plan "
+            f"with up to 8 workers, {sum(counts)} refusals",
+            not wrong and any(counts),
+            wrong[:3] or f"none in {patience} seconds",
+        )

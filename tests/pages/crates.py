@@ -15,8 +15,10 @@ from tests import TOP
 from tests.cases import Case, text_in
 
 GHOST, CODE = r"\bRattle\.(\w+)\.", r"(?<![\w:.])([a-z_]\w*)::"
-CALLERS = r"((?:`\w+`(?:, and |, | and )?)+) " \
-          r"(?:calls?|cites?|uses?|reads?|writes?|prints?|plays?|checks?|keeps?|numbers|builds)\b"
+CALLERS = (
+    r"((?:`\w+`(?:, and |, | and )?)+) "
+    r"(?:calls?|cites?|uses?|reads?|writes?|prints?|plays?|checks?|keeps?|numbers|builds)\b"
+)
 
 
 def unfound(path):
@@ -40,16 +42,23 @@ def unfound(path):
 def files_of(crate):
     """Each file of a crate's sources, its path with its text, comments left out."""
     for part in ("src", "specs", "proofs"):
-        for path in sorted(glob.glob(os.path.join(TOP, "crates", crate, part, "**", "*.*t"), recursive=True)):
-            yield os.path.relpath(path, TOP), re.sub(r"^\s*(//|-- ).*$", "", text_in(path), flags=re.M)
+        for path in sorted(
+            glob.glob(os.path.join(TOP, "crates", crate, part, "**", "*.*t"), recursive=True)
+        ):
+            yield os.path.relpath(path, TOP), re.sub(
+                r"^\s*(//|-- ).*$", "", text_in(path), flags=re.M
+            )
 
 
 class Crates(Case):
     needs_programs = False
 
     def test_edits_apply(self):
-        edits = [path for name in ("must-fail", "wrong-bodies")
-                 for path in sorted(glob.glob(os.path.join(TOP, "crates", "*", name, "*")))]
+        edits = [
+            path
+            for name in ("must-fail", "wrong-bodies")
+            for path in sorted(glob.glob(os.path.join(TOP, "crates", "*", name, "*")))
+        ]
         self.note("there are edits", len(edits) > 100, len(edits))
         for path in edits:
             self.same(os.path.relpath(path, TOP), list(unfound(path)), [])
@@ -60,14 +69,30 @@ class Crates(Case):
         for crate, names in lists.items():
             named, others = set(), "|".join(lists.keys() - {crate})
             for path, text in files_of(crate):
-                named |= set(re.findall(GHOST, text) + re.findall(CODE, text) * path.endswith(".rt"))
-                passed += [f"{path}: {line}" for line in re.findall(
-                    rf"^ *pub use (?:Rattle\.)?(?:{others})\b.*|^.*\bRattle\.\w+\.below\..*", text, re.M)]
+                named |= set(
+                    re.findall(GHOST, text) + re.findall(CODE, text) * path.endswith(".rt")
+                )
+                passed += [
+                    f"{path}: {line}"
+                    for line in re.findall(
+                        rf"^ *pub use (?:Rattle\.)?(?:{others})\b.*|^.*\bRattle\.\w+\.below\..*",
+                        text,
+                        re.M,
+                    )
+                ]
             self.same(f"crates.txt {crate}", sorted(named & lists.keys() - {crate}), sorted(names))
             path = os.path.join(TOP, "crates", crate, "src", "lib.rt")
-            head = " ".join(re.findall(r"^//! ?(.*)$", text_in(path), re.M)) if os.path.isfile(path) else ""
-            callers = {name for found in re.findall(CALLERS, head) for name in re.findall(r"\w+", found)} & lists.keys()
-            wrong, count = sorted(name for name in callers if crate not in lists[name]), count + len(callers)
+            head = (
+                " ".join(re.findall(r"^//! ?(.*)$", text_in(path), re.M))
+                if os.path.isfile(path)
+                else ""
+            )
+            callers = {
+                name for found in re.findall(CALLERS, head) for name in re.findall(r"\w+", found)
+            } & lists.keys()
+            wrong, count = sorted(
+                name for name in callers if crate not in lists[name]
+            ), count + len(callers)
             self.note(f"head of {crate}", not wrong, f"not listed by {wrong}")
         self.note("callers in heads", count > 30, count)
         self.note("names passed on", not passed, passed[:5])

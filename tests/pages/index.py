@@ -16,36 +16,61 @@ from tests.pages.pages import PAGES, lines_of
 README_WORDS, README_COLUMNS = 900, 120
 
 # The constants of limits, and what is said of them elsewhere, with line ends as blanks.
-LIMITS = ("graph_limits/src/limits.rt", "interference/src/limits.rt", "run_options/src/lib.rt",
-          "command_line/src/programs.rt")
+LIMITS = (
+    "graph_limits/src/limits.rt",
+    "interference/src/limits.rt",
+    "run_options/src/lib.rt",
+    "command_line/src/programs.rt",
+)
 SAID_OF_LIMITS = {
-    "README.md": ("{MAX_NODES:,} nodes, {MAX_EDGES:,} edges, {MAX_DEGREE:,} neighbours and {MAX_BARS:,} barred",
-                  "channels of a node, {MAX_WORKERS} threads"),
+    "README.md": (
+        "{MAX_NODES:,} nodes, {MAX_EDGES:,} edges, {MAX_DEGREE:,} neighbours and {MAX_BARS:,} barred",
+        "channels of a node, {MAX_WORKERS} threads",
+    ),
     "docs/claim/DEFINITIONS.md": (
         "`MAX_NODES`, {MAX_NODES:,}, `MAX_EDGES`, {MAX_EDGES:,}, `MAX_CHANNEL`, {MAX_CHANNEL:,} (",
-        "`MAX_BARS`, {MAX_BARS:,} (", "`MAX_DEGREE`, {MAX_DEGREE:,} (",
+        "`MAX_BARS`, {MAX_BARS:,} (",
+        "`MAX_DEGREE`, {MAX_DEGREE:,} (",
         "`MAX_WORKERS`, {MAX_WORKERS}, `MAX_CAPACITY`, {MAX_CAPACITY}, and ",
-        "F7: NODES above {MAX_NODES:,}", "name {ABOVE_EDGES:,} different edges", "0 or above {MAX_CHANNEL:,}; F14",
-        "bar {ABOVE_BARS:,} different channels", "at most {MAX_BARS:,}, each below {MAX_CHANNEL:,}.",
-        "more than {MAX_DEGREE:,} neighbours", "1 to {MAX_WORKERS} workers and a capacity of 1 to {MAX_CAPACITY}."),
+        "F7: NODES above {MAX_NODES:,}",
+        "name {ABOVE_EDGES:,} different edges",
+        "0 or above {MAX_CHANNEL:,}; F14",
+        "bar {ABOVE_BARS:,} different channels",
+        "at most {MAX_BARS:,}, each below {MAX_CHANNEL:,}.",
+        "more than {MAX_DEGREE:,} neighbours",
+        "1 to {MAX_WORKERS} workers and a capacity of 1 to {MAX_CAPACITY}.",
+    ),
     "docs/claim/FORMATS.md": (
-        "| F7 | NODES is above {MAX_NODES:,}, or", "that is number {ABOVE_EDGES:,} |", "is number {ABOVE_BARS:,} |",
-        "| F13 | a barred channel is 0 or above {MAX_CHANNEL:,} |", "a vertex has more than {MAX_DEGREE:,} neighbours",
-        "| `--workers` | 1 | {MAX_WORKERS} |", "| `--capacity` | 1 | {MAX_CAPACITY} |", "| 0 | {MAX_TURNS} |",
-        "| `--edition` | 1 | {MAX_EDITION} |", "a vertex, from 1 to {MAX_NODES:,}", "anew, from 1 to {MAX_PASSES};",
-        "from 1 to {MAX_CHANNEL:,}, up to {MAX_BARS:,} of them at one vertex"),
+        "| F7 | NODES is above {MAX_NODES:,}, or",
+        "that is number {ABOVE_EDGES:,} |",
+        "is number {ABOVE_BARS:,} |",
+        "| F13 | a barred channel is 0 or above {MAX_CHANNEL:,} |",
+        "a vertex has more than {MAX_DEGREE:,} neighbours",
+        "| `--workers` | 1 | {MAX_WORKERS} |",
+        "| `--capacity` | 1 | {MAX_CAPACITY} |",
+        "| 0 | {MAX_TURNS} |",
+        "| `--edition` | 1 | {MAX_EDITION} |",
+        "a vertex, from 1 to {MAX_NODES:,}",
+        "anew, from 1 to {MAX_PASSES};",
+        "from 1 to {MAX_CHANNEL:,}, up to {MAX_BARS:,} of them at one vertex",
+    ),
     "docs/claim/PROMISES.md": (
         "{MAX_NODES:,} vertices and {MAX_EDGES:,} edges, {MAX_DEGREE:,} neighbours, {MAX_WORKERS} workers",
-        "and B at most {MAX_BARS:,}."),
+        "and B at most {MAX_BARS:,}.",
+    ),
     "docs/learn/TUTORIAL.md": ("every network of up to {MAX_NODES:,} nodes",),
     "docs/work/LOOKUP.md": ("{MAX_DEGREE:,} + {MAX_BARS:,}, below `COLOURS`, {MAX_CHANNEL:,}",),
-    "lab/networks/network_text.py": tuple(f"{name} = {{{name}}} " for name in
-                                          ("MAX_NODES", "MAX_EDGES", "MAX_DEGREE", "MAX_CHANNEL", "MAX_BARS")),
+    "lab/networks/network_text.py": tuple(
+        f"{name} = {{{name}}} "
+        for name in ("MAX_NODES", "MAX_EDGES", "MAX_DEGREE", "MAX_CHANNEL", "MAX_BARS")
+    ),
     "lab/definitions/programs.py": ("PASSES = {ALL_PASSES} ",),
     "lab/python/forestplan.py": ("whole(channel, what, 1, {MAX_CHANNEL})",),
     "lab/studio/page/draw.js": (" > {MAX_CHANNEL})", "numbers from 1 to {MAX_CHANNEL:,},"),
-    "lab/studio/page/page.html": ('id="workers" type="number" min="1" max="{MAX_WORKERS}"',
-                                  'id="capacity" type="number" min="1" max="{MAX_CAPACITY}"'),
+    "lab/studio/page/page.html": (
+        'id="workers" type="number" min="1" max="{MAX_WORKERS}"',
+        'id="capacity" type="number" min="1" max="{MAX_CAPACITY}"',
+    ),
 }
 
 
@@ -59,37 +84,81 @@ class Index(Case):
     def test_readme(self):
         text = text_in("README.md")
         self.assertLessEqual(len(text.split()), README_WORDS, "words of README.md")
-        wide = [number for number, line in enumerate(text.split("\n"), 1) if len(line) > README_COLUMNS]
+        wide = [
+            number for number, line in enumerate(text.split("\n"), 1) if len(line) > README_COLUMNS
+        ]
         self.assertEqual(wide, [], f"lines of README.md above {README_COLUMNS} columns")
         before, _, after = text.partition("## The claim")
-        self.assertEqual((before.count("!["), after.count("![")), (1, 0), "one picture, before the claim")
+        self.assertEqual(
+            (before.count("!["), after.count("![")), (1, 0), "one picture, before the claim"
+        )
 
     def test_crates_below(self):
         """What pages say of crates.txt: LAYERS how many are above each, and LOOKUP which a first call of each program leaves unproved, those that aren't below it."""
         below = {crate: with_below([crate], listed()) for crate in listed()}
         found = re.findall(r"^\| `(\w+)` \| (\d+) \| ", text_in("docs", "work", "LAYERS.md"), re.M)
         above = {crate: str(sum(crate in below[other] for other in below) - 1) for crate in below}
-        self.same("crates above each", dict(found), {
-            crate: count for crate, count in above.items() if crate not in ("checks", "worker_checks")})
-        found = re.findall(r"`(\w+)` leaves ((?:`\w+`(?:, | and |))+)", one_line(text_in("docs", "work", "LOOKUP.md")))
-        self.same("what first calls leave", {name: sorted(re.findall(r"`(\w+)`", left)) for name, left in found},
-                  {name: sorted(below.keys() - set(below[name])) for name in PROGRAMS})
+        self.same(
+            "crates above each",
+            dict(found),
+            {
+                crate: count
+                for crate, count in above.items()
+                if crate not in ("checks", "worker_checks")
+            },
+        )
+        found = re.findall(
+            r"`(\w+)` leaves ((?:`\w+`(?:, | and |))+)",
+            one_line(text_in("docs", "work", "LOOKUP.md")),
+        )
+        self.same(
+            "what first calls leave",
+            {name: sorted(re.findall(r"`(\w+)`", left)) for name, left in found},
+            {name: sorted(below.keys() - set(below[name])) for name in PROGRAMS},
+        )
 
     def test_readme_has_each_command(self):
         """Each command of forestlab and of the programs is in the table."""
-        rows = [re.findall(r"[a-z]+", row) for row in re.findall(r"^(`[^|]*`) \| ", text_in("README.md"), re.M)]
-        wanted = {(it.program, it.name) for it in COMMANDS} | {("forestlab", name) for name in OF_LAB}
-        self.same("commands of README", {(program, name) for program, *names in rows for name in names}, wanted)
+        rows = [
+            re.findall(r"[a-z]+", row)
+            for row in re.findall(r"^(`[^|]*`) \| ", text_in("README.md"), re.M)
+        ]
+        wanted = {(it.program, it.name) for it in COMMANDS} | {
+            ("forestlab", name) for name in OF_LAB
+        }
+        self.same(
+            "commands of README",
+            {(program, name) for program, *names in rows for name in names},
+            wanted,
+        )
 
     def test_layers_of_lab(self):
         """A package of lab/ imports only those before it; what is in lab/ itself belongs to none."""
-        order, wrong = ("definitions", "networks", "transcripts", "schedules", "pictures", "workshop", "studio"), []
-        self.assertEqual(sorted(order), sorted(name for name in os.listdir(os.path.join(TOP, "lab"))
-                                               if os.path.isfile(os.path.join(TOP, "lab", name, "__init__.py"))))
+        order, wrong = (
+            "definitions",
+            "networks",
+            "transcripts",
+            "schedules",
+            "pictures",
+            "workshop",
+            "studio",
+        ), []
+        self.assertEqual(
+            sorted(order),
+            sorted(
+                name
+                for name in os.listdir(os.path.join(TOP, "lab"))
+                if os.path.isfile(os.path.join(TOP, "lab", name, "__init__.py"))
+            ),
+        )
         for at, package in enumerate(order):
             for path in glob.glob(os.path.join(TOP, "lab", package, "**", "*.py"), recursive=True):
                 names = re.findall(r"^\s*(?:from|import) lab\.(\w+)", text_in(path), re.M)
-                wrong += [f"{os.path.relpath(path, TOP)}: {name}" for name in names if name in order[at + 1:]]
+                wrong += [
+                    f"{os.path.relpath(path, TOP)}: {name}"
+                    for name in names
+                    if name in order[at + 1 :]
+                ]
         self.assertEqual(wrong, [])
 
     def test_names_in_files(self):
@@ -100,15 +169,30 @@ class Index(Case):
         for page in PAGES:
             for number, line in enumerate(lines_of(page), 1):
                 folder = ""
-                named = re.findall(r"`([\w/-]+\.(?:rt|antt))`(?::| \|) ((?:`\w+`(?:, | and |))*)", line)
-                named += [(path, names) for names, path in re.findall(
-                    r"((?:`\w+`(?:, | and |))+) of `((?:crates/)?\w+/(?:src|specs)/[\w/-]+\.(?:rt|antt))`", line)]
+                named = re.findall(
+                    r"`([\w/-]+\.(?:rt|antt))`(?::| \|) ((?:`\w+`(?:, | and |))*)", line
+                )
+                named += [
+                    (path, names)
+                    for names, path in re.findall(
+                        r"((?:`\w+`(?:, | and |))+) of `((?:crates/)?\w+/(?:src|specs)/[\w/-]+\.(?:rt|antt))`",
+                        line,
+                    )
+                ]
                 for path, names in named:
                     folder = os.path.dirname(path) or folder
-                    file = "crates" * (folder.split("/")[0] != "crates"), folder, os.path.basename(path)
+                    file = (
+                        "crates" * (folder.split("/")[0] != "crates"),
+                        folder,
+                        os.path.basename(path),
+                    )
                     for name in re.findall(r"`(\w+)`", names):
                         count += 1
-                        self.note(f"{page}:{number} {name}", re.search(rf"\b{name}\b", text_in(*file)), "isn't there")
+                        self.note(
+                            f"{page}:{number} {name}",
+                            re.search(rf"\b{name}\b", text_in(*file)),
+                            "isn't there",
+                        )
         self.assertGreater(count, 50, "names with their files")
 
     def test_synopsis(self):
@@ -118,21 +202,33 @@ class Index(Case):
             line = re.search(rf"(?m)^    forestplan {command} .*", page)[0]
             helped = text_in("lab", "help", f"forestplan-{command}.txt")
             options = set(re.findall(r"^\s+(?:-\w, )?(--\w+)", helped, re.M)) - {"--help"}
-            self.note(f"options of {command}", len(options) > 2 and set(re.findall(r"--\w+", line)) == options, options)
+            self.note(
+                f"options of {command}",
+                len(options) > 2 and set(re.findall(r"--\w+", line)) == options,
+                options,
+            )
 
     def test_limits(self):
         """Pages, and what of lab/ has a limit of its own, have the numbers of the constants."""
         text = "".join(text_in("crates", file) for file in LIMITS)
-        limits = {name: int(number.replace("_", ""))
-                  for name, number in re.findall(r"^pub const (MAX_\w+): \w+ = ([\d_]+);", text, re.M)}
+        limits = {
+            name: int(number.replace("_", ""))
+            for name, number in re.findall(r"^pub const (MAX_\w+): \w+ = ([\d_]+);", text, re.M)
+        }
         limits |= {name.replace("MAX", "ABOVE"): number + 1 for name, number in limits.items()}
         limits["ALL_PASSES"] = tuple(range(1, limits["ABOVE_PASSES"]))
         for path, rows in SAID_OF_LIMITS.items():
             for row in rows:
-                self.note(f"{path}: {row}", row.format_map(limits) in one_line(text_in(path)), row.format_map(limits))
+                self.note(
+                    f"{path}: {row}",
+                    row.format_map(limits) in one_line(text_in(path)),
+                    row.format_map(limits),
+                )
 
     def test_stored_transcript(self):
         """FORMATS says how many bytes a line of the stored transcript takes."""
         transcript = text_in("docs", "pictures", "petersen.transcript")
         average = round(len(transcript) / transcript.count("\n"))
-        self.assertIn(f"takes {average} bytes a line", one_line(text_in("docs", "claim", "FORMATS.md")))
+        self.assertIn(
+            f"takes {average} bytes a line", one_line(text_in("docs", "claim", "FORMATS.md"))
+        )

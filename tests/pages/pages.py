@@ -19,8 +19,10 @@ from lab.networks.network_text import network_of
 from tests import TOP
 from tests.cases import Case, contents, text_in
 
-PAGES = ["README.md"] + sorted(os.path.relpath(path, TOP)
-                               for path in glob.glob(os.path.join(TOP, "docs", "**", "*.md"), recursive=True))
+PAGES = ["README.md"] + sorted(
+    os.path.relpath(path, TOP)
+    for path in glob.glob(os.path.join(TOP, "docs", "**", "*.md"), recursive=True)
+)
 WIDEST, WIDEST_OF_PYTHON = 150, 120
 
 
@@ -35,7 +37,9 @@ def tables_of(lines):
         if line.startswith("|") and start is None:
             start = number
         elif not line.startswith("|") and start is not None:
-            rows = [[cell.strip() for cell in row.strip("|").split("|")] for row in lines[start:number]]
+            rows = [
+                [cell.strip() for cell in row.strip("|").split("|")] for row in lines[start:number]
+            ]
             yield start + 1, next((above for above in reversed(lines[:start]) if above), ""), rows
             start = None
 
@@ -69,16 +73,30 @@ def tutorial_table(title, rows):
         net, f = network_of(contents(found.group(2))), int(found.group(1))
         joined, lists = [v for v in net.vertices if net.neighbours[v]], forest_colours(net, f)
         return [[str(v) for v in joined], [str(net.parent(f, v) or "-") for v in joined]] + [
-            [f"**{c[v]}**" if p in (8, 10, 12) and c[v] != lists[p - 1][v] else str(c[v]) for v in joined]
-            for p, c in lists.items()]
+            [
+                f"**{c[v]}**" if p in (8, 10, 12) and c[v] != lists[p - 1][v] else str(c[v])
+                for v in joined
+            ]
+            for p, c in lists.items()
+        ]
     found = re.match(r"Events on `(.*)`:", title)
     if found:
         return played(network_of(contents(found.group(1))), rows)
     if rows[0][0] == "network":
         nets = [network_of(contents(row[0].strip("`"))) for row in rows[2:]]
-        return [rows[0][1:]] + [[str(number) for number in (
-            net.nodes, net.greatest_degree, net.forest_count, last_pulse(net),
-            max(colours(net).values(), default=-1) + 1)] for net in nets]
+        return [rows[0][1:]] + [
+            [
+                str(number)
+                for number in (
+                    net.nodes,
+                    net.greatest_degree,
+                    net.forest_count,
+                    last_pulse(net),
+                    max(colours(net).values(), default=-1) + 1,
+                )
+            ]
+            for net in nets
+        ]
     if rows[0][0].startswith("identifiers"):
         return [rows[0][1:]] + [list(greatest_colours(int(row[0].split()[0]))) for row in rows[2:]]
     return None
@@ -103,12 +121,24 @@ def heading_anchor(line):
 
 def clauses_of_crate(crate):
     """The names of the clauses of each function and type of a crate, and under `ghost` those of its ghost members."""
-    text = "\n".join(map(text_in, sorted(glob.glob(os.path.join(TOP, "crates", crate, "src", "**", "*.rt"),
-                                                   recursive=True))))
-    found = {name: set() for name in re.findall(r"\bimpl(?:<[^{]*?>)? (?:[\w:<>, ]* for )?(\w+)", text)}
-    _, *parts = re.split(r"^\s*(?:pub(?:\(\w+\))? )?(?:fn|trait|struct|enum|type|const) (\w+)", text, flags=re.M)
+    text = "\n".join(
+        map(
+            text_in,
+            sorted(
+                glob.glob(os.path.join(TOP, "crates", crate, "src", "**", "*.rt"), recursive=True)
+            ),
+        )
+    )
+    found = {
+        name: set() for name in re.findall(r"\bimpl(?:<[^{]*?>)? (?:[\w:<>, ]* for )?(\w+)", text)
+    }
+    _, *parts = re.split(
+        r"^\s*(?:pub(?:\(\w+\))? )?(?:fn|trait|struct|enum|type|const) (\w+)", text, flags=re.M
+    )
     for name, body in zip(parts[::2], parts[1::2]):
-        found.setdefault(name, set()).update(re.findall(r"^\s*(?:ensures|requires) (\w+) ", body, re.M))
+        found.setdefault(name, set()).update(
+            re.findall(r"^\s*(?:ensures|requires) (\w+) ", body, re.M)
+        )
     return found | {"ghost": set(re.findall(r"^\s*(?:pub )?ghost (\w+)\s*[:=]", text, re.M))}
 
 
@@ -117,10 +147,16 @@ def laws_of_crates():
     found = set()
     for file in glob.glob(os.path.join(TOP, "crates", "*", "src", "l*.rt")):
         *_, crate, _, module = file.split(os.sep)
-        is_inside = module == "laws.rt" and "pub mod laws;" in text_in("crates", crate, "src", "lib.rt")
+        is_inside = module == "laws.rt" and "pub mod laws;" in text_in(
+            "crates", crate, "src", "lib.rt"
+        )
         if module in ("lib.rt", "laws.rt"):
-            found |= {f"{crate}::{'laws::' * is_inside}{name}" for name in re.findall(
-                r"^pub fn (\w+)[^\n]*\n(?:    .*\n)+\{\}$", text_in(file), re.M)}
+            found |= {
+                f"{crate}::{'laws::' * is_inside}{name}"
+                for name in re.findall(
+                    r"^pub fn (\w+)[^\n]*\n(?:    .*\n)+\{\}$", text_in(file), re.M
+                )
+            }
     return found
 
 
@@ -132,27 +168,48 @@ class Pages(Case):
         there, count = words_of_sources(), 0
         for page in PAGES:
             for number, line in enumerate(lines_of(page), 1):
-                found = [(name, os.path.exists(os.path.join(TOP, folder, name))) for folder, pattern in (
-                    ("", r"`((?:crates|docs|tests|lab|build|bin|bench|examples)/[\w./-]+)`"),
-                    ("crates", r"`(\w+/(?:src|specs|proofs)(?:/[\w./-]+)?)`")) for name in re.findall(pattern, line)]
+                found = [
+                    (name, os.path.exists(os.path.join(TOP, folder, name)))
+                    for folder, pattern in (
+                        ("", r"`((?:crates|docs|tests|lab|build|bin|bench|examples)/[\w./-]+)`"),
+                        ("crates", r"`(\w+/(?:src|specs|proofs)(?:/[\w./-]+)?)`"),
+                    )
+                    for name in re.findall(pattern, line)
+                ]
                 last = re.findall(r"`(?:[\w/]+/)?(\w*[a-z]\w*\.(?:py|rt|antt|js|sh))`", line)
                 # DECISIONS speaks of what isn't there, too.
-                last += [] if page.endswith("DECISIONS.md") else [
-                    name for words in re.findall(r"`([^/`][^`]*)`", line)
-                    for name in re.findall(r"\b[a-z]\w*_\w+", words)]
+                last += (
+                    []
+                    if page.endswith("DECISIONS.md")
+                    else [
+                        name
+                        for words in re.findall(r"`([^/`][^`]*)`", line)
+                        for name in re.findall(r"\b[a-z]\w*_\w+", words)
+                    ]
+                )
                 found += [(name, name in there or f"test_{name}" in there) for name in last]
                 count += len(last)
                 for name, good in found:
-                    self.note(f"{page}:{number} {name}", good or "NAME" in name, "there is no such file, or name")
+                    self.note(
+                        f"{page}:{number} {name}",
+                        good or "NAME" in name,
+                        "there is no such file, or name",
+                    )
                 for target in re.findall(r"\]\((?!https?:)([^)]*)\)", line):
-                    self.note(f"{page}:{number} {target}", self.leads(page, target), "the link leads nowhere")
+                    self.note(
+                        f"{page}:{number} {target}",
+                        self.leads(page, target),
+                        "the link leads nowhere",
+                    )
         self.note("names on pages", count > 1000, count)
 
     def leads(self, page, target):
         path, _, anchor = target.partition("#")
         path = os.path.normpath(os.path.join(os.path.dirname(page), path)) if path else page
         return os.path.exists(os.path.join(TOP, path)) and (
-            not anchor or anchor in {heading_anchor(head) for head in lines_of(path) if head.startswith("#")})
+            not anchor
+            or anchor in {heading_anchor(head) for head in lines_of(path) if head.startswith("#")}
+        )
 
     def test_tutorial(self):
         count = 0
@@ -160,21 +217,31 @@ class Pages(Case):
             wanted = tutorial_table(title, rows)
             if wanted is not None:
                 count += 1
-                got = [row[1:1 + len(wanted[0])] for row in rows[:1] + rows[2:]]
+                got = [row[1 : 1 + len(wanted[0])] for row in rows[:1] + rows[2:]]
                 self.note(f"docs/learn/TUTORIAL.md:{number}", got == wanted, f"wanted {wanted}")
         self.note("tables of the tutorial", count == 4, count)
 
     def test_excerpts(self):
         """Excerpts leave lines out, so their lines are looked for one after another."""
         for page in PAGES:
-            found = re.findall(r"(?m)^ *```(?:rust|antt)\n *(?://|--) (\S+)\n((?:.*\n)*?) *```$", text_in(page))
+            found = re.findall(
+                r"(?m)^ *```(?:rust|antt)\n *(?://|--) (\S+)\n((?:.*\n)*?) *```$", text_in(page)
+            )
             fences = len(re.findall(r"(?m)^ *```(?:rust|antt)$", text_in(page)))
             self.same(f"{page}: fences that name their file", len(found), fences)
             for path, block in found:
-                excerpt = [line.strip() for line in block.splitlines() if line.strip() not in ("// ..", "-- ..")]
+                excerpt = [
+                    line.strip()
+                    for line in block.splitlines()
+                    if line.strip() not in ("// ..", "-- ..")
+                ]
                 source = iter([line.strip() for line in lines_of(path)])
                 missing = [line for line in excerpt if line not in source]
-                self.same(f"{page} excerpt of {path}: lines that aren't there, or not in this order", missing, [])
+                self.same(
+                    f"{page} excerpt of {path}: lines that aren't there, or not in this order",
+                    missing,
+                    [],
+                )
 
     def test_promises(self):
         """A promise is written as `crate::function`: `clause`, `clause`; it may go on in the next line."""
@@ -191,21 +258,41 @@ class Pages(Case):
             self.note(f"docs/claim/PROMISES.md {path}", not missing, f"not in the code: {missing}")
         laws = laws_of_crates()
         missing = sorted(laws - {path for path, _ in promises})
-        self.note("laws in docs/claim/PROMISES.md", len(laws) > 50 and not missing,
-                  f"{len(laws)} are found, not named: {missing}")
-        self.note("promises of docs/claim/PROMISES.md", len(promises) > 200, f"{len(promises)} are found")
+        self.note(
+            "laws in docs/claim/PROMISES.md",
+            len(laws) > 50 and not missing,
+            f"{len(laws)} are found, not named: {missing}",
+        )
+        self.note(
+            "promises of docs/claim/PROMISES.md", len(promises) > 200, f"{len(promises)} are found"
+        )
 
     def test_crates(self):
         """README or LAYERS names each crate of crates.txt, and each crate of the toolchain that it lists."""
-        pages, names = text_in("README.md") + text_in("docs", "work", "LAYERS.md"), text_in("crates.txt")
-        missing = {name for name in re.findall(r"\w+", re.sub("#.*", "", names)) if f"`{name}`" not in pages}
-        self.note("crates in README.md and docs/work/LAYERS.md", not missing, f"not named: {missing}")
+        pages, names = text_in("README.md") + text_in("docs", "work", "LAYERS.md"), text_in(
+            "crates.txt"
+        )
+        missing = {
+            name
+            for name in re.findall(r"\w+", re.sub("#.*", "", names))
+            if f"`{name}`" not in pages
+        }
+        self.note(
+            "crates in README.md and docs/work/LAYERS.md", not missing, f"not named: {missing}"
+        )
 
     def test_lengths(self):
-        python = [os.path.relpath(path, TOP) for folder in ("lab", "build", "tests", "bench", "examples")
-                  for path in glob.glob(os.path.join(TOP, folder, "**", "*.py"), recursive=True)]
+        python = [
+            os.path.relpath(path, TOP)
+            for folder in ("lab", "build", "tests", "bench", "examples")
+            for path in glob.glob(os.path.join(TOP, folder, "**", "*.py"), recursive=True)
+        ]
         self.note("files of Python", len(python) > 200, len(python))
         for kind, files, widest in (("pages", PAGES, WIDEST), ("Python", python, WIDEST_OF_PYTHON)):
-            wide = [f"{file}:{number}" for file in files for number, line in enumerate(lines_of(file), 1)
-                    if len(line) > widest]
+            wide = [
+                f"{file}:{number}"
+                for file in files
+                for number, line in enumerate(lines_of(file), 1)
+                if len(line) > widest
+            ]
             self.note(f"lines of {kind} wider than {widest} columns", not wide, wide[:5])

@@ -8,7 +8,16 @@ import time
 
 from lab.definitions.colours import colours
 from lab.networks.network_text import network_of
-from lab.pictures.palette import CHANNEL_HUES, FOREST_COLOURS, INK, PALE, PAPER, WIRES, grey, text_on
+from lab.pictures.palette import (
+    CHANNEL_HUES,
+    FOREST_COLOURS,
+    INK,
+    PALE,
+    PAPER,
+    WIRES,
+    grey,
+    text_on,
+)
 from tests import TOP, browser
 from tests.cases import Case
 from tests.programs.studio import begin
@@ -23,7 +32,11 @@ KEEP = """(() => { const make = URL.createObjectURL.bind(URL); window.kept = [];
 FOUND = [
     ("program4", "matching", ["partner none", "partner 1", "partner 1"]),
     ("program4", "independent-set", ["out", "out", "in"]),
-    ("program4", "recolouring", ["channel 2", "channel 1, was channel 3", "channel 3, was channel 1"]),
+    (
+        "program4",
+        "recolouring",
+        ["channel 2", "channel 1, was channel 3", "channel 3, was channel 1"],
+    ),
     ("passes", "2", ["channel 2", "channel 3", "channel 1"]),
 ]
 
@@ -32,8 +45,10 @@ def contrast(one, other):
     """Of two colours, by WCAG 2."""
     lights = []
     for colour in (one, other):
-        parts = [int(colour[at:at + 2], 16) / 255 for at in (1, 3, 5)]
-        red, green, blue = (x / 12.92 if x <= 0.04045 else ((x + 0.055) / 1.055) ** 2.4 for x in parts)
+        parts = [int(colour[at : at + 2], 16) / 255 for at in (1, 3, 5)]
+        red, green, blue = (
+            x / 12.92 if x <= 0.04045 else ((x + 0.055) / 1.055) ** 2.4 for x in parts
+        )
         lights.append(0.2126 * red + 0.7152 * green + 0.0722 * blue + 0.05)
     return max(lights) / min(lights)
 
@@ -43,20 +58,37 @@ class Repeated(Case):
 
     def test_contrast(self):
         """Text has a contrast of 4.5, a mark (a fill by its rim) one of 3, in the light and in the dark."""
-        with open(os.path.join(TOP, "lab", "pictures", "page", "page.css"), encoding="utf-8") as file:
+        with open(
+            os.path.join(TOP, "lab", "pictures", "page", "page.css"), encoding="utf-8"
+        ) as file:
             looks = re.findall(r":root\{(.*?)\}", file.read(), re.S)
         self.note("a light and a dark look", len(looks) == 2)
-        rows = [(ink, fill, 4.5) for fill, ink in [*((hue, text_on(hue)) for hue in CHANNEL_HUES + FOREST_COLOURS), *(
-            grey(1 << digits) for digits in range(24)), *((pale, INK) for pale in PALE.values())]]
+        rows = [
+            (ink, fill, 4.5)
+            for fill, ink in [
+                *((hue, text_on(hue)) for hue in CHANNEL_HUES + FOREST_COLOURS),
+                *(grey(1 << digits) for digits in range(24)),
+                *((pale, INK) for pale in PALE.values()),
+            ]
+        ]
         rows += [(WIRES[kind], PAPER, 3) for kind in ("payload", "ack", "safe")]
         for variables in looks:
             here = dict(re.findall(r"--(\w+):(#\w+)", variables))
             grounds, _ = [here.pop("paper"), here.pop("panel")], here.pop("hair")
             rows += [(here["ink"], here.pop("chosen"), 4.5)]
-            rows += [(hue, ground, 4.5 if name in ("ink", "soft", "wrong", "good") else 3)
-                     for name, hue in here.items() for ground in grounds]
-            rows += [(max(WIRES[kind], PALE[kind], key=lambda hue: contrast(hue, grounds[0])), grounds[0], 3)
-                     for kind in WIRES]
+            rows += [
+                (hue, ground, 4.5 if name in ("ink", "soft", "wrong", "good") else 3)
+                for name, hue in here.items()
+                for ground in grounds
+            ]
+            rows += [
+                (
+                    max(WIRES[kind], PALE[kind], key=lambda hue: contrast(hue, grounds[0])),
+                    grounds[0],
+                    3,
+                )
+                for kind in WIRES
+            ]
         for one, other, least in rows:
             self.note(f"{one} on {other}", contrast(one, other) >= least, contrast(one, other))
 
@@ -107,10 +139,15 @@ class Page(Case):
 
     def at(self, place):
         """A place of the stage in the window: that of a node, or the middle of an edge."""
-        found = f"[studio.stage.X({place}), studio.stage.Y({place})]" if isinstance(place, int) else (
-            f"studio.stage.along({place[0]}, {place[1]}, 0.5)")
-        return self.page.value("(() => { const b = document.getElementById('net').getBoundingClientRect(), p = "
-                               f"{found}; return [b.x + p[0], b.y + p[1]]; }})()")
+        found = (
+            f"[studio.stage.X({place}), studio.stage.Y({place})]"
+            if isinstance(place, int)
+            else (f"studio.stage.along({place[0]}, {place[1]}, 0.5)")
+        )
+        return self.page.value(
+            "(() => { const b = document.getElementById('net').getBoundingClientRect(), p = "
+            f"{found}; return [b.x + p[0], b.y + p[1]]; }})()"
+        )
 
     def click(self, place):
         self.page.click(*self.at(place))
@@ -140,7 +177,9 @@ class Drawn(Page):
         self.page.drag(*before, before[0] - 20, before[1] - 90)
         self.note("a drag moves a node", abs(self.at(4)[1] - before[1] + 90) < 2, self.at(4))
         self.page.key("z", code="KeyZ", modifiers=2, windowsVirtualKeyCode=90)
-        self.note("undo takes a drag back in one step", abs(self.at(4)[1] - before[1]) < 2, self.at(4))
+        self.note(
+            "undo takes a drag back in one step", abs(self.at(4)[1] - before[1]) < 2, self.at(4)
+        )
         self.click((3, 4))
         self.page.key("Delete", code="Delete", windowsVirtualKeyCode=46)
         self.note("an edge is removed", self.page.value("studio.net.edges.length") == 3)
@@ -153,13 +192,21 @@ class Drawn(Page):
 
     def test_rounds(self):
         self.go_to("example=petersen&tab=rounds&at=4&forest=0")
-        self.sees("squares at a bit step", "document.querySelectorAll('#net .node rect').length === 10")
+        self.sees(
+            "squares at a bit step", "document.querySelectorAll('#net .node rect').length === 10"
+        )
         self.click(6)
-        self.sees("why, as picture why says it", "document.getElementById('why').textContent.includes('29 of 269')")
+        self.sees(
+            "why, as picture why says it",
+            "document.getElementById('why').textContent.includes('29 of 269')",
+        )
         self.page.click_on("#next")
         self.note("one step on", self.page.value("studio.time.at") == 5)
         self.page.choose("without2", "digit")
-        self.sees("without a rule", "document.getElementById('broken').textContent.includes('both have colour')")
+        self.sees(
+            "without a rule",
+            "document.getElementById('broken').textContent.includes('both have colour')",
+        )
 
     def test_rules_of_other_programs(self):
         """The rules that can be left out are those of the chosen program, and what goes wrong is drawn."""
@@ -167,32 +214,55 @@ class Drawn(Page):
         self.go_to("example=path&tab=rounds&program=matching")
         self.sees("its rules", f"{rules} === ',partner,last'")
         self.page.choose("without2", "partner")
-        self.sees("what goes wrong", "document.getElementById('broken').textContent.includes('partner of node 1 is 2')")
-        self.sees("a picture of it", "document.querySelector('#picture img[alt=\"without partner\"]')")
-        self.sees("the address has the rule", "/program=matching.*broken=partner/.test(location.hash)")
+        self.sees(
+            "what goes wrong",
+            "document.getElementById('broken').textContent.includes('partner of node 1 is 2')",
+        )
+        self.sees(
+            "a picture of it", "document.querySelector('#picture img[alt=\"without partner\"]')"
+        )
+        self.sees(
+            "the address has the rule", "/program=matching.*broken=partner/.test(location.hash)"
+        )
         self.page.choose("without2", "last")
-        self.sees("what goes right", "document.getElementById('broken').textContent.includes('1,094 networks')")
-        self.sees("has no picture", "document.getElementById('picture').hidden && document.querySelector('#net .node')")
+        self.sees(
+            "what goes right",
+            "document.getElementById('broken').textContent.includes('1,094 networks')",
+        )
+        self.sees(
+            "has no picture",
+            "document.getElementById('picture').hidden && document.querySelector('#net .node')",
+        )
         self.page.choose("program2", "recolouring")
         self.sees("rules of another program", f"{rules} === ',bars,anew' && !studio.rounds.without")
         self.page.choose("program2", "leader")
         self.sees("which may have none", "document.getElementById('without2').parentNode.hidden")
         self.go_to("example=two&tab=rounds&program=recolouring&broken=bars")
-        self.sees("as the address says", "document.getElementById('broken').textContent.includes('smallest network')")
+        self.sees(
+            "as the address says",
+            "document.getElementById('broken').textContent.includes('smallest network')",
+        )
         self.page.click_on("#broken button")
         self.sees("the smallest network, with its bar", "studio.net.nodes[0].bars.join() === '1'")
 
     def test_run(self):
         self.go_to("example=chain6&tab=run&slow=2-3&seed=7")
-        self.sees("a run is accepted", "document.getElementById('judge').textContent.includes('accepts these 866')")
+        self.sees(
+            "a run is accepted",
+            "document.getElementById('judge').textContent.includes('accepts these 866')",
+        )
         self.note("the same as the rounds", "✓" in self.page.text("same"), self.page.text("same"))
         self.page.choose("slider", "120")
-        self.sees("judged up to here", "document.getElementById('judgehere').textContent.startsWith('✓')")
+        self.sees(
+            "judged up to here", "document.getElementById('judgehere').textContent.startsWith('✓')"
+        )
         self.click((4, 5))
         self.sees("a click makes a link wait", "studio.seen.slow.length === 2")
         self.go_to("example=chain6&tab=run&seed=7&other=newest.2&at=5")
         self.sees("another order beside", "document.querySelectorAll('#second .node').length === 6")
-        self.sees("rows of both", "document.getElementById('now').textContent.includes('second, stamp')")
+        self.sees(
+            "rows of both", "document.getElementById('now').textContent.includes('second, stamp')"
+        )
 
     def test_steps(self):
         """The adversary: a message that is clicked is taken, a held link holds, and No clock plays the rest."""
@@ -204,19 +274,33 @@ class Drawn(Page):
         self.click((1, 3))
         self.sees("a link is held", "!document.querySelector('#net [data-step=\"3-1\"]')")
         self.page.click_on("#chance20")
-        self.sees("by chance, as far as can be", "studio.steps.made.length > 2 && document.getElementById('stepsaid')"
-                                                 ".textContent.includes('✓')")
+        self.sees(
+            "by chance, as far as can be",
+            "studio.steps.made.length > 2 && document.getElementById('stepsaid')"
+            ".textContent.includes('✓')",
+        )
         self.page.click_on("#handover")
-        self.sees("No clock plays the rest", "studio.seen.tab === 'run' && document.getElementById('judge').textContent"
-                                             ".startsWith('✓')")
+        self.sees(
+            "No clock plays the rest",
+            "studio.seen.tab === 'run' && document.getElementById('judge').textContent"
+            ".startsWith('✓')",
+        )
         self.note("with these steps first", self.page.value("studio.run.steps.length") > 2)
         self.go_to("example=triangle&tab=adversary&node=1")
-        self.sees("all of it again", "!studio.steps.made.length && document.querySelector('#possible button')")
-        self.page.value("window.often = setInterval(() => document.getElementById('chance').click(), 2)")
+        self.sees(
+            "all of it again",
+            "!studio.steps.made.length && document.querySelector('#possible button')",
+        )
+        self.page.value(
+            "window.often = setInterval(() => document.getElementById('chance').click(), 2)"
+        )
         self.sees("a key that is held makes steps", "studio.steps.made.length > 3")
         self.page.value("clearInterval(often)")
         self.go_to("example=two&tab=adversary&without=acks&steps=1-2")
-        self.sees("a rule left out", "document.getElementById('rule').textContent.includes('says safe at once')")
+        self.sees(
+            "a rule left out",
+            "document.getElementById('rule').textContent.includes('says safe at once')",
+        )
 
     def picture(self, kind, does, *words):
         """The picture that is on the page after something is done."""
@@ -231,29 +315,47 @@ class Drawn(Page):
         13 + 6 · 2 of the matching, and 30 + 1 + 2 of the set."""
         self.page.value(KEEP)
         self.go_to("example=two&tab=pictures&kind=plan")
-        self.sees("a plan has no program", "document.querySelector('#picture img[alt=plan]') && "
-                                           "document.getElementById('ofprogram').hidden")
+        self.sees(
+            "a plan has no program",
+            "document.querySelector('#picture img[alt=plan]') && "
+            "document.getElementById('ofprogram').hidden",
+        )
         triangle = "example=triangle&tab=pictures&kind=results"
         self.picture("results", self.go_to, triangle)
         for field, value, wanted in FOUND:
             shown = self.picture("results", self.page.choose, field, value)
             found = re.findall(r"<title>node \d+: (.*?)</title>", shown)
             self.note(f"what nodes find with {field} {value}", found == wanted, found)
-        self.sees("the address has the passes", "/program=recolouring.*passes=2/.test(location.hash)")
+        self.sees(
+            "the address has the passes", "/program=recolouring.*passes=2/.test(location.hash)"
+        )
         shown = self.picture("results", self.go_to, f"{triangle}&program=recolouring&passes=3")
-        self.note("a third pass ends as the first", "node 2: channel 1, was channel 3" in shown, shown[:400])
-        self.note("as the address says", self.page.value("document.getElementById('passes').value") == "3")
-        for passes, does, words in ((3, self.page.click_on, ("#kinds [data-kind=tally]",)),
-                                    (1, self.page.choose, ("passes", "1"))):
+        self.note(
+            "a third pass ends as the first",
+            "node 2: channel 1, was channel 3" in shown,
+            shown[:400],
+        )
+        self.note(
+            "as the address says", self.page.value("document.getElementById('passes').value") == "3"
+        )
+        for passes, does, words in (
+            (3, self.page.click_on, ("#kinds [data-kind=tally]",)),
+            (1, self.page.choose, ("passes", "1")),
+        ):
             shown = self.picture("tally", does, *words)
-            self.note(f"the run has {passes} passes", f"· ({30 + 3 * passes} + 1)" in shown, shown[:400])
+            self.note(
+                f"the run has {passes} passes", f"· ({30 + 3 * passes} + 1)" in shown, shown[:400]
+            )
         for program, last in (("matching", 25), ("independent-set", 33)):
             shown = self.picture("tally", self.page.choose, "program4", program)
             self.note(f"the run is one of {program}", f"· ({last} + 1)" in shown, shown[:400])
 
     def test_check(self):
         self.go_to("example=petersen&tab=check&plan=1_1")
-        self.sees("an unfinished plan", "studio.check.verdict && studio.check.verdict.said === 'C1 vertex 3'")
+        self.sees(
+            "an unfinished plan",
+            "studio.check.verdict && studio.check.verdict.said === 'C1 vertex 3'",
+        )
         self.page.click_on("#take")
         self.sees("the plan is proper", "studio.check.verdict && studio.check.verdict.ok")
         wanted = self.page.value("studio.check.plan[1]")
@@ -265,26 +367,43 @@ class Drawn(Page):
         """What can't be read in an address is said, or left out, and the page goes on."""
         two = "net=0.0_90.0~1-2"
         for words, said in (
-                ("net=0.0_90.0~1-1", "a wrong edge"), ("net=x", "no network"), (two + "~n1-%E0", "malformed"),
-                ("example=../x", "no example"), (two + "&tab=rounds&forest=99&node=9&at=-1", ""),
-                (two + "&tab=constructor", ""), (two + "&tab=run&policy=constructor&slow=1-9_x&lazy=9_x", ""),
-                (two + "&tab=adversary&without=toString", ""), (two + "&tab=pictures&kind=toString", ""),
-                (two + "&tab=pictures&kind=results&program=recolouring&passes=9", "")):
+            ("net=0.0_90.0~1-1", "a wrong edge"),
+            ("net=x", "no network"),
+            (two + "~n1-%E0", "malformed"),
+            ("example=../x", "no example"),
+            (two + "&tab=rounds&forest=99&node=9&at=-1", ""),
+            (two + "&tab=constructor", ""),
+            (two + "&tab=run&policy=constructor&slow=1-9_x&lazy=9_x", ""),
+            (two + "&tab=adversary&without=toString", ""),
+            (two + "&tab=pictures&kind=toString", ""),
+            (two + "&tab=pictures&kind=results&program=recolouring&passes=9", ""),
+        ):
             self.go_to(words)
             time.sleep(1)
             got = f"document.getElementById('wrong').textContent.includes({json.dumps(said)})"
-            self.sees(f"the address {words}", got if said else "!document.getElementById('wrong').textContent")
+            self.sees(
+                f"the address {words}",
+                got if said else "!document.getElementById('wrong').textContent",
+            )
 
     def test_names(self):
         """Names are texts, in each tab."""
         self.go_to("tab=draw")
-        self.page.value(f"document.getElementById('text').value = {json.dumps(f'c name 1 {EVIL}')} + "
-                        "'\\np edge 2 1\\ne 1 2\\n'; document.getElementById('apply').click()")
-        self.sees("a network with a name", "studio.net.nodes.length === 2 && studio.net.nodes[0].name[0] === '<'")
+        self.page.value(
+            f"document.getElementById('text').value = {json.dumps(f'c name 1 {EVIL}')} + "
+            "'\\np edge 2 1\\ne 1 2\\n'; document.getElementById('apply').click()"
+        )
+        self.sees(
+            "a network with a name",
+            "studio.net.nodes.length === 2 && studio.net.nodes[0].name[0] === '<'",
+        )
         for tab in TABS:
             self.page.click_on(f"[data-tab={tab}]")
             time.sleep(0.6)
-            self.note(f"a name is a text in {tab}", self.page.value("document.title") == "forestplan studio")
+            self.note(
+                f"a name is a text in {tab}",
+                self.page.value("document.title") == "forestplan studio",
+            )
 
     def test_z_no_script_complained(self):
         faults = [fault for fault in self.page.faults if "favicon" not in fault]

@@ -11,9 +11,15 @@ from tests.programs.made_transcripts import made_transcript, merged_text
 SEED = 2026
 APART = b"p edge 5 3\ne 1 2\ne 2 3\ne 1 3\n"
 # Barred channels of ten vertices: one, four, five, and fourteen at a vertex, of one to four digits.
-BARRED = example("petersen") + b"b 1 2\n" + b"".join(
-    b"b %d %d\n" % (v, channel) for v, bars in ((3, (1, 2048, 77, 500)), (7, (4, 3, 2, 1, 1024)), (10, range(1, 15)))
-    for channel in bars)
+BARRED = (
+    example("petersen")
+    + b"b 1 2\n"
+    + b"".join(
+        b"b %d %d\n" % (v, channel)
+        for v, bars in ((3, (1, 2048, 77, 500)), (7, (4, 3, 2, 1, 1024)), (10, range(1, 15)))
+        for channel in bars
+    )
+)
 # The form of the text that a kind draws, if it isn't that of rounds.
 FORM = dict.fromkeys(("plan",), "plan") | dict.fromkeys(("run", "overview"), "transcript")
 

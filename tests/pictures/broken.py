@@ -10,25 +10,76 @@ from lab.schedules.ruled_rounds import RuledRounds, smallest_wrong
 from tests import TOP
 from tests.cases import example, said_by
 from tests.pictures.base import PictureCase, painter
-from tests.pictures.marks import (SVG, centre, depth, marks, nearest, numbered, pairs_joined, parsed, shapes, texts,
-                                  titles, words)
+from tests.pictures.marks import (
+    SVG,
+    centre,
+    depth,
+    marks,
+    nearest,
+    numbered,
+    pairs_joined,
+    parsed,
+    shapes,
+    texts,
+    titles,
+    words,
+)
 
 LONG_ROW = b"p edge 9 5\ne 1 2\ne 2 3\ne 3 4\ne 4 5\ne 5 9\n"
 BOTH_IN = ["in", "in"], ["in", "out"], [(1, 2)], [1, 2]
 # By rule: the program, a network (none: its smallest), what its nodes have found without the rule and with all, and the
 # edges and the nodes that are red. tests/programs/sequels.py says why.
 ENDS = {
-    "partner": ("matching", None, ["partner 0", "partner 1", "partner 0"], ["partner none", "partner 1", "partner 0"],
-                [(1, 2)], [1, 2]),
-    "last": ("matching", LONG_ROW,
-             ["partner none", "partner 0", "partner 1", "partner 0", "partner 1", *["partner none"] * 3, "partner 0"],
-             ["partner 0", "partner 0", "partner 1", "partner 0", "partner 1", *["partner none"] * 3, "partner 0"],
-             [(1, 2)], [1, 2]),
-    "class": ("independent-set", None, *BOTH_IN), "beside": ("independent-set", None, *BOTH_IN),
-    "bars": ("recolouring", None, ["channel 1, was channel 2", "channel 2, was channel 1"], ["channel 2", "channel 1"],
-             [], [1]),
-    "anew": ("recolouring", None, ["channel 1", "channel 1, was channel 2"],
-             ["channel 2, was channel 1", "channel 1, was channel 2"], [(1, 2)], [1, 2]),
+    "partner": (
+        "matching",
+        None,
+        ["partner 0", "partner 1", "partner 0"],
+        ["partner none", "partner 1", "partner 0"],
+        [(1, 2)],
+        [1, 2],
+    ),
+    "last": (
+        "matching",
+        LONG_ROW,
+        [
+            "partner none",
+            "partner 0",
+            "partner 1",
+            "partner 0",
+            "partner 1",
+            *["partner none"] * 3,
+            "partner 0",
+        ],
+        [
+            "partner 0",
+            "partner 0",
+            "partner 1",
+            "partner 0",
+            "partner 1",
+            *["partner none"] * 3,
+            "partner 0",
+        ],
+        [(1, 2)],
+        [1, 2],
+    ),
+    "class": ("independent-set", None, *BOTH_IN),
+    "beside": ("independent-set", None, *BOTH_IN),
+    "bars": (
+        "recolouring",
+        None,
+        ["channel 1, was channel 2", "channel 2, was channel 1"],
+        ["channel 2", "channel 1"],
+        [],
+        [1],
+    ),
+    "anew": (
+        "recolouring",
+        None,
+        ["channel 1", "channel 1, was channel 2"],
+        ["channel 2, was channel 1", "channel 1, was channel 2"],
+        [(1, 2)],
+        [1, 2],
+    ),
 }
 
 
@@ -43,9 +94,13 @@ def squares_of(group):
 
 def turns_in(group):
     """What is said of each node whose turn is shown: the channel that it takes, and those that it has heard."""
-    return {int(v): (int(takes), {int(w): int(c) for c, w in re.findall(r"(\d+) of (\d+)", heard)})
-            for v, takes, heard in re.findall(r"node (\d+), turn [\d, ]+: takes channel (\d+)\n\(it has heard (.*)\)",
-                                              "\n".join(words(group, "chooses")))}
+    return {
+        int(v): (int(takes), {int(w): int(c) for c, w in re.findall(r"(\d+) of (\d+)", heard)})
+        for v, takes, heard in re.findall(
+            r"node (\d+), turn [\d, ]+: takes channel (\d+)\n\(it has heard (.*)\)",
+            "\n".join(words(group, "chooses")),
+        )
+    }
 
 
 class Broken(PictureCase):
@@ -55,20 +110,35 @@ class Broken(PictureCase):
         self.same(f"broken {options} is drawn", (status, fault), (0, b""))
         root = parsed(picture.decode())
         shown, said = " ".join(texts(root)), said_by("explore", *options, cwd=TOP)[1].split("\n")
-        missing = [line for line in said
-                   if not line.startswith("wrong body") and line[1:].replace("'", "’") not in shown]
+        missing = [
+            line
+            for line in said
+            if not line.startswith("wrong body") and line[1:].replace("'", "’") not in shown
+        ]
         self.same(f"broken {options}: sentences that it hasn't", missing, [])
         return root, *marks(root, "without"), *marks(root, "with")
 
     def test_broken(self):
         for rule in rules.OF_ROUNDS:
             self.rule_rows(f"without {rule}", smallest_wrong([rule])[0], "--without", rule)
-        for name, rule in (("petersen", "pair"), ("drops", "parent"), ("disk100", "children"), ("queen5_5", "earlier")):
-            self.rule_rows(f"{name} without {rule}", RuledRounds(network_of(example(name)), [rule]),
-                           f"examples/{name}.col", "--without", rule)
+        for name, rule in (
+            ("petersen", "pair"),
+            ("drops", "parent"),
+            ("disk100", "children"),
+            ("queen5_5", "earlier"),
+        ):
+            self.rule_rows(
+                f"{name} without {rule}",
+                RuledRounds(network_of(example(name)), [rule]),
+                f"examples/{name}.col",
+                "--without",
+                rule,
+            )
 
     def rule_rows(self, name, rounds, *options):
-        (self.forest_rows if rounds.clash.pulse else self.merge_rows)(name, rounds, *self.picture_of(*options))
+        (self.forest_rows if rounds.clash.pulse else self.merge_rows)(
+            name, rounds, *self.picture_of(*options)
+        )
 
     def forest_rows(self, name, rounds, root, without, with_all):
         """The rows are the node that goes wrong and those above it; the squares are the colours; the frame is around
@@ -79,52 +149,114 @@ class Broken(PictureCase):
             chain.insert(0, v)
         (frame,) = [shape for mark, shape in shapes(without) if mark.get("class") == "wrong"]
         squares = [shape for mark, shape in shapes(without) if mark.get("class") == "colour"]
-        lists = rounds.colours[clash.forest], [*Rounds(net).colours[clash.forest].values()][:clash.pulse - 1]
-        self.facts(name, {
-            "its nodes": (words(root, "node"), 2 * [str(v) for v in chain]),
-            "the colours": ([squares_of(group) for group in (without, with_all)],
-                            [[[c[v] for c in row] for v in chain] for row in lists]),
-            "in the red frame": ([said for square, (_, _, said) in zip(squares, numbered(without, "colour"))
-                                  if depth(square, frame) > 0], 2 * [str(clash.colour)]),
-            "frames with all rules": (marks(with_all, "wrong"), []),
-        })
+        lists = (
+            rounds.colours[clash.forest],
+            [*Rounds(net).colours[clash.forest].values()][: clash.pulse - 1],
+        )
+        self.facts(
+            name,
+            {
+                "its nodes": (words(root, "node"), 2 * [str(v) for v in chain]),
+                "the colours": (
+                    [squares_of(group) for group in (without, with_all)],
+                    [[[c[v] for c in row] for v in chain] for row in lists],
+                ),
+                "in the red frame": (
+                    [
+                        said
+                        for square, (_, _, said) in zip(squares, numbered(without, "colour"))
+                        if depth(square, frame) > 0
+                    ],
+                    2 * [str(clash.colour)],
+                ),
+                "frames with all rules": (marks(with_all, "wrong"), []),
+            },
+        )
 
     def merge_rows(self, name, rounds, root, *groups):
         """Three panels each; red are the edges of the forests merged whose ends have one channel, and no others."""
         clash, net, right = rounds.clash, rounds.net, Rounds(rounds.net)
         f, vertices = clash.forest, sorted(rounds.net.neighbours)
-        for group, (before, colours, after), left_out in zip(groups, (
+        for group, (before, colours, after), left_out in zip(
+            groups,
+            (
                 (rounds.merged[f], rounds.colours[f][-1], rounds.merged[f + 1]),
-                (right.merged[f], right.colours[f][12], right.merged[f + 1])), (rounds.without, ())):
-            places = dict(zip(vertices, [centre(mark) for mark in marks(group, "channel")][len(vertices):]))
-            same = sorted(tuple(sorted(edge)) for edge, forest in net.number.items() if forest <= f
-                          and len({after[v] for v in edge}) == 1)
-            turn = {v: (colours[v],) if "pair" in left_out else (colours[v], before[v]) for v in vertices}
+                (right.merged[f], right.colours[f][12], right.merged[f + 1]),
+            ),
+            (rounds.without, ()),
+        ):
+            places = dict(
+                zip(vertices, [centre(mark) for mark in marks(group, "channel")][len(vertices) :])
+            )
+            same = sorted(
+                tuple(sorted(edge))
+                for edge, forest in net.number.items()
+                if forest <= f and len({after[v] for v in edge}) == 1
+            )
+            turn = {
+                v: (colours[v],) if "pair" in left_out else (colours[v], before[v])
+                for v in vertices
+            }
             forests = range(f, f + 1) if "earlier" in left_out else range(f + 1)
-            self.facts(f"{name}, {group.get('class')}", {
-                "channels": ([int(said) for _, _, said in numbered(group, "channel")],
-                             [c[v] + 1 for c in (before, after) for v in vertices]),
-                "colours": ([int(said) for _, _, said in numbered(group, "colour", "alone")],
-                            [colours[v] for v in vertices]),
-                "what is red": (pairs_joined(group, "wrong", places), same),
-                "whether something is red": (bool(same), bool(left_out)),
-                "who takes what and has heard what": (turns_in(group), {v: (after[v] + 1, {
-                    w: after[w] + 1 for w in net.neighbours[v]
-                    if turn[w] < turn[v] and net.number[frozenset((v, w))] in forests}) for v in (clash.v, clash.w)}),
-                "the forest's edges": (len(marks(group, "arrow")), sum(forest == f for forest in net.number.values())),
-            })
+            self.facts(
+                f"{name}, {group.get('class')}",
+                {
+                    "channels": (
+                        [int(said) for _, _, said in numbered(group, "channel")],
+                        [c[v] + 1 for c in (before, after) for v in vertices],
+                    ),
+                    "colours": (
+                        [int(said) for _, _, said in numbered(group, "colour", "alone")],
+                        [colours[v] for v in vertices],
+                    ),
+                    "what is red": (pairs_joined(group, "wrong", places), same),
+                    "whether something is red": (bool(same), bool(left_out)),
+                    "who takes what and has heard what": (
+                        turns_in(group),
+                        {
+                            v: (
+                                after[v] + 1,
+                                {
+                                    w: after[w] + 1
+                                    for w in net.neighbours[v]
+                                    if turn[w] < turn[v]
+                                    and net.number[frozenset((v, w))] in forests
+                                },
+                            )
+                            for v in (clash.v, clash.w)
+                        },
+                    ),
+                    "the forest's edges": (
+                        len(marks(group, "arrow")),
+                        sum(forest == f for forest in net.number.values()),
+                    ),
+                },
+            )
 
     def test_ends(self):
         """Each rule of a program that goes on where the colouring ends."""
-        self.same("all of them", set(ENDS), {rule for of in rules.OF_SEQUELS.values() for rule in of})
+        self.same(
+            "all of them", set(ENDS), {rule for of in rules.OF_SEQUELS.values() for rule in of}
+        )
         for rule, (program, network, *found, edges, nodes) in ENDS.items():
             net = [self.file("net.col", network)] if network else []
             root, *groups = self.picture_of("--program", program, "--without", rule, *net)
-            places = {v: centre(mark.find(f"{SVG}circle")) for v, mark in enumerate(marks(groups[0], "vertex"), 1)}
-            self.facts(f"{program} without {rule}", {
-                "what nodes find": ([titles(group, "vertex") for group in groups],
-                                    [[f"node {v}: {end}" for v, end in enumerate(ends, 1)] for ends in found]),
-                "red edges": (pairs_joined(root, "wrong", places), edges),
-                "red nodes": (sorted(nearest(places, centre(mark)) for mark in marks(root, "wrong-node")), nodes),
-                "bars": (bool(marks(root, "bar")), rule == "bars"),
-            })
+            places = {
+                v: centre(mark.find(f"{SVG}circle"))
+                for v, mark in enumerate(marks(groups[0], "vertex"), 1)
+            }
+            self.facts(
+                f"{program} without {rule}",
+                {
+                    "what nodes find": (
+                        [titles(group, "vertex") for group in groups],
+                        [[f"node {v}: {end}" for v, end in enumerate(ends, 1)] for ends in found],
+                    ),
+                    "red edges": (pairs_joined(root, "wrong", places), edges),
+                    "red nodes": (
+                        sorted(nearest(places, centre(mark)) for mark in marks(root, "wrong-node")),
+                        nodes,
+                    ),
+                    "bars": (bool(marks(root, "bar")), rule == "bars"),
+                },
+            )

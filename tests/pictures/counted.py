@@ -14,27 +14,48 @@ class Counted:
 
     def __init__(self, v, neighbours, last, lines):
         self.near, self.last, self.pulse, self.taken = sorted(neighbours), last, 0, {}
-        self.asked = {(int(fields[3]), int(fields[5])) for fields in lines
-                      if fields[1:3] == [str(v), "put"] and fields[4] == "payload"}
+        self.asked = {
+            (int(fields[3]), int(fields[5]))
+            for fields in lines
+            if fields[1:3] == [str(v), "put"] and fields[4] == "payload"
+        }
 
     def step(self, kind, what, *wire):
         if kind == "pulse":
             self.pulse = int(what)
         elif kind == "take":
-            self.taken[int(what), wire[0], int(wire[1]) if wire[1:] else self.last] = " ".join(wire[2:])
+            self.taken[int(what), wire[0], int(wire[1]) if wire[1:] else self.last] = " ".join(
+                wire[2:]
+            )
 
     def payloads(self, pulse):
-        return [[words, w] for (w, kind, p), words in self.taken.items() if (kind, p) == ("payload", pulse)]
+        return [
+            [words, w]
+            for (w, kind, p), words in self.taken.items()
+            if (kind, p) == ("payload", pulse)
+        ]
 
     def waits(self):
         """What it waits for: acknowledgements, and safes or closes."""
         p, awaited = self.pulse, "close" if self.pulse == self.last else "safe"
-        return [[kind, w] for kind in ("ack", awaited) for w in self.near
-                if (w, kind, p) not in self.taken and (kind != "ack" or (w, p) in self.asked)]
+        return [
+            [kind, w]
+            for kind in ("ack", awaited)
+            for w in self.near
+            if (w, kind, p) not in self.taken and (kind != "ack" or (w, p) in self.asked)
+        ]
 
     def stage(self):
         kinds = {kind for kind, _ in self.waits()}
-        return "last" if self.pulse == self.last else "asks" if "ack" in kinds else "safe" if kinds else "ready"
+        return (
+            "last"
+            if self.pulse == self.last
+            else "asks"
+            if "ack" in kinds
+            else "safe"
+            if kinds
+            else "ready"
+        )
 
     def level(self, w):
         """How far a neighbour is known to be: (safes, whether the next pulse's payload is here) above its own pulse."""

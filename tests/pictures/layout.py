@@ -7,25 +7,54 @@ from lab.networks.network_text import network_of
 from lab.schedules import rules
 from tests.cases import examples
 from tests.pictures.base import BARRED, PictureCase, transcript
-from tests.pictures.marks import SVG, centre, data_of, depth, gap, marks, parsed, shapes, title, words
+from tests.pictures.marks import (
+    SVG,
+    centre,
+    data_of,
+    depth,
+    gap,
+    marks,
+    parsed,
+    shapes,
+    title,
+    words,
+)
 
-NAMED = ("c name 1 Ulm\nc name 2 Frankfurt am Main\nc name 3 Köln & <Bonn>\nc name 5 a\x1bb\nc name 9 nobody\n"
-         "p edge 5 5\ne 1 2\ne 2 3\ne 3 4\ne 4 5\ne 1 3\n").encode()
+NAMED = (
+    "c name 1 Ulm\nc name 2 Frankfurt am Main\nc name 3 Köln & <Bonn>\nc name 5 a\x1bb\nc name 9 nobody\n"
+    "p edge 5 5\ne 1 2\ne 2 3\ne 3 4\ne 4 5\ne 1 3\n"
+).encode()
 # Eight vertices with a place for two or three of them.
-CROWD = b"p edge 8 4\ne 1 2\ne 2 3\ne 1 3\ne 5 6\n" + b"".join(b"c at %d %d %d\n" % (v, v // 3, v // 5)
-                                                               for v in range(1, 9))
-NETWORKS = examples() | {"one": b"p edge 1 0\n", "edge": b"p edge 2 1\ne 1 2\n", "names": NAMED, "a crowd": CROWD,
-                         "barred petersen": BARRED}
+CROWD = b"p edge 8 4\ne 1 2\ne 2 3\ne 1 3\ne 5 6\n" + b"".join(
+    b"c at %d %d %d\n" % (v, v // 3, v // 5) for v in range(1, 9)
+)
+NETWORKS = examples() | {
+    "one": b"p edge 1 0\n",
+    "edge": b"p edge 2 1\ne 1 2\n",
+    "names": NAMED,
+    "a crowd": CROWD,
+    "barred petersen": BARRED,
+}
 # The kinds, each with the number of nodes up to which it is drawn here.
 OF_ROUNDS = {"map": 40, "plan": 100, "results": 40, "forests": 40, "rounds": 25}
 OF_RUNS = dict.fromkeys(("run", "overview"), 10)
-OTHERS = (("schedules", "two"), ("schedules", "path", "--columns", "0..20"),
-          ("schedules", "two", "--without", "safes"), *(("bits", name) for name in examples()),
-          ("rounds", "petersen", "--program", "matching"), ("results", "petersen", "--program", "leader"),
-          ("results", "drops", "--program", "recolouring"),
-          ("broken", "petersen", "--without", "pair"), ("broken", "drops", "--without", "parent"),
-          *(("broken", None, "--program", program, "--without", rule)
-            for program, names in rules.OF_PROGRAMS.items() for rule in names if rule != "last"))
+OTHERS = (
+    ("schedules", "two"),
+    ("schedules", "path", "--columns", "0..20"),
+    ("schedules", "two", "--without", "safes"),
+    *(("bits", name) for name in examples()),
+    ("rounds", "petersen", "--program", "matching"),
+    ("results", "petersen", "--program", "leader"),
+    ("results", "drops", "--program", "recolouring"),
+    ("broken", "petersen", "--without", "pair"),
+    ("broken", "drops", "--without", "parent"),
+    *(
+        ("broken", None, "--program", program, "--without", rule)
+        for program, names in rules.OF_PROGRAMS.items()
+        for rule in names
+        if rule != "last"
+    ),
+)
 # What lies on other marks by its meaning.
 ABOVE = ("faded", "wrong", "wrong-node")
 
@@ -44,21 +73,37 @@ class Layout(PictureCase):
 
     def layout_rows(self, kind, of, *options, seed="layout"):
         network, name = NETWORKS.get(of), " ".join(map(str, [kind, of, *options, seed]))
-        picture = self.drawn(kind, network, *options, text=transcript(network, seed) if kind in OF_RUNS else None)
+        picture = self.drawn(
+            kind, network, *options, text=transcript(network, seed) if kind in OF_RUNS else None
+        )
         root = parsed(picture)
         wide, high = map(float, root.get("viewBox").split()[2:])
-        found = [(element, shape) for element, shape in shapes(root)
-                 if element.get("class") not in ABOVE and (element.get("class") or element.text)]
-        cut = [one for one, (left, top, right, bottom, r) in found
-               if min(left, top) < r or right > wide - r or bottom > high - r]
+        found = [
+            (element, shape)
+            for element, shape in shapes(root)
+            if element.get("class") not in ABOVE and (element.get("class") or element.text)
+        ]
+        cut = [
+            one
+            for one, (left, top, right, bottom, r) in found
+            if min(left, top) < r or right > wide - r or bottom > high - r
+        ]
         self.same(f"{name}: nothing is cut", [(one.get("class"), one.text) for one in cut], [])
-        texts, others = ([pair for pair in found if (pair[0].tag == f"{SVG}text") == is_text]
-                         for is_text in (True, False))
+        texts, others = (
+            [pair for pair in found if (pair[0].tag == f"{SVG}text") == is_text]
+            for is_text in (True, False)
+        )
         beside = [pair for pair in texts if pair[0].get("class") in ("number", "found", "more")]
-        on = [(a.get("class") or a.text, b.get("class") or b.text)
-              for pairs, most in ((combinations(texts, 2), 1), (combinations(others, 2), 0.2),
-                                  (((a, b) for a in beside for b in others), 0.5))
-              for (a, one), (b, other) in pairs if depth(one, other) > most]
+        on = [
+            (a.get("class") or a.text, b.get("class") or b.text)
+            for pairs, most in (
+                (combinations(texts, 2), 1),
+                (combinations(others, 2), 0.2),
+                (((a, b) for a in beside for b in others), 0.5),
+            )
+            for (a, one), (b, other) in pairs
+            if depth(one, other) > most
+        ]
         self.same(f"{name}: nothing is on another", on, [])
         self.note(f"{name}: it has a title", title(root))
         several = r"\b1 (?:node|time|wire|payload|pulse|edge|pair|transmitter|neighbour|forest|channel|message)s\b"
@@ -66,24 +111,41 @@ class Layout(PictureCase):
 
     def test_player(self):
         nodes = data_of(self.drawn("player", CROWD))["net"]["nodes"]
-        near = [pair for pair in combinations(nodes, 2) if gap(*((node["x"], node["y"]) for node in pair)) < 18]
+        near = [
+            pair
+            for pair in combinations(nodes, 2)
+            if gap(*((node["x"], node["y"]) for node in pair)) < 18
+        ]
         self.same("nodes of a player's crowd that are on another", near, [])
 
     def test_names(self):
         run, names = transcript(NAMED, "names"), ["Ulm", "Frankfurt a…", "Köln & <Bon…", "a\ufffdb"]
         labels = ["1 Ulm", "2 Frankfurt a…", "3 Köln & <Bon…", "4", "5 a\ufffdb"]
-        for kind, mark, text, wanted in (("plan", "number", None, labels), ("run", "vertex-name", run, 2 * names),
-                                         ("overview", "vertex-name", run, names)):
-            self.same(f"names in {kind}", words(parsed(self.drawn(kind, NAMED, text=text)), mark), wanted)
+        for kind, mark, text, wanted in (
+            ("plan", "number", None, labels),
+            ("run", "vertex-name", run, 2 * names),
+            ("overview", "vertex-name", run, names),
+        ):
+            self.same(
+                f"names in {kind}", words(parsed(self.drawn(kind, NAMED, text=text)), mark), wanted
+            )
         page = self.drawn("player", NAMED)
-        self.note("names in a player are escaped",
-                  "Köln & \\u003cBon" in page and "<Bon" not in page and "\x1b" not in page, page[-900:])
+        self.note(
+            "names in a player are escaped",
+            "Köln & \\u003cBon" in page and "<Bon" not in page and "\x1b" not in page,
+            page[-900:],
+        )
 
     def places(self, nodes, edges):
         """The places of a network without any, as its plan is drawn."""
-        network = f"p edge {nodes} {len(edges)}\n" + "".join(f"e {v} {w}\n" for v, w in sorted(edges))
+        network = f"p edge {nodes} {len(edges)}\n" + "".join(
+            f"e {v} {w}\n" for v, w in sorted(edges)
+        )
         root = parsed(self.drawn("plan", network.encode()))
-        return {v: centre(marks(group, "channel")[0]) for v, group in enumerate(marks(root, "vertex"), 1)}
+        return {
+            v: centre(marks(group, "channel")[0])
+            for v, group in enumerate(marks(root, "vertex"), 1)
+        }
 
     def test_grids(self):
         """A grid without places is drawn as one: edges about equally long, and all other pairs farther apart."""
@@ -95,16 +157,37 @@ class Layout(PictureCase):
             far = {(v, w): gap(places[v], places[w]) for v, w in combinations(places, 2)}
             longest, shortest = (of(far[e] for e in edges) for of in (max, min))
             other = min(length for pair, length in far.items() if pair not in edges)
-            self.note(f"{name}: its edges", longest < 1.25 * shortest and other > 1.15 * longest,
-                      (longest, shortest, other))
-            level = sum(min(abs(a - b) for a, b in zip(places[v], places[w])) < 0.12 * far[v, w] for v, w in edges)
-            self.note(f"{name}: its edges are level or upright", level > 0.9 * len(edges), (level, len(edges)))
+            self.note(
+                f"{name}: its edges",
+                longest < 1.25 * shortest and other > 1.15 * longest,
+                (longest, shortest, other),
+            )
+            level = sum(
+                min(abs(a - b) for a, b in zip(places[v], places[w])) < 0.12 * far[v, w]
+                for v, w in edges
+            )
+            self.note(
+                f"{name}: its edges are level or upright",
+                level > 0.9 * len(edges),
+                (level, len(edges)),
+            )
 
     def test_parts(self):
         """Parts that no edge joins are drawn beside each other: their boxes have no point in common."""
         rings = [range(1, 8), range(8, 13), range(13, 16), range(16, 17)]
-        edges = [(ring[k], ring[(k + 1) % len(ring)]) for ring in rings if len(ring) > 1 for k in range(len(ring))]
+        edges = [
+            (ring[k], ring[(k + 1) % len(ring)])
+            for ring in rings
+            if len(ring) > 1
+            for k in range(len(ring))
+        ]
         places = self.places(16, edges)
-        boxes = [tuple(of(places[v][at] for v in ring) for of in (min, max) for at in (0, 1)) + (0,) for ring in rings]
-        self.note("parts are drawn beside each other",
-                  all(depth(one, other) < 0 for one, other in combinations(boxes, 2)), boxes)
+        boxes = [
+            tuple(of(places[v][at] for v in ring) for of in (min, max) for at in (0, 1)) + (0,)
+            for ring in rings
+        ]
+        self.note(
+            "parts are drawn beside each other",
+            all(depth(one, other) < 0 for one, other in combinations(boxes, 2)),
+            boxes,
+        )

@@ -10,8 +10,11 @@ LETTER = 0.5
 
 def parsed(picture):
     """A picture, or a part of a page: that names no space of its own."""
-    return tree.fromstring(picture if "xmlns=" in picture
-                           else re.sub(r"^<(\w+)", r'<\1 xmlns="http://www.w3.org/2000/svg"', picture))
+    return tree.fromstring(
+        picture
+        if "xmlns=" in picture
+        else re.sub(r"^<(\w+)", r'<\1 xmlns="http://www.w3.org/2000/svg"', picture)
+    )
 
 
 def data_of(page):
@@ -49,7 +52,10 @@ def centre(element):
     """The middle of a circle or of a rectangle."""
     if element.tag == f"{SVG}circle":
         return number(element, "cx"), number(element, "cy")
-    return number(element, "x") + number(element, "width") / 2, number(element, "y") + number(element, "height") / 2
+    return (
+        number(element, "x") + number(element, "width") / 2,
+        number(element, "y") + number(element, "height") / 2,
+    )
 
 
 def ends(element):
@@ -57,7 +63,10 @@ def ends(element):
     if element.tag == f"{SVG}g":
         return ends(element.find(f"{SVG}line"))
     if element.tag == f"{SVG}line":
-        return (number(element, "x1"), number(element, "y1")), (number(element, "x2"), number(element, "y2"))
+        return (number(element, "x1"), number(element, "y1")), (
+            number(element, "x2"),
+            number(element, "y2"),
+        )
     numbers = [float(word) for word in re.findall(r"-?[0-9.]+", element.get("d"))]
     return tuple(numbers[:2]), tuple(numbers[-2:])
 
@@ -89,7 +98,9 @@ def nearest(places, point):
 
 def pairs_joined(root, name, places):
     """The pairs of keys of places that the lines of a class join."""
-    return sorted(tuple(sorted(nearest(places, end) for end in ends(mark))) for mark in marks(root, name))
+    return sorted(
+        tuple(sorted(nearest(places, end) for end in ends(mark))) for mark in marks(root, name)
+    )
 
 
 def shapes(root, turn=1, shift=0):
@@ -97,11 +108,17 @@ def shapes(root, turn=1, shift=0):
     that is added around it: left, top, right, bottom, radius."""
     for element in root:
         moves = element.get("transform", "")
-        by = complex(*map(float, re.findall(r"translate\(([-\d.]+)[ ,]([-\d.]+)\)", moves)[0])) if moves else 0
+        by = (
+            complex(*map(float, re.findall(r"translate\(([-\d.]+)[ ,]([-\d.]+)\)", moves)[0]))
+            if moves
+            else 0
+        )
         turned, moved = turn * (-1j if "rotate(-90)" in moves else 1), shift + turn * by
         if corners := corners_of(element):
             one, other = (moved + turned * complex(*corner) for corner in corners)
-            (left, right), (top, bottom) = sorted((one.real, other.real)), sorted((one.imag, other.imag))
+            (left, right), (top, bottom) = sorted((one.real, other.real)), sorted(
+                (one.imag, other.imag)
+            )
             yield element, (left, top, right, bottom, float(element.get("r", 0)))
         yield from shapes(element, turned, moved)
 
@@ -116,7 +133,11 @@ def corners_of(element):
     if element.tag == f"{SVG}circle":
         return 2 * [centre(element)]
     if element.tag == f"{SVG}rect" and element.get("class"):
-        (x, y), wide, high = centre(element), number(element, "width") / 2, number(element, "height") / 2
+        (x, y), wide, high = (
+            centre(element),
+            number(element, "width") / 2,
+            number(element, "height") / 2,
+        )
         return (x - wide, y - high), (x + wide, y + high)
     return None
 

@@ -1,25 +1,71 @@
 """Pictures of what nodes have found, read off their marks; each result is worked by hand."""
 from tests.cases import example
 from tests.pictures.base import PictureCase
-from tests.pictures.marks import SVG, centre, data_of, marks, pairs_joined, parsed, texts, titles, words
+from tests.pictures.marks import (
+    SVG,
+    centre,
+    data_of,
+    marks,
+    pairs_joined,
+    parsed,
+    texts,
+    titles,
+    words,
+)
 
 ROW, TRIANGLE = example("path"), example("triangle")
-POINTING = "greet = next = lambda me, *_: None\ndef result(me):\n    return 'points'\n" \
-           "def drawn(me):\n    return 2, me.degree - 1\n"
+POINTING = (
+    "greet = next = lambda me, *_: None\ndef result(me):\n    return 'points'\n"
+    "def drawn(me):\n    return 2, me.degree - 1\n"
+)
 # By program and network: what the titles say of the nodes, what is beside them, which edges are chosen, how many of
 # them are arrows, which nodes are filled, and a sentence.
 DRAWN = [
     # In the forest of a row node 3 is the parent of 2, and 2 of 1. The turn of 3 comes first, so node 1 is left over.
-    ("matching", ROW, ["partner none", "partner 1", "partner 0"], ["partner none"], [(2, 3)], 0, [],
-     "1 edge of 2."),
+    (
+        "matching",
+        ROW,
+        ["partner none", "partner 1", "partner 0"],
+        ["partner none"],
+        [(2, 3)],
+        0,
+        [],
+        "1 edge of 2.",
+    ),
     ("independent-set", ROW, ["in", "out", "in"], ["out"], [], 0, [1, 3], "2 of 3 nodes."),
     # The plan of a triangle is 2 3 1. Node 2 has the greatest channel and chooses first, then 1, then 3.
-    ("recolouring", TRIANGLE, ["channel 2", "channel 1, was channel 3", "channel 3, was channel 1"],
-     ["1", "2 was 3", "3 was 1"], [], 0, [], "3 channels."),
-    ("colouring", TRIANGLE, ["channel 2", "channel 3", "channel 1"], ["1", "2", "3"], [], 0, [], "3 channels."),
+    (
+        "recolouring",
+        TRIANGLE,
+        ["channel 2", "channel 1, was channel 3", "channel 3, was channel 1"],
+        ["1", "2 was 3", "3 was 1"],
+        [],
+        0,
+        [],
+        "3 channels.",
+    ),
+    (
+        "colouring",
+        TRIANGLE,
+        ["channel 2", "channel 3", "channel 1"],
+        ["1", "2", "3"],
+        [],
+        0,
+        [],
+        "3 channels.",
+    ),
     ("leader", ROW, ["leader 3"] * 3, ["leader 3"] * 3, [], 0, [], "3 nodes."),
     # Each node of a row points at its last neighbour: 1 at 2, 2 and 3 at each other.
-    ("points.py", ROW, ["points"] * 3, ["points"] * 3, [(1, 2), (2, 3)], 1, [1, 2, 3], "3 of 3 nodes."),
+    (
+        "points.py",
+        ROW,
+        ["points"] * 3,
+        ["points"] * 3,
+        [(1, 2), (2, 3)],
+        1,
+        [1, 2, 3],
+        "3 of 3 nodes.",
+    ),
 ]
 
 
@@ -29,26 +75,54 @@ class Results(PictureCase):
 
     def test_what_is_found(self):
         for program, network, found, beside, pairs, arrows, filled, said in DRAWN:
-            root = parsed(self.drawn("results", network, "--program", program.replace("points.py", self.own)))
+            root = parsed(
+                self.drawn("results", network, "--program", program.replace("points.py", self.own))
+            )
             groups = dict(enumerate(marks(root, "vertex"), 1))
             places = {v: centre(group.find(f"{SVG}circle")) for v, group in groups.items()}
-            self.facts(program, {
-                "titles": (titles(root, "vertex"), [f"node {v}: {end}" for v, end in enumerate(found, 1)]),
-                "words": (words(root, "found"), beside),
-                "chosen edges": (pairs_joined(root, "chosen", places), pairs),
-                "arrows": (sum(mark.get("fill") == "#1B1B1B" for mark in root.iter(f"{SVG}path")), arrows),
-                "filled": ([v for v, group in groups.items() if marks(group, "filled")], filled),
-                "said": (said in " ".join(texts(root)), True),
-                "what filled means": ("filled: `in`" in " ".join(texts(root)), program == "independent-set"),
-            })
-        root = parsed(self.drawn("results", TRIANGLE + b"b 2 1\nb 2 9\n", "--program", "recolouring"))
+            self.facts(
+                program,
+                {
+                    "titles": (
+                        titles(root, "vertex"),
+                        [f"node {v}: {end}" for v, end in enumerate(found, 1)],
+                    ),
+                    "words": (words(root, "found"), beside),
+                    "chosen edges": (pairs_joined(root, "chosen", places), pairs),
+                    "arrows": (
+                        sum(mark.get("fill") == "#1B1B1B" for mark in root.iter(f"{SVG}path")),
+                        arrows,
+                    ),
+                    "filled": (
+                        [v for v, group in groups.items() if marks(group, "filled")],
+                        filled,
+                    ),
+                    "said": (said in " ".join(texts(root)), True),
+                    "what filled means": (
+                        "filled: `in`" in " ".join(texts(root)),
+                        program == "independent-set",
+                    ),
+                },
+            )
+        root = parsed(
+            self.drawn("results", TRIANGLE + b"b 2 1\nb 2 9\n", "--program", "recolouring")
+        )
         self.same("bars", len(marks(root, "bar")), 2)
 
     def test_the_player_draws_the_same(self):
         """Partners; and channels in the circles, of a program whose nodes have some."""
-        films = [data_of(self.drawn("player", network, "--program", program))["film"]
-                 for program, network in (("matching", ROW), ("recolouring", TRIANGLE))]
-        self.same("partners", films[0]["pulses"][-1]["drawn"], {"1": [None, None], "2": [None, 3], "3": [None, 2]})
-        self.same("colours before and after", [[films[1]["pulses"][p]["drawn"][v][0] for v in "123"] for p in (30, 33)],
-                  [[1, 2, 0], [1, 0, 2]])
+        films = [
+            data_of(self.drawn("player", network, "--program", program))["film"]
+            for program, network in (("matching", ROW), ("recolouring", TRIANGLE))
+        ]
+        self.same(
+            "partners",
+            films[0]["pulses"][-1]["drawn"],
+            {"1": [None, None], "2": [None, 3], "3": [None, 2]},
+        )
+        self.same(
+            "colours before and after",
+            [[films[1]["pulses"][p]["drawn"][v][0] for v in "123"] for p in (30, 33)],
+            [[1, 2, 0], [1, 0, 2]],
+        )
         self.same("whether they are channels", [film["channels"] for film in films], [False, True])

@@ -10,7 +10,18 @@ from lab.networks.network_text import network_of
 from tests.cases import called, example
 from tests.pictures.base import PictureCase, transcript
 from tests.pictures.counted import fields_of
-from tests.pictures.marks import SVG, centre, ends, marks, number, parsed, texts, title, titles, words
+from tests.pictures.marks import (
+    SVG,
+    centre,
+    ends,
+    marks,
+    number,
+    parsed,
+    texts,
+    title,
+    titles,
+    words,
+)
 from tests.programs.made_transcripts import entries_of
 from tests.settings import PLAN
 
@@ -46,23 +57,34 @@ class Runs(PictureCase):
 
     def test_whole_runs(self):
         for name, seed in product(("two", "path", "chain6"), (1, 2)):
-            self.whole_run_rows(f"{name}, made {seed}", example(name), transcript(example(name), seed, seed))
+            self.whole_run_rows(
+                f"{name}, made {seed}", example(name), transcript(example(name), seed, seed)
+            )
         self.whole_run_rows("chain6_slow", example("chain6"), example("chain6_slow.transcript"))
         for seed in range(4):
-            root = parsed(self.drawn("run", example("triangle"), text=transcript(example("triangle"), seed)))
-            self.note(f"payloads of a triangle's run {seed} have their words", len(words(root, "words")) > 5)
+            root = parsed(
+                self.drawn("run", example("triangle"), text=transcript(example("triangle"), seed))
+            )
+            self.note(
+                f"payloads of a triangle's run {seed} have their words",
+                len(words(root, "words")) > 5,
+            )
 
     def whole_run_rows(self, name, network, text):
         """A run that is drawn whole is read back from left to right into its transcript. Its bars go from where a
         payload is taken to the tick that reads it."""
         last = last_pulse(network_of(network))
-        picture = parsed(self.drawn("run", network, *pulses((0, last)), "--only", ",".join(WIRES), text=text))
+        picture = parsed(
+            self.drawn("run", network, *pulses((0, last)), "--only", ",".join(WIRES), text=text)
+        )
         (root,), ticks = marks(picture, "upper"), {}
         for mark in marks(root, "tick"):
             (x, y), _ = ends(mark)
             ticks.setdefault(y + 10, []).append(x)
         rows = dict(enumerate(sorted(ticks), 1))
-        found = {v: [(x, f"pulse {p}") for p, x in enumerate(ticks[y])][1:] for v, y in rows.items()}
+        found = {
+            v: [(x, f"pulse {p}") for p, x in enumerate(ticks[y])][1:] for v, y in rows.items()
+        }
         wrong, tips, read, early = [], [], entries_of(text), 0
         for own in read.values():
             begun = 0
@@ -78,19 +100,28 @@ class Runs(PictureCase):
                 wrong.append(title(group))
             if said.startswith("payload"):
                 tips.append((tip, (ticks[tip[1]][int(said.split()[1]) + 1], tip[1])))
-        self.facts(f"run of {name}", {
-            "its entries": ({v: [said for _, said in sorted(own)] for v, own in found.items()},
-                            {v: [" ".join(entry[1:]) for entry in own] for v, own in read.items()}),
-            "those that come early": (early_in(picture), early),
-            "arrows between other rows": (wrong, []),
-            "each payload is kept until it is read": ([ends(bar) for bar in marks(root, "bar")], tips),
-        })
+        self.facts(
+            f"run of {name}",
+            {
+                "its entries": (
+                    {v: [said for _, said in sorted(own)] for v, own in found.items()},
+                    {v: [" ".join(entry[1:]) for entry in own] for v, own in read.items()},
+                ),
+                "those that come early": (early_in(picture), early),
+                "arrows between other rows": (wrong, []),
+                "each payload is kept until it is read": (
+                    [ends(bar) for bar in marks(root, "bar")],
+                    tips,
+                ),
+            },
+        )
 
     def test_runs(self):
         for name, v in (("triangle", 1), ("petersen", 4), ("ring14", 3)):
             network = network_bytes(name)
             texts_of = {f"made {seed}": transcript(network, seed, seed) for seed in (1, 4)} | {
-                f"{workers} workers": transcript_by(network, workers) for workers in "24"}
+                f"{workers} workers": transcript_by(network, workers) for workers in "24"
+            }
             last, lower = last_pulse(network_of(network)), set()
             for (which, text), some in zip(texts_of.items(), 2 * [(3, 7), (last - 3, last)]):
                 label = f"{name}, {which}"
@@ -98,47 +129,95 @@ class Runs(PictureCase):
                     lower.add(self.window_rows(label, network, text, 2, 5))
                 for window in (None, some):
                     self.overview_rows(label, network, text, window)
-            self.note(f"the lower half of {name} is the same for each run", len(lower) == (name != "ring14"))
+            self.note(
+                f"the lower half of {name} is the same for each run",
+                len(lower) == (name != "ring14"),
+            )
 
     def window_rows(self, name, network, text, first, last):
         """A few pulses: below, each payload that is put in them goes from its putter's row and pulse to its taker's row
         and the next pulse."""
         picture = self.drawn("run", network, *pulses((first, last)), text=text)
         lower = marks(parsed(picture), "lower")[0]
-        slots = [(x, round((y + end) / 2, 1)) for (x, y), (_, end) in map(ends, marks(lower, "tick"))]
+        slots = [
+            (x, round((y + end) / 2, 1)) for (x, y), (_, end) in map(ends, marks(lower, "tick"))
+        ]
         columns, rows = (sorted({slot[axis] for slot in slots}) for axis in (0, 1))
-        puts = [(int(v), int(more[0]), int(more[2]), f"{v} to {more[0]}: {' '.join(more[1:])}")
-                for _, v, kind, *more in fields_of(text) if kind == "put" and more[1] == "payload"]
-        self.facts(f"window of {name}", {
-            "a slot for each node and pulse": (sorted(slots), [(x, y) for x in columns for y in rows]),
-            "as many": ((len(columns), len(rows)), (last - first + 2, len(network_of(network).neighbours))),
-            "payloads": ({title(group): begins_and_tip(group) for group in marks(lower, "payload")}, {
-                said: ((columns[p - first], rows[v - 1]), (columns[p - first + 1], rows[w - 1]))
-                for v, w, p, said in puts if first <= p <= last}),
-        })
-        return picture[picture.index('<g class="lower"'):]
+        puts = [
+            (int(v), int(more[0]), int(more[2]), f"{v} to {more[0]}: {' '.join(more[1:])}")
+            for _, v, kind, *more in fields_of(text)
+            if kind == "put" and more[1] == "payload"
+        ]
+        self.facts(
+            f"window of {name}",
+            {
+                "a slot for each node and pulse": (
+                    sorted(slots),
+                    [(x, y) for x in columns for y in rows],
+                ),
+                "as many": (
+                    (len(columns), len(rows)),
+                    (last - first + 2, len(network_of(network).neighbours)),
+                ),
+                "payloads": (
+                    {title(group): begins_and_tip(group) for group in marks(lower, "payload")},
+                    {
+                        said: (
+                            (columns[p - first], rows[v - 1]),
+                            (columns[p - first + 1], rows[w - 1]),
+                        )
+                        for v, w, p, said in puts
+                        if first <= p <= last
+                    },
+                ),
+            },
+        )
+        return picture[picture.index('<g class="lower"') :]
 
     def overview_rows(self, name, network, text, window=None):
         """All pulses, or some: their ticks and the next pulse's, as far apart as their times; other pulses' ticks are
         grey."""
-        last, times = last_pulse(network_of(network)), {(v, 0): 0 for v in network_of(network).neighbours}
-        times |= {(int(v), int(more[0])): int(stamp) for stamp, v, kind, *more in fields_of(text) if kind == "pulse"}
+        last, times = last_pulse(network_of(network)), {
+            (v, 0): 0 for v in network_of(network).neighbours
+        }
+        times |= {
+            (int(v), int(more[0])): int(stamp)
+            for stamp, v, kind, *more in fields_of(text)
+            if kind == "pulse"
+        }
         first, final = window or usual(last)
         root = parsed(self.drawn("overview", network, *pulses(window), text=text))
         wanted = sorted((v, times[v, p]) for v, p in times if first <= p <= final + 1)
         ticks = [ends(mark)[0] for mark in marks(root, "tick")]
         rows = {y: v for v, y in enumerate(sorted({y for _, y in ticks}), 1)}
-        left, right, low, high = (of(row)[0] for row in (ticks, [(time, v) for v, time in wanted]) for of in (min, max))
-        self.facts(f"overview of {name}, pulses {first} to {final}", {
-            "ticks at their times": (sorted(
-                (rows[y], low + round((x - left) / (right - left) * (high - low))) for x, y in ticks), wanted),
-            "grey ticks": (len(marks(root, "outside")), sum(
-                not first <= p <= final + 1 and low <= time <= high for (_, p), time in times.items())),
-            "bands": (len(marks(root, "band")), final - first + 1),
-            "numbers over them": (sorted({*range(first, final + 1)} & {*map(int, words(root, "name"))}),
-                                  [*map(int, words(root, "name"))]),
-            "its title": (f": pulses {first} to {final} of {last}," in texts(root)[0], True),
-        })
+        left, right, low, high = (
+            of(row)[0] for row in (ticks, [(time, v) for v, time in wanted]) for of in (min, max)
+        )
+        self.facts(
+            f"overview of {name}, pulses {first} to {final}",
+            {
+                "ticks at their times": (
+                    sorted(
+                        (rows[y], low + round((x - left) / (right - left) * (high - low)))
+                        for x, y in ticks
+                    ),
+                    wanted,
+                ),
+                "grey ticks": (
+                    len(marks(root, "outside")),
+                    sum(
+                        not first <= p <= final + 1 and low <= time <= high
+                        for (_, p), time in times.items()
+                    ),
+                ),
+                "bands": (len(marks(root, "band")), final - first + 1),
+                "numbers over them": (
+                    sorted({*range(first, final + 1)} & {*map(int, words(root, "name"))}),
+                    [*map(int, words(root, "name"))],
+                ),
+                "its title": (f": pulses {first} to {final} of {last}," in texts(root)[0], True),
+            },
+        )
 
     def test_long(self):
         """Of a long run the first 40 pulses are drawn, and only what they depend on is read: the same picture as of a
@@ -150,18 +229,33 @@ class Runs(PictureCase):
         rows = [" ".join(row) for _, *row in fields_of(stamped)]
 
         def by_vertex(rows):
-            return "\n".join(["transcript 1 10", *sorted(rows, key=lambda row: int(row.split()[0])), ""]).encode()
+            return "\n".join(
+                ["transcript 1 10", *sorted(rows, key=lambda row: int(row.split()[0])), ""]
+            ).encode()
 
-        text, short = by_vertex(rows), by_vertex(rows[:max(rows.index(f"{v} pulse 60") for v in net.neighbours)])
+        text, short = by_vertex(rows), by_vertex(
+            rows[: max(rows.index(f"{v} pulse 60") for v in net.neighbours)]
+        )
         self.note("a long text is long", len(rows) > 100_000, len(rows))
         for kind, *options, said in (
-                ["overview", "pulses 0 to 39 of 1848"], ["run", "pulses 0 to 2 of 1848"]):
-            long, stopped = (self.drawn(kind, network, *options, text=given) for given in (text, short))
+            ["overview", "pulses 0 to 39 of 1848"],
+            ["run", "pulses 0 to 2 of 1848"],
+        ):
+            long, stopped = (
+                self.drawn(kind, network, *options, text=given) for given in (text, short)
+            )
             self.note(f"{kind} {options} of a long text", long == stopped and said in long, said)
         wrong = by_vertex([re.sub(r"^(5 put \d+ safe) 20$", r"\1 21", row) for row in rows])
         status, picture, _ = self.called("overview", network, text=wrong)
         self.note("a long text with a mistake in these pulses", (status, picture) == (1, b""))
         cut = rows.index("5 pulse 20")
-        status, _, fault = self.called("overview", network, text=by_vertex(
-            rows[:cut] + [row for row in rows[cut:] if not row.startswith("5 ")]))
-        self.note("a long text that stops in these pulses", status == 1 and b": LinkEmpty: " in fault, fault)
+        status, _, fault = self.called(
+            "overview",
+            network,
+            text=by_vertex(rows[:cut] + [row for row in rows[cut:] if not row.startswith("5 ")]),
+        )
+        self.note(
+            "a long text that stops in these pulses",
+            status == 1 and b": LinkEmpty: " in fault,
+            fault,
+        )

@@ -34,9 +34,15 @@ class Watch(PictureCase):
             nodes = (node for node, *_ in played(example(name), text))
             for at, ((stamp, v, look, _), line, node) in enumerate(zip(run["rows"], lines, nodes)):
                 look, p = run["looks"][look], node.pulse
-                early = node.payloads(p + 1) + [["safe", w] for w in node.near if node.level(w)[0] == 2]
-                if [str(stamp), str(v)] != line[:2] or [p, node.waits(), sorted(node.payloads(p)), sorted(early)] != [
-                        look["p"], look["w"], sorted(look["h"]), sorted(look["k"])]:
+                early = node.payloads(p + 1) + [
+                    ["safe", w] for w in node.near if node.level(w)[0] == 2
+                ]
+                if [str(stamp), str(v)] != line[:2] or [
+                    p,
+                    node.waits(),
+                    sorted(node.payloads(p)),
+                    sorted(early),
+                ] != [look["p"], look["w"], sorted(look["h"]), sorted(look["k"])]:
                     wrong.append((line, look))
                 last[v] = look
                 if look["c"]:
@@ -47,41 +53,80 @@ class Watch(PictureCase):
             wires = {}
             for v, w, _, *flight in run["wires"]:
                 wires.setdefault((str(v), str(w)), []).append(flight)
-            self.facts(f"rows of {name}", {
-                "as many as lines": (len(run["rows"]), len(lines)),
-                "those that are wrong": (wrong[:3], []),
-                "wires": (wires, {ends: [put + take for put, take in zip(both["put"], both["take"])]
-                                  for ends, both in links.items()}),
-                "since when it has a channel": (dict(sorted(since.items())),
-                                                {v: Rounds(net).turn(0, v) for v in net.vertices}),
-                "the plan": ({v: (look["c"] - 1, bool(look["e"])) for v, look in last.items()},
-                             {v: (colour, True) for v, colour in colours(net).items()}),
-            })
+            self.facts(
+                f"rows of {name}",
+                {
+                    "as many as lines": (len(run["rows"]), len(lines)),
+                    "those that are wrong": (wrong[:3], []),
+                    "wires": (
+                        wires,
+                        {
+                            ends: [put + take for put, take in zip(both["put"], both["take"])]
+                            for ends, both in links.items()
+                        },
+                    ),
+                    "since when it has a channel": (
+                        dict(sorted(since.items())),
+                        {v: Rounds(net).turn(0, v) for v in net.vertices},
+                    ),
+                    "the plan": (
+                        {v: (look["c"] - 1, bool(look["e"])) for v, look in last.items()},
+                        {v: (colour, True) for v, colour in colours(net).items()},
+                    ),
+                },
+            )
             self.assertNotRegex(page, r"(src|href)=|https?://(?!www\.w3\.org/2000/svg)|@[A-Z]+@")
 
     def test_pulses(self):
         text = transcript(example("petersen"), "pulses")
-        whole, part = (data_of(self.page("petersen", text, options=words)) for words in ([], ["--pulses", "3..5"]))
+        whole, part = (
+            data_of(self.page("petersen", text, options=words))
+            for words in ([], ["--pulses", "3..5"])
+        )
         whole, run = whole["runs"][0], part["runs"][0]
         # What the nodes are before the first row, and the wires that are on their way, come from the rows before.
         at = [row[:2] for row in whole["rows"]].index(run["rows"][0][:2])
         before = {row[1]: whole["looks"][row[2]] for row in whole["rows"][:at]}
-        self.facts("pulses 3 to 5", {
-            "those shown": (part["pulses"], [3, 5]),
-            "the first and the last row": ([run["looks"][run["rows"][k][2]]["p"] for k in (0, -1)], [3, 5]),
-            "before the first row": (run["start"], [before.get(v, whole["start"][v - 1]) for v in range(1, 11)]),
-            "wires on their way": (sorted(wire[:2] + wire[4:5] for wire in run["wires"] if wire[3] < 0), sorted(
-                wire[:2] + wire[4:5] for wire in whole["wires"] if wire[3] < at <= wire[5])),
-        })
+        self.facts(
+            "pulses 3 to 5",
+            {
+                "those shown": (part["pulses"], [3, 5]),
+                "the first and the last row": (
+                    [run["looks"][run["rows"][k][2]]["p"] for k in (0, -1)],
+                    [3, 5],
+                ),
+                "before the first row": (
+                    run["start"],
+                    [before.get(v, whole["start"][v - 1]) for v in range(1, 11)],
+                ),
+                "wires on their way": (
+                    sorted(wire[:2] + wire[4:5] for wire in run["wires"] if wire[3] < 0),
+                    sorted(
+                        wire[:2] + wire[4:5] for wire in whole["wires"] if wire[3] < at <= wire[5]
+                    ),
+                ),
+            },
+        )
 
     def test_a_run_that_is_too_long_says_how_to_see_the_rest(self):
         network = network_of(example("triangle"))
         text = transcript(example("triangle"), "long").decode()
-        for most, pulses, is_said in ((20_000, None, False), (100, None, True), (100, (3, 4), False)):
-            with self.subTest(most=most, pulses=pulses), mock.patch.object(watch_page, "MOST_ENTRIES", most):
-                run = Run("triangle", network, steps_of_text("triangle", network, text, pulses), pulses)
-                self.assertEqual(f"at most {most:,} entries of a run; --pulses A..B shows other" in
-                                 watch_page.draw([run]), is_said)
+        for most, pulses, is_said in (
+            (20_000, None, False),
+            (100, None, True),
+            (100, (3, 4), False),
+        ):
+            with self.subTest(most=most, pulses=pulses), mock.patch.object(
+                watch_page, "MOST_ENTRIES", most
+            ):
+                run = Run(
+                    "triangle", network, steps_of_text("triangle", network, text, pulses), pulses
+                )
+                self.assertEqual(
+                    f"at most {most:,} entries of a run; --pulses A..B shows other"
+                    in watch_page.draw([run]),
+                    is_said,
+                )
                 self.assertLessEqual(len(run.moments), most)
 
     def test_run_of_a_player(self):
@@ -89,33 +134,49 @@ class Watch(PictureCase):
         for name, most in product(("two", "triangle", "barred", "petersen"), (40, None)):
             network = network_of(example(name))
             player = Player(network)
-            steps, policy = Steps(player.state), Policy("random", network.vertices, network.edges, "watch")
+            steps, policy = Steps(player.state), Policy(
+                "random", network.vertices, network.edges, "watch"
+            )
             for entry in islice(player.entries(policy), most):
                 steps.add(entry)
             text = text_of_run(network.nodes, player.made)
-            ours, wanted = (Run("run", network, found) for found in (
-                steps.by_stamp(), steps_of_text("run", network, text)))
-            self.same(f"a player of {name} after {most} entries", (ours.table(), ours.pulses, ours.is_whole),
-                      (wanted.table(), wanted.pulses, wanted.is_whole))
+            ours, wanted = (
+                Run("run", network, found)
+                for found in (steps.by_stamp(), steps_of_text("run", network, text))
+            )
+            self.same(
+                f"a player of {name} after {most} entries",
+                (ours.table(), ours.pulses, ours.is_whole),
+                (wanted.table(), wanted.pulses, wanted.is_whole),
+            )
 
     def test_same_rounds(self):
         """Two runs beside each other: a pulse of both is where a node makes it last."""
         runs = [transcript(example("petersen"), f"two {k}") for k in "ab"]
-        table, last = data_of(self.page("petersen", *runs)), last_pulse(network_of(example("petersen")))
+        table, last = data_of(self.page("petersen", *runs)), last_pulse(
+            network_of(example("petersen"))
+        )
         self.assertEqual((table["same"], sum(map(len, table["sent"]))), ([True] * (last + 1), 269))
         for run, text in zip(table["runs"], runs):
             made = {}
             for at, line in enumerate(fields_of(text), 1):
                 if line[2] == "pulse":
                     made[int(line[3])] = [int(line[0]), at]
-            self.same("when each pulse is made last", run["all"], [[0, 0], *(made[p] for p in range(1, last + 1))])
+            self.same(
+                "when each pulse is made last",
+                run["all"],
+                [[0, 0], *(made[p] for p in range(1, last + 1))],
+            )
 
     def test_a_run_that_is_cut(self):
         """Of a text that ends early the last moment is its end."""
         one, other = (transcript(example("triangle"), f"cut {k}") for k in "ab")
         lines = one.splitlines(keepends=True)
         at = next(at for at, line in enumerate(lines) if line.endswith(b" pulse 5\n"))
-        page = self.page("triangle", b"".join(lines[:at + 1]), other)
+        page = self.page("triangle", b"".join(lines[: at + 1]), other)
         # One node alone has made pulse 5.
         self.assertEqual(data_of(page)["runs"][0]["all"][5:], [[int(lines[at].split(b" ")[0]), at]])
-        self.assertIn("At a whole number of the slider each run is at the moment when the last of its nodes", page)
+        self.assertIn(
+            "At a whole number of the slider each run is at the moment when the last of its nodes",
+            page,
+        )

@@ -46,42 +46,74 @@ class Why(PictureCase):
 
     def test_by_hand(self):
         lines = self.said("triangle", 2).splitlines()
-        self.same("the triangle", (lines[:5], [line for line in HAND[5:] if line not in lines]), (HAND[:5], []))
+        self.same(
+            "the triangle",
+            (lines[:5], [line for line in HAND[5:] if line not in lines]),
+            (HAND[:5], []),
+        )
         # In 1 - 2 - 3 node 3 chooses first: its colour is 0 and nobody has taken anything.
         said = self.said("path", 3)
-        self.note("the row", "chooses colour 0, channel 1\n" in said and "is taken" not in said, said)
+        self.note(
+            "the row", "chooses colour 0, channel 1\n" in said and "is taken" not in said, said
+        )
 
     def test_messages(self):
         """Each message of the cone has a line, by pulse, which is a message of the rounds; a colour is told along an
-        edge of its forest, from a parent to its child. Of each choice there is why each lower channel wasn't free."""
+        edge of its forest, from a parent to its child. Of each choice there is why each lower channel wasn't free.
+        """
         for name in ("path", "triangle", "four_cycle", "barred", "petersen", "drops", "long_names"):
             net = network_of(example(name))
             text = set(rounds_text(net).decode().splitlines())
             for vertex in net.vertices:
                 said = self.said(name, vertex)
-                rows = re.findall(r"^(\d+) told (\d+) (colour|chosen) (\d+) in pulse (\d+), in (the merge of )?forest "
-                                  r"(\d+)$", said, re.M)
-                wrong = [row for row in rows for v, w, kind, number, pulse, merge, f in [row]
-                         if f"{v} put {w} payload {pulse} {kind} {number}" not in text
-                         or bool(merge) != (kind == "chosen") or not merge and net.parent(int(f), int(w)) != int(v)]
+                rows = re.findall(
+                    r"^(\d+) told (\d+) (colour|chosen) (\d+) in pulse (\d+), in (the merge of )?forest "
+                    r"(\d+)$",
+                    said,
+                    re.M,
+                )
+                wrong = [
+                    row
+                    for row in rows
+                    for v, w, kind, number, pulse, merge, f in [row]
+                    if f"{v} put {w} payload {pulse} {kind} {number}" not in text
+                    or bool(merge) != (kind == "chosen")
+                    or not merge
+                    and net.parent(int(f), int(w)) != int(v)
+                ]
                 choices = re.findall(r"it chooses colour (\d+), .*\n((?:  .*\n)*)", said)
                 names, far = numbers(re.search(r"decided it: (.*)", said)[1]), reached(net, vertex)
                 most = max(far[v] for v in names)
-                taken = [[int(k) for k in re.findall(r"  channel (\d+)", lower)] for _, lower in choices]
+                taken = [
+                    [int(k) for k in re.findall(r"  channel (\d+)", lower)] for _, lower in choices
+                ]
                 pulses = [int(row[4]) for row in rows]
-                heard = {(w, int(pulse), f) for _, w, kind, _, pulse, _, f in rows if kind == "colour"}
+                heard = {
+                    (w, int(pulse), f) for _, w, kind, _, pulse, _, f in rows if kind == "colour"
+                }
                 children = re.findall("forest (.*), node (.*), parent .*, pulses .*: (.*)", said)
-                missing = [(v, p) for f, v, row in children
-                           for p, (old, new) in enumerate(pairwise(row.split(" ")), 3)
-                           if new != "." and (p not in DROPS or new != old) and (v, p - 1, f) not in heard]
-                self.facts(f"{name}, node {vertex}", {
-                    "those that are none, and those that are missing": (wrong + missing, []),
-                    "as many as are counted": (len(rows), numbers(said)[2]),
-                    "by pulse": (pulses, sorted(pulses)),
-                    "lower channels": (taken, [[*range(1, int(colour) + 1)] for colour, _ in choices]),
-                    "the farthest": (numbers(re.search("The farthest, .*", said)[0]),
-                                     [most, *(v for v in names if far[v] == most)]),
-                })
+                missing = [
+                    (v, p)
+                    for f, v, row in children
+                    for p, (old, new) in enumerate(pairwise(row.split(" ")), 3)
+                    if new != "." and (p not in DROPS or new != old) and (v, p - 1, f) not in heard
+                ]
+                self.facts(
+                    f"{name}, node {vertex}",
+                    {
+                        "those that are none, and those that are missing": (wrong + missing, []),
+                        "as many as are counted": (len(rows), numbers(said)[2]),
+                        "by pulse": (pulses, sorted(pulses)),
+                        "lower channels": (
+                            taken,
+                            [[*range(1, int(colour) + 1)] for colour, _ in choices],
+                        ),
+                        "the farthest": (
+                            numbers(re.search("The farthest, .*", said)[0]),
+                            [most, *(v for v in names if far[v] == most)],
+                        ),
+                    },
+                )
 
     def test_other_identifiers(self):
         """A colour of three in a forest doesn't change if the identifiers change on which it isn't said to depend, as
@@ -110,7 +142,12 @@ class Why(PictureCase):
         """As many squares and circles are faded as aren't in the cone."""
         for name, vertex in (("triangle", 2), ("petersen", 6)):
             network = network_of(example(name))
-            root, cone = parsed(self.drawn("why", example(name), "--vertex", vertex)), Cone(Rounds(network), vertex)
+            root, cone = parsed(self.drawn("why", example(name), "--vertex", vertex)), Cone(
+                Rounds(network), vertex
+            )
             kept = sum(fact[0] != "identifier" for fact in cone.facts)
-            self.same(f"{name}: how many are faded", len(marks(root, "faded")),
-                      network.nodes * len(cone.forests()) * (11 + 1) - kept)
+            self.same(
+                f"{name}: how many are faded",
+                len(marks(root, "faded")),
+                network.nodes * len(cone.forests()) * (11 + 1) - kept,
+            )

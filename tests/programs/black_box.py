@@ -16,11 +16,16 @@ from tests.programs.slow_reader import answer_to
 from tests.settings import PATHS, PLAN, PLAY, SECOND_PLAN
 
 # The last line of a refusal of a word that isn't known.
-READS = {name: f"{name} reads the network from standard input: {name} {command} < FILE|"
-         for name, command in (("forestplan", "plan"), ("forestplay", "rounds"))}
+READS = {
+    name: f"{name} reads the network from standard input: {name} {command} < FILE|"
+    for name, command in (("forestplan", "plan"), ("forestplay", "rounds"))
+}
 STAR = "p edge 1024 1023|" + "".join(f"e {v} 1024|" for v in range(1, 1024))
 ODD_PATH = "c path\r|p edges 3 99 extra\r|\r|n 1 2\r|e 1 2 7\r|e 2 1\r|e 3 2\r|e 2 3\r|"
-RING, FOUR = "p edge 4 4|e 1 2|e 2 3|e 3 4|e 1 4|", "p edge 4 6|e 1 2|e 1 3|e 1 4|e 2 3|e 2 4|e 3 4|"
+RING, FOUR = (
+    "p edge 4 4|e 1 2|e 2 3|e 3 4|e 1 4|",
+    "p edge 4 6|e 1 2|e 1 3|e 1 4|e 2 3|e 2 4|e 3 4|",
+)
 GREATEST = 2**128 - 1
 
 
@@ -36,30 +41,76 @@ NETWORKS = [
     ("one edge and the greatest identifier", f"p edge 2 1|i 2 {GREATEST}|e 1 2|", [2, 1], None),
     ("triangle", TRIANGLE, [2, 3, 1], "forests 3 2|0 1 2|0 2 3|1 1 3|"),
     ("path in an odd layout", ODD_PATH, [1, 2, 1], "forests 3 1|0 1 2|0 2 3|"),
-    ("identifiers changed about, after the edges", "p edge 3 2|e 1 2|e 2 3|i 3 0 x|i 1 2|i 2 1|", None,
-     "forests 3 1|0 2 1|0 3 2|"),
-    ("the greatest identifier, and one with zeros before it",
-     f"p edge 3 2|e 1 2|e 1 3|i 3 {GREATEST} x\r|\ti 01  0007|", None, "forests 3 1|0 1 3|0 2 1|"),
+    (
+        "identifiers changed about, after the edges",
+        "p edge 3 2|e 1 2|e 2 3|i 3 0 x|i 1 2|i 2 1|",
+        None,
+        "forests 3 1|0 2 1|0 3 2|",
+    ),
+    (
+        "the greatest identifier, and one with zeros before it",
+        f"p edge 3 2|e 1 2|e 1 3|i 3 {GREATEST} x\r|\ti 01  0007|",
+        None,
+        "forests 3 1|0 1 3|0 2 1|",
+    ),
     ("four-cycle", RING, [1, 2, 1, 2], "forests 4 2|0 1 2|0 2 3|0 3 4|1 1 4|"),
-    ("complete graph on four", FOUR, [2, 3, 1, 4], "forests 4 3|0 1 2|0 2 3|0 3 4|1 1 3|1 2 4|2 1 4|"),
-    ("the greatest star", STAR, [1] * 1023 + [2], "forests 1024 1|" + "".join(f"0 {v} 1024|" for v in range(1, 1024))),
-    ("a path of seven, one node alone", "p edge 8 6|e 1 2|e 2 4|e 4 5|e 5 6|e 6 7|e 7 8|",
-     [2, 1, 1, 2, 1, 2, 1, 2], None),
+    (
+        "complete graph on four",
+        FOUR,
+        [2, 3, 1, 4],
+        "forests 4 3|0 1 2|0 2 3|0 3 4|1 1 3|1 2 4|2 1 4|",
+    ),
+    (
+        "the greatest star",
+        STAR,
+        [1] * 1023 + [2],
+        "forests 1024 1|" + "".join(f"0 {v} 1024|" for v in range(1, 1024)),
+    ),
+    (
+        "a path of seven, one node alone",
+        "p edge 8 6|e 1 2|e 2 4|e 4 5|e 5 6|e 6 7|e 7 8|",
+        [2, 1, 1, 2, 1, 2, 1, 2],
+        None,
+    ),
     ("the triangle, with 1 barred at vertex 3", TRIANGLE + "b 3 1|", [1, 3, 2], None),
     ("bars that come again", "p edge 2 0|b 1 1|b 1 2|b 2 2|b 1 1|b 2 2 x|", [3, 1], None),
     ("an edge, with the next channel barred at each end", EDGE + "b 1 1|b 2 2|", [2, 1], None),
-    ("a bar of the greatest channel, before the edges", "p edge 2 1|\tb 02 02048 further|e 1 2|", [1, 2], None),
-    ("as many bars of a vertex as the limit, each twice", "p edge 1 0|" + 2 * bars_of(1, 1, 1024), [1025], None),
-    ("all channels barred, at one of two vertices each",
-     "p edge 2 0|" + bars_of(1, 1, 1024) + bars_of(2, 1025, 2048), [1025, 1], None),
-    ("all channels barred, each at a vertex of its own",
-     "p edge 2048 0|" + "".join(f"b {v} {v}|" for v in range(1, 2049)), [2] + [1] * 2047, None),
+    (
+        "a bar of the greatest channel, before the edges",
+        "p edge 2 1|\tb 02 02048 further|e 1 2|",
+        [1, 2],
+        None,
+    ),
+    (
+        "as many bars of a vertex as the limit, each twice",
+        "p edge 1 0|" + 2 * bars_of(1, 1, 1024),
+        [1025],
+        None,
+    ),
+    (
+        "all channels barred, at one of two vertices each",
+        "p edge 2 0|" + bars_of(1, 1, 1024) + bars_of(2, 1025, 2048),
+        [1025, 1],
+        None,
+    ),
+    (
+        "all channels barred, each at a vertex of its own",
+        "p edge 2048 0|" + "".join(f"b {v} {v}|" for v in range(1, 2049)),
+        [2] + [1] * 2047,
+        None,
+    ),
     ("the greatest span", STAR + bars_of(1024, 1, 1024), [1] * 1023 + [1025], None),
     ("the greatest span, with 1 free", STAR + bars_of(1024, 2, 1025), [1] * 1023 + [1026], None),
 ]
 # Of each option the name, the least and the greatest of its value.
-OPTIONS = {"workers": ("N", 1, 64), "capacity": ("N", 1, 64), "turns": ("N", 0, 10**12), "edition": ("N", 1, 2),
-           "root": ("V", 1, 20_000), "passes": ("N", 1, 3)}
+OPTIONS = {
+    "workers": ("N", 1, 64),
+    "capacity": ("N", 1, 64),
+    "turns": ("N", 0, 10**12),
+    "edition": ("N", 1, 2),
+    "root": ("V", 1, 20_000),
+    "passes": ("N", 1, 3),
+}
 
 
 class BlackBox(Case):
@@ -73,26 +124,44 @@ class BlackBox(Case):
             net = network_of(network)
             plan, split = plan_text(net), forests_text(net)
             if channels is not None:
-                wanted = "plan|" + "".join(f"{v} {channel}|" for v, channel in enumerate(channels, 1))
+                wanted = "plan|" + "".join(
+                    f"{v} {channel}|" for v, channel in enumerate(channels, 1)
+                )
                 self.same(f"the definition on {name}", plan, text(wanted))
             if forests is not None:
                 self.same(f"the forests of {name} by the definition", split, text(forests))
             # On the greatest stars threads that have no processor would have the others wait for minutes.
             alone = ["--workers", "1"] if len(network) > 9000 else []
             for program, words, answer in (
-                (PLAN, ["forests"], split), (PLAY, ["rounds"], rounds_text(net)),
-                *((program, words, plan) for program in (PLAN, SECOND_PLAN) for words in (["plain"], ["plan", *alone])),
+                (PLAN, ["forests"], split),
+                (PLAY, ["rounds"], rounds_text(net)),
+                *(
+                    (program, words, plan)
+                    for program in (PLAN, SECOND_PLAN)
+                    for words in (["plain"], ["plan", *alone])
+                ),
             ):
-                self.same(f"{program} {' '.join(words)} of {name}", called(program, *words, data=network),
-                          (0, answer, b""))
-            self.says(f"check of {name}", network.rstrip() + b"\n" + plan,
-                      f"proper {max(map(int, plan.split()[2::2]), default=0)}")
-            self.note(f"comment of {name}", network.startswith(b"c ") or not name.startswith("example"))
+                self.same(
+                    f"{program} {' '.join(words)} of {name}",
+                    called(program, *words, data=network),
+                    (0, answer, b""),
+                )
+            self.says(
+                f"check of {name}",
+                network.rstrip() + b"\n" + plan,
+                f"proper {max(map(int, plan.split()[2::2]), default=0)}",
+            )
+            self.note(
+                f"comment of {name}", network.startswith(b"c ") or not name.startswith("example")
+            )
 
     def says(self, name, data, said):
         """The verdict of `check`, and of the reader of plans of the commands."""
-        wanted = (0, f"{said}\n".encode(), b"") if said.startswith("proper") else (
-            1, b"", f"forestplan: {said}\n".encode())
+        wanted = (
+            (0, f"{said}\n".encode(), b"")
+            if said.startswith("proper")
+            else (1, b"", f"forestplan: {said}\n".encode())
+        )
         self.same(name, called(PLAN, "check", data=data), wanted)
         self.same(f"{name} by the slow reader", answer_to("check", data), wanted)
 
@@ -102,13 +171,24 @@ class BlackBox(Case):
         pairs = [(v, v + d) for d in range(1, 22) for v in range(1, 20_001 - d)][:400_001]
         head, lines = b"p edge 20000 400000\n", [b"e %d %d\n" % pair for pair in pairs]
         body, again = b"".join(lines[:-1]), b"".join(b"e %d %d\n" % (w, v) for v, w in pairs[:1000])
-        self.same("400,000 edges", called(PLAN, "forests", data=head + body),
-                  (0, forests_text(network_of(head + body)), b""))
-        for name, data, line in (("400,001 edges", head + body + lines[-1], 400002),
-                                 ("400,001 edges after repeats", head + again + body + lines[-1] + b"e 0 0\n", 401002)):
-            self.same(name, called(PLAN, "forests", data=data), (1, b"", b"forestplan: F7 line %d\n" % line))
+        self.same(
+            "400,000 edges",
+            called(PLAN, "forests", data=head + body),
+            (0, forests_text(network_of(head + body)), b""),
+        )
+        for name, data, line in (
+            ("400,001 edges", head + body + lines[-1], 400002),
+            ("400,001 edges after repeats", head + again + body + lines[-1] + b"e 0 0\n", 401002),
+        ):
+            self.same(
+                name,
+                called(PLAN, "forests", data=data),
+                (1, b"", b"forestplan: F7 line %d\n" % line),
+            )
         for last, said in ((20_000 % 22, "proper 22"), (19_999 % 22, "C4 vertices 19999 20000")):
-            plan = b"".join(b"%d %d\n" % (v, 1 + v % 22) for v in range(1, 20_000)) + b"20000 %d\n" % (1 + last)
+            plan = b"".join(
+                b"%d %d\n" % (v, 1 + v % 22) for v in range(1, 20_000)
+            ) + b"20000 %d\n" % (1 + last)
             self.says(f"the last of 20,000 rows has {last}", head + body + b"plan\n" + plan, said)
 
     def test_help(self):
@@ -130,25 +210,58 @@ class BlackBox(Case):
         plan = next(it.usage for it in COMMANDS if it.name == "plan")
         unknown = "unrecognized subcommand '{}'".format
         rows = [
-            *(("forestplan", words, fault, usage) for words, fault, usage in (
-                (["plann"], unknown("plann") + "||  tip: some similar subcommands exist: 'plain', 'plan'", ""),
-                (["--workers", "1", "plan"],
-                 "unexpected argument '--workers' found||  tip: 'plan --workers' exists", ""),
-                (["--version"], "unexpected argument '--version' found", ""),
-                (["plan", "-w", "1"], "unexpected argument '-w' found", plan),
-                (["plan", "--worker", "1"],
-                 "unexpected argument '--worker' found||  tip: a similar argument exists: '--workers'",
-                 "forestplan plan --workers <N>"),
-                (["plan", "--turns=1", "--turns=2"], "the argument '--turns <N>' cannot be used multiple times", plan),
-            )),
-            *((it.program, [it.name, "extra"], "unexpected argument 'extra' found", it.usage) for it in COMMANDS),
+            *(
+                ("forestplan", words, fault, usage)
+                for words, fault, usage in (
+                    (
+                        ["plann"],
+                        unknown("plann")
+                        + "||  tip: some similar subcommands exist: 'plain', 'plan'",
+                        "",
+                    ),
+                    (
+                        ["--workers", "1", "plan"],
+                        "unexpected argument '--workers' found||  tip: 'plan --workers' exists",
+                        "",
+                    ),
+                    (["--version"], "unexpected argument '--version' found", ""),
+                    (["plan", "-w", "1"], "unexpected argument '-w' found", plan),
+                    (
+                        ["plan", "--worker", "1"],
+                        "unexpected argument '--worker' found||  tip: a similar argument exists: '--workers'",
+                        "forestplan plan --workers <N>",
+                    ),
+                    (
+                        ["plan", "--turns=1", "--turns=2"],
+                        "the argument '--turns <N>' cannot be used multiple times",
+                        plan,
+                    ),
+                )
+            ),
+            *(
+                (it.program, [it.name, "extra"], "unexpected argument 'extra' found", it.usage)
+                for it in COMMANDS
+            ),
         ]
         for name in PROGRAMS:
             names = ", ".join(command.name for command in commands_of(name))
-            rows.append((name, [], f"'{name}' requires a subcommand but one was not provided|  [subcommands: {names}]",
-                         ""))
-            rows += [(name, [word], unknown(word if isinstance(word, str) else "\N{REPLACEMENT CHARACTER}"), "")
-                     for word in ("nothing", "help", "net.col", b"\xff")]
+            rows.append(
+                (
+                    name,
+                    [],
+                    f"'{name}' requires a subcommand but one was not provided|  [subcommands: {names}]",
+                    "",
+                )
+            )
+            rows += [
+                (
+                    name,
+                    [word],
+                    unknown(word if isinstance(word, str) else "\N{REPLACEMENT CHARACTER}"),
+                    "",
+                )
+                for word in ("nothing", "help", "net.col", b"\xff")
+            ]
         for name, words, fault, usage in rows:
             is_unknown = fault.startswith(("unexpected argument", "unrecognized subcommand"))
             said = f"{fault}||Usage: {usage or f'{name} <COMMAND>'}"
@@ -156,22 +269,36 @@ class BlackBox(Case):
 
     def test_refused_values(self):
         """Values of options that are refused. Each text whole; it has no usage."""
-        too_large, no_digit = "number too large to fit in target type", "invalid digit found in string"
+        too_large, no_digit = (
+            "number too large to fit in target type",
+            "invalid digit found in string",
+        )
         for it, option in ((it, option) for it in COMMANDS for option in it.options):
             value, least, most = OPTIONS[option]
-            rows = [(number, f"{number} is not in {least}..={most}")
-                    for number in (least - 1, most + 1, 2**32 + 1, 2**64 - 1) if not least <= number <= most]
-            rows += [(2**64, too_large), (10**30, too_large), ("", "cannot parse integer from empty string"),
-                     *((number, no_digit) for number in ("four", "4.0", "4 ", " 4", "0x4", "+", "1x"))]
+            rows = [
+                (number, f"{number} is not in {least}..={most}")
+                for number in (least - 1, most + 1, 2**32 + 1, 2**64 - 1)
+                if not least <= number <= most
+            ]
+            rows += [
+                (2**64, too_large),
+                (10**30, too_large),
+                ("", "cannot parse integer from empty string"),
+                *((number, no_digit) for number in ("four", "4.0", "4 ", " 4", "0x4", "+", "1x")),
+            ]
             rows = [(number, no_digit if number == -1 else why) for number, why in rows]
             for number, why in rows:
                 fault = f"invalid value '{number}' for '--{option} <{value}>': {why}"
-                for words in ([f"--{option}={number}"], [f"--{option}", str(number)])[:2 - (number == -1)]:
+                for words in ([f"--{option}={number}"], [f"--{option}", str(number)])[
+                    : 2 - (number == -1)
+                ]:
                     self.expect_refused([it.name, *words], fault, program=it.program)
             fault = f"a value is required for '--{option} <{value}>' but none was supplied"
             self.expect_refused([it.name, f"--{option}"], fault, program=it.program)
-        self.expect_refused(["plan", "--workers", "65", "--turns", "x"],
-                            "invalid value '65' for '--workers <N>': 65 is not in 1..=64")
+        self.expect_refused(
+            ["plan", "--workers", "65", "--turns", "x"],
+            "invalid value '65' for '--workers <N>': 65 is not in 1..=64",
+        )
 
     def expect_refused(self, words, fault, hint="", program="forestplan"):
         wanted = f"error: {fault}||For more information, try '--help'.|{hint}".replace("|", "\n")
@@ -182,8 +309,11 @@ class BlackBox(Case):
         """Each command writes to a full device and to a pipe that nobody reads, and reads a folder and a closed stream;
         and a full device for errors changes no status."""
         for it in COMMANDS:
-            rows = [(words, how) for words in (it.line, [it.name, "--help"])
-                    for how in ('"$0" "$@" >/dev/full', 'exec > >(:); wait $!; exec "$0" "$@"')]
+            rows = [
+                (words, how)
+                for words in (it.line, [it.name, "--help"])
+                for how in ('"$0" "$@" >/dev/full', 'exec > >(:); wait $!; exec "$0" "$@"')
+            ]
             rows += [(it.line, f'"$0" "$@" <{stream}') for stream in (TOP, "&-")]
             for words, how in rows:
                 done = called("bash", "-c", how, PATHS[it.program], *words, data=text(it.data))

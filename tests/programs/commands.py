@@ -22,13 +22,25 @@ class Commands(Case):
         programs'."""
         for program in PATHS:
             listed = completion.commands_in((program,), text_in("lab", "help", f"{program}.txt"))
-            self.same(f"the commands of {program}", [command.name for command in commands_of(program)], listed)
-        self.same("lab/help/", {f"{name}.txt" for _, name in HELPS}, set(os.listdir(os.path.join(TOP, "lab", "help"))))
+            self.same(
+                f"the commands of {program}",
+                [command.name for command in commands_of(program)],
+                listed,
+            )
+        self.same(
+            "lab/help/",
+            {f"{name}.txt" for _, name in HELPS},
+            set(os.listdir(os.path.join(TOP, "lab", "help"))),
+        )
 
     def test_scripts(self):
         """The table has each command of forestlab, and each command below one has an example in its help."""
-        self.same("bin/", sorted(os.listdir(os.path.join(TOP, "bin"))), ["forestlab", *sorted(PATHS)])
-        self.same("the commands of forestlab", {script.name.split()[0] for script in SCRIPTS}, set(OF_LAB))
+        self.same(
+            "bin/", sorted(os.listdir(os.path.join(TOP, "bin"))), ["forestlab", *sorted(PATHS)]
+        )
+        self.same(
+            "the commands of forestlab", {script.name.split()[0] for script in SCRIPTS}, set(OF_LAB)
+        )
         found = completion.helps(os.path.join(TOP, "bin"), "forestlab")
         self.same("forestlab --help lists them", found[0][2], list(OF_LAB))
         below = [(" ".join(words), text) for words, text, _ in found if len(words) > 2]
@@ -37,22 +49,35 @@ class Commands(Case):
         self.note("commands below others", len(below) > 26, below)
         for name in MODULES:
             done = called(sys.executable, os.path.join(TOP, "build"), name, "--help")
-            self.note(f"python3 build {name} --help", done[0] == 0 and done[1] and not done[2], done)
+            self.note(
+                f"python3 build {name} --help", done[0] == 0 and done[1] and not done[2], done
+            )
 
     def test_output(self):
         """-o writes to a file, and leaves the one that was there if it can't, or if something is wrong."""
         path, run = os.path.join(self.folder, "made"), self.call("forestlab", "simulate", "two")[1]
-        for words, data in ((["network", "path", "3"], b""), (["picture", "rounds", "two"], b""),
-                            (["simulate", "two"], b""), (["transcript", "check", "two", "-"], run),
-                            (["explore", "two"], b""), (["sheet", "--lesson", "1"], b""),
-                            (["channels", "7"], b"plan\n1 1\n")):
-            wanted, done = (self.call("forestlab", *words, *more, data=data) for more in ([], ["-o", path]))
+        for words, data in (
+            (["network", "path", "3"], b""),
+            (["picture", "rounds", "two"], b""),
+            (["simulate", "two"], b""),
+            (["transcript", "check", "two", "-"], run),
+            (["explore", "two"], b""),
+            (["sheet", "--lesson", "1"], b""),
+            (["channels", "7"], b"plan\n1 1\n"),
+        ):
+            wanted, done = (
+                self.call("forestlab", *words, *more, data=data) for more in ([], ["-o", path])
+            )
             self.same(f"{words} -o", (*done[:2], contents(path)), (0, b"", wanted[1]))
-        for words, said in ((["picture", "rounds", "nowhere"], b"picture: nowhere: No such file"),
-                            (["network", "tell", "path0"], b"network: NODES is 0")):
+        for words, said in (
+            (["picture", "rounds", "nowhere"], b"picture: nowhere: No such file"),
+            (["network", "tell", "path0"], b"network: NODES is 0"),
+        ):
             self.refusal(f"{words} -o", self.call("forestlab", *words, "-o", path), 1, said)
             self.same("what was there is left", contents(path), b"plan\n1 7\n")
-        done = self.call("forestlab", "network", "path", "3", "-o", os.path.join(self.folder, "no", "folder"))
+        done = self.call(
+            "forestlab", "network", "path", "3", "-o", os.path.join(self.folder, "no", "folder")
+        )
         self.refusal("-o in no folder", done, 1, b"No such file or directory")
         self.same("nothing is left beside it", os.listdir(self.folder), ["made"])
 
@@ -62,13 +87,24 @@ class Commands(Case):
         for words in (["picture", "rounds"], ["simulate"], ["network", "number", "--by", "degree"]):
             done, wanted = (self.call("forestlab", *words, it) for it in ("petersen", given))
             self.same(f"{words} of a name", done[:2], (0, wanted[1]))
-        for name, nodes in (("path5", 5), ("ring7", 7), ("star4", 4), ("complete4", 4), ("grid3x4", 12),
-                            ("queen5x5", 25)):
+        for name, nodes in (
+            ("path5", 5),
+            ("ring7", 7),
+            ("star4", 4),
+            ("complete4", 4),
+            ("grid3x4", 12),
+            ("queen5x5", 25),
+        ):
             done = self.call("forestlab", "network", "tell", name)
             self.note(f"network tell {name}", done[1].startswith(b"nodes: %d\n" % nodes), done)
-        for name, said in (("petersenn", b"No such file or directory"), ("rings", b"No such file"),
-                           ("path5x5", b"no network of this name"), ("grid4", b"no network of this name"),
-                           ("disk5", b"no network of this name"), ("path99999", b"at most 20000")):
+        for name, said in (
+            ("petersenn", b"No such file or directory"),
+            ("rings", b"No such file"),
+            ("path5x5", b"no network of this name"),
+            ("grid4", b"no network of this name"),
+            ("disk5", b"no network of this name"),
+            ("path99999", b"at most 20000"),
+        ):
             self.refusal(f"no network {name}", self.call("forestlab", "simulate", name), 1, said)
 
     def test_completion(self):
@@ -78,16 +114,27 @@ class Commands(Case):
         for shell in ("bash", "zsh"):
             if not shutil.which(shell):
                 continue
-            for words, wanted in ((["forestlab", ""], list(OF_LAB)), (["forestlab", "network", "que"], ["queen"]),
-                                  (["bin/forestlab", "transcript", "check", "--j"], ["--json"]),
-                                  (["forestlab", "network", "tell", "path5", "--h"], ["--help"]),
-                                  (["forestplan", "tr"], ["transcript"]), (["forestplay", "run", "--tr"],
-                                                                           ["--transcript"])):
+            for words, wanted in (
+                (["forestlab", ""], list(OF_LAB)),
+                (["forestlab", "network", "que"], ["queen"]),
+                (["bin/forestlab", "transcript", "check", "--j"], ["--json"]),
+                (["forestlab", "network", "tell", "path5", "--h"], ["--help"]),
+                (["forestplan", "tr"], ["transcript"]),
+                (["forestplay", "run", "--tr"], ["--transcript"]),
+            ):
                 quoted = " ".join(map(repr, words))
-                line = f"{script}\nCOMP_WORDS=({quoted}); COMP_CWORD={len(words) - 1}\n_forestplan\n"
+                line = (
+                    f"{script}\nCOMP_WORDS=({quoted}); COMP_CWORD={len(words) - 1}\n_forestplan\n"
+                )
                 line += "printf '%s\\n' \"${COMPREPLY[@]}\"\n"
-                line = line.replace("COMP_CWORD=", "setopt ksh_arrays; COMP_CWORD=") if shell == "zsh" else line
-                done = subprocess.run([shell, "-c", line], capture_output=True, text=True, timeout=LIMIT)
+                line = (
+                    line.replace("COMP_CWORD=", "setopt ksh_arrays; COMP_CWORD=")
+                    if shell == "zsh"
+                    else line
+                )
+                done = subprocess.run(
+                    [shell, "-c", line], capture_output=True, text=True, timeout=LIMIT
+                )
                 self.note(f"{shell}: {words}", sorted(done.stdout.split()) == sorted(wanted), done)
 
     def call(self, name, *words, data=b""):

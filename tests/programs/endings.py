@@ -37,18 +37,39 @@ class Endings(Case):
     def test_outputs(self):
         """A closed or full output is one line and status 1, of help too, and of a script that isn't Python; a closed
         standard error changes nothing."""
-        scripts = [("try", ["--help"]), ("test", ["--help"]), ("bin/forestlab", ["--help"]),
-                   ("bin/forestlab", ["--version"]), ("forestplan", ["--version"]), ("bin/forestplay", ["--version"])]
-        of_lab = [("bin/forestlab", [name, *words]) for name in COMMANDS
-                  for words in (CALLS.get(name, ["--help"]), ["--help"], ["--version"])]
+        scripts = [
+            ("try", ["--help"]),
+            ("test", ["--help"]),
+            ("bin/forestlab", ["--help"]),
+            ("bin/forestlab", ["--version"]),
+            ("forestplan", ["--version"]),
+            ("bin/forestplay", ["--version"]),
+        ]
+        of_lab = [
+            ("bin/forestlab", [name, *words])
+            for name in COMMANDS
+            for words in (CALLS.get(name, ["--help"]), ["--help"], ["--version"])
+        ]
         path = self.file("plan", "plan\n1 1\n")
         for name, words in [*scripts, *of_lab]:
-            for where, said in ((">/dev/full", b"No space left on device"), (">&-", b"Bad file descriptor")):
+            for where, said in (
+                (">/dev/full", b"No space left on device"),
+                (">&-", b"Bad file descriptor"),
+            ):
                 with open(path, "rb") as plan:
-                    status, _, fault = self.redirected(where, os.path.join(TOP, name), *words, stdin=plan)
-                wanted = rb"\w+: .*%s\n" if (name, words) in scripts else (
-                    words[0].encode() + rb": the output can't be written: %s\n")
-                self.note(f"{name} {words} {where}", status == 1 and re.fullmatch(wanted % said, fault), fault)
+                    status, _, fault = self.redirected(
+                        where, os.path.join(TOP, name), *words, stdin=plan
+                    )
+                wanted = (
+                    rb"\w+: .*%s\n"
+                    if (name, words) in scripts
+                    else (words[0].encode() + rb": the output can't be written: %s\n")
+                )
+                self.note(
+                    f"{name} {words} {where}",
+                    status == 1 and re.fullmatch(wanted % said, fault),
+                    fault,
+                )
         # The reader has gone before anything is written, or after a line of much more.
         for name, words in scripts:
             _, _, fault = self.redirected("| exec true", os.path.join(TOP, name), *words)
@@ -61,57 +82,102 @@ class Endings(Case):
 
     def test_inputs(self):
         """An input that is closed, or a folder, is one line; it is closed for Python, which wouldn't start with one."""
-        for name, words in (("network", ["read", "-"]), ("network", ["tell", "-"]), ("channels", ["1"]),
-                            ("transcript", ["check", TRIANGLE]), ("transcript", ["convert", "json"]),
-                            ("simulate", ["-"]), ("explore", ["-"]), ("picture", ["plan", "-"])):
+        for name, words in (
+            ("network", ["read", "-"]),
+            ("network", ["tell", "-"]),
+            ("channels", ["1"]),
+            ("transcript", ["check", TRIANGLE]),
+            ("transcript", ["convert", "json"]),
+            ("simulate", ["-"]),
+            ("explore", ["-"]),
+            ("picture", ["plan", "-"]),
+        ):
             for where in ("<&-", f"<{TOP}"):
                 status, out, fault = self.redirected(where, FORESTLAB, name, *words)
                 line = rb"%s: (-|standard input): Bad file descriptor\n" % name.encode()
-                self.note(f"{name} {words} {where}", (status, out) == (1, b"") and re.fullmatch(line, fault), fault)
+                self.note(
+                    f"{name} {words} {where}",
+                    (status, out) == (1, b"") and re.fullmatch(line, fault),
+                    fault,
+                )
         for words in (["network", "path", "2"], ["network", "--version"], ["--help"]):
             status, out, fault = self.redirected(f"<{TOP}", FORESTLAB, *words)
-            self.note(f"{words} needs no input, so it may be a folder", (status, fault) == (0, b"") and out, fault)
+            self.note(
+                f"{words} needs no input, so it may be a folder",
+                (status, fault) == (0, b"") and out,
+                fault,
+            )
 
     def test_interrupts(self):
         """Ctrl-C while a command waits for its input, once or more often, is one line and status 130; SIGTERM is
         143."""
-        for name, words in (("network", ["read", "-"]), ("channels", ["1"]), ("transcript", ["check", TRIANGLE]),
-                            ("picture", ["plan", "-"]), ("explore", ["-"])):
-            for number, times, wanted in ((signal.SIGINT, 1, (130, b"%s: interrupted\n" % name.encode())),
-                                          (signal.SIGINT, 3, (130, b"%s: interrupted\n" % name.encode())),
-                                          (signal.SIGTERM, 1, (143, b""))):
+        for name, words in (
+            ("network", ["read", "-"]),
+            ("channels", ["1"]),
+            ("transcript", ["check", TRIANGLE]),
+            ("picture", ["plan", "-"]),
+            ("explore", ["-"]),
+        ):
+            for number, times, wanted in (
+                (signal.SIGINT, 1, (130, b"%s: interrupted\n" % name.encode())),
+                (signal.SIGINT, 3, (130, b"%s: interrupted\n" % name.encode())),
+                (signal.SIGTERM, 1, (143, b"")),
+            ):
                 with self.begun(name, words) as run:
                     wait_until(lambda: self.is_reading(run.pid), LIMIT, 0.05)
                     for _ in range(times):
                         run.send_signal(number)
                     out, said = run.communicate(timeout=LIMIT)
                 got = run.returncode, said
-                self.note(f"{name} {words} {number} {times} times", got == wanted and out == b"", got)
+                self.note(
+                    f"{name} {words} {number} {times} times", got == wanted and out == b"", got
+                )
 
     def begun(self, name, words):
         # A shell has what it runs in the background ignore SIGINT.
-        return subprocess.Popen([FORESTLAB, name, *words], stdin=subprocess.PIPE, stdout=subprocess.PIPE,
-                                stderr=subprocess.PIPE, start_new_session=True,
-                                preexec_fn=lambda: signal.signal(signal.SIGINT, signal.SIG_DFL))
+        return subprocess.Popen(
+            [FORESTLAB, name, *words],
+            stdin=subprocess.PIPE,
+            stdout=subprocess.PIPE,
+            stderr=subprocess.PIPE,
+            start_new_session=True,
+            preexec_fn=lambda: signal.signal(signal.SIGINT, signal.SIG_DFL),
+        )
 
     def is_reading(self, process):
         """Whether a process is Python, no longer the script, and waits for what a pipe gives."""
-        return text_in(f"/proc/{process}/comm").startswith("python") and "pipe" in text_in(f"/proc/{process}/wchan")
+        return text_in(f"/proc/{process}/comm").startswith("python") and "pipe" in text_in(
+            f"/proc/{process}/wchan"
+        )
 
     def test_own_faults(self):
         """A fault of a command itself is one line, too."""
         own = "some: a fault of this command itself, please report it: "
-        for fault, status, said in (("{}['x']", 70, f"{own}KeyError: 'x' ("), ("[].pop()", 70, f"{own}IndexError: "),
-                                    ("bytearray(1 << 62)", 1, "some: out of memory\n")):
+        for fault, status, said in (
+            ("{}['x']", 70, f"{own}KeyError: 'x' ("),
+            ("[].pop()", 70, f"{own}IndexError: "),
+            ("bytearray(1 << 62)", 1, "some: out of memory\n"),
+        ):
             script = f"import sys; from lab import door; sys.exit(door.run('some', lambda: lambda: {fault}))"
-            done = subprocess.run([sys.executable, "-c", script], capture_output=True, text=True, cwd=TOP)
-            good = done.returncode == status and done.stderr.count("\n") == 1 and done.stderr.startswith(said)
+            done = subprocess.run(
+                [sys.executable, "-c", script], capture_output=True, text=True, cwd=TOP
+            )
+            good = (
+                done.returncode == status
+                and done.stderr.count("\n") == 1
+                and done.stderr.startswith(said)
+            )
             self.note(f"a command that fails by {fault}", good, done)
 
     def test_words(self):
         """The doors themselves, without a command, or with one that there isn't."""
         for folder, said in (("lab", "forestlab: "), ("build", "build: one of these is wanted: ")):
             for words in ([], ["nothing"]):
-                done = subprocess.run([sys.executable, os.path.join(TOP, folder), *words], capture_output=True,
-                                      text=True)
-                self.note(f"{folder} {words}", done.returncode == 2 and done.stderr.startswith(said), done)
+                done = subprocess.run(
+                    [sys.executable, os.path.join(TOP, folder), *words],
+                    capture_output=True,
+                    text=True,
+                )
+                self.note(
+                    f"{folder} {words}", done.returncode == 2 and done.stderr.startswith(said), done
+                )

@@ -97,7 +97,9 @@ def ci():
 
 raise SystemExit(ci())
 """
-CRATES = "# below\nlower:\nmiddle: lower\n\n# not of the program\naside: lower\n\nforestplan: middle\n"
+CRATES = (
+    "# below\nlower:\nmiddle: lower\n\n# not of the program\naside: lower\n\nforestplan: middle\n"
+)
 
 
 def write(path, text, mode=0o644):
@@ -124,7 +126,9 @@ class Tree:
         self.kit = os.path.join(kit, "KIT-ID")
         write(os.path.join(kit, "bin", "rt"), RT, 0o755)
         write(self.kit, KIT)
-        self.environment = dict(os.environ, PATH=f"{kit}/bin:{os.environ['PATH']}", XDG_CACHE_HOME=self.cache)
+        self.environment = dict(
+            os.environ, PATH=f"{kit}/bin:{os.environ['PATH']}", XDG_CACHE_HOME=self.cache
+        )
 
     def write(self, path, text):
         write(os.path.join(self.top, path), text)
@@ -134,7 +138,9 @@ class Tree:
 
     def run(self, *words, given=""):
         """The status and both outputs of words that are called at the top."""
-        return called(*words, data=given, limit=LIMIT, text=True, cwd=self.top, env=self.environment)
+        return called(
+            *words, data=given, limit=LIMIT, text=True, cwd=self.top, env=self.environment
+        )
 
     def call(self, *words, given=""):
         return self.run("./forestplan", *words, given=given)
@@ -146,8 +152,14 @@ class Tree:
     def begun(self):
         """A call of the program's script, and what gives what it has said. All that it has started ends with it."""
         with tempfile.TemporaryFile("w+") as errors, subprocess.Popen(
-                ["./forestplan", "plan"], stdin=subprocess.DEVNULL, stdout=errors, stderr=errors, cwd=self.top,
-                env=self.environment, start_new_session=True) as started:
+            ["./forestplan", "plan"],
+            stdin=subprocess.DEVNULL,
+            stdout=errors,
+            stderr=errors,
+            cwd=self.top,
+            env=self.environment,
+            start_new_session=True,
+        ) as started:
             try:
                 yield started, lambda: os.pread(errors.fileno(), 10_000, 0).decode()
             finally:
@@ -175,7 +187,9 @@ class FirstRun(Case):
 
     def setUp(self):
         # A shell has what it runs in the background ignore SIGINT, and what is started from there would, too.
-        self.addCleanup(signal.signal, signal.SIGINT, signal.signal(signal.SIGINT, signal.default_int_handler))
+        self.addCleanup(
+            signal.signal, signal.SIGINT, signal.signal(signal.SIGINT, signal.default_int_handler)
+        )
 
     def test_calls(self):
         tree = Tree(self.folder)
@@ -190,60 +204,116 @@ class FirstRun(Case):
     def run_unbuilt(self, tree):
         """Before anything is built help is the stored text, and Python refuses a program that isn't built, and draws
         rounds, and a plan that it says isn't the program's."""
-        for script, words, name in ((f"{tree.top}/forestplan", ["--help"], "forestplan"),
-                                    (f"{tree.top}/forestplan", ["plan", "-h"], "forestplan-plan"),
-                                    (f"{TOP}/try", ["rounds", "--help"], "forestplay-rounds")):
+        for script, words, name in (
+            (f"{tree.top}/forestplan", ["--help"], "forestplan"),
+            (f"{tree.top}/forestplan", ["plan", "-h"], "forestplan-plan"),
+            (f"{TOP}/try", ["rounds", "--help"], "forestplay-rounds"),
+        ):
             wanted = text_in("lab", "help", f"{name}.txt")
             self.same(f"{script} {words}", tree.run(script, *words), (0, wanted, ""))
         for where in (">/dev/full", ">&-"):
             done = tree.run("bash", "-c", f"./forestplan plain --help {where}")
             self.note(f"a stored help {where}", done[0] == 4 and done[2].count("\n") == 1, done)
         tree.source("forestplay", "")
-        for words, status, is_drawn, said in (("rounds", 0, True, ""),
-                                              ("plan", 0, True, "picture: forestplan isn't built, so "),
-                                              ("run", 1, False, "picture: forestplan isn't built: a first call of it")):
-            done = tree.run(sys.executable, "-S", "lab", "picture", words, "-", given="p edge 2 1\ne 1 2\n")
-            good = (done[0], done[1].startswith("<svg ")) == (status, is_drawn) and done[2].startswith(said)
-            self.note(f"picture {words} where nothing is built", good and bool(done[2]) == bool(said), done)
+        for words, status, is_drawn, said in (
+            ("rounds", 0, True, ""),
+            ("plan", 0, True, "picture: forestplan isn't built, so "),
+            ("run", 1, False, "picture: forestplan isn't built: a first call of it"),
+        ):
+            done = tree.run(
+                sys.executable, "-S", "lab", "picture", words, "-", given="p edge 2 1\ne 1 2\n"
+            )
+            good = (done[0], done[1].startswith("<svg ")) == (status, is_drawn) and done[
+                2
+            ].startswith(said)
+            self.note(
+                f"picture {words} where nothing is built",
+                good and bool(done[2]) == bool(said),
+                done,
+            )
         self.note("nothing is built by these", not os.path.exists(tree.program))
 
     def run_first(self, tree):
         status, out, err = tree.call("plain", "x", given="input\n")
-        self.note("what the program prints", (status, out) == (0, "plain x\ninput\n"), (status, out))
-        self.note("a line of progress", re.search(
-            r"^forestplan: 3 of 3 crates proved, \d+ s, the last one forestplan\n"
-            r"forestplan: 3 crates proved in \d+ s\n\Z", err, re.M), err)
-        self.note("the log", "== middle\nlogic=proved\nrt: middle proved\n" in tree.log(), tree.log())
-        self.note("the gate's edits are left to the gate", "must-fail" not in tree.log(), tree.log())
-        for what, path, text in (("a second call", "crates/forestplan/out/old", ""),
-                                 ("a crate of tests", "crates/some_checks/src/lib.rt", "tests"),
-                                 ("another crate", "crates/aside/src/lib.rt", "changed"),
-                                 ("a line of it, be it wrong", "crates.txt", f"{CRATES}mine: nothing\n")):
+        self.note(
+            "what the program prints", (status, out) == (0, "plain x\ninput\n"), (status, out)
+        )
+        self.note(
+            "a line of progress",
+            re.search(
+                r"^forestplan: 3 of 3 crates proved, \d+ s, the last one forestplan\n"
+                r"forestplan: 3 crates proved in \d+ s\n\Z",
+                err,
+                re.M,
+            ),
+            err,
+        )
+        self.note(
+            "the log", "== middle\nlogic=proved\nrt: middle proved\n" in tree.log(), tree.log()
+        )
+        self.note(
+            "the gate's edits are left to the gate", "must-fail" not in tree.log(), tree.log()
+        )
+        for what, path, text in (
+            ("a second call", "crates/forestplan/out/old", ""),
+            ("a crate of tests", "crates/some_checks/src/lib.rt", "tests"),
+            ("another crate", "crates/aside/src/lib.rt", "changed"),
+            ("a line of it, be it wrong", "crates.txt", f"{CRATES}mine: nothing\n"),
+        ):
             tree.write(path, text)
-            self.same(f"{what} builds nothing", tree.call("plan", given="again"), (0, "plan\nagain", ""))
+            self.same(
+                f"{what} builds nothing", tree.call("plan", given="again"), (0, "plan\nagain", "")
+            )
         tree.write("crates.txt", CRATES)
         tree.source("middle", "changed")
         got = tree.call("plan")
-        self.note("a changed source is proved", got[:2] == (0, "plan\n") and "== middle" in tree.log(), tree.log())
+        self.note(
+            "a changed source is proved",
+            got[:2] == (0, "plan\n") and "== middle" in tree.log(),
+            tree.log(),
+        )
         write(tree.program, "#!/bin/sh\necho another\n", 0o755)
-        self.same("a program that nobody vouches for is built anew", tree.call("plan")[:2], (0, "plan\n"))
-        self.same("no room is left", sorted(os.listdir(os.path.join(tree.cache, "forestplan"))),
-                  ["room.lock"])
+        self.same(
+            "a program that nobody vouches for is built anew", tree.call("plan")[:2], (0, "plan\n")
+        )
+        self.same(
+            "no room is left",
+            sorted(os.listdir(os.path.join(tree.cache, "forestplan"))),
+            ["room.lock"],
+        )
 
     def run_failures(self, tree):
         for crate in ("middle", "forestplan"):
             tree.source(crate, "wrong")
             status, out, err = tree.call("plan")
-            self.note(f"{crate}, which isn't proved", status == 70 and not out and all(said in err for said in (
-                f"the crate {crate} isn't proved", f"  fn {crate}::f: not proved\n", "out/build/forestplan.log",
-                "forestplan: it could not be built")), (status, out, err))
+            self.note(
+                f"{crate}, which isn't proved",
+                status == 70
+                and not out
+                and all(
+                    said in err
+                    for said in (
+                        f"the crate {crate} isn't proved",
+                        f"  fn {crate}::f: not proved\n",
+                        "out/build/forestplan.log",
+                        "forestplan: it could not be built",
+                    )
+                ),
+                (status, out, err),
+            )
             tree.source(crate, "fine once more")
             self.same(f"{crate} is mended", tree.call("plan")[:2], (0, "plan\n"))
         tree.source("middle", "to be refused")
         tree.write("HANDLES", "all")
         status, out, err = tree.call("plan")
-        self.note("a repository that is refused", status == 70 and not out and "rt ci ended with status 2" in err
-                  and "  rt: HANDLES is one line\n" in err, (status, out, err))
+        self.note(
+            "a repository that is refused",
+            status == 70
+            and not out
+            and "rt ci ended with status 2" in err
+            and "  rt: HANDLES is one line\n" in err,
+            (status, out, err),
+        )
         tree.write("HANDLES", "Handles allowed: none.\n")
 
     def run_stopped(self, tree):
@@ -262,9 +332,16 @@ class FirstRun(Case):
                 os.killpg(first.pid, number)
                 self.same(f"the status by {number.name}", first.wait(LIMIT), status)
                 goes_on = "what is proved is kept, so the next call goes on from here"
-                self.note(f"what it says at {number.name}", number == signal.SIGKILL or wait_until(
-                    lambda: goes_on in said(), LIMIT), said())
-            self.note(f"nothing goes on after {number.name}", wait_until(lambda: not tree.at_work(), LIMIT), said)
+                self.note(
+                    f"what it says at {number.name}",
+                    number == signal.SIGKILL or wait_until(lambda: goes_on in said(), LIMIT),
+                    said(),
+                )
+            self.note(
+                f"nothing goes on after {number.name}",
+                wait_until(lambda: not tree.at_work(), LIMIT),
+                said,
+            )
         # If the script alone is killed, the prover goes on, and the next call waits for it.
         with tree.begun() as (killed, said):
             self.note("at work once more", wait_until(tree.at_work, LIMIT), said())
@@ -281,21 +358,44 @@ class FirstRun(Case):
         """Edits are tried in the place of the gate's, and each is counted by what `rt ci` says of it."""
         weak = "refused, as it must be (only because a proof file names what the edit took away)"
         for edits, wanted, status in (
-                ({"one": "refused, as it must be"}, ["1 refused, 0 of them WEAK, 0 PROVED, 0 not run"], 0),
-                ({"two": weak}, [f"WEAK crates/middle/wrong-bodies/two.edit{weak.removeprefix('refused')}",
-                                 "2 refused, 1 of them WEAK, 0 PROVED, 0 not run"], 3),
-                ({"two": "NOT REFUSED: still proved", "three": "BAD EDIT: no text"},
-                 ["BAD EDIT crates/middle/wrong-bodies/three.edit: no text",
-                  "PROVED crates/middle/wrong-bodies/two.edit: still proved",
-                  "1 refused, 0 of them WEAK, 1 PROVED, 1 not run"], 1)):
+            (
+                {"one": "refused, as it must be"},
+                ["1 refused, 0 of them WEAK, 0 PROVED, 0 not run"],
+                0,
+            ),
+            (
+                {"two": weak},
+                [
+                    f"WEAK crates/middle/wrong-bodies/two.edit{weak.removeprefix('refused')}",
+                    "2 refused, 1 of them WEAK, 0 PROVED, 0 not run",
+                ],
+                3,
+            ),
+            (
+                {"two": "NOT REFUSED: still proved", "three": "BAD EDIT: no text"},
+                [
+                    "BAD EDIT crates/middle/wrong-bodies/three.edit: no text",
+                    "PROVED crates/middle/wrong-bodies/two.edit: still proved",
+                    "1 refused, 0 of them WEAK, 1 PROVED, 1 not run",
+                ],
+                1,
+            ),
+        ):
             for name, said in edits.items():
                 tree.write(f"crates/middle/wrong-bodies/{name}.edit", said)
             done = tree.build("wrong-bodies", "middle")
-            self.note(f"wrong bodies {edits}", (done[0], done[1].splitlines()) == (status, wanted), done)
+            self.note(
+                f"wrong bodies {edits}", (done[0], done[1].splitlines()) == (status, wanted), done
+            )
         tree.source("lower", "wrong")
         done = tree.build("wrong-bodies", "middle/one")
-        self.note("a crate below that isn't proved", done[0] == 1 and "lower isn't proved" in done[2]
-                  and done[1].endswith("\n0 refused, 0 of them WEAK, 0 PROVED, 1 not run\n"), done)
+        self.note(
+            "a crate below that isn't proved",
+            done[0] == 1
+            and "lower isn't proved" in done[2]
+            and done[1].endswith("\n0 refused, 0 of them WEAK, 0 PROVED, 1 not run\n"),
+            done,
+        )
         tree.source("lower", "fine")
 
     def run_alone(self, tree):
@@ -314,25 +414,54 @@ class FirstRun(Case):
             tree.source("lower", kit)
             status, out, err = tree.call("plan")
             self.same("another kit is tried", (status, out), (0, "plan\n"))
-            self.note("both kits are named", f"for {KIT}, and rt is of {kit}" in err.split(" crates proved")[0], err)
+            self.note(
+                "both kits are named",
+                f"for {KIT}, and rt is of {kit}" in err.split(" crates proved")[0],
+                err,
+            )
             with contextlib.suppress(FileNotFoundError):
                 os.remove(tree.kit)
         tree.source("lower", "by no command")
         tree.environment["PATH"] = without_rt(tree.environment["PATH"])
         status, out, err = tree.call("plan")
-        self.note("no command", (status, out) == (70, "") and f"rt is not on the PATH: {KIT} is wanted" in err, err)
-        self.note("what it would take isn't said then", "minutes" not in err and "Traceback" not in err, err)
+        self.note(
+            "no command",
+            (status, out) == (70, "") and f"rt is not on the PATH: {KIT} is wanted" in err,
+            err,
+        )
+        self.note(
+            "what it would take isn't said then",
+            "minutes" not in err and "Traceback" not in err,
+            err,
+        )
         status, out, err = tree.run(os.path.join(TOP, "try"), "plan")
         self.note("try without a command", (status, out) == (70, "") and KIT in err, err)
 
     def test_watch(self):
         """A line of a run now and then, until it ends; of another process, or none, nothing."""
-        script = ("import sys; from lab import progress; progress.MOMENTS = [0.1, 0.2, 60]; "
-                  "sys.exit(progress.main(sys.argv[1:]))")
-        line = ('sleep "$3" <"$0" & "$1" -c "$2" $! forestplan plan 2>&1 | '
-                '{ read -r first; kill $!; echo "$first"; exec cat; }')
+        script = (
+            "import sys; from lab import progress; progress.MOMENTS = [0.1, 0.2, 60]; "
+            "sys.exit(progress.main(sys.argv[1:]))"
+        )
+        line = (
+            'sleep "$3" <"$0" & "$1" -c "$2" $! forestplan plan 2>&1 | '
+            '{ read -r first; kill $!; echo "$first"; exec cat; }'
+        )
         network = os.path.join(TOP, "examples", "triangle.col")
-        done = called("bash", "-c", line, network, sys.executable, script, LIMIT, data="", limit=LIMIT, cwd=TOP,
-                      text=True)
+        done = called(
+            "bash",
+            "-c",
+            line,
+            network,
+            sys.executable,
+            script,
+            LIMIT,
+            data="",
+            limit=LIMIT,
+            cwd=TOP,
+            text=True,
+        )
         shape = r"(forestplan: \d+ s, 0 s of processor time(, of about 0 s for 284 wires)?\n)+"
-        self.note("lines of a run", (done[0], done[2]) == (0, "") and re.fullmatch(shape, done[1]), done)
+        self.note(
+            "lines of a run", (done[0], done[2]) == (0, "") and re.fullmatch(shape, done[1]), done
+        )

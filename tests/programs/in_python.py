@@ -47,17 +47,35 @@ class InPython(Case):
         """Plans of graphs by chance are those of the definition, whoever finds them; and `check` accepts them."""
         source = random.Random(81)
         for count in range(20):
-            nodes = source.sample([*"abcdefgh", 1, 2.5, (0, 1), "Bad Tölz", "a b", "", "#1"], source.randint(1, 9))
+            nodes = source.sample(
+                [*"abcdefgh", 1, 2.5, (0, 1), "Bad Tölz", "a b", "", "#1"], source.randint(1, 9)
+            )
             pairs = [(one, other) for one in nodes for other in nodes if source.random() < 0.3]
             bars = {node: {source.randint(1, 3)} for node in nodes if source.random() < 0.3}
-            graph = Graph(nodes, pairs) if count % 2 else {
-                node: [other for one, other in pairs if one == node] for node in nodes}
+            graph = (
+                Graph(nodes, pairs)
+                if count % 2
+                else {node: [other for one, other in pairs if one == node] for node in nodes}
+            )
             got = forestplan.plan(graph, bars=bars, workers=2 if count % 4 == 0 else None)
             text, order = forestplan.text_of(graph, bars)
-            wanted = [int(line.split()[1]) for line in plan_text(network_of(text.encode())).decode().split("\n")[1:-1]]
-            self.note(f"plan {count}", (order, list(got.items())) == (nodes, list(zip(nodes, wanted))), (got, wanted))
-            edges = {frozenset((order[v - 1], order[w - 1])) for v, w in network_of(text.encode()).edges}
-            self.note(f"edges {count}", edges == {frozenset(pair) for pair in pairs if pair[0] != pair[1]}, edges)
+            wanted = [
+                int(line.split()[1])
+                for line in plan_text(network_of(text.encode())).decode().split("\n")[1:-1]
+            ]
+            self.note(
+                f"plan {count}",
+                (order, list(got.items())) == (nodes, list(zip(nodes, wanted))),
+                (got, wanted),
+            )
+            edges = {
+                frozenset((order[v - 1], order[w - 1])) for v, w in network_of(text.encode()).edges
+            }
+            self.note(
+                f"edges {count}",
+                edges == {frozenset(pair) for pair in pairs if pair[0] != pair[1]},
+                edges,
+            )
             self.note(f"check {count}", forestplan.check(graph, got, bars=bars) == max(wanted))
 
     def test_licence(self):
@@ -65,45 +83,113 @@ class InPython(Case):
         self.note("a triangle, by hand", triangle == {"Ulm": 2, "Aue": 3, "Hof": 1}, triangle)
         got = forestplan.plan(SQUARE, bars={"Ulm": {36, 99}}, licence=[36, 40, 44, 48])
         self.note("real channels", set(got.values()) <= {36, 40, 44, 48} and got["Ulm"] != 36, got)
-        self.note("they are judged", forestplan.check(SQUARE, got, {"Ulm": {36}}, [36, 40, 44, 48]) <= 4)
+        self.note(
+            "they are judged", forestplan.check(SQUARE, got, {"Ulm": {36}}, [36, 40, 44, 48]) <= 4
+        )
 
     def test_kinds(self):
         """What is no graph, no list and no whole number is refused, and says where it is; it isn't taken letter by
         letter."""
+
         class Table:
             def __iter__(self):
                 return iter(("Ulm", "Aue"))
 
             def __getitem__(self, name):
                 return [0, 1]
+
         for kind, words, call in (
             (TypeError, "a Table is no graph", lambda: forestplan.plan(Table())),
             (TypeError, "a list is no graph", lambda: forestplan.plan([("Ulm", "Aue")])),
-            (TypeError, "the neighbours of 'Ulm' are 'Aue'", lambda: forestplan.plan({"Ulm": "Aue"})),
+            (
+                TypeError,
+                "the neighbours of 'Ulm' are 'Aue'",
+                lambda: forestplan.plan({"Ulm": "Aue"}),
+            ),
             (TypeError, "the neighbours of 'Ulm' are None", lambda: forestplan.plan({"Ulm": None})),
-            (TypeError, "a row of a matrix", lambda: forestplan.plan({0: [0, 1, 0], 1: [1, 0, 1], 2: [0, 1, 0]})),
-            (TypeError, "has the value 0", lambda: forestplan.plan({"a": {"b": 0, "c": 1}, "b": {}, "c": {}})),
-            (TypeError, "'source', 'target' is a table", lambda: forestplan.plan({"source": ["a"], "target": ["b"]})),
-            (TypeError, "'nodes', 'edges' is a table", lambda: forestplan.plan({"nodes": "ab", "edges": [("a", "b")]})),
-            (TypeError, "is ('b', 5), which isn't the name", lambda: forestplan.plan({"a": [("b", 5)], "b": []})),
-            (TypeError, "is None, which isn't the name of a node alone", lambda: forestplan.plan({"a": [None]})),
-            (TypeError, "a bar of 'Ulm' is False", lambda: forestplan.plan(SQUARE, {"Ulm": [False, True]})),
-            (TypeError, "a bar of 'Ulm' is '6'", lambda: forestplan.plan(SQUARE, {"Ulm": ["6"]}, [6, 1, 11])),
-            (TypeError, "the bars of 'Ulm' are '16'", lambda: forestplan.plan(SQUARE, {"Ulm": "16"})),
+            (
+                TypeError,
+                "a row of a matrix",
+                lambda: forestplan.plan({0: [0, 1, 0], 1: [1, 0, 1], 2: [0, 1, 0]}),
+            ),
+            (
+                TypeError,
+                "has the value 0",
+                lambda: forestplan.plan({"a": {"b": 0, "c": 1}, "b": {}, "c": {}}),
+            ),
+            (
+                TypeError,
+                "'source', 'target' is a table",
+                lambda: forestplan.plan({"source": ["a"], "target": ["b"]}),
+            ),
+            (
+                TypeError,
+                "'nodes', 'edges' is a table",
+                lambda: forestplan.plan({"nodes": "ab", "edges": [("a", "b")]}),
+            ),
+            (
+                TypeError,
+                "is ('b', 5), which isn't the name",
+                lambda: forestplan.plan({"a": [("b", 5)], "b": []}),
+            ),
+            (
+                TypeError,
+                "is None, which isn't the name of a node alone",
+                lambda: forestplan.plan({"a": [None]}),
+            ),
+            (
+                TypeError,
+                "a bar of 'Ulm' is False",
+                lambda: forestplan.plan(SQUARE, {"Ulm": [False, True]}),
+            ),
+            (
+                TypeError,
+                "a bar of 'Ulm' is '6'",
+                lambda: forestplan.plan(SQUARE, {"Ulm": ["6"]}, [6, 1, 11]),
+            ),
+            (
+                TypeError,
+                "the bars of 'Ulm' are '16'",
+                lambda: forestplan.plan(SQUARE, {"Ulm": "16"}),
+            ),
             (TypeError, "the bars of 'Ulm' are 6", lambda: forestplan.plan(SQUARE, {"Ulm": 6})),
             (ValueError, "a bar of 'Ulm' is 0", lambda: forestplan.plan(SQUARE, {"Ulm": [0]})),
-            (ValueError, "a bar of 'Ulm' is 2049", lambda: forestplan.plan(SQUARE, {"Ulm": [2049]})),
+            (
+                ValueError,
+                "a bar of 'Ulm' is 2049",
+                lambda: forestplan.plan(SQUARE, {"Ulm": [2049]}),
+            ),
             (TypeError, "the licence is '1-3'", lambda: forestplan.plan(SQUARE, licence="1-3")),
             (TypeError, "the licence is {1}", lambda: forestplan.plan(SQUARE, licence={1})),
-            (TypeError, "a channel of the licence is 36.5", lambda: forestplan.plan(SQUARE, licence=[36.5, 40])),
-            (ValueError, "a channel of the licence is -1", lambda: forestplan.plan(SQUARE, licence=[0, -1])),
-            (TypeError, "the channel of 'Ulm' is 2.0", lambda: forestplan.check(SQUARE, {"Ulm": 2.0})),
+            (
+                TypeError,
+                "a channel of the licence is 36.5",
+                lambda: forestplan.plan(SQUARE, licence=[36.5, 40]),
+            ),
+            (
+                ValueError,
+                "a channel of the licence is -1",
+                lambda: forestplan.plan(SQUARE, licence=[0, -1]),
+            ),
+            (
+                TypeError,
+                "the channel of 'Ulm' is 2.0",
+                lambda: forestplan.check(SQUARE, {"Ulm": 2.0}),
+            ),
             (ValueError, "the channel of 'Ulm' is 0", lambda: forestplan.check(SQUARE, {"Ulm": 0})),
             (ValueError, "the licence has 1", lambda: forestplan.plan(SQUARE, licence=[36])),
-            (ValueError, "names a channel twice", lambda: forestplan.plan(SQUARE, licence=[36, 36])),
+            (
+                ValueError,
+                "names a channel twice",
+                lambda: forestplan.plan(SQUARE, licence=[36, 36]),
+            ),
             (ValueError, "'Prag' is no node", lambda: forestplan.plan(SQUARE, bars={"Prag": {1}})),
             (ValueError, "the plan has 'Prag'", lambda: forestplan.check(SQUARE, {"Prag": 1})),
-            (ValueError, "isn't in the licence", lambda: forestplan.check(SQUARE, {"Ulm": 1}, licence=[7, 8, 9])),
+            (
+                ValueError,
+                "isn't in the licence",
+                lambda: forestplan.check(SQUARE, {"Ulm": 1}, licence=[7, 8, 9]),
+            ),
             (TypeError, "a list is no plan", lambda: forestplan.check(SQUARE, [1, 2])),
             (TypeError, "a dict_items is no graph", lambda: forestplan.plan(SQUARE.items())),
         ):
@@ -114,22 +200,36 @@ class InPython(Case):
 
     def test_refused(self):
         plan = {"Ulm": 1, "Aue": 1, "Hof": 2, "Bonn": 3}
-        part, star = {node: channel for node, channel in plan.items() if node != "Hof"}, {0: range(1, 1025)}
-        for code, nodes, call in (("C4", ["Ulm", "Aue"], lambda: forestplan.check(SQUARE, plan)),
-                                  ("C1", ["Hof"], lambda: forestplan.check(SQUARE, part)),
-                                  ("N1", [0], lambda: forestplan.plan(star))):
+        part, star = {node: channel for node, channel in plan.items() if node != "Hof"}, {
+            0: range(1, 1025)
+        }
+        for code, nodes, call in (
+            ("C4", ["Ulm", "Aue"], lambda: forestplan.check(SQUARE, plan)),
+            ("C1", ["Hof"], lambda: forestplan.check(SQUARE, part)),
+            ("N1", [0], lambda: forestplan.plan(star)),
+        ):
             why = self.refused(forestplan.Refused, call)
             self.same(f"{code}: its code and nodes", (why.code, why.nodes), (code, nodes))
         why = self.refused(forestplan.Refused, lambda: forestplan.check(SQUARE, plan))
-        self.note("its words", "and have the same channel" in why.words and "(Ulm, Aue)" in str(why), why)
+        self.note(
+            "its words", "and have the same channel" in why.words and "(Ulm, Aue)" in str(why), why
+        )
 
     def test_rounds(self):
         text, order = forestplan.text_of(SQUARE)
         wanted = rounds_text(network_of(text.encode())).decode().split("\n")
         got = forestplan.rounds(SQUARE)
-        lines = [f"{order.index(one.sender) + 1} put {order.index(one.receiver) + 1} payload {pulse.number} {one.word} "
-                 f"{one.value}" for pulse in got for one in pulse.messages]
-        self.note("the messages of the rounds", lines == [line for line in wanted if " put " in line], lines)
+        lines = [
+            f"{order.index(one.sender) + 1} put {order.index(one.receiver) + 1} payload {pulse.number} {one.word} "
+            f"{one.value}"
+            for pulse in got
+            for one in pulse.messages
+        ]
+        self.note(
+            "the messages of the rounds",
+            lines == [line for line in wanted if " put " in line],
+            lines,
+        )
         self.note("its pulses", [pulse.number for pulse in got] == list(range(len(got))))
         count = sum(line.split()[1:2] in (["colour"], ["chose"]) for line in wanted)
         self.note("its states", sum(len(pulse.states) for pulse in got) == count, count)
@@ -138,24 +238,46 @@ class InPython(Case):
         got = forestplan.transcript(SQUARE, workers=1)
         puts = [(entry.node, entry.other, entry.wire) for entry in got if entry.kind == "put"]
         takes = [(entry.other, entry.node, entry.wire) for entry in got if entry.kind == "take"]
-        self.note("what is put is taken", sorted(puts) == sorted(takes) and len(puts) > 100, len(puts))
-        self.note("by stamps", [entry.stamp for entry in got] == sorted(entry.stamp for entry in got))
-        self.note("payloads of the rounds", sum("payload" in wire for _, _, wire in puts)
-                  == sum(len(pulse.messages) for pulse in forestplan.rounds(SQUARE)))
+        self.note(
+            "what is put is taken", sorted(puts) == sorted(takes) and len(puts) > 100, len(puts)
+        )
+        self.note(
+            "by stamps", [entry.stamp for entry in got] == sorted(entry.stamp for entry in got)
+        )
+        self.note(
+            "payloads of the rounds",
+            sum("payload" in wire for _, _, wire in puts)
+            == sum(len(pulse.messages) for pulse in forestplan.rounds(SQUARE)),
+        )
 
     def test_pictures(self):
-        for one in (forestplan.plan(SQUARE), forestplan.rounds(SQUARE), forestplan.transcript(SQUARE)):
+        for one in (
+            forestplan.plan(SQUARE),
+            forestplan.rounds(SQUARE),
+            forestplan.transcript(SQUARE),
+        ):
             picture = ElementTree.fromstring(one._repr_svg_())
-            self.note(f"a picture of {type(one).__name__}", picture.tag.endswith("svg") and len(picture) > 3)
+            self.note(
+                f"a picture of {type(one).__name__}",
+                picture.tag.endswith("svg") and len(picture) > 3,
+            )
 
     def test_networkx(self):
         """A graph of networkx, if that is installed: its own plan is judged, and a plan of ours is proper to it."""
         if importlib.util.find_spec("networkx") is None:
             return
         import networkx
-        for graph in (networkx.karate_club_graph(), networkx.MultiDiGraph([(1, 2), (2, 1), (2, 2), (2, 3)])):
+
+        for graph in (
+            networkx.karate_club_graph(),
+            networkx.MultiDiGraph([(1, 2), (2, 1), (2, 2), (2, 3)]),
+        ):
             got = forestplan.plan(graph)
-            self.note("proper", all(got[a] != got[b] for a, b in graph.edges() if a != b) and set(got) == set(graph))
+            self.note(
+                "proper",
+                all(got[a] != got[b] for a, b in graph.edges() if a != b)
+                and set(got) == set(graph),
+            )
             simple = networkx.Graph(graph)
             simple.remove_edges_from(list(networkx.selfloop_edges(simple)))
             greedy = {node: colour + 1 for node, colour in networkx.greedy_color(simple).items()}
@@ -171,13 +293,28 @@ class InPython(Case):
             if "networkx" in code and importlib.util.find_spec("networkx") is None:
                 break
             said, result = run_cell(code, known)
-            stored = "".join("".join(out.get("text", "")) for out in cell["outputs"] if out["output_type"] == "stream")
+            stored = "".join(
+                "".join(out.get("text", ""))
+                for out in cell["outputs"]
+                if out["output_type"] == "stream"
+            )
             self.note(f"cell {count}: what it prints", said == stored, (said, stored))
-            shown = next((out["data"] for out in cell["outputs"] if out["output_type"] == "execute_result"), {})
+            shown = next(
+                (out["data"] for out in cell["outputs"] if out["output_type"] == "execute_result"),
+                {},
+            )
             words = repr(result) if result is not None else ""
-            self.note(f"cell {count}: its result", words == "".join(shown.get("text/plain", "")), (words, shown))
+            self.note(
+                f"cell {count}: its result",
+                words == "".join(shown.get("text/plain", "")),
+                (words, shown),
+            )
             picture = result._repr_svg_() if hasattr(result, "_repr_svg_") else ""
-            self.note(f"cell {count}: its picture", picture == "".join(shown.get("image/svg+xml", "")), picture[:300])
+            self.note(
+                f"cell {count}: its picture",
+                picture == "".join(shown.get("image/svg+xml", "")),
+                picture[:300],
+            )
         self.note("cells", len(cells) > 6, len(cells))
 
 

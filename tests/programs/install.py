@@ -38,14 +38,19 @@ def run(words, data=b"", most=None, **more):
 
 def all_of(folder):
     """What each file of a folder says, and its folders."""
-    return {at: {name: contents(os.path.join(at, name)) for name in names} for at, _, names in os.walk(folder)}
+    return {
+        at: {name: contents(os.path.join(at, name)) for name in names}
+        for at, _, names in os.walk(folder)
+    }
 
 
 def lines_of_page(text):
     """The lines of a manual page that are printed unchanged, block by block, under its headings."""
     blocks = re.findall(r'^\.SH "?([^"\n]*)"?\n\.nf\n(.*?)^\.fi\n', text, re.M | re.S)
-    return {title: re.sub(r"^\\&", "", block, flags=re.M).replace("\\-", "-").replace("\\e", "\\")
-            for title, block in blocks}
+    return {
+        title: re.sub(r"^\\&", "", block, flags=re.M).replace("\\-", "-").replace("\\e", "\\")
+        for title, block in blocks
+    }
 
 
 def shown_commands(lines):
@@ -55,7 +60,7 @@ def shown_commands(lines):
         if not found:
             continue
         column, shown = len(found.group(1)), []
-        for below in lines[number + 1:]:
+        for below in lines[number + 1 :]:
             if not below.startswith("    ") or "$ " in below:
                 break
             shown.append(re.split(r" {2,}", below[column:].rstrip())[0])
@@ -64,7 +69,8 @@ def shown_commands(lines):
 
 def listed_commands(lines):
     """(line number, command) of each command in a list: an indented line of commands alone, some blanks apart. What
-    calls a program, reads a file or writes a folder of the reader's own, and what doesn't end, is left out."""
+    calls a program, reads a file or writes a folder of the reader's own, and what doesn't end, is left out.
+    """
     for number, line in enumerate(lines, 1):
         if re.match(r" {4}forest(lab|plan|play) ", line):
             for command in re.split(r" {2,}", line.strip()):
@@ -77,17 +83,25 @@ class Install(Case):
     @classmethod
     def setUpClass(cls):
         cls.folder = cls.enterClassContext(tempfile.TemporaryDirectory())
-        cls.elsewhere, cls.target = (os.path.join(cls.folder, name) for name in ("else where", "my plans"))
+        cls.elsewhere, cls.target = (
+            os.path.join(cls.folder, name) for name in ("else where", "my plans")
+        )
         os.mkdir(cls.elsewhere)
         cls.script = [*BUILD, "install"]
         cls.installed = run([*cls.script, os.path.join("..", "my plans")], cwd=cls.elsewhere)
 
     def test_installed(self):
-        self.note("install", self.installed[:2] == (0, b"") and b"install: " in self.installed[2], self.installed)
+        self.note(
+            "install",
+            self.installed[:2] == (0, b"") and b"install: " in self.installed[2],
+            self.installed,
+        )
 
     def line(self, command):
         path = f"{os.path.join(self.target, 'bin')}:{ENVIRONMENT['PATH']}"
-        return called("bash", "-c", command, limit=LIMIT, cwd=self.target, env=ENVIRONMENT | {"PATH": path})
+        return called(
+            "bash", "-c", command, limit=LIMIT, cwd=self.target, env=ENVIRONMENT | {"PATH": path}
+        )
 
     def test_pages(self):
         """Each command of the pages prints in the folder what is under it, in the same columns, or is refused so. Only
@@ -99,7 +113,10 @@ class Install(Case):
                 done = self.line(command.removeprefix("./"))
                 wanted = "".join(line + "\n" for line in shown).encode()
                 is_broken = wanted.startswith(b"broken ") and " | " not in command
-                good = [(int(is_broken), wanted, b""), *((status, b"", wanted) for status in (1, 3) if wanted)]
+                good = [
+                    (int(is_broken), wanted, b""),
+                    *((status, b"", wanted) for status in (1, 3) if wanted),
+                ]
                 self.note(f"{page}:{number} {command}", done in good, done)
         self.note("commands of the pages", count > 60, count)
 
@@ -135,7 +152,9 @@ class Install(Case):
         self.addCleanup(os.rename, away, self.target)
 
         def call(*words, given=b""):
-            return run([os.path.join(links, "bin", words[0]), *words[1:]], given, cwd=self.elsewhere)
+            return run(
+                [os.path.join(links, "bin", words[0]), *words[1:]], given, cwd=self.elsewhere
+            )
 
         for it in COMMANDS:
             got = call(it.program, *it.line, given=text(it.data))
@@ -143,22 +162,39 @@ class Install(Case):
         own = self.file(os.path.join(self.elsewhere, "net.col"), text(APART))
         for it in OF_BIN:
             got = call(*(own if word == "FILE" else word for word in it.line), given=text(it.data))
-            self.note(it.name, got[::2] == (0, b"") and re.fullmatch(it.answer, got[1].decode()), got)
+            self.note(
+                it.name, got[::2] == (0, b"") and re.fullmatch(it.answer, got[1].decode()), got
+            )
         for kind in ("plan", "rounds", "run", "player"):
             got = call("forestlab", "picture", kind, "triangle")
-            self.note(f"picture {kind}", got[::2] == (0, b"") and re.search(rb"<svg|<!doctype html", got[1][:200]), got)
+            self.note(
+                f"picture {kind}",
+                got[::2] == (0, b"") and re.search(rb"<svg|<!doctype html", got[1][:200]),
+                got,
+            )
 
     def test_manual(self):
         """A page for each of the three, with the help of each of its commands; that of the programs is stored."""
-        pages, there = os.path.join(self.target, "share", "man", "man1"), os.path.join(self.target, "bin")
-        self.same("a manual page for each", sorted(os.listdir(pages)), sorted(f"{name}.1" for name in NAMES))
+        pages, there = os.path.join(self.target, "share", "man", "man1"), os.path.join(
+            self.target, "bin"
+        )
+        self.same(
+            "a manual page for each",
+            sorted(os.listdir(pages)),
+            sorted(f"{name}.1" for name in NAMES),
+        )
         for words, file in HELPS:
-            got, stored = run([os.path.join(there, words[0]), *words[1:], "--help"]), f"lab/help/{file}.txt"
+            got, stored = (
+                run([os.path.join(there, words[0]), *words[1:], "--help"]),
+                f"lab/help/{file}.txt",
+            )
             self.same(f"the help of {words}", got, (0, contents(os.path.join(TOP, stored)), b""))
         for name in NAMES:
             page = contents(os.path.join(pages, f"{name}.1")).decode()
-            blocks = {name if title == "DESCRIPTION" else title.lower(): said
-                      for title, said in lines_of_page(page).items()}
+            blocks = {
+                name if title == "DESCRIPTION" else title.lower(): said
+                for title, said in lines_of_page(page).items()
+            }
             wanted = {" ".join(words): said for words, said, _ in completion.helps(there, name)}
             self.same(f"the manual page of {name}", blocks, wanted)
             purpose = re.search(rf"^\.SH NAME\n{name} \\- [a-z][^\n]*[a-z]$", page, re.M)
@@ -172,26 +208,43 @@ class Install(Case):
     def test_again(self):
         """Once more, while a program of the folder runs: what is there besides stays, and what an earlier install put
         there and this one doesn't is removed, if it is as it was; nothing outside."""
-        own, old, changed, outside = (self.file(os.path.join(self.target, "examples", name), b"x")
-                                      for name in ("own", "old", "changed", "../../outside"))
+        own, old, changed, outside = (
+            self.file(os.path.join(self.target, "examples", name), b"x")
+            for name in ("own", "old", "changed", "../../outside")
+        )
         for path, said in ((old, b"x"), (changed, b"y"), (outside, b"x")):
             line = f"{hashlib.sha256(said).hexdigest()}  {os.path.relpath(path, self.target)}\n"
             self.file(os.path.join(self.target, "SHA256SUMS"), line, "ab")
-        with subprocess.Popen([os.path.join(self.target, "bin", "forestplan"), "forests"], stdin=subprocess.PIPE,
-                              stdout=subprocess.PIPE) as running:
+        with subprocess.Popen(
+            [os.path.join(self.target, "bin", "forestplan"), "forests"],
+            stdin=subprocess.PIPE,
+            stdout=subprocess.PIPE,
+        ) as running:
             got = run([*self.script, self.target])
             out, _ = running.communicate(b"p edge 2 1\ne 1 2\n", timeout=LIMIT)
-        self.note("install once more", got[:2] == (0, b"") and out == b"forests 2 1\n0 1 2\n", (got, out))
+        self.note(
+            "install once more", got[:2] == (0, b"") and out == b"forests 2 1\n0 1 2\n", (got, out)
+        )
         there = [os.path.exists(path) for path in (own, changed, outside, old)]
         self.same("what is there", there, [True, True, True, False])
 
     def test_refused(self):
-        for words in ([], [self.folder, self.folder], ["--all"], [TOP], [os.path.join(TOP, "docs", "new")]):
+        for words in (
+            [],
+            [self.folder, self.folder],
+            ["--all"],
+            [TOP],
+            [os.path.join(TOP, "docs", "new")],
+        ):
             self.refusal(f"install {words}", run([*self.script, *words]), 2, b"install: error: ")
         file = self.file(os.path.join(self.folder, "clash", "lib"), b"")
         for folder in (os.path.join(file, "below"), os.path.dirname(file)):
             got = run([*self.script, folder])
-            self.note(f"install to {folder}", got[:2] == (1, b"") and re.fullmatch(rb"install: [^\n]+\n", got[2]), got)
+            self.note(
+                f"install to {folder}",
+                got[:2] == (1, b"") and re.fullmatch(rb"install: [^\n]+\n", got[2]),
+                got,
+            )
         self.same("what was there", os.listdir(os.path.dirname(file)), ["lib"])
 
     def test_nothing_half(self):
@@ -204,33 +257,61 @@ class Install(Case):
             self.same("what is left", os.path.exists(folder) and os.listdir(folder), left or False)
             with subprocess.Popen([*self.script, folder], stderr=subprocess.DEVNULL) as started:
                 at = folder if left else self.folder
-                wait_until(lambda: started.poll() is not None or any(
-                    name.startswith(".install-") for name in os.listdir(at)), LIMIT, 0.001)
+                wait_until(
+                    lambda: started.poll() is not None
+                    or any(name.startswith(".install-") for name in os.listdir(at)),
+                    LIMIT,
+                    0.001,
+                )
                 started.terminate()
                 self.same("the status", started.wait(LIMIT), 128 + signal.SIGTERM)
-            self.same("what a signal leaves", os.path.exists(folder) and os.listdir(folder), left or False)
-            self.note("nothing beside it", not any(name.startswith(".install-") for name in os.listdir(at)))
+            self.same(
+                "what a signal leaves", os.path.exists(folder) and os.listdir(folder), left or False
+            )
+            self.note(
+                "nothing beside it",
+                not any(name.startswith(".install-") for name in os.listdir(at)),
+            )
 
     def test_limit(self):
         """Where a file may not grow, the output can't be written: that is a fault of the stream, and no death."""
         path = os.path.join(self.folder, "plan")
         for name, words in (("forestplan", "plain"), ("forestplay", "rounds")):
             script = os.path.join(self.target, "bin", name)
-            got = run(["bash", "-c", 'ulimit -f 0; exec "$0" "$1" >"$2"', script, words, path], b"p edge 2 1\ne 1 2\n")
+            got = run(
+                ["bash", "-c", 'ulimit -f 0; exec "$0" "$1" >"$2"', script, words, path],
+                b"p edge 2 1\ne 1 2\n",
+            )
             self.same(f"{name}: no room", got, (4, b"", b"%s: stream\n" % name.encode()))
 
     def test_python(self):
         """`pip install` of the folder has Python import the module, which finds its programs by itself."""
         room = os.path.join(self.folder, "python")
-        if run([sys.executable, "-m", "pip", "--version"])[0] or run([sys.executable, "-m", "venv", "--without-pip",
-                                                                      room])[0]:
+        if (
+            run([sys.executable, "-m", "pip", "--version"])[0]
+            or run([sys.executable, "-m", "venv", "--without-pip", room])[0]
+        ):
             return
         python = os.path.join(room, "bin", "python")
-        got = run([sys.executable, "-m", "pip", "--python", python, "install", "-q", "--no-index",
-                   "--disable-pip-version-check", self.target])
+        got = run(
+            [
+                sys.executable,
+                "-m",
+                "pip",
+                "--python",
+                python,
+                "install",
+                "-q",
+                "--no-index",
+                "--disable-pip-version-check",
+                self.target,
+            ]
+        )
         self.note("pip install", got[0] == 0, got)
-        code = ("import forestplan; plan = forestplan.plan({1: [2, 3], 2: [3]}); "
-                "print(forestplan.home(), dict(plan), '<svg' in plan._repr_svg_())")
+        code = (
+            "import forestplan; plan = forestplan.plan({1: [2, 3], 2: [3]}); "
+            "print(forestplan.home(), dict(plan), '<svg' in plan._repr_svg_())"
+        )
         got = run([python, "-c", code], cwd=self.elsewhere)
         wanted = f"{room}/share/forestplan {{1: 2, 2: 3, 3: 1}} True\n"
         self.same("a plan in Python", got, (0, wanted.encode(), b""))
@@ -248,15 +329,25 @@ class Install(Case):
         version = contents(os.path.join(self.target, "VERSION")).decode()
         lines = r"forestplan \d+\.\d+\.\d+\ncommit [^\n]+\nkit rattle-kit-[^\n]+\n(built where rt is of [^\n]+\n)?"
         self.note("VERSION", re.fullmatch(lines, version), version)
-        for words in (["forestlab"], *(["forestlab", name] for name in OF_LAB), *([name] for name in PROGRAMS)):
+        for words in (
+            ["forestlab"],
+            *(["forestlab", name] for name in OF_LAB),
+            *([name] for name in PROGRAMS),
+        ):
             got = run([os.path.join(self.target, "bin", words[0]), *words[1:], "--version"])
             self.same(f"{words} --version", got, (0, version.encode(), b""))
         for name in ("LICENSE-MIT", "LICENSE-APACHE", "CHANGELOG.md", "docs/claim/FORMATS.md"):
             there, here = (contents(os.path.join(top, name)) for top in (self.target, TOP))
             self.note(f"{name} is there", there == here)
         sums = contents(os.path.join(self.target, "SHA256SUMS")).decode()
-        self.note("the programs have sums", all(f"  lib/{name}\n" in sums for name in PROGRAMS), sums)
-        self.same("each sum is its file's", run(["sha256sum", "-c", "--quiet", "SHA256SUMS"], cwd=self.target)[0], 0)
+        self.note(
+            "the programs have sums", all(f"  lib/{name}\n" in sums for name in PROGRAMS), sums
+        )
+        self.same(
+            "each sum is its file's",
+            run(["sha256sum", "-c", "--quiet", "SHA256SUMS"], cwd=self.target)[0],
+            0,
+        )
 
     def test_readme(self):
         """README there has the links of the repository's, and names nothing that it alone has."""
@@ -264,6 +355,10 @@ class Install(Case):
         links = {link.partition("#")[0] for link in re.findall(r"\]\(([^)]+)\)", there)}
         lost = {link for link in links if not os.path.isfile(os.path.join(self.target, link))}
         self.note("each page that it links is there", len(links) > 10 and not lost, lost)
-        self.note("nothing of the repository alone", not re.findall(r"\./\w+|\brt\b|wrong-bodies", there), there)
+        self.note(
+            "nothing of the repository alone",
+            not re.findall(r"\./\w+|\brt\b|wrong-bodies", there),
+            there,
+        )
         shown = re.search(r"\$ (forestplan plan < \S+)", there)
         self.same("its first command", self.line(shown[1]), (0, b"plan\n1 2\n2 3\n3 1\n", b""))

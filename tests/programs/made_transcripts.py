@@ -9,7 +9,19 @@ from lab.schedules.simulate import Player, text_of_run
 from lab.transcripts.reading import line_of
 
 MOST_LOOKS, MOST_TAKES = 10_000_000, 4
-PAYLOADS = ("hello", "label", "colour", "chosen", "free", "take", "joined", "anew", "hops", "best", "Take")
+PAYLOADS = (
+    "hello",
+    "label",
+    "colour",
+    "chosen",
+    "free",
+    "take",
+    "joined",
+    "anew",
+    "hops",
+    "best",
+    "Take",
+)
 
 
 def made_transcript(source, net, capacity):
@@ -87,7 +99,16 @@ def entries_of(text):
 def another_stamp(source, row):
     """Another stamp; a number of 2^64 or above is no stamp."""
     stamp, _, rest = row.partition(" ")
-    others = {0, 1, int(stamp) - 1, int(stamp) + 1, 2 * int(stamp), 2**64 - 1, 2**64, 10**20} - {int(stamp), -1}
+    others = {
+        0,
+        1,
+        int(stamp) - 1,
+        int(stamp) + 1,
+        2 * int(stamp),
+        2**64 - 1,
+        2**64,
+        10**20,
+    } - {int(stamp), -1}
     return [f"{source.choice(sorted(others))} {rest}"]
 
 
@@ -97,8 +118,15 @@ def another_wire(source, row):
     number, word = source.choice((0, 1, 2, 3, 5, 12, 40, 65536, 2**128)), source.choice(PAYLOADS)
     others = [re.sub(r"\d+", str(number), wire, count=1), re.sub(r"\d+$", str(number), wire)]
     if not wire.isdigit():
-        others += ["close", f"ack {number}", f"safe {number}", wire.replace("safe", "ack"), wire.replace("ack", "safe"),
-                   f"payload {number} {word} {number}", re.sub(r"(payload \d+) \w+", rf"\1 {word}", wire)]
+        others += [
+            "close",
+            f"ack {number}",
+            f"safe {number}",
+            wire.replace("safe", "ack"),
+            wire.replace("ack", "safe"),
+            f"payload {number} {word} {number}",
+            re.sub(r"(payload \d+) \w+", rf"\1 {word}", wire),
+        ]
     return [f"{head} {source.choice([other for other in others if other != wire] or ['7'])}"]
 
 
@@ -109,8 +137,13 @@ def of_another_node(source, row):
     return [" ".join(fields)]
 
 
-SPOILS = {"a stamp changed": another_stamp, "another wire": another_wire, "a line of another node": of_another_node,
-          "a line dropped": lambda source, row: [], "a line doubled": lambda source, row: [row] * 2}
+SPOILS = {
+    "a stamp changed": another_stamp,
+    "another wire": another_wire,
+    "a line of another node": of_another_node,
+    "a line dropped": lambda source, row: [],
+    "a line doubled": lambda source, row: [row] * 2,
+}
 KINDS = [*SPOILS, "two lines swapped", "cut", "cut at a line"]
 
 
@@ -120,15 +153,17 @@ def spoiled(source, kind, data):
     at = source.randrange(len(rows))
     if kind == "two lines swapped":
         others = (at - 1, at + 1, source.randrange(len(rows)))
-        at, other = sorted((at, source.choice([i for i in others if 0 <= i < len(rows) and i != at])))
+        at, other = sorted(
+            (at, source.choice([i for i in others if 0 <= i < len(rows) and i != at]))
+        )
         rows[at], rows[other] = rows[other], rows[at]
     elif kind == "cut":
         # Cut in its first word it would be no transcript, and the word a wrong line of the network.
-        return data[:source.randrange(len(b"transcript"), len(data) - 1)], 1
+        return data[: source.randrange(len(b"transcript"), len(data) - 1)], 1
     elif kind == "cut at a line":
         rows = rows[:at]
     else:
-        rows[at:at + 1] = SPOILS[kind](source, rows[at])
+        rows[at : at + 1] = SPOILS[kind](source, rows[at])
     return "".join(row + "\n" for row in [first, *rows]).encode(), min(at, len(rows) - 1) + 2
 
 

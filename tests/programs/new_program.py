@@ -19,17 +19,29 @@ class NewProgram(Case):
 
     def test_models(self):
         shutil.copy(os.path.join(TOP, "crates.txt"), self.folder)
-        for model, name, needs, other in ((MODEL, "echoes", "sync_rounds", "src/joined.rt"),
-                                          (SEQUEL, "dominating", "followed", "src/payload.rt")):
+        for model, name, needs, other in (
+            (MODEL, "echoes", "sync_rounds", "src/joined.rt"),
+            (SEQUEL, "dominating", "followed", "src/payload.rt"),
+        ):
             before = text_in(self.folder, "crates.txt")
             copy(name, self.folder, model)
             add_line(name, self.folder, model)
-            made, source = (os.path.join(top, "crates", crate) for top, crate in ((self.folder, name), (TOP, model[0])))
+            made, source = (
+                os.path.join(top, "crates", crate)
+                for top, crate in ((self.folder, name), (TOP, model[0]))
+            )
             wanted = {path for path in files_in(source) if path.split("/")[0] in PARTS}
             self.same(f"{name}: files", len(files_in(made)), len(wanted))
             listed = set(re.findall(r"(?:src|specs)/\w+[.]\w+", CHANGES)) - {other}
-            self.note(f"{name}: what is to be changed", listed <= files_in(made), listed - files_in(made))
-            left = [path for path in files_in(made) for word in model if word in path + text_in(made, path)]
+            self.note(
+                f"{name}: what is to be changed", listed <= files_in(made), listed - files_in(made)
+            )
+            left = [
+                path
+                for path in files_in(made)
+                for word in model
+                if word in path + text_in(made, path)
+            ]
             self.same(f"{name}: the model's names are gone", left, [])
             after = text_in(self.folder, "crates.txt")
             added = [line for line in after.split("\n") if line not in before.split("\n")]
@@ -37,8 +49,10 @@ class NewProgram(Case):
             self.note(f"{name}: its line", good, added)
 
     def test_names(self):
-        for model, names in ((MODEL, ("Echoes", "a-b", "match", "laws", "known", "colouring", "x" * 21, "")),
-                             (SEQUEL, ("while", "joined", "told", "slot", "member"))):
+        for model, names in (
+            (MODEL, ("Echoes", "a-b", "match", "laws", "known", "colouring", "x" * 21, "")),
+            (SEQUEL, ("while", "joined", "told", "slot", "member")),
+        ):
             for name in names:
                 with self.subTest(name), self.assertRaisesRegex(Wrong, f"^{name}: "):
                     check_name(name, self.folder, model)

@@ -39,10 +39,19 @@ ENDS = [
     # The vertex has the identifier already.
     ("layers --root 1", ROW, 2, "layer 0|layer 1 by 0 to 1|layer 2 by 0 to 2"),
     ("layers --root 3", APART, 2, "layer none|layer 1 by 0 to 3|layer 0"),
-    ("layers --root 4", LONG, 5,
-     "layer 3 by 0 to 2|layer 2 by 1 to 3|layer 1 by 1 to 4|layer 0|layer 1 by 0 to 4|layer none"),
+    (
+        "layers --root 4",
+        LONG,
+        5,
+        "layer 3 by 0 to 2|layer 2 by 1 to 3|layer 1 by 1 to 4|layer 0|layer 1 by 0 to 4|layer none",
+    ),
     ("layers --root 2", TAIL, 3, "layer 1 by 0 to 2|layer 0|layer 1 by 1 to 2|layer 2 by 0 to 3"),
-    ("layers --root 5", BETWEEN, 4, "layer 2 by 0 to 3|layer none|layer 1 by 1 to 5|layer none|layer 0"),
+    (
+        "layers --root 5",
+        BETWEEN,
+        4,
+        "layer 2 by 0 to 3|layer none|layer 1 by 1 to 5|layer none|layer 0",
+    ),
     # Of an edge node 2 is the parent, in whose turn it takes node 1. 19 is 13 + 6 U, and 20 is R + D + B + 1.
     ("matching", EDGE, 19, "partner 0 to 2|partner 0 to 1"),
     ("independent-set", EDGE, 20, "in|out"),
@@ -67,48 +76,133 @@ ENDS = [
 # at node 1 the merge has nine pulses: node 1 begins with colour 1, so it chooses at step 1, and again 1; node 2 begins
 # with 0, so it chooses at step 3, and 0 is neither barred nor taken.
 EDGE_NAMES = ["seed"] + ["step"] * 4 + ["shift", "drop"] * 3
-EDGE_COLOURS = [(1, 2), (1, 0), (1, 0), (1, 0), (1, 0), (0, 1), (0, 1), (1, 0), (1, 0), (0, 1), (0, 1)]
+EDGE_COLOURS = [
+    (1, 2),
+    (1, 0),
+    (1, 0),
+    (1, 0),
+    (1, 0),
+    (0, 1),
+    (0, 1),
+    (1, 0),
+    (1, 0),
+    (0, 1),
+    (0, 1),
+]
 EDGE_BEGINNING = (
     "pulse 0 greet|1 put 2 payload 0 hello 1|2 put 1 payload 0 hello 2|pulse 1 orient|1 put 2 payload 1 label 0|"
-    + "".join(f"pulse {p} {name}|1 colour 0 {own}|2 colour 0 {parent}|"
-              + (f"2 put 1 payload {p} colour {parent}|" if p < 12 else "")
-              for p, (name, (own, parent)) in enumerate(zip(EDGE_NAMES, EDGE_COLOURS), 2))
+    + "".join(
+        f"pulse {p} {name}|1 colour 0 {own}|2 colour 0 {parent}|"
+        + (f"2 put 1 payload {p} colour {parent}|" if p < 12 else "")
+        for p, (name, (own, parent)) in enumerate(zip(EDGE_NAMES, EDGE_COLOURS), 2)
+    )
 )
 # The rounds of programs. Of an edge, node 2 has the greater identifier, and node 1 is the root. No node sends at the
 # last pulse. A node alone hears and sends nothing: 13 is 13 + 6 U of the matching, and R + D + B + 1 of the others.
 ROUNDS = [
-    ("colouring", EDGE, "rounds 1 2 1 1 18|" + EDGE_BEGINNING
-     + "pulse 13 merge 0 0 0|1 chose 0|1 put 2 payload 13 chosen 0|pulse 14 merge 0 0 1|pulse 15 merge 0 1 0|2 chose 1|"
-     "2 put 1 payload 15 chosen 1|pulse 16 merge 0 1 1|pulse 17 merge 0 2 0|pulse 18 merge 0 2 1|"),
-    ("colouring", BARRED, "rounds 2 2 1 1 1 21|" + EDGE_BEGINNING
-     + "pulse 13 merge 0 0 0|pulse 14 merge 0 0 1|1 chose 1|1 put 2 payload 14 chosen 1|pulse 15 merge 0 0 2|"
-     "pulse 16 merge 0 1 0|2 chose 0|2 put 1 payload 16 chosen 0|pulse 17 merge 0 1 1|pulse 18 merge 0 1 2|"
-     "pulse 19 merge 0 2 0|pulse 20 merge 0 2 1|pulse 21 merge 0 2 2|"),
-    ("leader", EDGE, "rounds 3 leader 2 1 2|pulse 0|1 put 2 payload 0 leader 1|2 put 1 payload 0 leader 2|pulse 1|"
-                     "1 put 2 payload 1 leader 2|pulse 2|1 leader 2|2 leader 2|"),
-    ("layers", EDGE, "rounds 3 layers 2 1 1|pulse 0|1 put 2 payload 0 hops 0|pulse 1|1 layer 0|2 layer 1 by 0|"),
-    ("layers --root 2", EDGE,
-     "rounds 3 layers 2 1 1|pulse 0|2 put 1 payload 0 hops 0|pulse 1|1 layer 1 by 0|2 layer 0|"),
-    ("layers", "p edge 4 2|i 2 5|i 3 4|i 4 3|e 1 2|e 2 3|",
-     "rounds 3 layers 4 2 3|pulse 0|1 put 2 payload 0 hops 0|pulse 1|2 put 1 payload 1 hops 1|"
-     "2 put 3 payload 1 hops 1|pulse 2|3 put 2 payload 2 hops 2|pulse 3|"
-     "1 layer 0|2 layer 1 by 0|3 layer 2 by 0|4 layer none|"),
-    *((program, ALONE, f"rounds 3 {program} 1 0 13|" + "".join(f"pulse {p}|" for p in range(14)) + f"1 {result}|")
-      for program, result in (("matching", "partner none"), ("independent-set", "in"), ("recolouring", "channel 1"))),
+    (
+        "colouring",
+        EDGE,
+        "rounds 1 2 1 1 18|"
+        + EDGE_BEGINNING
+        + "pulse 13 merge 0 0 0|1 chose 0|1 put 2 payload 13 chosen 0|pulse 14 merge 0 0 1|pulse 15 merge 0 1 0|2 chose 1|"
+        "2 put 1 payload 15 chosen 1|pulse 16 merge 0 1 1|pulse 17 merge 0 2 0|pulse 18 merge 0 2 1|",
+    ),
+    (
+        "colouring",
+        BARRED,
+        "rounds 2 2 1 1 1 21|"
+        + EDGE_BEGINNING
+        + "pulse 13 merge 0 0 0|pulse 14 merge 0 0 1|1 chose 1|1 put 2 payload 14 chosen 1|pulse 15 merge 0 0 2|"
+        "pulse 16 merge 0 1 0|2 chose 0|2 put 1 payload 16 chosen 0|pulse 17 merge 0 1 1|pulse 18 merge 0 1 2|"
+        "pulse 19 merge 0 2 0|pulse 20 merge 0 2 1|pulse 21 merge 0 2 2|",
+    ),
+    (
+        "leader",
+        EDGE,
+        "rounds 3 leader 2 1 2|pulse 0|1 put 2 payload 0 leader 1|2 put 1 payload 0 leader 2|pulse 1|"
+        "1 put 2 payload 1 leader 2|pulse 2|1 leader 2|2 leader 2|",
+    ),
+    (
+        "layers",
+        EDGE,
+        "rounds 3 layers 2 1 1|pulse 0|1 put 2 payload 0 hops 0|pulse 1|1 layer 0|2 layer 1 by 0|",
+    ),
+    (
+        "layers --root 2",
+        EDGE,
+        "rounds 3 layers 2 1 1|pulse 0|2 put 1 payload 0 hops 0|pulse 1|1 layer 1 by 0|2 layer 0|",
+    ),
+    (
+        "layers",
+        "p edge 4 2|i 2 5|i 3 4|i 4 3|e 1 2|e 2 3|",
+        "rounds 3 layers 4 2 3|pulse 0|1 put 2 payload 0 hops 0|pulse 1|2 put 1 payload 1 hops 1|"
+        "2 put 3 payload 1 hops 1|pulse 2|3 put 2 payload 2 hops 2|pulse 3|"
+        "1 layer 0|2 layer 1 by 0|3 layer 2 by 0|4 layer none|",
+    ),
+    *(
+        (
+            program,
+            ALONE,
+            f"rounds 3 {program} 1 0 13|"
+            + "".join(f"pulse {p}|" for p in range(14))
+            + f"1 {result}|",
+        )
+        for program, result in (
+            ("matching", "partner none"),
+            ("independent-set", "in"),
+            ("recolouring", "channel 1"),
+        )
+    ),
 ]
 # Node 2 sends nothing in pulse 0, so it said safe 0 before node 1's payload came: that is put first. From node 2 it is
 # the other way round.
 EVENTS = [
-    ("layers", "put 1 0|take 2 0|put 2 0|", "node 1 pulse 0|link 1 2 taken 1|node 2 pulse 0|link 2 1 taken 0 safe 0|"),
-    ("layers --root 2", "put 2 0|take 1 0|put 1 0|",
-     "node 1 pulse 0|link 1 2 taken 0 safe 0|node 2 pulse 0|link 2 1 taken 1|"),
+    (
+        "layers",
+        "put 1 0|take 2 0|put 2 0|",
+        "node 1 pulse 0|link 1 2 taken 1|node 2 pulse 0|link 2 1 taken 0 safe 0|",
+    ),
+    (
+        "layers --root 2",
+        "put 2 0|take 1 0|put 1 0|",
+        "node 1 pulse 0|link 1 2 taken 0 safe 0|node 2 pulse 0|link 2 1 taken 1|",
+    ),
 ]
 # First lines that no transcript has, after the word `transcript`.
-NO_HEADS = ("3 leader x", "3 leader", "3 2", "3 leader 2 2", "2 leader 2", "4 leader 2", "3 -set 2", "3 set- 2",
-            "3 - 2", "3 independent_set 2", "3 Leader 2", "3 lead\x1ber 2")
+NO_HEADS = (
+    "3 leader x",
+    "3 leader",
+    "3 2",
+    "3 leader 2 2",
+    "2 leader 2",
+    "4 leader 2",
+    "3 -set 2",
+    "3 set- 2",
+    "3 - 2",
+    "3 independent_set 2",
+    "3 Leader 2",
+    "3 lead\x1ber 2",
+)
 # Payloads, of programs and of none, within the bounds of numbers and above.
-PAYLOADS = [*product(("hello", "label", "colour", "chosen", "leader", "hops", "hop", "free", "take", "joined", "anew"),
-                     ("", 0, 1, 2**16 - 1, 2**16, 2**32 - 1, 2**32, 2**128 - 1, 2**128))]
+PAYLOADS = [
+    *product(
+        (
+            "hello",
+            "label",
+            "colour",
+            "chosen",
+            "leader",
+            "hops",
+            "hop",
+            "free",
+            "take",
+            "joined",
+            "anew",
+        ),
+        ("", 0, 1, 2**16 - 1, 2**16, 2**32 - 1, 2**32, 2**128 - 1, 2**128),
+    )
+]
 NAMED = "transcript 3 leader 2||1 1 put 2 payload 0 "
 # A command, its program, its input and the fault. The text comes first, then the root, then what is wrong in later
 # lines, and the network last.
@@ -119,10 +213,21 @@ REFUSED = [
     ("replay", "colouring", EDGE + NAMED + "x|", "WrongProgram line 3: leader"),
     ("replay", "colouring", EDGE + "transcript 3 colouring 2|", "NotWhole line 3"),
     ("replay", "layers", EDGE + "transcript 3 leader x|", "WrongProgram line 3: leader"),
-    ("replay", "leader", EDGE + "transcript 3 independent-set 2|", "WrongProgram line 3: independent-set"),
+    (
+        "replay",
+        "leader",
+        EDGE + "transcript 3 independent-set 2|",
+        "WrongProgram line 3: independent-set",
+    ),
     ("replay", "independent-set", EDGE + "transcript 3 independent-set 2|", "NotWhole line 3"),
-    ("replay", "independent-set", EDGE + "transcript 3 independentset 2|", "WrongProgram line 3: independentset"),
-    ("run", "layers --root 4", ROW, "NoRoot vertex 4"), ("rounds", "layers --root 20000", ROW, "NoRoot vertex 20000"),
+    (
+        "replay",
+        "independent-set",
+        EDGE + "transcript 3 independentset 2|",
+        "WrongProgram line 3: independentset",
+    ),
+    ("run", "layers --root 4", ROW, "NoRoot vertex 4"),
+    ("rounds", "layers --root 20000", ROW, "NoRoot vertex 20000"),
     ("run", "layers --root 1", NONE, "NoRoot vertex 1"),
     ("rounds", "layers --root 9", "p edge 2 1|e 1 1|", "F6 line 2"),
     ("rounds", "layers --root 3", "p edge 2 0|i 1 5|i 2 5|", "NoRoot vertex 3"),
@@ -131,20 +236,40 @@ REFUSED = [
     ("rounds", "layers --root 2", "p edge 3 0|i 1 1|i 2 1|", "N2 vertices 1 2"),
     ("events", "layers --root 3", EDGE + "put 9 0|", "NoRoot vertex 3"),
     ("events", "layers --root 2", EDGE + "put 9 0|", "NoSuch line 3"),
-    ("events", "layers --root 2", EDGE + "put 2 0|take 1 0|take 1 0|", "LinkEmpty line 5: link from 2 to 1"),
+    (
+        "events",
+        "layers --root 2",
+        EDGE + "put 2 0|take 1 0|take 1 0|",
+        "LinkEmpty line 5: link from 2 to 1",
+    ),
     ("replay", "layers --root 3", EDGE + "transcript 3 leader 2|", "NoRoot vertex 3"),
-    ("replay", "layers --root 2", EDGE + "transcript 1 2|1 put 2 payload 0 hops 0|",
-     "WrongWire line 4: expected safe 0"),
+    (
+        "replay",
+        "layers --root 2",
+        EDGE + "transcript 1 2|1 put 2 payload 0 hops 0|",
+        "WrongWire line 4: expected safe 0",
+    ),
 ]
 # Words of any command that takes a program, and a part of what is said of them. A root is looked at before the passes.
 WRONG = [
     ("--program recolouring --passes 1 --passes 1", "'--passes <N>' cannot be used multiple times"),
-    ("--program recolouring --passes 2 --root 1", "'--root <V>' cannot be used with '--program recolouring'"),
-    ("--program layers --passes 2 --root 1", "'--passes <N>' cannot be used with '--program layers'"),
+    (
+        "--program recolouring --passes 2 --root 1",
+        "'--root <V>' cannot be used with '--program recolouring'",
+    ),
+    (
+        "--program layers --passes 2 --root 1",
+        "'--passes <N>' cannot be used with '--program layers'",
+    ),
     ("--passes 2", "'--passes <N>' cannot be used with '--program colouring'"),
-    *((f"--program={word}", f"error: invalid value '{word}' for '--program <NAME>'\n  [possible values: colouring, "
-                            "leader, layers, matching, independent-set, recolouring]\n")
-      for word in ("colour", "", "Leader", "layers2", "independent_set")),
+    *(
+        (
+            f"--program={word}",
+            f"error: invalid value '{word}' for '--program <NAME>'\n  [possible values: colouring, "
+            "leader, layers, matching, independent-set, recolouring]\n",
+        )
+        for word in ("colour", "", "Leader", "layers2", "independent_set")
+    ),
 ]
 # Programs of their own, and those that go on after the colouring.
 PLAIN, SEQUELS = ("colouring", "leader", "layers"), ("matching", "independent-set", "recolouring")
@@ -152,8 +277,14 @@ PLAIN, SEQUELS = ("colouring", "leader", "layers"), ("matching", "independent-se
 
 def play(command, asked, *words, data):
     """The status and both outputs of `forestplay` with a program, of a text in which '|' is a line feed, or bytes."""
-    return called(PLAY, command, "--program", *asked.split(), *words,
-                  data=data if isinstance(data, bytes) else text(data))
+    return called(
+        PLAY,
+        command,
+        "--program",
+        *asked.split(),
+        *words,
+        data=data if isinstance(data, bytes) else text(data),
+    )
 
 
 def program_of(asked):
@@ -169,28 +300,51 @@ class Programs(Case):
             ends = said.split("|") if said else []
             wanted = "".join(f"node {v} pulse {last} {end}|" for v, end in enumerate(ends, 1))
             for workers in (1, 3):
-                self.same(f"run {asked} on {net} by {workers}", play("run", asked, "--workers", workers, data=net),
-                          (0, text(wanted), b""))
+                self.same(
+                    f"run {asked} on {net} by {workers}",
+                    play("run", asked, "--workers", workers, data=net),
+                    (0, text(wanted), b""),
+                )
             found = [re.sub(r" (to \d+|elected)$", "", end) for end in ends]
             if asked != "colouring":
                 done = play("rounds", asked, data=net)
-                lines = text(f"pulse {last}|" + "".join(f"{v} {end}|" for v, end in enumerate(found, 1)))
-                self.note(f"rounds {asked} on {net}", done[::2] == (0, b"") and done[1].endswith(lines), done)
+                lines = text(
+                    f"pulse {last}|" + "".join(f"{v} {end}|" for v, end in enumerate(found, 1))
+                )
+                self.note(
+                    f"rounds {asked} on {net}",
+                    done[::2] == (0, b"") and done[1].endswith(lines),
+                    done,
+                )
             graph, program = network_of(text(net)), program_of(asked)
             results = [node.result() for node in synchronous_run(graph, program).values()]
-            self.same(f"{asked} on {net} by the definition", (program.last_pulse(graph), results), (last, found))
+            self.same(
+                f"{asked} on {net} by the definition",
+                (program.last_pulse(graph), results),
+                (last, found),
+            )
 
     def test_texts(self):
         for asked, net, wanted in ROUNDS:
-            self.same(f"rounds of {asked} on {net}", play("rounds", asked, data=net), (0, text(wanted), b""))
+            self.same(
+                f"rounds of {asked} on {net}",
+                play("rounds", asked, data=net),
+                (0, text(wanted), b""),
+            )
         for asked, events, wanted in EVENTS:
-            self.same(f"events of {asked}", play("events", asked, data=EDGE + events), (0, text(wanted), b""))
+            self.same(
+                f"events of {asked}",
+                play("events", asked, data=EDGE + events),
+                (0, text(wanted), b""),
+            )
 
     def test_transcripts(self):
         """The transcript of a run is one run, which its own program replays and the others refuse: by the name in the
         first line, and without it by the first payload; of a program that begins with the colouring's payloads where
         its own first word is, or where the colouring ends."""
-        for program, payload in zip((*PLAIN, *SEQUELS), ("hello 1", "leader 1", "hops 0", *["hello 1"] * 3)):
+        for program, payload in zip(
+            (*PLAIN, *SEQUELS), ("hello 1", "leader 1", "hops 0", *["hello 1"] * 3)
+        ):
             head = "2 2" if program == "colouring" else f"3 {program} 2"
             _, run, _ = play("run", program, "--transcript", "--workers", 1, data=EDGE)
             begins = text(f"transcript {head}|1 1 put 2 payload 0 {payload}|")
@@ -198,49 +352,89 @@ class Programs(Case):
             unnamed = b"transcript 2 2\n" + run.split(b"\n", 1)[1]
             for other in PLAIN if program in PLAIN else ("colouring", "leader", *SEQUELS):
                 fault = "X1 line 4" if program == "colouring" else f"WrongProgram line 3: {program}"
-                for how, data, said in (("", run, fault), (" without its name", unnamed, "X1 line 4")):
+                for how, data, said in (
+                    ("", run, fault),
+                    (" without its name", unnamed, "X1 line 4"),
+                ):
                     status, _, errors = play("replay", other, data=text(EDGE) + data)
                     wanted = text(f"forestplay: {said}|") if other != program else b""
-                    self.note(f"{program}{how} replayed as {other}", status == (other != program)
-                              and (errors == wanted or how and program in SEQUELS), (status, errors))
+                    self.note(
+                        f"{program}{how} replayed as {other}",
+                        status == (other != program)
+                        and (errors == wanted or how and program in SEQUELS),
+                        (status, errors),
+                    )
 
     def test_transcripts_with_options(self):
         """A transcript is replayed with the root or the passes that its run had; with others it is refused at a wire
         that differs, or without wires at a pulse more, or at the end."""
-        for asked, most, net in (("layers --root", 2, EDGE), ("recolouring --passes", 3, EDGE),
-                                 ("recolouring --passes", 3, ALONE)):
+        for asked, most, net in (
+            ("layers --root", 2, EDGE),
+            ("recolouring --passes", 3, EDGE),
+            ("recolouring --passes", 3, ALONE),
+        ):
             for own, other in product(range(1, most + 1), repeat=2):
                 _, run, _ = play("run", f"{asked} {own}", "--transcript", "--workers", 1, data=net)
                 status, _, fault = play("replay", f"{asked} {other}", data=text(net) + run)
-                code = "" if other == own else "WrongWire" if net == EDGE else "NotReady" if own > other else "NotWhole"
-                self.note(f"transcript of {asked} {own} with {other} on {net}", status == bool(code)
-                          and fault.startswith(f"forestplay: {code} line ".encode() if code else b"")
-                          and bool(fault) == bool(code), (run[:80], fault))
+                code = (
+                    ""
+                    if other == own
+                    else "WrongWire"
+                    if net == EDGE
+                    else "NotReady"
+                    if own > other
+                    else "NotWhole"
+                )
+                self.note(
+                    f"transcript of {asked} {own} with {other} on {net}",
+                    status == bool(code)
+                    and fault.startswith(f"forestplay: {code} line ".encode() if code else b"")
+                    and bool(fault) == bool(code),
+                    (run[:80], fault),
+                )
 
     def test_refused(self):
         for command, asked, data, fault in (
-            *REFUSED, *(("replay", "leader", f"{EDGE}transcript {head}|", "X1 line 3") for head in NO_HEADS),
+            *REFUSED,
+            *(("replay", "leader", f"{EDGE}transcript {head}|", "X1 line 3") for head in NO_HEADS),
         ):
-            self.same(f"{command} {asked} {data}", play(command, asked, data=data),
-                      (1, b"", f"forestplay: {fault}\n".encode()))
+            self.same(
+                f"{command} {asked} {data}",
+                play(command, asked, data=data),
+                (1, b"", f"forestplay: {fault}\n".encode()),
+            )
 
     def test_payloads(self):
         """What node 1 of an edge puts first, by the slow reader: a payload is of the program, or none at all."""
         for asked, (word, number) in product((*PLAIN, *SEQUELS), PAYLOADS):
             data = text(f"{EDGE}transcript 1 2|1 put 2 payload 0 {word} {number}|")
-            self.same(f"{asked}: {word} {number}", play("replay", asked, data=data),
-                      answer_to("replay", data, program_of(asked)))
+            self.same(
+                f"{asked}: {word} {number}",
+                play("replay", asked, data=data),
+                answer_to("replay", data, program_of(asked)),
+            )
 
     def test_words(self):
         """Only one program takes each option, given once."""
         for command in ("events", "replay", "rounds", "run"):
             for option, value, own in (("root", "V", "layers"), ("passes", "N", "recolouring")):
                 for other in (program for program in (*PLAIN, *SEQUELS) if program != own):
-                    wanted = f"error: the argument '--{option} <{value}>' cannot be used with '--program {other}'|" \
-                             f"  [only with: --program {own}]||For more information, try '--help'.|"
-                    self.same(f"{command} {other} --{option}", play(command, other, f"--{option}=1", data=EDGE),
-                              (2, b"", text(wanted)))
+                    wanted = (
+                        f"error: the argument '--{option} <{value}>' cannot be used with '--program {other}'|"
+                        f"  [only with: --program {own}]||For more information, try '--help'.|"
+                    )
+                    self.same(
+                        f"{command} {other} --{option}",
+                        play(command, other, f"--{option}=1", data=EDGE),
+                        (2, b"", text(wanted)),
+                    )
             for words, said in WRONG:
-                self.refusal(f"{command} {words}", called(PLAY, command, *words.split()), 2, said.encode())
-        self.same("no turns", play("run", "leader", "--turns", 0, data=EDGE), (3, b"", b"forestplay: stopped\n"))
+                self.refusal(
+                    f"{command} {words}", called(PLAY, command, *words.split()), 2, said.encode()
+                )
+        self.same(
+            "no turns",
+            play("run", "leader", "--turns", 0, data=EDGE),
+            (3, b"", b"forestplay: stopped\n"),
+        )
         self.same("turns of no node", play("run", "leader", "--turns", 0, data=NONE), (0, b"", b""))

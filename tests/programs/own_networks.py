@@ -23,7 +23,11 @@ def call(*words, **more):
 
 
 def edges_of(text):
-    return {tuple(map(int, line.split()[1:3])) for line in text.decode().split("\n") if line.startswith("e ")}
+    return {
+        tuple(map(int, line.split()[1:3]))
+        for line in text.decode().split("\n")
+        if line.startswith("e ")
+    }
 
 
 def comments(text, word):
@@ -50,39 +54,87 @@ KINDS = [
 ]
 
 
-REFUSED = ["path 0", "path -1", "path x", "path 20001", "ring 2", "star 1025", "star 0", "complete 1025",
-           "complete 2000", "grid 0 3", "grid 200 101", "queen 141 141", "queen 0 1", "tree 0", "tree 20001",
-           "disk 30 --radius 0", "disk 30 --radius 3", "disk 0", "disk 2000 --radius 2", "random 10 46",
-           "random 2000 400001", "random 5 3 --connected", "random 5 9 --neighbours 3", "random 5 4 --forests 5",
-           "random 5 4 --neighbours -1", "random 5 4 --forests -1", "path 3 --connected", "random 5 -1", "random 5",
-           "path 3 4", "path 3 --seed 1", "square 4", "", "read", "path 99999999999",
-           "number x", "number x --by size", "tell", "tell x y", "read x --as graph"]
+REFUSED = [
+    "path 0",
+    "path -1",
+    "path x",
+    "path 20001",
+    "ring 2",
+    "star 1025",
+    "star 0",
+    "complete 1025",
+    "complete 2000",
+    "grid 0 3",
+    "grid 200 101",
+    "queen 141 141",
+    "queen 0 1",
+    "tree 0",
+    "tree 20001",
+    "disk 30 --radius 0",
+    "disk 30 --radius 3",
+    "disk 0",
+    "disk 2000 --radius 2",
+    "random 10 46",
+    "random 2000 400001",
+    "random 5 3 --connected",
+    "random 5 9 --neighbours 3",
+    "random 5 4 --forests 5",
+    "random 5 4 --neighbours -1",
+    "random 5 4 --forests -1",
+    "path 3 --connected",
+    "random 5 -1",
+    "random 5",
+    "path 3 4",
+    "path 3 --seed 1",
+    "square 4",
+    "",
+    "read",
+    "path 99999999999",
+    "number x",
+    "number x --by size",
+    "tell",
+    "tell x y",
+    "read x --as graph",
+]
 
 
 def pairs_in(text):
     """The edges of a network's text by the names of its nodes, and the nodes without an edge."""
     net, names = network_of(text), comments(text, "name")
     named = {v: names.get(v, str(v)) for v in net.neighbours}
-    return ({frozenset(map(named.get, edge)) for edge in net.edges},
-            {named[v] for v, ws in net.neighbours.items() if not ws})
+    return (
+        {frozenset(map(named.get, edge)) for edge in net.edges},
+        {named[v] for v, ws in net.neighbours.items() if not ws},
+    )
 
 
 def by_names(text):
     """Of each node by its name what the lines of a network say."""
     net = network_of(text)
     names = {v: net.names.get(v, str(v)) for v in net.vertices}
-    return {names[v]: (net.places.get(v), net.said.get(v), net.bars.get(v), {names[w] for w in net.neighbours[v]})
-            for v in net.vertices}
+    return {
+        names[v]: (
+            net.places.get(v),
+            net.said.get(v),
+            net.bars.get(v),
+            {names[w] for w in net.neighbours[v]},
+        )
+        for v in net.vertices
+    }
 
 
 def numbers(text):
-    return [int(number.replace(",", "")) for number in re.findall(r"\d[\d,]*", text.replace(", ", " "))]
+    return [
+        int(number.replace(",", "")) for number in re.findall(r"\d[\d,]*", text.replace(", ", " "))
+    ]
 
 
 LONG_NAMES = b"p edge 4 4\ni 2 %d\ni 4 0\ne 1 2\ne 2 3\ne 1 4\ne 1 3\n" % (2**128 - 1)
 
 
-BARRED = b"c name 4 Last\np edge 4 4\ne 1 2\ne 2 3\nb 4 2\ne 1 4\nb 4 2048\ne 1 3\nb 1 2\nb 4 2 again\n"
+BARRED = (
+    b"c name 4 Last\np edge 4 4\ne 1 2\ne 2 3\nb 4 2\ne 1 4\nb 4 2048\ne 1 3\nb 1 2\nb 4 2 again\n"
+)
 
 
 # (text, its fault, a part of what is said of it)
@@ -109,8 +161,11 @@ FAULTS = [
     ("graph { a -- b }\n", "F8 line 1", "`graph`"),
     ("1 2\n2 3\n", "F8 line 1", "`1` begins no line"),
     ("\ufeffp edge 2 1\ne 1 2\n", "F8 line 1", "`\\ufeffp` begins no line"),
-    ("p edge 1025 1024\n" + "".join(f"e 1 {v}\n" for v in range(2, 1026)), "N1 vertex 1",
-     "vertex 1 has 1024 neighbours"),
+    (
+        "p edge 1025 1024\n" + "".join(f"e 1 {v}\n" for v in range(2, 1026)),
+        "N1 vertex 1",
+        "vertex 1 has 1024 neighbours",
+    ),
     ("p edge 2 1\n\x0b\n", "F8 line 2", "`\\x0b`"),
     ("i 1 5\np edge 2 1\n", "F10 line 1", "an identifier before"),
     ("p edge 2 1\ni 3 5\n", "F5 line 2", "there is no vertex 3"),
@@ -118,8 +173,11 @@ FAULTS = [
     ("p edge 2 1\ni 1 5\ni 1 5\n", "F12 line 3", "second identifier of vertex 1"),
     ("b 1 5\np edge 2 1\n", "F10 line 1", "a barred channel before"),
     ("p edge 2 1\nb 1 2049\n", "F13 line 2", "channel 2049 can't be barred, only 1 to 2048 can"),
-    ("p edge 2 1\n" + "".join(f"b 2 {channel}\n" for channel in range(1, 1026)), "F14 line 1026",
-     "more than 1024 channels are barred at vertex 2"),
+    (
+        "p edge 2 1\n" + "".join(f"b 2 {channel}\n" for channel in range(1, 1026)),
+        "F14 line 1026",
+        "more than 1024 channels are barred at vertex 2",
+    ),
     ("p edge 2 1\ni 1 2\n", "N2 vertices 1 2", "vertices 1 and 2 have one identifier"),
 ]
 
@@ -141,17 +199,31 @@ class OwnNetworks(Case):
             net, pairs = network_of(text), edges_of(text)
             degrees = [len(ws) for ws in net.neighbours.values()]
             head = f"p edge {nodes} {edges}\n".encode()
-            self.same(f"{words}: nodes and edges", (len(degrees), len(pairs), head in text), (nodes, edges, True))
+            self.same(
+                f"{words}: nodes and edges",
+                (len(degrees), len(pairs), head in text),
+                (nodes, edges, True),
+            )
             good = least in (None, min(degrees)) and most in (None, max(degrees))
-            self.note(f"{words} has its numbers of neighbours, and says how it was made",
-                      good and text.startswith(f"c Made by forestlab network {words}".encode()), text[:80])
+            self.note(
+                f"{words} has its numbers of neighbours, and says how it was made",
+                good and text.startswith(f"c Made by forestlab network {words}".encode()),
+                text[:80],
+            )
             if words.split()[0] not in ("tree", "random"):
-                self.same(f"{words}: places", sorted(comments(text, "at")), list(range(1, nodes + 1)))
+                self.same(
+                    f"{words}: places", sorted(comments(text, "at")), list(range(1, nodes + 1))
+                )
         for name, words in (("queen5_5", ("queen", 5, 5)), ("star", ("star", 9))):
-            self.same(f"the example {name}", edges_of(self.written(*words)), edges_of(example(name)))
+            self.same(
+                f"the example {name}", edges_of(self.written(*words)), edges_of(example(name))
+            )
         for text in (self.written("tree", 200, "--seed", 3), self.written("tree", 200)):
-            self.same("in a tree each node but the first has one before it", sorted(w for _, w in edges_of(text)),
-                      list(range(2, 201)))
+            self.same(
+                "in a tree each node but the first has one before it",
+                sorted(w for _, w in edges_of(text)),
+                list(range(2, 201)),
+            )
         for reach in (0.05, 0.26, 1.5):
             self.disk_row(reach)
 
@@ -163,9 +235,18 @@ class OwnNetworks(Case):
             place = int(source.random() * 1001), int(source.random() * 1001)
             wanted += [] if place in wanted else [place]
         places = {v: tuple(map(int, rest.split())) for v, rest in comments(text, "at").items()}
-        joined = {(v, w) for v in places for w in places
-                  if v < w and sum((a - b) ** 2 for a, b in zip(places[v], places[w])) < (1000 * reach) ** 2}
-        self.note(f"a disk of reach {reach}", list(places.values()) == wanted and edges_of(text) == joined, text[:200])
+        joined = {
+            (v, w)
+            for v in places
+            for w in places
+            if v < w
+            and sum((a - b) ** 2 for a, b in zip(places[v], places[w])) < (1000 * reach) ** 2
+        }
+        self.note(
+            f"a disk of reach {reach}",
+            list(places.values()) == wanted and edges_of(text) == joined,
+            text[:200],
+        )
 
     def test_wishes(self):
         """Networks by chance with wishes are as they are wished, and other seeds give others."""
@@ -185,63 +266,135 @@ class OwnNetworks(Case):
                 nodes, edges = map(int, words.split()[:2])
                 found = len(reached(net, 1)) == nodes, net.greatest_degree, net.forest_count
                 good = all(wish in (None, there) for wish, there in zip(wanted, found))
-                self.note(f"random {words}, seed {seed}",
-                          good and (net.nodes, len(net.edges)) == (nodes, edges), (found, text))
+                self.note(
+                    f"random {words}, seed {seed}",
+                    good and (net.nodes, len(net.edges)) == (nodes, edges),
+                    (found, text),
+                )
                 texts.add(text.split(b"\n", 1)[1])
-            self.note(f"random {words}: the seeds differ", len(texts) == (8 if edges > 2 else 1), len(texts))
+            self.note(
+                f"random {words}: the seeds differ",
+                len(texts) == (8 if edges > 2 else 1),
+                len(texts),
+            )
 
     def test_seeds(self):
         for words in ("tree 50", "disk 50", "random 50 100"):
-            texts = [forestlab("network", *words.split(), "--seed", seed, env=os.environ | {"PYTHONHASHSEED": order})[1]
-                     for order, seed in (("1", 4), ("2", 4), ("1", 5))]
-            self.note(f"{words}: a seed is the same again, and another is another",
-                      texts[0] == texts[1] and edges_of(texts[0]) != edges_of(texts[2]) and b"--seed 4\n" in texts[0],
-                      texts[0][:80])
+            texts = [
+                forestlab(
+                    "network",
+                    *words.split(),
+                    "--seed",
+                    seed,
+                    env=os.environ | {"PYTHONHASHSEED": order},
+                )[1]
+                for order, seed in (("1", 4), ("2", 4), ("1", 5))
+            ]
+            self.note(
+                f"{words}: a seed is the same again, and another is another",
+                texts[0] == texts[1]
+                and edges_of(texts[0]) != edges_of(texts[2])
+                and b"--seed 4\n" in texts[0],
+                texts[0][:80],
+            )
 
     def test_words(self):
         for words in REFUSED:
             status, text, fault = call(*words.split())
-            self.note(f"refused words: {words}",
-                      (status, text) == (2, b"") and re.search(rb"^forestlab network[^\n]*: error: ", fault, re.M),
-                      fault)
-        for words in (("path", "9" * 100_000), ("read", "x", "--as", "x" * 100_000), ("path", "3", "a\nb" * 20_000)):
+            self.note(
+                f"refused words: {words}",
+                (status, text) == (2, b"")
+                and re.search(rb"^forestlab network[^\n]*: error: ", fault, re.M),
+                fault,
+            )
+        for words in (
+            ("path", "9" * 100_000),
+            ("read", "x", "--as", "x" * 100_000),
+            ("path", "3", "a\nb" * 20_000),
+        ):
             status, text, fault = call(*words)
             good = (status, text) == (2, b"") and len(fault) < 1000 and fault.count(b"error: ") == 1
-            self.note(f"a long word: {words[0]}", good and fault.rsplit(b"error: ")[1].count(b"\n") == 1, fault[:300])
+            self.note(
+                f"a long word: {words[0]}",
+                good and fault.rsplit(b"error: ")[1].count(b"\n") == 1,
+                fault[:300],
+            )
         for command in (["read"], ["tell"], ["number", "--by", "degree"], ["names"]):
-            self.same(f"{command[0]} of no file", call(*command, "/nowhere.col"),
-                      (1, b"", b"network: /nowhere.col: No such file or directory\n"))
-            self.same(f"{command[0]} of a name", call(*command, "path5", data=b"plan\n1 1\n2 2\n3 1\n4 2\n5 1\n")[0], 0)
+            self.same(
+                f"{command[0]} of no file",
+                call(*command, "/nowhere.col"),
+                (1, b"", b"network: /nowhere.col: No such file or directory\n"),
+            )
+            self.same(
+                f"{command[0]} of a name",
+                call(*command, "path5", data=b"plan\n1 1\n2 2\n3 1\n4 2\n5 1\n")[0],
+                0,
+            )
 
     def test_numbers(self):
         """`number` and `read` leave each node its name, place, identifier, bars and neighbours; and the numbers have
         the order that was asked for."""
-        for name, before in {**{name: example(name) for name in ("petersen", "disk100", "star")},
-                             "identifiers": LONG_NAMES, "bars": BARRED}.items():
-            for words in ("read -", "number - --by random", "number - --by random --seed 9", "number - --by degree",
-                          "number - --by degree --reverse", "number - --by place"):
+        for name, before in {
+            **{name: example(name) for name in ("petersen", "disk100", "star")},
+            "identifiers": LONG_NAMES,
+            "bars": BARRED,
+        }.items():
+            for words in (
+                "read -",
+                "number - --by random",
+                "number - --by random --seed 9",
+                "number - --by degree",
+                "number - --by degree --reverse",
+                "number - --by place",
+            ):
                 if "place" in words and b"c at" not in before:
                     continue
                 text = self.written(*words.split(), data=before)
                 self.same(f"{name} by {words}", by_names(text), by_names(before))
                 net = network_of(text)
-                order = [len(net.neighbours[v]) if "degree" in words else float(comments(text, "at")[v].split()[0])
-                         for v in net.vertices if "degree" in words or "place" in words]
-                self.same(f"{name} by {words}: the order", order, sorted(order, reverse="reverse" in words))
-            again = [call("number", "-", "--by", "random", "--seed", seed, data=before)[1] for seed in (1, 1, 4)]
+                order = [
+                    len(net.neighbours[v])
+                    if "degree" in words
+                    else float(comments(text, "at")[v].split()[0])
+                    for v in net.vertices
+                    if "degree" in words or "place" in words
+                ]
+                self.same(
+                    f"{name} by {words}: the order",
+                    order,
+                    sorted(order, reverse="reverse" in words),
+                )
+            again = [
+                call("number", "-", "--by", "random", "--seed", seed, data=before)[1]
+                for seed in (1, 1, 4)
+            ]
             self.note(f"{name} numbered by chance: by its seed", again[0] == again[1] != again[2])
         for words, data, said in (
-            (["number", "-", "--by", "place"], b"p edge 2 1\ne 1 2\nc at 1 0 0\n", b"have no place"),
-            (["number", "-", "--by", "degree"], b"p edge 2 0\ni 2 9\ni 1 9\n", b"1 and 2 have one identifier"),
+            (
+                ["number", "-", "--by", "place"],
+                b"p edge 2 1\ne 1 2\nc at 1 0 0\n",
+                b"have no place",
+            ),
+            (
+                ["number", "-", "--by", "degree"],
+                b"p edge 2 0\ni 2 9\ni 1 9\n",
+                b"1 and 2 have one identifier",
+            ),
         ):
             self.refusal(f"{words}: {said}", call(*words, data=data), 1, said)
 
     def test_names(self):
-        network = self.written("read", "-", "--as", "pairs", data=b'source,target\nUlm,"Aue, west"\n"Aue, west",Jena\n')
+        network = self.written(
+            "read", "-", "--as", "pairs", data=b'source,target\nUlm,"Aue, west"\n"Aue, west",Jena\n'
+        )
         path, plan = self.file("sites.col", network), b"plan\n1 1\n2 2\n3 1\n"
-        for words, wanted in (([], b"Ulm 1\nAue, west 2\nJena 1\n"),
-                              (["--csv"], b'name,channel\nUlm,1\n"Aue, west",2\nJena,1\n')):
-            self.same(f"names on a plan {words}", call("names", path, *words, data=plan), (0, wanted, b""))
+        for words, wanted in (
+            ([], b"Ulm 1\nAue, west 2\nJena 1\n"),
+            (["--csv"], b'name,channel\nUlm,1\n"Aue, west",2\nJena,1\n'),
+        ):
+            self.same(
+                f"names on a plan {words}", call("names", path, *words, data=plan), (0, wanted, b"")
+            )
         self.refusal("names on no plan", call("names", path), 1, b"no line `plan` (C6)")
 
     def told_of(self, data, *words):
@@ -257,18 +410,35 @@ class OwnNetworks(Case):
         ):
             self.refusal(f"read of {data[:30]}", call("read", "-", data=data), 1, said)
         told, _ = self.told_of(BARRED)
-        self.same("tell of bars", told["barred"], "3 channels at 2 nodes, at most 2 at one, so at most 6 channels")
+        self.same(
+            "tell of bars",
+            told["barred"],
+            "3 channels at 2 nodes, at most 2 at one, so at most 6 channels",
+        )
         self.note("tell of a network without bars", "barred" not in self.told_of(LONG_NAMES)[0])
         path, plan = self.file("net.col", BARRED), b"plan\n1 1\n2 3\n3 2\n4 %d\n"
-        self.same("names with bars", call("names", path, data=plan % 3), (0, b"1 1\n2 3\n3 2\nLast 3\n", b""))
+        self.same(
+            "names with bars",
+            call("names", path, data=plan % 3),
+            (0, b"1 1\n2 3\n3 2\nLast 3\n", b""),
+        )
         done = call("names", path, data=plan % 2)
-        self.refusal("names of a barred channel", done, 1, b"vertex 4 has channel 2, which is barred at it (C8)")
+        self.refusal(
+            "names of a barred channel",
+            done,
+            1,
+            b"vertex 4 has channel 2, which is barred at it (C8)",
+        )
 
     def test_tell(self):
         """Beside the definitions: the rounds' payloads, and the lines and bytes of a run's transcript."""
-        networks = {name: example(name) for name in ("triangle", "petersen", "star", "four_cycle", "chain6")}
-        networks |= {words: self.written(*words.split()) for words in (
-            "ring 12", "grid 3 4", "path 1", "complete 8", "random 30 80", "tree 12")}
+        networks = {
+            name: example(name) for name in ("triangle", "petersen", "star", "four_cycle", "chain6")
+        }
+        networks |= {
+            words: self.written(*words.split())
+            for words in ("ring 12", "grid 3 4", "path 1", "complete 8", "random 30 80", "tree 12")
+        }
         networks |= {"long names": LONG_NAMES, "bars": BARRED}
         for name, data in networks.items():
             net = network_of(data)
@@ -289,26 +459,47 @@ class OwnNetworks(Case):
                 "transcript": [1 + len(degrees) * last + 2 * wires],
             }
             got["transcript"] = got["transcript"][:1]
-            self.note(f"tell of {name}", {key: got.get(key) for key in wanted} == wanted, (told, wanted))
-            self.note(f"tell of {name}: no warning", warned == b"" and told["time"] == "less than a second", told)
+            self.note(
+                f"tell of {name}", {key: got.get(key) for key in wanted} == wanted, (told, wanted)
+            )
+            self.note(
+                f"tell of {name}: no warning",
+                warned == b"" and told["time"] == "less than a second",
+                told,
+            )
             # What is said of a network that is too large to be worked out.
             most = most_payloads(network_of(data))
-            self.note(f"the most payloads of {name}", payloads <= most <= 2 * payloads, (payloads, most))
-        for data, said in ((b"p edge 3 99\ne 1 2\n", b"the `p` line says 99 edges, and the text has 1: is it cut?"),
-                           (b"p edge 2 1\ne 1 2\nc at 3 0 0\n", b"a place is given for vertex 3"),
-                           (b"p edge 2 1\ne 1 2\nc name 9 X\n", b"a name is given for vertex 9")):
+            self.note(
+                f"the most payloads of {name}", payloads <= most <= 2 * payloads, (payloads, most)
+            )
+        for data, said in (
+            (
+                b"p edge 3 99\ne 1 2\n",
+                b"the `p` line says 99 edges, and the text has 1: is it cut?",
+            ),
+            (b"p edge 2 1\ne 1 2\nc at 3 0 0\n", b"a place is given for vertex 3"),
+            (b"p edge 2 1\ne 1 2\nc name 9 X\n", b"a name is given for vertex 9"),
+        ):
             self.note(f"warned of {data}", said in self.told_of(data)[1])
-        for data in (b"p edge 2 1\ne 1 2\n", b"p edge 2 2\ne 1 2\ne 2 1\n", b"p edge 3 2\ne 1 2\ne 2 1\ne 2 3\ne 3 2\n",
-                     b"p edge 0 0\n"):
+        for data in (
+            b"p edge 2 1\ne 1 2\n",
+            b"p edge 2 2\ne 1 2\ne 2 1\n",
+            b"p edge 3 2\ne 1 2\ne 2 1\ne 2 3\ne 3 2\n",
+            b"p edge 0 0\n",
+        ):
             self.note(f"not warned of {data}", self.told_of(data)[1] == b"")
 
     def test_bytes(self):
         """Those of a transcript, within a tenth of one that is written."""
         for data in (example("petersen"), example("queen5_5"), self.written("ring", 1000)):
-            count, unit = re.search(r"about ([\d.]+) (bytes|kB|MB)", self.told_of(data)[0]["transcript"]).groups()
+            count, unit = re.search(
+                r"about ([\d.]+) (bytes|kB|MB)", self.told_of(data)[0]["transcript"]
+            ).groups()
             told = float(count) * {"bytes": 1, "kB": 1e3, "MB": 1e6}[unit]
             there = len(called(PLAN, "transcript", "--edition", "1", data=data)[1])
-            self.note(f"the bytes of a transcript of {len(data)}", 0.9 < told / there < 1.1, (told, there))
+            self.note(
+                f"the bytes of a transcript of {len(data)}", 0.9 < told / there < 1.1, (told, there)
+            )
 
     def test_faults(self):
         """The fault that the program reports (codes.py), in words."""
@@ -334,8 +525,18 @@ class OwnNetworks(Case):
         wires = numbers(told["wires"])[-1]
         said = f"plan about {duration(wires / 1_500_000)}, transcript about {duration(wires / 1_000_000)}, of all "
         self.note("the time of a large network", told["time"].startswith(said), told)
-        self.same("times in words", [duration(59.9), duration(60), duration(185)], ["59 s", "1 min 0 s", "3 min 5 s"])
+        self.same(
+            "times in words",
+            [duration(59.9), duration(60), duration(185)],
+            ["59 s", "1 min 0 s", "3 min 5 s"],
+        )
         most = bound["payloads"].removeprefix("at most ").partition(";")
         good = bound["payloads"].startswith("at most ") and most[2] == " --payloads counts them"
-        self.note("a bound of the payloads", good and payloads <= int(most[0].replace(",", "")), bound)
-        self.same("payloads of a large network", told["payloads"], f"{payloads:,}; counted by `forestplay rounds`")
+        self.note(
+            "a bound of the payloads", good and payloads <= int(most[0].replace(",", "")), bound
+        )
+        self.same(
+            "payloads of a large network",
+            told["payloads"],
+            f"{payloads:,}; counted by `forestplay rounds`",
+        )

@@ -26,17 +26,31 @@ def nothing(*_):
 def long_names(source, nodes):
     """Identifiers of some vertices, great ones and small ones, no two the same."""
     while True:
-        given = {v: source.choice((source.randrange(2**128), source.randrange(2 * nodes),
-                                   2**source.choice((32, 64, 128)) - 1 - source.randrange(2 * nodes)))
-                 for v in range(1, nodes + 1) if source.random() < 0.8}
+        given = {
+            v: source.choice(
+                (
+                    source.randrange(2**128),
+                    source.randrange(2 * nodes),
+                    2 ** source.choice((32, 64, 128)) - 1 - source.randrange(2 * nodes),
+                )
+            )
+            for v in range(1, nodes + 1)
+            if source.random() < 0.8
+        }
         if len({given.get(v, v) for v in range(1, nodes + 1)}) == nodes:
             return given
 
 
 def some_bars(source, nodes, most=12):
     """Channels that are barred at some vertices, low ones mostly; at most `most` of a vertex."""
-    bars = {v: {source.choice((source.randint(1, 4), source.randint(1, nodes + 2), 2048))
-                for _ in range(source.choice((1, 1, 2, most)))} for v in range(1, nodes + 1) if source.random() < 0.5}
+    bars = {
+        v: {
+            source.choice((source.randint(1, 4), source.randint(1, nodes + 2), 2048))
+            for _ in range(source.choice((1, 1, 2, most)))
+        }
+        for v in range(1, nodes + 1)
+        if source.random() < 0.5
+    }
     return bars or {1: {1}} if nodes else {}
 
 
@@ -49,7 +63,9 @@ def text_of(source, nodes, edges, names=None, bars=None):
     rows = [b"e %d %d\n" % pair for pair in lines]
     for pair in (names or {}).items():
         rows.insert(source.randint(0, len(rows)), b"i %d %d\n" % pair)
-    for pair in [(v, channel) for v, channels in sorted((bars or {}).items()) for channel in sorted(channels)]:
+    for pair in [
+        (v, channel) for v, channels in sorted((bars or {}).items()) for channel in sorted(channels)
+    ]:
         for _ in range(source.choice((1, 1, 1, 2))):
             rows.insert(source.randint(0, len(rows)), b"b %d %d\n" % pair)
     return f"p edge {nodes} {len(lines)}\n".encode() + b"".join(rows)
@@ -76,7 +92,9 @@ def pairs_of(nodes):
 def all_of(nodes):
     """Each set of edges on so many nodes, those with few edges first."""
     pairs = pairs_of(nodes)
-    return itertools.chain(*(itertools.combinations(pairs, count) for count in range(len(pairs) + 1)))
+    return itertools.chain(
+        *(itertools.combinations(pairs, count) for count in range(len(pairs) + 1))
+    )
 
 
 def all_small(_):
@@ -85,16 +103,24 @@ def all_small(_):
 
 def random_of(count, least, greatest):
     """Any density from none to all."""
+
     def networks(source):
         for _ in range(count):
             nodes, density = source.randint(least, greatest), source.random()
             yield nodes, {pair for pair in pairs_of(nodes) if source.random() < density}
+
     return networks
 
 
 def shapes(source):
     """Kinds of networks, on names in any order, among vertices without an edge."""
-    for kind, most in [("path", 40), ("ring", 40), ("tree", 40), ("star", 40), ("complete", 16)] * 10:
+    for kind, most in [
+        ("path", 40),
+        ("ring", 40),
+        ("tree", 40),
+        ("star", 40),
+        ("complete", 16),
+    ] * 10:
         nodes = source.randint(13, 40)
         yield nodes, shaped(source, kind, nodes, source.randint(3, min(nodes, most)))
 
@@ -108,11 +134,17 @@ def shaped(source, kind, nodes, count):
 
 def climbing(count, nodes):
     """Long ways to the roots, on which the least digit in which a vertex differs from its parent is any that there is:
-    here it shows how many bit steps there are, and what a drop looks at, in which order. Up to three parents."""
+    here it shows how many bit steps there are, and what a drop looks at, in which order. Up to three parents.
+    """
+
     def networks(source):
         for i in range(count):
-            yield nodes, {(v, v + 2 ** source.randrange((nodes - v).bit_length()))
-                          for v in range(1, nodes) for _ in range(1 + i % 3)}
+            yield nodes, {
+                (v, v + 2 ** source.randrange((nodes - v).bit_length()))
+                for v in range(1, nodes)
+                for _ in range(1 + i % 3)
+            }
+
     return networks
 
 
@@ -135,8 +167,12 @@ FAMILIES = [
 PAIRS = list(itertools.product((1, 2, 4, 64), repeat=2))
 # Families whose runs on threads take seconds, and how many of their networks are run so: in the first, each pair once;
 # of those that climb, with each number of parents twice, and the first.
-LONG = {"random on 20 to 40 nodes": len(PAIRS), "bars on 20 to 40 nodes": len(PAIRS) // 2, "climbing on 1,000 nodes": 6,
-        "climbing on 20,000 nodes": 1}
+LONG = {
+    "random on 20 to 40 nodes": len(PAIRS),
+    "bars on 20 to 40 nodes": len(PAIRS) // 2,
+    "climbing on 1,000 nodes": 6,
+    "climbing on 20,000 nodes": 1,
+}
 
 
 def texts_of(family):
@@ -154,14 +190,25 @@ class PlainNetworks(Case):
         after = {1: 0, 2: 2, 3: 1}
         highest_digit = Network(2, {(1, 2)}, {1: 2**127 - 1, 2: 2**128 - 1})
         for name, got, wanted in [
-            ("three colours of the triangle", [three(triangle, f) for f in (0, 1)],
-             [{1: 0, 2: 1, 3: 0}, {1: 1, 2: 1, 3: 0}]),
-            ("the triangle after one forest", merge(triangle, 0, {1: 0, 2: 0, 3: 0}), {1: 0, 2: 1, 3: 0}),
+            (
+                "three colours of the triangle",
+                [three(triangle, f) for f in (0, 1)],
+                [{1: 0, 2: 1, 3: 0}, {1: 1, 2: 1, 3: 0}],
+            ),
+            (
+                "the triangle after one forest",
+                merge(triangle, 0, {1: 0, 2: 0, 3: 0}),
+                {1: 0, 2: 1, 3: 0},
+            ),
             ("a bar: the first colours", first_colours(barred), {1: 0, 2: 0, 3: 1}),
             ("a bar: after one forest", merge(barred, 0, {1: 0, 2: 0, 3: 1}), after),
             ("a bar: after both forests", merge(barred, 1, after), after),
             ("a bar: the span", (barred.greatest_bars, barred.span), (1, 3)),
-            ("bit step of 128 digits", bit(highest_digit, 0, highest_digit.identifiers), {1: 254, 2: 1}),
+            (
+                "bit step of 128 digits",
+                bit(highest_digit, 0, highest_digit.identifiers),
+                {1: 254, 2: 1},
+            ),
             ("identifiers of 128 digits", colours(highest_digit), {1: 1, 2: 0}),
         ]:
             self.same(f"the definition: {name}", got, wanted)
@@ -177,7 +224,13 @@ class PlainNetworks(Case):
                     workers, capacity = next(pairs)
                     calls.append(["plan", "--workers", workers, "--capacity", capacity])
                 wanted = 0, plan_text(network_of(network)), b""
-                different += [(count, words, network) for words in calls
-                              if called(PLAN, *words, data=network) != wanted]
-            self.note(f"plain and plan by the definition, {count} networks, {family[0]}", count > 0 and not different,
-                      f"{len(different)} differ, the first is {different[:1]}")
+                different += [
+                    (count, words, network)
+                    for words in calls
+                    if called(PLAN, *words, data=network) != wanted
+                ]
+            self.note(
+                f"plain and plan by the definition, {count} networks, {family[0]}",
+                count > 0 and not different,
+                f"{len(different)} differ, the first is {different[:1]}",
+            )

@@ -19,28 +19,54 @@ WORKED_RUNS = [
 
 def of_one(data, capacity, turns, command="plan"):
     """The answer of one worker."""
-    words = ["--workers", 1, "--capacity", capacity, "--turns", turns] + ["--edition", 1] * (command == "transcript")
+    words = ["--workers", 1, "--capacity", capacity, "--turns", turns] + ["--edition", 1] * (
+        command == "transcript"
+    )
     return called(PLAN, command, *words, data=data)
 
 
 class Plans(Case):
     def test_worked(self):
         for words, data, *wanted in WORKED_RUNS:
-            self.same(f"plan {' '.join(words)}", called(PLAN, "plan", *words, data=data), tuple(wanted))
+            self.same(
+                f"plan {' '.join(words)}", called(PLAN, "plan", *words, data=data), tuple(wanted)
+            )
 
     def test_turns(self):
         """One worker stops with one turn less than its run needs, by the definition of a turn, and with as many it has
-        the answer. A link that held another number of wires, or another number of turns, would move that limit."""
-        for data in (TRIANGLE, b"p edge 2 0\n", b"p edge 2 1\ne 1 2\n",
-                     b"p edge 5 5\ne 1 2\ne 2 3\ne 3 4\ne 4 5\ne 1 5\n"):
+        the answer. A link that held another number of wires, or another number of turns, would move that limit.
+        """
+        for data in (
+            TRIANGLE,
+            b"p edge 2 0\n",
+            b"p edge 2 1\ne 1 2\n",
+            b"p edge 5 5\ne 1 2\ne 2 3\ne 3 4\ne 4 5\ne 1 5\n",
+        ):
             for capacity in (1, 2, 64):
                 whole = Run(network_of(data), capacity)
-                for command, answer in (("plan", plan_text(network_of(data))), ("transcript", whole.text())):
-                    got = [of_one(data, capacity, turns, command) for turns in (whole.looks - 1, whole.looks)]
-                    self.same(f"{whole.looks} turns of {command} for {data[:12]!r} with capacity {capacity}, and no "
-                              "less", got, [(3, b"", STOPPED), (0, answer, b"")])
+                for command, answer in (
+                    ("plan", plan_text(network_of(data))),
+                    ("transcript", whole.text()),
+                ):
+                    got = [
+                        of_one(data, capacity, turns, command)
+                        for turns in (whole.looks - 1, whole.looks)
+                    ]
+                    self.same(
+                        f"{whole.looks} turns of {command} for {data[:12]!r} with capacity {capacity}, and no "
+                        "less",
+                        got,
+                        [(3, b"", STOPPED), (0, answer, b"")],
+                    )
         needed = Run(network_of(TRIANGLE), 2).looks
-        got = [called(PLAN, "plan", "--capacity=0002", "--workers=+1", f"--turns=+0{turns}", data=TRIANGLE)
-               for turns in (needed - 1, needed)]
-        self.same("numbers of options with a sign or zeros before them", got,
-                  [(3, b"", STOPPED), (0, TRIANGLE_PLAN, b"")])
+        got = [
+            called(
+                PLAN, "plan", "--capacity=0002", "--workers=+1", f"--turns=+0{turns}", data=TRIANGLE
+            )
+            for turns in (needed - 1, needed)
+        ]
+        self.same(
+            "numbers of options with a sign or zeros before them",
+            got,
+            [(3, b"", STOPPED), (0, TRIANGLE_PLAN, b"")],
+        )

@@ -25,16 +25,29 @@ from tests.settings import PLAN, PLAY
 MOST = 200_000  # states; more show that a search goes on and on
 SEED = 2026
 
-NETWORKS = {"two": "p edge 2 1|e 1 2|", "path": "p edge 3 2|e 1 2|e 2 3|", "star": "p edge 3 2|e 1 2|e 1 3|",
-            "triangle": "p edge 3 3|e 1 2|e 1 3|e 2 3|", "apart": "p edge 3 1|e 1 3|",
-            "barred": "p edge 2 1|e 1 2|b 1 1|b 2 3|", "alone": "p edge 1 0|",
-            "row of four": "p edge 4 3|e 1 2|e 2 3|e 3 4|", "ring of four": "p edge 4 4|e 1 2|e 2 3|e 3 4|e 1 4|",
-            "star of four": "p edge 4 3|e 1 4|e 2 4|e 3 4|",
-            "all of four": "p edge 4 6|e 1 2|e 1 3|e 1 4|e 2 3|e 2 4|e 3 4|"}
+NETWORKS = {
+    "two": "p edge 2 1|e 1 2|",
+    "path": "p edge 3 2|e 1 2|e 2 3|",
+    "star": "p edge 3 2|e 1 2|e 1 3|",
+    "triangle": "p edge 3 3|e 1 2|e 1 3|e 2 3|",
+    "apart": "p edge 3 1|e 1 3|",
+    "barred": "p edge 2 1|e 1 2|b 1 1|b 2 3|",
+    "alone": "p edge 1 0|",
+    "row of four": "p edge 4 3|e 1 2|e 2 3|e 3 4|",
+    "ring of four": "p edge 4 4|e 1 2|e 2 3|e 3 4|e 1 4|",
+    "star of four": "p edge 4 3|e 1 4|e 2 4|e 3 4|",
+    "all of four": "p edge 4 6|e 1 2|e 1 3|e 1 4|e 2 3|e 2 4|e 3 4|",
+}
 
 # (network, puts apart, states, steps), as a trial found them that searched copies of whole states.
-TRIAL = [("two", False, 281, 430), ("path", False, 3551, 8843), ("triangle", False, 16473, 50723),
-         ("row of four", False, 41421, 141961), ("ring of four", False, 171815, 688891), ("two", True, 641, None)]
+TRIAL = [
+    ("two", False, 281, 430),
+    ("path", False, 3551, 8843),
+    ("triangle", False, 16473, 50723),
+    ("row of four", False, 41421, 141961),
+    ("ring of four", False, 171815, 688891),
+    ("two", True, 641, None),
+]
 
 
 def text_of(name):
@@ -52,8 +65,10 @@ def node_key(node):
 
 def net_key(state):
     """Equal for equal states."""
-    return (tuple(node_key(state.nodes[v]) for v in sorted(state.nodes)),
-            tuple((end, tuple(wires)) for end, wires in sorted(state.link.items())))
+    return (
+        tuple(node_key(state.nodes[v]) for v in sorted(state.nodes)),
+        tuple((end, tuple(wires)) for end, wires in sorted(state.link.items())),
+    )
 
 
 def put_all(state):
@@ -70,22 +85,34 @@ def put_all(state):
 def key_in_table(space, s):
     """The key of a state of the table."""
     state = space.states[s]
-    links = sorted(((v, space.ports[v].index(w)), space.contents[state[space.slot[v, w]]]) for v, w in space.links)
-    return tuple(node_key(space.locals[a][state[a]]) for a in range(len(space.vertices))), tuple(links)
+    links = sorted(
+        ((v, space.ports[v].index(w)), space.contents[state[space.slot[v, w]]])
+        for v, w in space.links
+    )
+    return tuple(node_key(space.locals[a][state[a]]) for a in range(len(space.vertices))), tuple(
+        links
+    )
 
 
 def keys_of(space, states):
     """States as they can be compared between two searches."""
-    return {(tuple(values[part].key() for values, part in zip(space.locals, space.states[s])),
-             tuple(space.contents[c] for c in space.states[s][len(space.vertices):])) for s in states}
+    return {
+        (
+            tuple(values[part].key() for values, part in zip(space.locals, space.states[s])),
+            tuple(space.contents[c] for c in space.states[s][len(space.vertices) :]),
+        )
+        for s in states
+    }
 
 
 def reduced_rows():
     """(network, rules left out, whether puts are steps)."""
     rules_of_two = (), ("early",), ("acks",), ("acks", "early")
     for nodes, edges in ((nodes, edges) for nodes in (1, 2, 3) for edges in all_of(nodes)):
-        yield from ((Network(nodes, edges), *more) for more in (
-            product(rules_of_two, (False, True)) if nodes < 3 else [((), False)]))
+        yield from (
+            (Network(nodes, edges), *more)
+            for more in (product(rules_of_two, (False, True)) if nodes < 3 else [((), False)])
+        )
     for net in (Network(3, [(1, 2), (2, 3)], {1: 9, 2: 200, 3: 5}, {2: [1]}), net_of("path")):
         yield from ((net, without, False) for without in rules_of_two[:3])
     yield net_of("row of four"), (), False
@@ -96,13 +123,22 @@ def shown(state, v):
     node, ports = state.nodes[v], list(zip(state.neighbours[v], state.nodes[v].ports))
     p = node.pulse_number
     if p == node.last:
-        return p, "whole" if node.drained() else "last", [("close", w) for w, port in ports if not port.closed]
+        return (
+            p,
+            "whole" if node.drained() else "last",
+            [("close", w) for w, port in ports if not port.closed],
+        )
     if not node.said:
         return p, "asks", [(f"ack {p}", w) for w, port in ports if port.waits]
-    return p, "ready" if node.can_pulse() else "safe", [(f"safe {p}", w) for w, port in ports if not port.safe]
+    return (
+        p,
+        "ready" if node.can_pulse() else "safe",
+        [(f"safe {p}", w) for w, port in ports if not port.safe],
+    )
 
 
 # The number of events, and the ends.
+
 
 def count_of_events(net):
     """n·R + 2·wires, wires being 2·payloads + 2·edges·(R + 1)."""
@@ -111,6 +147,7 @@ def count_of_events(net):
 
 
 # Lists of events, and walks.
+
 
 def list_of(name, lines):
     """The input of `forestplay events`."""
@@ -139,17 +176,35 @@ BROKEN = [
 # and by hand the first clash: without `digit` both have place 0 after the first bit step; without `root` 1 has colour 1
 # and its root 2 colour 0 after four, and then 1 takes 0; the triangle's colours in forest 1 are 1, 1 and 0, so that 3
 # takes 0, and after it without `earlier` 2 does, too, and without `pair` 1 and 2 both take 1.
-SMALLEST = {"digit": [(1, 2)], "shift": [(1, 3), (3, 5)], "root": [(1, 2)], "children": [(1, 2), (2, 5), (5, 9)],
-            "parent": [(1, 2), (2, 3), (3, 4), (4, 8)], "pair": [(1, 2), (1, 3), (2, 3)],
-            "earlier": [(1, 2), (1, 3), (2, 3)]}
-CLASHES = {"digit": (3, 0, 1, 2, 0), "root": (7, 0, 1, 2, 0), "pair": (None, 1, 1, 2, 1), "earlier": (None, 1, 2, 3, 0)}
+SMALLEST = {
+    "digit": [(1, 2)],
+    "shift": [(1, 3), (3, 5)],
+    "root": [(1, 2)],
+    "children": [(1, 2), (2, 5), (5, 9)],
+    "parent": [(1, 2), (2, 3), (3, 4), (4, 8)],
+    "pair": [(1, 2), (1, 3), (2, 3)],
+    "earlier": [(1, 2), (1, 3), (2, 3)],
+}
+CLASHES = {
+    "digit": (3, 0, 1, 2, 0),
+    "root": (7, 0, 1, 2, 0),
+    "pair": (None, 1, 1, 2, 1),
+    "earlier": (None, 1, 2, 3, 0),
+}
 
 
 # (words, status, standard error)
 FAULTS = [
-    (["examples/petersen.col"], 1, "explore: petersen has 10 nodes, and every schedule is played of at most 4\n"),
-    (["examples/triangle.col", "--limit", "16472"], 1,
-     "explore: there are more than 16,472 states: use --limit for more, at some 420 bytes each\n"),
+    (
+        ["examples/petersen.col"],
+        1,
+        "explore: petersen has 10 nodes, and every schedule is played of at most 4\n",
+    ),
+    (
+        ["examples/triangle.col", "--limit", "16472"],
+        1,
+        "explore: there are more than 16,472 states: use --limit for more, at some 420 bytes each\n",
+    ),
     (["no.col"], 1, "explore: no.col: No such file or directory\n"),
     (["README.md"], 1, "explore: README.md line 1: `#` begins no line of a network (F8)\n"),
 ]
@@ -161,12 +216,23 @@ REFUSED = [
     (["--without", "digit", "--puts"], "the rounds have no events"),
     (["--without", "safes"], "NETWORK is missing"),
     (["--without", "partner"], "only --program matching has the rules partner,last"),
-    (["--without", "digit", "--program", "matching"], "only --program colouring has the rules digit,"),
+    (
+        ["--without", "digit", "--program", "matching"],
+        "only --program colouring has the rules digit,",
+    ),
     (["--without", "partner,bars", "--program", "matching"], "can't be left out together"),
-    (["path2", "--without", "bars", "--program", "recolouring", "--list"], "the rounds have no events"),
+    (
+        ["path2", "--without", "bars", "--program", "recolouring", "--list"],
+        "the rounds have no events",
+    ),
     (["examples/two.col", "x"], "unrecognized arguments: x"),
-    *((words, "explore: error: --reduce") for words in (
-        ["two", "--reduce", "--without", "safes"], ["two", "--reduce", "--without", "acks,fifo"])),
+    *(
+        (words, "explore: error: --reduce")
+        for words in (
+            ["two", "--reduce", "--without", "safes"],
+            ["two", "--reduce", "--without", "acks,fifo"],
+        )
+    ),
     (["--reduce", "--without", "shift"], "the rounds have no events"),
 ]
 
@@ -181,7 +247,9 @@ class Schedules(Case):
     def test_trials(self):
         for name, puts, states, steps in TRIAL:
             space = Space(net_of(name), puts=puts, limit=MOST)
-            self.same(f"numbers of {name}", (space.count, steps and len(space.target)), (states, steps))
+            self.same(
+                f"numbers of {name}", (space.count, steps and len(space.target)), (states, steps)
+            )
             if not puts:
                 self.end_rows(name, space)
 
@@ -189,9 +257,16 @@ class Schedules(Case):
         """Every schedule has the number of events that the formula says, less the puts if these aren't counted."""
         events, wires = count_of_events(space.net)
         wanted = events - (0 if space.puts else wires)
-        levels = all(space.depth[t] == space.depth[s] + 1 for s in range(space.count) for _, t in space.steps(s))
-        self.note(f"events of each schedule of {name}, {wanted}",
-                  levels and [space.depth[s] for s in space.ends] == [wanted], [space.depth[s] for s in space.ends])
+        levels = all(
+            space.depth[t] == space.depth[s] + 1
+            for s in range(space.count)
+            for _, t in space.steps(s)
+        )
+        self.note(
+            f"events of each schedule of {name}, {wanted}",
+            levels and [space.depth[s] for s in space.ends] == [wanted],
+            [space.depth[s] for s in space.ends],
+        )
         ends = [{v: node.colour for v, node in space.nodes(s).items()} for s in space.ends]
         self.same(f"end of {name}", ends, [colours(space.net)])
 
@@ -214,8 +289,11 @@ class Schedules(Case):
                 events.append(event)
                 seen = {v: node[:3] for v, node in space.nodes(s).items()}
                 may = set(map(words_of, state.possible()))
-                if (net_key(state) != key_in_table(space, s) or seen != {v: shown(state, v) for v in space.vertices}
-                        or may != {str(event) for event, _ in space.steps(s)}):
+                if (
+                    net_key(state) != key_in_table(space, s)
+                    or seen != {v: shown(state, v) for v in space.vertices}
+                    or may != {str(event) for event, _ in space.steps(s)}
+                ):
                     wrong.append((name, [str(event) for event in events]))
             needed = space.with_puts(events)
             kinds = Counter(event.kind for event in needed)
@@ -228,22 +306,36 @@ class Schedules(Case):
         """With `reduce` the same goes wrong, the ends are the same states, and every state is one of the whole
         search."""
         for net, without, puts in reduced_rows():
-            whole, less = (Space(net, without, MOST, puts, beyond=bool(without), reduce=it) for it in (False, True))
-            self.same(f"{net.edges} without {without}, puts apart: {puts}",
-                      (set(less.faults.values()), keys_of(less, less.ends)),
-                      (set(whole.faults.values()), keys_of(whole, whole.ends)))
-            self.note(f"states of {net.edges} without {without}, puts apart: {puts}",
-                      keys_of(less, range(less.count)) <= keys_of(whole, range(whole.count))
-                      and less.count <= whole.count - bool(net.edges), (less.count, whole.count))
+            whole, less = (
+                Space(net, without, MOST, puts, beyond=bool(without), reduce=it)
+                for it in (False, True)
+            )
+            self.same(
+                f"{net.edges} without {without}, puts apart: {puts}",
+                (set(less.faults.values()), keys_of(less, less.ends)),
+                (set(whole.faults.values()), keys_of(whole, whole.ends)),
+            )
+            self.note(
+                f"states of {net.edges} without {without}, puts apart: {puts}",
+                keys_of(less, range(less.count)) <= keys_of(whole, range(whole.count))
+                and less.count <= whole.count - bool(net.edges),
+                (less.count, whole.count),
+            )
         # The triangle's counts by the help; and nothing of what it doesn't know.
         whole, reduced = (explored("triangle", *words) for words in ([], ["--reduce"]))
         for status, said, fault in (whole, reduced):
             count = said.split(" states")[0].split(": ")[1]
-            self.note("the triangle, as the help says", (status, fault) == (0, "") and count in explored("--help")[1],
-                      said)
+            self.note(
+                "the triangle, as the help says",
+                (status, fault) == (0, "") and count in explored("--help")[1],
+                said,
+            )
         said = reduced[1].replace("so schedules, pulses apart and wires under way aren't", "")
-        self.note("nothing of what it doesn't know",
-                  not any(word in said for word in ("schedules,", "apart,", "under way\n")), said)
+        self.note(
+            "nothing of what it doesn't know",
+            not any(word in said for word in ("schedules,", "apart,", "under way\n")),
+            said,
+        )
 
     def explored(self, name, *words):
         return explored(self.file(f"{name}.col", text_of(name)), "--limit", str(MOST), *words)
@@ -251,21 +343,37 @@ class Schedules(Case):
     def test_broken(self):
         for name, without, what, count, fault in BROKEN:
             (status, said, _), (_, listed, _), (_, apart, _) = (
-                self.explored(name, "--without", without, *more) for more in ([], ["--list"], ["--puts"]))
+                self.explored(name, "--without", without, *more)
+                for more in ([], ["--list"], ["--puts"])
+            )
             lines, first = listed.splitlines(), said.split("\n")[0]
             rest = sum(not line.startswith("put ") for line in lines)
             events = f"{count} event{'s' * (count != 1)} ({rest} take{' or pulse' if rest == 1 else 's and pulses'})"
-            self.note(f"{name} without {without}",
-                      status == 1 and (what is None or first == f"broken after {events}: {what}"), said)
-            self.same(f"the list of {name} without {without}",
-                      [line.split(":")[0] for line in said.splitlines()[1:1 + len(lines)]], lines)
-            self.same(f"{name} without {without}, puts apart", apart.split(": ")[0], first.split(": ")[0])
+            self.note(
+                f"{name} without {without}",
+                status == 1 and (what is None or first == f"broken after {events}: {what}"),
+                said,
+            )
+            self.same(
+                f"the list of {name} without {without}",
+                [line.split(":")[0] for line in said.splitlines()[1 : 1 + len(lines)]],
+                lines,
+            )
+            self.same(
+                f"{name} without {without}, puts apart", apart.split(": ")[0], first.split(": ")[0]
+            )
             got = called(PLAY, "events", data=list_of(name, lines))
-            self.same(f"forestplay on the list of {name} without {without}", got,
-                      answer_to("events", list_of(name, lines)))
+            self.same(
+                f"forestplay on the list of {name} without {without}",
+                got,
+                answer_to("events", list_of(name, lines)),
+            )
             wanted = f"forestplay: {fault} line ".encode() if fault else b""
-            self.note(f"forestplay refuses it as it should, {name} without {without}",
-                      got[2].startswith(wanted) and got[0] == (1 if fault else 0), got)
+            self.note(
+                f"forestplay refuses it as it should, {name} without {without}",
+                got[2].startswith(wanted) and got[0] == (1 if fault else 0),
+                got,
+            )
 
     def test_whole_lists(self):
         """One whole list of each network, by the program; and its end beside `plain`."""
@@ -278,10 +386,19 @@ class Schedules(Case):
             status, out, _ = called(PLAY, "events", data=list_of(name, listed.splitlines()))
             channels = [line.split()[-1] for line in out.decode().splitlines() if "channel" in line]
             plan = called(PLAN, "plain", data=text_of(name).encode())[1].decode().splitlines()[1:]
-            self.note(f"a whole list of {name}", status == 0 and len(channels) == len(net_of(name).neighbours), out)
-            self.same(f"the end of {name} is the plan", [line.split()[1] for line in plan], channels)
-            self.note(f"what explore says of the end of {name}",
-                      said.endswith(f"\none end: channels {' '.join(channels)}\n"), said)
+            self.note(
+                f"a whole list of {name}",
+                status == 0 and len(channels) == len(net_of(name).neighbours),
+                out,
+            )
+            self.same(
+                f"the end of {name} is the plan", [line.split()[1] for line in plan], channels
+            )
+            self.note(
+                f"what explore says of the end of {name}",
+                said.endswith(f"\none end: channels {' '.join(channels)}\n"),
+                said,
+            )
 
     def test_not_broken(self):
         """On links that keep the order, acknowledgements aren't needed; and nothing is broken if no rule is left
@@ -295,28 +412,44 @@ class Schedules(Case):
         self.same("states beyond it", (beyond.count, len(beyond.target)), (1631, 4113))
         plans = [{v: node.colour for v, node in beyond.nodes(s).items()} for s in beyond.ends]
         wrong = [plan for s, plan in zip(beyond.ends, plans) if plan != colours(beyond.net)]
-        self.note("beyond the first fault, two without safes: neighbours far apart", beyond.farthest > 1,
-                  beyond.farthest)
-        right = [s for s, plan in zip(beyond.ends, plans)
-                 if plan in wrong and not any(node.wrong for node in beyond.nodes(s).values())]
+        self.note(
+            "beyond the first fault, two without safes: neighbours far apart",
+            beyond.farthest > 1,
+            beyond.farthest,
+        )
+        right = [
+            s
+            for s, plan in zip(beyond.ends, plans)
+            if plan in wrong and not any(node.wrong for node in beyond.nodes(s).values())
+        ]
         self.note("only a wrong pulse leads to another plan", not right, wrong)
 
     def test_rounds(self):
         for rule in rules.OF_ROUNDS:
             rounds = ruled_rounds.smallest_wrong([rule])[0]
-            self.same(f"the smallest network without {rule}", rounds.net.edges,
-                      SMALLEST[rule])
-            self.same(f"the first clash without {rule}", rounds.clash, CLASHES.get(rule, rounds.clash))
+            self.same(f"the smallest network without {rule}", rounds.net.edges, SMALLEST[rule])
+            self.same(
+                f"the first clash without {rule}", rounds.clash, CLASHES.get(rule, rounds.clash)
+            )
         # Neighbours in the forest that was just merged never have one colour, whichever rules of the merging are left
         # out: two are given one.
         rounds = ruled_rounds.RuledRounds(net_of("two"), ())
         rounds.merged.append({1: 0, 2: 0})
-        self.same("neighbours in the forest just merged with one colour", list(rounds.merge_clashes(0)),
-                  [(None, 0, 1, 2, 0)])
+        self.same(
+            "neighbours in the forest just merged with one colour",
+            list(rounds.merge_clashes(0)),
+            [(None, 0, 1, 2, 0)],
+        )
         source = random.Random(SEED)
-        for net in (network_of(text_of_network(source, *pair)) for pair in random_of(40, 1, 9)(source)):
+        for net in (
+            network_of(text_of_network(source, *pair)) for pair in random_of(40, 1, 9)(source)
+        ):
             rounds = ruled_rounds.RuledRounds(net, ())
-            self.same(f"the plan of {net.edges} with all rules", (rounds.clash, rounds.plan), (None, colours(net)))
+            self.same(
+                f"the plan of {net.edges} with all rules",
+                (rounds.clash, rounds.plan),
+                (None, colours(net)),
+            )
 
     def test_rules(self):
         """Each rule has its part of docs/learn/GALLERY.md, and names a wrong body that is there, in one of the two
@@ -325,8 +458,13 @@ class Schedules(Case):
         for word, rule in rules.ALL.items():
             part = gallery.partition(f"\n### `{word}`: ")[2].partition("\n### ")[0]
             self.note(f"{word} in the gallery", f"--without {word}" in part and rule.edit in part)
-            paths = [os.path.join(TOP, "crates", rule.crate, folder) for folder in ("must-fail", "wrong-bodies")]
-            found = [path for path in paths if os.path.exists(os.path.join(path, rule.edit + ".edit"))]
+            paths = [
+                os.path.join(TOP, "crates", rule.crate, folder)
+                for folder in ("must-fail", "wrong-bodies")
+            ]
+            found = [
+                path for path in paths if os.path.exists(os.path.join(path, rule.edit + ".edit"))
+            ]
             self.note(f"the wrong body of {word}", len(found) == 1, rule)
 
     def test_words(self):
@@ -334,7 +472,9 @@ class Schedules(Case):
             self.same(f"explore {' '.join(words)}", explored(*words), (status, "", fault))
         for words, fault in REFUSED:
             self.refusal(f"explore {' '.join(words)}", explored(*words), 2, fault)
-        self.note("explore at the limit", explored("examples/triangle.col", "--limit", "16473")[0] == 0)
+        self.note(
+            "explore at the limit", explored("examples/triangle.col", "--limit", "16473")[0] == 0
+        )
         said = explored("--help")[1]
         self.note("explore --help", all(f"  {word} " in said for word in rules.ALL), said)
         cut = Space(net_of("two"), limit=280)

@@ -19,15 +19,27 @@ from tests.settings import setting
 NODES, SEED = 14, 79
 # Workers and capacity, one after the other over the networks.
 THREADS = [(1, 4), (2, 1), (3, 2), (4, 4), (2, 3), (8, 1)]
-PLAYED = ("colouring", "leader", "layers", "layers --root 1", "matching", "independent-set", "recolouring",
-          "recolouring --passes 2", "recolouring --passes 3")
+PLAYED = (
+    "colouring",
+    "leader",
+    "layers",
+    "layers --root 1",
+    "matching",
+    "independent-set",
+    "recolouring",
+    "recolouring --passes 2",
+    "recolouring --passes 3",
+)
 
 
 def ended(net, v, result):
     """A result as `run` prints it: it adds that a leader is elected, and the neighbour to which a port leads."""
     port = re.search(r"(?:partner|by) (\d+)$", result)
-    return f"{result} elected" if result == f"leader {net.identifiers[v]}" else (
-        f"{result} to {net.neighbours[v][int(port[1])]}" if port else result)
+    return (
+        f"{result} elected"
+        if result == f"leader {net.identifiers[v]}"
+        else (f"{result} to {net.neighbours[v][int(port[1])]}" if port else result)
+    )
 
 
 class SequelRuns(Case):
@@ -41,11 +53,22 @@ class SequelRuns(Case):
                 wanted = text_of(rounds_of(net, program).lines())
                 self.same(f"rounds of {name}", play("rounds", asked, data=data), (0, wanted, b""))
                 nodes = synchronous_run(net, program)
-                said = [*CHECKERS[program.name](net, last_of(nodes), plan)] if program.name in CHECKERS else []
+                said = (
+                    [*CHECKERS[program.name](net, last_of(nodes), plan)]
+                    if program.name in CHECKERS
+                    else []
+                )
                 self.note(f"what {name} has found", not said, said)
-                ends = [f"node {v} pulse {program.last_pulse(net)} {ended(net, v, node.result())}"
-                        for v, node in nodes.items()]
+                ends = [
+                    f"node {v} pulse {program.last_pulse(net)} {ended(net, v, node.result())}"
+                    for v, node in nodes.items()
+                ]
                 for workers, capacity in (next(threads), next(threads)):
-                    done = play("run", asked, "--workers", workers, "--capacity", capacity, data=data)
-                    self.same(f"run of {name} by {workers} workers, capacity {capacity}", done,
-                              (0, text_of(ends), b""))
+                    done = play(
+                        "run", asked, "--workers", workers, "--capacity", capacity, data=data
+                    )
+                    self.same(
+                        f"run of {name} by {workers} workers, capacity {capacity}",
+                        done,
+                        (0, text_of(ends), b""),
+                    )

@@ -18,32 +18,76 @@ def on_ground(one, other):
 class Sites(Case):
     def read(self, pairs, sites, words):
         """What `network read` makes of a table of sites."""
-        return call("read", *([self.file("pairs.csv", pairs)] if pairs else []), "--sites", self.file("sites", sites),
-                    *words.split())
+        return call(
+            "read",
+            *([self.file("pairs.csv", pairs)] if pairs else []),
+            "--sites",
+            self.file("sites", sites),
+            *words.split(),
+        )
 
     def test_refused(self):
-        for words in ("--reach 5", "", "--sites s", "--sites s --reach 0", "--sites s --reach 1e-320",
-                      "--sites s --reach nan", "--channels x s", "- --sites -", "- --channels 6,6", "- --columns a=b"):
+        for words in (
+            "--reach 5",
+            "",
+            "--sites s",
+            "--sites s --reach 0",
+            "--sites s --reach 1e-320",
+            "--sites s --reach nan",
+            "--channels x s",
+            "- --sites -",
+            "- --channels 6,6",
+            "- --columns a=b",
+        ):
             self.refusal(f"refused words: {words}", call("read", *words.split()), 2, b"error: ")
 
     def test_reach(self):
         """Places by chance: two are joined just if they are less than the reach apart, on a plane and on the ground;
         near the poles and over the line where the longitudes meet, too."""
         source = random.Random(7)
-        rows = [(name, "lat,lon", on_ground, reach,
-                 [(source.uniform(south, north), source.uniform(west, east)) for _ in range(150)])
-                for name, south, north, west, east, reach in (
-                    ("a town", 52.3, 52.6, 13.1, 13.7, 4.0), ("a pole", 88, 90, -180, 180, 60),
-                    ("the line", -1, 1, 179, 181, 30), ("the earth", -90, 90, -180, 180, 1500))]
-        rows.append(("a plane", "x_km,y_km", math.dist, 10,
-                     [(source.randrange(100), source.randrange(100)) for _ in range(200)]))
+        rows = [
+            (
+                name,
+                "lat,lon",
+                on_ground,
+                reach,
+                [(source.uniform(south, north), source.uniform(west, east)) for _ in range(150)],
+            )
+            for name, south, north, west, east, reach in (
+                ("a town", 52.3, 52.6, 13.1, 13.7, 4.0),
+                ("a pole", 88, 90, -180, 180, 60),
+                ("the line", -1, 1, 179, 181, 30),
+                ("the earth", -90, 90, -180, 180, 1500),
+            )
+        ]
+        rows.append(
+            (
+                "a plane",
+                "x_km,y_km",
+                math.dist,
+                10,
+                [(source.randrange(100), source.randrange(100)) for _ in range(200)],
+            )
+        )
         for name, columns, far, reach, places in rows:
-            sites = f"id,{columns}\n" + "".join(f"s{at},{a!r},{b!r}\n" for at, (a, b) in enumerate(places))
-            wanted = {(v, w) for w, there in enumerate(places, 1) for v, here in enumerate(places[:w - 1], 1)
-                      if far(here, there) < reach}
+            sites = f"id,{columns}\n" + "".join(
+                f"s{at},{a!r},{b!r}\n" for at, (a, b) in enumerate(places)
+            )
+            wanted = {
+                (v, w)
+                for w, there in enumerate(places, 1)
+                for v, here in enumerate(places[: w - 1], 1)
+                if far(here, there) < reach
+            }
             self.note(f"near each other: {name}", 20 < len(wanted) < 8000, len(wanted))
-            self.same(f"edges of {name}", edges_of(self.read(None, sites, f"--reach {reach}")[1]), wanted)
-        self.same("and pairs besides", edges_of(self.read("from,to\ns0,s1\n", sites, "--reach 10")[1]), wanted | {(1, 2)})
+            self.same(
+                f"edges of {name}", edges_of(self.read(None, sites, f"--reach {reach}")[1]), wanted
+            )
+        self.same(
+            "and pairs besides",
+            edges_of(self.read("from,to\ns0,s1\n", sites, "--reach 10")[1]),
+            wanted | {(1, 2)},
+        )
 
 
 class Channels(Case):
@@ -56,14 +100,19 @@ class Channels(Case):
             self.same(f"to {table}", self.call(*table, data=plan), (0, real, ""))
             self.same(f"from {table}", self.call("--back", *table, data=real), (0, plan, ""))
         got = self.call("--back", data="plan\n1 40\n2 36\n3 44\n")
-        self.same("without a table", got, (0, "plan\n1 2\n2 1\n3 3\n", "channels: 1 to 3 are 36 40 44\n"))
+        self.same(
+            "without a table", got, (0, "plan\n1 2\n2 1\n3 3\n", "channels: 1 to 3 are 36 40 44\n")
+        )
         done = called(PLAN, "check", data=example("triangle") + got[1].encode())
         self.same("a real plan is judged", done, (0, b"proper 3\n", b""))
 
     def test_runs(self):
         """The channels of a run, as a plan."""
         run = "node 1 pulse 30 channel 2\nnode 2 pulse 30 channel 3\nnode 3 pulse 30 channel 1\n"
-        for words, wanted in ((["--run"], "plan\n1 2\n2 3\n3 1\n"), (["--run", "1-11/5"], "plan\n1 6\n2 11\n3 1\n")):
+        for words, wanted in (
+            (["--run"], "plan\n1 2\n2 3\n3 1\n"),
+            (["--run", "1-11/5"], "plan\n1 6\n2 11\n3 1\n"),
+        ):
             self.same(f"{words}", self.call(*words, data=run), (0, wanted, ""))
         self.same("a run of no nodes", self.call("--run"), (0, "plan\n", ""))
 
@@ -73,40 +122,99 @@ class Channels(Case):
             ("Channel,Frequency (MHz)\r\n36,5180\r\n40,5200\r\n", (0, "plan\n1 40\n2 36\n", "")),
             ("Bemerkung;channel\r\ngut;36\r\ngut;40\r\n;;\r\n", (0, "plan\n1 40\n2 36\n", "")),
             ("channel\n36\n40\n", (0, "plan\n1 40\n2 36\n", "")),
-            ("Frequency\n5180\n", "no heading with a column channel"), ("channel,power\n36,1\nforty,1\n", "line 3"),
-            ("channel,power\n36,1\n36,2\n", "names a channel twice"), ("channel\n", "no row"),
+            ("Frequency\n5180\n", "no heading with a column channel"),
+            ("channel,power\n36,1\nforty,1\n", "line 3"),
+            ("channel,power\n36,1\n36,2\n", "names a channel twice"),
+            ("channel\n", "no row"),
         ):
             got = self.call(self.file("my licence.csv", table), data="plan\n1 2\n2 1\n")
-            good = got == wanted if isinstance(wanted, tuple) else got[:2] == (2, "") and wanted in got[2]
+            good = (
+                got == wanted
+                if isinstance(wanted, tuple)
+                else got[:2] == (2, "") and wanted in got[2]
+            )
             self.note(f"a licence {table!r}", good, got)
-        path, bars = self.file("licence", "channel\n1\n6\n11\n"), self.file("bars.csv", "site,channel\nAue,11\n")
-        wrote = call("read", "-", "--as", "pairs", "--channels", path, "--bars", bars, data=b"source,target\nUlm,Aue\n")[1]
-        self.note("read with a licence of a file", b"\nb 2 3\n" in wrote and b"c Channel 3 is 11\n" in wrote, wrote)
+        path, bars = self.file("licence", "channel\n1\n6\n11\n"), self.file(
+            "bars.csv", "site,channel\nAue,11\n"
+        )
+        wrote = call(
+            "read",
+            "-",
+            "--as",
+            "pairs",
+            "--channels",
+            path,
+            "--bars",
+            bars,
+            data=b"source,target\nUlm,Aue\n",
+        )[1]
+        self.note(
+            "read with a licence of a file",
+            b"\nb 2 3\n" in wrote and b"c Channel 3 is 11\n" in wrote,
+            wrote,
+        )
 
     def test_refused(self):
         for words, data, said in (
-            (["1", "6"], "plan\n1 2\n2 3\n", "line 3: channel 3, and the table has 2: it takes 3 channels"),
+            (
+                ["1", "6"],
+                "plan\n1 2\n2 3\n",
+                "line 3: channel 3, and the table has 2: it takes 3 channels",
+            ),
             (["1", "6"], "plan\n1 0\n", "line 2: channel 0"),
             (["--back", "1", "6"], "plan\n1 6\n2 7\n", "line 3: channel 7 isn't one of the table"),
             (["1"], "1 1\n", "line 1: no line `plan`"),
             (["1"], "", "no line `plan`"),
             (["1"], "plan\n1 x\n", "line 2: no vertex and its channel: `1 x`"),
-            (["--run"], "node 1 pulse 3 leader 2\n", "line 1: no node with a channel: `node 1 pulse 3 leader 2`"),
-            (["--run"], "node 1 pulse 12 channel 1\nplan\n", "line 2: no node with a channel: `plan`"),
-            (["--run", "1"], "node 1 pulse 30 channel 2\n", "line 1: channel 2, and the table has 1"),
+            (
+                ["--run"],
+                "node 1 pulse 3 leader 2\n",
+                "line 1: no node with a channel: `node 1 pulse 3 leader 2`",
+            ),
+            (
+                ["--run"],
+                "node 1 pulse 12 channel 1\nplan\n",
+                "line 2: no node with a channel: `plan`",
+            ),
+            (
+                ["--run", "1"],
+                "node 1 pulse 30 channel 2\n",
+                "line 1: channel 2, and the table has 1",
+            ),
         ):
             got = self.call(*words, data=data)
-            self.note(f"{words} {data!r}", got[:2] == (1, "") and said in got[2] and got[2].count("\n") == 1, got)
-        for words in ([], ["x"], ["nowhere.csv"], ["1", "1"], ["1-"], ["5-1"], ["1-5/0"], ["36-63/4"], ["1-3000"],
-                      ["--forth", "1"], ["--run", "--back"]):
-            self.refusal(f"refused words: {words}", self.call(*words, data="plan\n"), 2, "channels: error: ")
+            self.note(
+                f"{words} {data!r}",
+                got[:2] == (1, "") and said in got[2] and got[2].count("\n") == 1,
+                got,
+            )
+        for words in (
+            [],
+            ["x"],
+            ["nowhere.csv"],
+            ["1", "1"],
+            ["1-"],
+            ["5-1"],
+            ["1-5/0"],
+            ["36-63/4"],
+            ["1-3000"],
+            ["--forth", "1"],
+            ["--run", "--back"],
+        ):
+            self.refusal(
+                f"refused words: {words}", self.call(*words, data="plan\n"), 2, "channels: error: "
+            )
 
     def test_names(self):
         """Real numbers on a plan with names."""
-        path = self.file("net.col", call("read", "-", "--as", "pairs", data=b"source,target\nUlm,Aue\n")[1])
+        path = self.file(
+            "net.col", call("read", "-", "--as", "pairs", data=b"source,target\nUlm,Aue\n")[1]
+        )
         got = call("names", path, "--channels", "36 40", data=b"plan\n1 2\n2 1\n")
         self.same("names with real channels", got, (0, b"Ulm 40\nAue 36\n", b""))
         hint = b"channel 40, which is above 2 (C5); if it is a real channel number: forestlab channels --back"
-        self.refusal("a plan of real channels", call("names", path, data=b"plan\n1 40\n2 36\n"), 1, hint)
+        self.refusal(
+            "a plan of real channels", call("names", path, data=b"plan\n1 40\n2 36\n"), 1, hint
+        )
         got = call("names", path, "--channels", "36", data=b"plan\n1 2\n2 1\n")
         self.refusal("more channels than the licence", got, 1, b"takes 2 channels")

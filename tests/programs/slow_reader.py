@@ -42,8 +42,10 @@ def answer_to(command, data, *program):
 def rows_of(data):
     """The fields of each line. Only a line feed ends a line, only spaces and tabs separate fields, and one carriage
     return at the end of a line is no part of it."""
-    return [[field for field in line.removesuffix(b"\r").replace(b"\t", b" ").split(b" ") if field]
-            for line in data.split(b"\n")]
+    return [
+        [field for field in line.removesuffix(b"\r").replace(b"\t", b" ").split(b" ") if field]
+        for line in data.split(b"\n")
+    ]
 
 
 def read_by(reader, rows, *more):
@@ -54,7 +56,9 @@ def read_by(reader, rows, *more):
     except Refusal as why:
         line, words, code = re.match(r"it(?: line (\d+))?: (.*) \((\w+)\)", str(why)).groups()
         if code[0] == "C" and code != "C6" or code[0] == "N":
-            word, *vertices = filter(None, re.match(r"(vert\w+) (\d+)(?: and (\d+))?", words).groups())
+            word, *vertices = filter(
+                None, re.match(r"(vert\w+) (\d+)(?: and (\d+))?", words).groups()
+            )
             raise Fault(f"{code} {word} {' '.join(vertices)}") from None
         raise Fault(f"{code} line {line}" if line else code) from None
 
@@ -109,7 +113,11 @@ def events(rows):
 def event_in(line, fields):
     # Eleven digits are no vertex and no port, whatever comes after them.
     numbers = [int(field.lstrip(b"0")[:11] or b"0") for field in fields[1:] if field.isdigit()]
-    if fields[0] not in EVENTS or len(fields) != 3 - (fields[0] == b"pulse") or len(numbers) != len(fields) - 1:
+    if (
+        fields[0] not in EVENTS
+        or len(fields) != 3 - (fields[0] == b"pulse")
+        or len(numbers) != len(fields) - 1
+    ):
         raise Fault(f"NoEvent line {line}")
     vertex, port = (numbers + [None])[:2]
     return line, fields[0].decode().title(), vertex, port
@@ -119,7 +127,9 @@ def replay(rows, program=Colouring):
     before, behind = split(rows, lambda first: first == b"transcript")
     net = network_in(before)
     try:
-        head, entries = read(b"".join(b" ".join(fields) + b"\r\n" for fields in behind), program.name)
+        head, entries = read(
+            b"".join(b" ".join(fields) + b"\r\n" for fields in behind), program.name
+        )
     except Wrong as wrong:
         raise Fault(f"X1 line {wrong.line + len(before) if behind else 1}") from None
     found = Found(net, entries, program)
@@ -130,8 +140,11 @@ def replay(rows, program=Colouring):
             raise Fault(f"{code} line {entry.line + len(before)}{more}")
     if head.edition == 2 and not found.is_whole():
         raise Fault(f"NotWhole line {(entries or [head])[-1].line + len(before)}")
-    taken = Counter((entry.neighbour, found.state.port_to[entry.neighbour, entry.vertex])
-                    for entry in entries if entry.kind == "Take")
+    taken = Counter(
+        (entry.neighbour, found.state.port_to[entry.neighbour, entry.vertex])
+        for entry in entries
+        if entry.kind == "Take"
+    )
     return state_text(net, found.state, taken)
 
 
@@ -157,5 +170,14 @@ def run(rows):
     return "".join(f"node {v} pulse {last} channel {channel}\n" for v, channel in ends).encode()
 
 
-ANSWERS = {"forests": forests, "plain": plain, "plan": plain, "transcript": transcript, "check": check,
-           "events": events, "replay": replay, "rounds": rounds, "run": run}
+ANSWERS = {
+    "forests": forests,
+    "plain": plain,
+    "plan": plain,
+    "transcript": transcript,
+    "check": check,
+    "events": events,
+    "replay": replay,
+    "rounds": rounds,
+    "run": run,
+}

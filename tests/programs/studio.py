@@ -17,8 +17,10 @@ from tests.cases import Case
 
 TRIANGLE = "p edge 3 3\ne 1 2\ne 1 3\ne 2 3\n"
 SLOW = "p edge 4 6\n" + "".join(f"e {v} {w}\n" for v in range(1, 5) for w in range(v + 1, 5))
-HUNGRY = "def greet(node):\n    return bytearray(3 << 30)\n\n\ndef next(node, pulse, inbox):\n    return []\n\n\n" \
-         "def result(node):\n    return ''\n"
+HUNGRY = (
+    "def greet(node):\n    return bytearray(3 << 30)\n\n\ndef next(node, pulse, inbox):\n    return []\n\n\n"
+    "def result(node):\n    return ''\n"
+)
 
 
 def processes_of(parent):
@@ -30,8 +32,11 @@ def processes_of(parent):
 def begin(*words, top=TOP):
     """(process, address) of a studio, as a shell in the foreground would start it."""
     process = subprocess.Popen(
-        [sys.executable, "-S", os.path.join(top, "lab"), "studio", "--no-browser", *words], stderr=subprocess.PIPE,
-        text=True, preexec_fn=lambda: signal.signal(signal.SIGINT, signal.default_int_handler))
+        [sys.executable, "-S", os.path.join(top, "lab"), "studio", "--no-browser", *words],
+        stderr=subprocess.PIPE,
+        text=True,
+        preexec_fn=lambda: signal.signal(signal.SIGINT, signal.default_int_handler),
+    )
     return process, re.search(r"http\S+", process.stderr.readline()).group()
 
 
@@ -53,7 +58,11 @@ class Server(Case):
 
     def ask(self, path, body="{}", method="POST", **headers):
         """(status, text) of a request; a header is None to be left out."""
-        given = {"Content-Length": str(len(body.encode())), "Host": f"127.0.0.1:{self.port}", "X-Token": self.token}
+        given = {
+            "Content-Length": str(len(body.encode())),
+            "Host": f"127.0.0.1:{self.port}",
+            "X-Token": self.token,
+        }
         given |= {name.replace("_", "-"): value for name, value in headers.items()}
         end = http.client.HTTPConnection("127.0.0.1", self.port, timeout=60)
         end.putrequest(method, path, skip_host=True, skip_accept_encoding=True)
@@ -84,68 +93,137 @@ class Refusals(Server):
         own = f"http://127.0.0.1:{self.port}"
         rows = [
             ("the page's own call", 200, {"Origin": own, "Sec_Fetch_Site": "same-origin"}),
-            ("no token", 403, {"X_Token": None}), ("another token", 403, {"X_Token": "x" * 32}),
+            ("no token", 403, {"X_Token": None}),
+            ("another token", 403, {"X_Token": "x" * 32}),
             ("a token that is no ASCII", 403, {"X_Token": "\xff"}),
-            *((f"origin {origin}", 403, {"Origin": origin}) for origin in (
-                "http://evil.example", "null", "http://127.0.0.1:1")),
-            *((f"a page that is {site}", 403, {"Sec_Fetch_Site": site}) for site in ("cross-site", "same-site")),
-            *((f"host {host}", 403, {"Host": host}) for host in (f"evil.example:{self.port}", None)),
-            *((f"length {length}", 413, {"Content_Length": length}) for length in ("99999999", None, "-1"))]
+            *(
+                (f"origin {origin}", 403, {"Origin": origin})
+                for origin in ("http://evil.example", "null", "http://127.0.0.1:1")
+            ),
+            *(
+                (f"a page that is {site}", 403, {"Sec_Fetch_Site": site})
+                for site in ("cross-site", "same-site")
+            ),
+            *(
+                (f"host {host}", 403, {"Host": host})
+                for host in (f"evil.example:{self.port}", None)
+            ),
+            *(
+                (f"length {length}", 413, {"Content_Length": length})
+                for length in ("99999999", None, "-1")
+            ),
+        ]
         for name, wanted, headers in rows:
             status, text = self.ask("/call/hello", **headers)
             self.note(name, status == wanted, (status, text[:200]))
         for path in ("/call/nothing", "/call/__class__", "/frame/hello", "/call/", "/", "/x/y/z"):
             self.note(f"no call {path}", self.ask(path)[0] in (403, 404), self.ask(path))
-        for path in ("/../asked.py", "/asked.py", "/page/../../asked.py", "/%2e%2e/asked.py", "//etc/passwd"):
-            self.note(f"no file {path}", self.ask(path, "", "GET")[0] == 404, self.ask(path, "", "GET"))
+        for path in (
+            "/../asked.py",
+            "/asked.py",
+            "/page/../../asked.py",
+            "/%2e%2e/asked.py",
+            "//etc/passwd",
+        ):
+            self.note(
+                f"no file {path}", self.ask(path, "", "GET")[0] == 404, self.ask(path, "", "GET")
+            )
         self.note("the page", self.ask("/", "", "GET", X_Token=None)[0] == 200)
-        self.note("the page by another name", self.ask("/", "", "GET", Host="evil.example")[0] == 403)
+        self.note(
+            "the page by another name", self.ask("/", "", "GET", Host="evil.example")[0] == 403
+        )
         self.note("no token in what needs none", self.token not in self.ask("/", "", "GET")[1])
 
     def test_no_files(self):
         """No call reads a file that it names, or runs a program that the command line hasn't given."""
         for name in ("../lab/door", "/etc/passwd", "petersen.col", "../examples/petersen"):
-            self.note(f"example {name}", "no example" in self.answer("example", name=name).get("wrong", ""))
+            self.note(
+                f"example {name}",
+                "no example" in self.answer("example", name=name).get("wrong", ""),
+            )
         for name in ("/x.py", "x.py", "examples/algorithms/independent_set.py", "?"):
             for call in ("run", "steps", "rounds"):
                 got = self.answer(call, network=TRIANGLE, program=name, policy="random")
                 self.note(f"{call} of program {name}", "no program" in got.get("wrong", ""), got)
-        rows = [("run", {"policy": "random", "slow": [[1, 9]]}, "isn't in this network"),
-                ("plan", {"network": "p edge 2 1\ne 1 3\n"}, "(F5)"), ("broken", {"without": "x"}, "no such rule"),
-                ("picture", {"kind": "x"}, "there is no picture x"),
-                *(("picture", {"kind": "results"} | asked, words) for asked, words in (
+        rows = [
+            ("run", {"policy": "random", "slow": [[1, 9]]}, "isn't in this network"),
+            ("plan", {"network": "p edge 2 1\ne 1 3\n"}, "(F5)"),
+            ("broken", {"without": "x"}, "no such rule"),
+            ("picture", {"kind": "x"}, "there is no picture x"),
+            *(
+                ("picture", {"kind": "results"} | asked, words)
+                for asked, words in (
                     ({"program": "x"}, "there is no program"),
                     ({"program": "matching", "passes": 2}, "not for matching"),
-                    *(({"program": "recolouring", "passes": passes}, "there are 1 to 3 passes")
-                      for passes in (0, 4, "2", [2])))),
-                ("steps", {"without": "x"}, "no such rule"), ("steps", {"steps": "1"}, "isn't possible there"),
-                *(("steps", {"steps": word}, "isn't possible there") for word in ("1-9", "x", "1-2-1", "9", "0")),
-                *(("steps", {"list": f"c a list\n{event}"}, words) for event, words in {
-                    "put 9 0": "line 2: `put 9 0` isn't", "put 1 0\nput 1 0": "line 3: `put 1 0` isn't",
-                    "take 1 9": "`take 1 9` isn't", "pulse 9": "`pulse 9` isn't", "pulse": "(NoEvent)",
-                    "take 1 0 1": "overtakes", "put 1 0 0": "(NoEvent)"}.items())]
+                    *(
+                        ({"program": "recolouring", "passes": passes}, "there are 1 to 3 passes")
+                        for passes in (0, 4, "2", [2])
+                    ),
+                )
+            ),
+            ("steps", {"without": "x"}, "no such rule"),
+            ("steps", {"steps": "1"}, "isn't possible there"),
+            *(
+                ("steps", {"steps": word}, "isn't possible there")
+                for word in ("1-9", "x", "1-2-1", "9", "0")
+            ),
+            *(
+                ("steps", {"list": f"c a list\n{event}"}, words)
+                for event, words in {
+                    "put 9 0": "line 2: `put 9 0` isn't",
+                    "put 1 0\nput 1 0": "line 3: `put 1 0` isn't",
+                    "take 1 9": "`take 1 9` isn't",
+                    "pulse 9": "`pulse 9` isn't",
+                    "pulse": "(NoEvent)",
+                    "take 1 0 1": "overtakes",
+                    "put 1 0 0": "(NoEvent)",
+                }.items()
+            ),
+        ]
         for call, asked, words in rows:
             got = self.answer(call, **{"network": TRIANGLE} | asked)
             self.note(f"{call} {asked}", words in got.get("wrong", ""), got)
         for asked in ({}, {"network": 7}, {"network": None}, {"network": TRIANGLE, "vertex": "x"}):
-            self.note(f"nonsense {asked}", "wrong" in self.answer("why", **asked), self.answer("why", **asked))
+            self.note(
+                f"nonsense {asked}",
+                "wrong" in self.answer("why", **asked),
+                self.answer("why", **asked),
+            )
         self.note("still there", self.answer("hello")["answer"]["examples"])
 
     def test_silent(self):
         """Connections that say nothing, or less than they announce, keep nobody waiting."""
         silent = [socket.create_connection(("127.0.0.1", self.port)) for _ in range(33)]
         for end in silent[:3]:
-            end.sendall(f"POST /call/hello HTTP/1.1\r\nHost: 127.0.0.1:{self.port}\r\nX-Token: {self.token}\r\n"
-                        "Content-Length: 500\r\n\r\n{".encode())
+            end.sendall(
+                f"POST /call/hello HTTP/1.1\r\nHost: 127.0.0.1:{self.port}\r\nX-Token: {self.token}\r\n"
+                "Content-Length: 500\r\n\r\n{".encode()
+            )
         # It is asked with a limit of its own.
         self.note("33 of them", self.answer("hello").get("answer"))
         for end in silent:
             end.close()
 
     def test_port(self):
-        done = subprocess.run([sys.executable, "-S", os.path.join(TOP, "lab"), "studio", "--port", str(self.port),
-                               "--no-browser"], capture_output=True, text=True, timeout=60)
-        self.note("a port that is taken", done.returncode == 1 and f"port {self.port}: " in done.stderr, done)
+        done = subprocess.run(
+            [
+                sys.executable,
+                "-S",
+                os.path.join(TOP, "lab"),
+                "studio",
+                "--port",
+                str(self.port),
+                "--no-browser",
+            ],
+            capture_output=True,
+            text=True,
+            timeout=60,
+        )
+        self.note(
+            "a port that is taken",
+            done.returncode == 1 and f"port {self.port}: " in done.stderr,
+            done,
+        )
 
 
 class Memory(Server):
@@ -155,12 +233,17 @@ class Memory(Server):
         for name in ("hungry", "more"):
             with open(os.path.join(self.folder.name, name + ".py"), "w", encoding="ascii") as file:
                 file.write(HUNGRY)
-        self.words = [word for name in ("hungry", "more")
-                      for word in ("--own", os.path.join(self.folder.name, name + ".py"))]
+        self.words = [
+            word
+            for name in ("hungry", "more")
+            for word in ("--own", os.path.join(self.folder.name, name + ".py"))
+        ]
         super().setUp()
 
     def test_memory(self):
-        self.note("both programs", self.answer("hello")["answer"]["programs"][-2:] == ["hungry", "more"])
+        self.note(
+            "both programs", self.answer("hello")["answer"]["programs"][-2:] == ["hungry", "more"]
+        )
         got = self.answer("rounds", network=TRIANGLE, program="hungry")
         self.note("3 GB are refused", "MemoryError" in got.get("wrong", ""), got)
         self.note("still there", self.answer("hello").get("answer"))
@@ -174,17 +257,35 @@ class Answers(Server):
         self.note("plan", plan["plan"] == [2, 3, 1], plan)
         self.note("rounds", self.answer("rounds", network=TRIANGLE)["answer"]["last"] == 30)
         run = self.answer("run", network=TRIANGLE, how="seed", policy="random", seed="7")["answer"]
-        good = run["judge"]["ok"] and run["results"] == [2, 3, 1] and run["same"][0] == run["same"][1]
+        good = (
+            run["judge"]["ok"] and run["results"] == [2, 3, 1] and run["same"][0] == run["same"][1]
+        )
         self.note("run", good, run["same"])
         slow = self.answer("run", network=TRIANGLE, policy="slow-node", seed="7")["answer"]
-        self.note("which node waits", slow["of"] in ("node 1", "node 2", "node 3") and not run["of"], slow["of"])
+        self.note(
+            "which node waits",
+            slow["of"] in ("node 1", "node 2", "node 3") and not run["of"],
+            slow["of"],
+        )
         lines = run["text"].split("\n")
         got = self.answer("replay", network=TRIANGLE, transcript="\n".join(lines[:101]))["answer"]
-        self.note("a beginning of it", got["ok"] and got["entries"] == 100 and len(got["pulses"]) == 3, got)
+        self.note(
+            "a beginning of it",
+            got["ok"] and got["entries"] == 100 and len(got["pulses"]) == 3,
+            got,
+        )
         spoilt = "\n".join(lines[:50] + lines[51:])
-        self.note("a line less", not self.answer("judge", network=TRIANGLE, transcript=spoilt)["answer"]["ok"])
-        rows = [([2, 3, 1], "proper 3"), ([2, 2, 1], "C4 vertices 1 2"), ([2, 0, 1], "C1 vertex 2"),
-                ([2, 4, 1], "C5 vertex 2"), ([0, 4, 4], "C5 vertex 2")]
+        self.note(
+            "a line less",
+            not self.answer("judge", network=TRIANGLE, transcript=spoilt)["answer"]["ok"],
+        )
+        rows = [
+            ([2, 3, 1], "proper 3"),
+            ([2, 2, 1], "C4 vertices 1 2"),
+            ([2, 0, 1], "C1 vertex 2"),
+            ([2, 4, 1], "C5 vertex 2"),
+            ([0, 4, 4], "C5 vertex 2"),
+        ]
         for given, said in rows:
             got = self.answer("check", network=TRIANGLE, plan=given)["answer"]
             self.note(f"check {given}", got["said"] == said, got)
@@ -195,30 +296,54 @@ class Answers(Server):
         """A run made by hand: what is possible, what goes wrong without a rule, and the rest of it by chance."""
         two = "p edge 2 1\ne 1 2\n"
         start = self.answer("steps", network=two)["answer"]
-        self.note("two greetings are on their way", start["steps"] == ["1-2", "2-1"] and not start["made"], start)
+        self.note(
+            "two greetings are on their way",
+            start["steps"] == ["1-2", "2-1"] and not start["made"],
+            start,
+        )
         done = self.answer("steps", network=two, by=200, seed="3")["answer"]
         found = [look["c"] for look in done["looks"]]
         self.note("chance ends it", found == [1, 2] and done["judge"]["ok"], done)
         other = self.answer("steps", network=two, by=200, seed="4")["answer"]
         self.note("by its seed", other["made"] != done["made"], other)
         turn = self.answer("steps", network=two, without="fifo", steps="2-1_1-2-1")["answer"]
-        again = self.answer("steps", network=two, without="fifo", list="\n".join(turn["list"]))["answer"]
-        self.note("what overtakes is in the list", "take 1 0 1" in turn["list"] and again["made"] == turn["made"], turn)
+        again = self.answer("steps", network=two, without="fifo", list="\n".join(turn["list"]))[
+            "answer"
+        ]
+        self.note(
+            "what overtakes is in the list",
+            "take 1 0 1" in turn["list"] and again["made"] == turn["made"],
+            turn,
+        )
         held = self.answer("steps", network=TRIANGLE, slow=[[1, 2]], by=200)["answer"]
         at = [look["p"] for look in held["looks"]]
-        self.note("a held link holds its nodes", at[0] == at[1] == 0 and "1-2" in held["steps"], held)
-        held = self.answer("steps", network="p edge 3 2\ne 1 2\ne 2 3\n", lazy=[1], by=200)["answer"]
-        self.note("a held pulse holds no message", [look["p"] for look in held["looks"]] == [0, 1, 2], held["looks"])
+        self.note(
+            "a held link holds its nodes", at[0] == at[1] == 0 and "1-2" in held["steps"], held
+        )
+        held = self.answer("steps", network="p edge 3 2\ne 1 2\ne 2 3\n", lazy=[1], by=200)[
+            "answer"
+        ]
+        self.note(
+            "a held pulse holds no message",
+            [look["p"] for look in held["looks"]] == [0, 1, 2],
+            held["looks"],
+        )
         step = self.answer("steps", network=TRIANGLE, in_step=True)["answer"]
         self.note("in step", [look["p"] for look in step["looks"]] == [1, 1, 1], step["looks"])
         early = "3-1_1-3_1-2_2-1_1-2_2-1"
         wrong = self.answer("steps", network=TRIANGLE, without="acks,safes", steps="1")["answer"]
         self.note("without safes and acks", "without `hello 2` from 2" in wrong["fault"], wrong)
         got = self.answer("steps", network=TRIANGLE, list="\n".join(step["list"]))["answer"]
-        self.note("a list is played again", got["made"] == step["made"] and got["looks"] == step["looks"], got)
+        self.note(
+            "a list is played again",
+            got["made"] == step["made"] and got["looks"] == step["looks"],
+            got,
+        )
         run = self.answer("run", network=TRIANGLE, policy="random", seed="1", steps=early)["answer"]
         begins = [line.split()[1:3] for line in run["text"].split("\n")[1:]]
-        self.note("the rest by chance", run["judge"]["ok"] and ["3", "take"] in begins, run["judge"])
+        self.note(
+            "the rest by chance", run["judge"]["ok"] and ["3", "take"] in begins, run["judge"]
+        )
 
     def test_results(self):
         """The picture of what nodes have found, of each program that goes on where the colouring ends. Of a row the
@@ -228,9 +353,11 @@ class Answers(Server):
         anew = ["channel 2, was channel 1", "channel 1, was channel 2"]
         for network, asked, wanted in (
             (row, {"program": "matching"}, ["partner none", "partner 1", "partner 0"]),
-            (row, {"program": "independent-set"}, ["in", "out", "in"]), (edge, {"program": "recolouring"}, anew),
+            (row, {"program": "independent-set"}, ["in", "out", "in"]),
+            (edge, {"program": "recolouring"}, anew),
             (edge, {"program": "recolouring", "passes": 2}, ["channel 1", "channel 2"]),
-            (edge, {"program": "recolouring", "passes": 3}, anew), (edge, {}, ["channel 1", "channel 2"]),
+            (edge, {"program": "recolouring", "passes": 3}, anew),
+            (edge, {}, ["channel 1", "channel 2"]),
         ):
             got = self.answer("picture", network=network, kind="results", **asked)
             found = re.findall(r"<title>node \d+: (.*?)</title>", got.get("answer", ""))
@@ -241,32 +368,66 @@ class Answers(Server):
         got = self.answer("broken", network=edge, without="shift")["answer"]
         self.note("without a shift", "<svg" in got["picture"] and got["words"], got["words"])
         there = self.answer("hello")["answer"]["rules"]["rounds"]
-        self.note("who has rules", list(there) == ["colouring", "matching", "independent-set", "recolouring"], there)
-        self.note("rules of the matching", list(there["matching"]) == ["partner", "last"], there["matching"])
+        self.note(
+            "who has rules",
+            list(there) == ["colouring", "matching", "independent-set", "recolouring"],
+            there,
+        )
+        self.note(
+            "rules of the matching",
+            list(there["matching"]) == ["partner", "last"],
+            there["matching"],
+        )
         right = "the rounds of this network go right without it"
         for network, program, rule, here, words, bars in (
-            (row, "matching", "partner", True, "after pulse 19 the partner of node 1 is 2, and that of node 2 is 3",
-             None),
+            (
+                row,
+                "matching",
+                "partner",
+                True,
+                "after pulse 19 the partner of node 1 is 2, and that of node 2 is 3",
+                None,
+            ),
             (edge, "recolouring", "bars", False, right, [[1], []]),
-            (edge, "matching", "last", False, f"{right}, and so do those of all 1,094 networks of up to 5 nodes", None),
+            (
+                edge,
+                "matching",
+                "last",
+                False,
+                f"{right}, and so do those of all 1,094 networks of up to 5 nodes",
+                None,
+            ),
         ):
             got = self.answer("broken", network=network, program=program, without=rule)["answer"]
             found = got["found"] and [node["bars"] for node in got["found"]["nodes"]]
-            self.note(f"without {rule}", (got["here"], got["words"], found) == (here, [words], bars), got["words"])
+            self.note(
+                f"without {rule}",
+                (got["here"], got["words"], found) == (here, [words], bars),
+                got["words"],
+            )
             drawn = "<svg" in (got["picture"] or "")
-            self.note(f"{rule}: a picture of what goes wrong", drawn == (rule != "last"), got["picture"])
+            self.note(
+                f"{rule}: a picture of what goes wrong", drawn == (rule != "last"), got["picture"]
+            )
         for program in ("colouring", "leader", "independent-set"):
             got = self.answer("broken", network=edge, program=program, without="partner")
             self.note(f"no rule of {program}", "no such rule" in got.get("wrong", ""), got)
 
     def test_passes_of_a_run(self):
         """A run of two passes ends at pulse 18 + 2 · 2 on an edge, and its text is no run of one pass."""
-        asked = {"network": "p edge 2 1\ne 1 2\n", "program": "recolouring", "policy": "random", "seed": "1"}
+        asked = {
+            "network": "p edge 2 1\ne 1 2\n",
+            "program": "recolouring",
+            "policy": "random",
+            "seed": "1",
+        }
         text = self.answer("run", passes=2, **asked)["answer"]["text"]
         for kind in ("run", "overview", "node", "tally"):
             got = self.answer("picture", kind=kind, transcript=text, passes=2, **asked)
             self.note(f"{kind} of two passes", "</svg>" in got.get("answer", ""), got)
-            self.note("its last pulse", kind != "tally" or "· (22 + 1)" in got.get("answer", ""), got)
+            self.note(
+                "its last pulse", kind != "tally" or "· (22 + 1)" in got.get("answer", ""), got
+            )
             got = self.answer("picture", kind=kind, transcript=text, **asked)
             self.note(f"{kind}: it is no run of one", "wrong" in got, got)
 
@@ -274,22 +435,35 @@ class Answers(Server):
 class Ends(Server):
     def test_ends(self):
         """A call ends with its browser, and all with the server."""
+
         def search():
             end = socket.create_connection(("127.0.0.1", self.port))
             form = f"token={self.token}&network={SLOW.replace(chr(10), '%0A').replace(' ', '+')}"
-            end.sendall(f"POST /frame/adversary HTTP/1.1\r\nHost: 127.0.0.1:{self.port}\r\nContent-Length: "
-                        f"{len(form)}\r\n\r\n{form}".encode())
+            end.sendall(
+                f"POST /frame/adversary HTTP/1.1\r\nHost: 127.0.0.1:{self.port}\r\nContent-Length: "
+                f"{len(form)}\r\n\r\n{form}".encode()
+            )
             self.waits(lambda: processes_of(self.process.pid), 20)
             return end
+
         end = search()
-        self.note("a call is under way", len(processes_of(self.process.pid)) == 1, processes_of(self.process.pid))
+        self.note(
+            "a call is under way",
+            len(processes_of(self.process.pid)) == 1,
+            processes_of(self.process.pid),
+        )
         end.close()
-        self.note("it ends with its browser", self.waits(lambda: not processes_of(self.process.pid)))
+        self.note(
+            "it ends with its browser", self.waits(lambda: not processes_of(self.process.pid))
+        )
         end = search()
         under_way = processes_of(self.process.pid)
         self.process.send_signal(signal.SIGINT)
         self.note("Ctrl-C ends the server", self.process.wait(30) == 0)
-        self.note("and its calls", self.waits(lambda: not any(os.path.exists(f"/proc/{one}") for one in under_way)))
+        self.note(
+            "and its calls",
+            self.waits(lambda: not any(os.path.exists(f"/proc/{one}") for one in under_way)),
+        )
         end.close()
 
 
@@ -306,8 +480,10 @@ class Unbuilt(Answers):
         # In place of what proves: it says so, and builds nothing.
         os.mkdir(os.path.join(self.top, "build"))
         with open(os.path.join(self.top, "build", "__main__.py"), "w", encoding="ascii") as file:
-            file.write("import sys, time\nprint(*sys.argv[1:], '3 of 9 crates proved', file=sys.stderr, flush=True)\n"
-                       "time.sleep(30)\n")
+            file.write(
+                "import sys, time\nprint(*sys.argv[1:], '3 of 9 crates proved', file=sys.stderr, flush=True)\n"
+                "time.sleep(30)\n"
+            )
         with open(os.path.join(self.top, "bin", "rt"), "w", encoding="ascii") as file:
             os.fchmod(file.fileno(), 0o755)
         path = os.environ["PATH"]
@@ -325,9 +501,17 @@ class Unbuilt(Answers):
         self.note("a build has begun", got["lines"] and not got["ended"], got)
         self.waits(lambda: self.answer("built")["answer"]["lines"] != ["it begins"])
         got = self.answer("built")["answer"]
-        self.note("a build in its own words", not got["ended"]
-                  and got["lines"] == ["program forestplan forestplay 3 of 9 crates proved"], got)
+        self.note(
+            "a build in its own words",
+            not got["ended"]
+            and got["lines"] == ["program forestplan forestplay 3 of 9 crates proved"],
+            got,
+        )
         building = processes_of(self.process.pid)
         self.process.send_signal(signal.SIGINT)
         self.note("Ctrl-C ends the server", self.process.wait(30) == 0)
-        self.note("and the build", building and not any(os.path.exists(f"/proc/{one}") for one in building), building)
+        self.note(
+            "and the build",
+            building and not any(os.path.exists(f"/proc/{one}") for one in building),
+            building,
+        )

@@ -35,20 +35,35 @@ class Forms(Case):
             text = merged_text(nodes, entries)
             status, said, fault = call("json", data=text)
             first, *rows = map(json.loads, said.splitlines())
-            self.same(f"{name}: head", (status, fault, first), (0, "", {"edition": 2, "nodes": nodes}))
-            self.same(f"{name}: lines", [line_of(row) for row in rows], text.decode().splitlines()[1:])
-            by_line, takes = {row["line"]: row for row in rows}, [row for row in rows if row["kind"] == "take"]
+            self.same(
+                f"{name}: head", (status, fault, first), (0, "", {"edition": 2, "nodes": nodes})
+            )
+            self.same(
+                f"{name}: lines", [line_of(row) for row in rows], text.decode().splitlines()[1:]
+            )
+            by_line, takes = {row["line"]: row for row in rows}, [
+                row for row in rows if row["kind"] == "take"
+            ]
             self.same(f"{name}: each put once", len({row["put"] for row in takes}), len(takes))
             for row, put in ((row, by_line[row["put"]]) for row in takes):
-                good = (put["kind"], put["node"], put["neighbour"]) == ("put", row["neighbour"], row["node"])
+                good = (put["kind"], put["node"], put["neighbour"]) == (
+                    "put",
+                    row["neighbour"],
+                    row["node"],
+                )
                 self.note(f"{name}: {line_of(row)}", good and put["stamp"] < row["stamp"], put)
 
     def test_a_named_program(self):
         """What is converted has the program that its first line names: nothing is asked of it."""
-        status, said, fault = call("json", data=b"transcript 3 layers 2\n1 1 put 2 payload 0 hops 0\n")
+        status, said, fault = call(
+            "json", data=b"transcript 3 layers 2\n1 1 put 2 payload 0 hops 0\n"
+        )
         first, row = map(json.loads, said.splitlines())
-        self.same("a named program", (status, fault, first, row["word"], row["number"]),
-                  (0, "", {"edition": 3, "nodes": 2, "program": "layers"}, "hops", 0))
+        self.same(
+            "a named program",
+            (status, fault, first, row["word"], row["number"]),
+            (0, "", {"edition": 3, "nodes": 2, "program": "layers"}, "hops", 0),
+        )
 
     def test_shiviz(self):
         for name in ("two", "triangle"):
@@ -64,10 +79,14 @@ class Forms(Case):
                     links.setdefault((row[1], row[3]), []).append(at)
                 past.append(before | {at})
                 last[row[1]] = at
-                wanted.append((f"node{row[1]}", dict(Counter(f"node{rows[k][1]}" for k in past[at])), row[2]))
+                wanted.append(
+                    (f"node{row[1]}", dict(Counter(f"node{rows[k][1]}" for k in past[at])), row[2])
+                )
             heads = [head.split(" ", 1) for head in said.splitlines()[::2]]
-            found = [(host, json.loads(clock), event.split(" ")[0])
-                     for (host, clock), event in zip(heads, said.splitlines()[1::2])]
+            found = [
+                (host, json.loads(clock), event.split(" ")[0])
+                for (host, clock), event in zip(heads, said.splitlines()[1::2])
+            ]
             self.same(f"{name}: clocks", (status, fault, found), (0, "", wanted))
 
     def test_refusals(self):

@@ -35,16 +35,31 @@ EDGE = "p edge 2 1|e 1 2|"
 # 0, 0, 1, 1, 0, 0. So node 1 chooses at pulse 13 and node 2 at pulse 15, of the pulses 13 to 18.
 EDGE_SENT = {
     1: {0: "hello 1", 1: "label 0", 13: "chosen 0"},
-    2: {0: "hello 2", 2: "colour 2", 3: "colour 0", 4: "colour 0", 5: "colour 0", 6: "colour 0", 7: "colour 1",
-        8: "colour 1", 9: "colour 0", 10: "colour 0", 11: "colour 1", 15: "chosen 1"},
+    2: {
+        0: "hello 2",
+        2: "colour 2",
+        3: "colour 0",
+        4: "colour 0",
+        5: "colour 0",
+        6: "colour 0",
+        7: "colour 1",
+        8: "colour 1",
+        9: "colour 0",
+        10: "colour 0",
+        11: "colour 1",
+        15: "chosen 1",
+    },
 }
 EDGE_LAST = 18
 # What a node does in a pulse, by whether it sends a payload, and whether one comes: the other's wires come in the order
 # in which that one puts them, and the node's safe goes out at once if it sends no payload, and otherwise after the
 # acknowledgement.
-EDGE_PULSE = {(True, True): "put payload|take payload|put ack|take ack|put safe|take safe",
-              (True, False): "put payload|take safe|take ack|put safe",
-              (False, True): "put safe|take payload|put ack|take safe", (False, False): "put safe|take safe"}
+EDGE_PULSE = {
+    (True, True): "put payload|take payload|put ack|take ack|put safe|take safe",
+    (True, False): "put payload|take safe|take ack|put safe",
+    (False, True): "put safe|take payload|put ack|take safe",
+    (False, False): "put safe|take safe",
+}
 
 
 def edge_lines(v, w):
@@ -67,13 +82,37 @@ HELLO_1, HELLO_2 = "payload 0 hello 1", "payload 0 hello 2"
 APART = "transcript 1 2|" + "".join(f"{v} pulse {p}|" for v in (1, 2) for p in range(1, 13))
 # What is no entry, of edition 1 and with a stamp before it neither.
 NO_ENTRIES = (
-    "1", "1 pulse", "1 pulse 1 1", "1 pulse x", "1 pulse -1", "1 pulse 4294967296", "4294967296 pulse 1", "pulse 1",
-    "c", "transcript 1 2", "1 put 2", "1 put close", "1 put 2 close 0", "1 Put 2 close", "1 put 2 ack",
-    "1 put 2 ack 0 0", "1 take 2 safe 4294967296", "1 take x close", "1 take 2 payload 0 hello",
-    "1 take 2 payload 0 hello 340282366920938463463374607431768211456", "1 take 2 payload 0 best 1",
-    "1 take 2 payload 0 Hello 1", "1 put 2 payload 1 label 65536", "1 put 2 payload 13 chosen 65536",
-    "1 put 2 payload 2 colour 340282366920938463463374607431768211456", "1 put 2 payload 4294967296 hello 1",
-    "1 put 2 payload 0 hello 1 1", "1 put 2 payload 0 hello \xb2", "1\x0bpulse 1", "1 pulse 1\r\r")
+    "1",
+    "1 pulse",
+    "1 pulse 1 1",
+    "1 pulse x",
+    "1 pulse -1",
+    "1 pulse 4294967296",
+    "4294967296 pulse 1",
+    "pulse 1",
+    "c",
+    "transcript 1 2",
+    "1 put 2",
+    "1 put close",
+    "1 put 2 close 0",
+    "1 Put 2 close",
+    "1 put 2 ack",
+    "1 put 2 ack 0 0",
+    "1 take 2 safe 4294967296",
+    "1 take x close",
+    "1 take 2 payload 0 hello",
+    "1 take 2 payload 0 hello 340282366920938463463374607431768211456",
+    "1 take 2 payload 0 best 1",
+    "1 take 2 payload 0 Hello 1",
+    "1 put 2 payload 1 label 65536",
+    "1 put 2 payload 13 chosen 65536",
+    "1 put 2 payload 2 colour 340282366920938463463374607431768211456",
+    "1 put 2 payload 4294967296 hello 1",
+    "1 put 2 payload 0 hello 1 1",
+    "1 put 2 payload 0 hello \xb2",
+    "1\x0bpulse 1",
+    "1 pulse 1\r\r",
+)
 
 # (network, transcript, what is said, up to the second colon of a refusal), in which '|' is a line feed
 WORKED = (
@@ -81,8 +120,12 @@ WORKED = (
         ("p edge 0 0|", "transcript 1 0|", "whole run of 0 nodes, 0 entries, 0 payloads, 0 wires"),
         ("p edge 2 0|", APART, "whole run of 2 nodes, 24 entries, 0 payloads, 0 wires"),
         ("p edge 2 0|", "| \t\r|\ttranscript 01 2|", "line 3: X1"),
-        ("p edge 2 0|", "\r| transcript\t1  002\r|" + APART[15:-1].replace("1 pulse 2", "  01\tpulse 02 \r|| \t"),
-         "whole run of 2 nodes, 24 entries, 0 payloads, 0 wires"),
+        (
+            "p edge 2 0|",
+            "\r| transcript\t1  002\r|"
+            + APART[15:-1].replace("1 pulse 2", "  01\tpulse 02 \r|| \t"),
+            "whole run of 2 nodes, 24 entries, 0 payloads, 0 wires",
+        ),
         ("p edge 2 0|", APART + "2 pulse 13|", "line 26: NotReady"),
         ("p edge 2 0|", APART[:-11], "line 24: NotWhole"),
         ("p edge 2 0|", APART.replace("2 pulse 3|", ""), "line 16: WrongWire"),
@@ -115,21 +158,41 @@ WORKED = (
         (EDGE, "transcript 1 2|1 put 1 close|", "line 2: NoSuch"),
         (EDGE, "transcript 1 2|1 put 2 payload 0 colour 1|", "line 2: WrongWire"),
         (EDGE, f"transcript 1 2|1 put 2 {HELLO_1}|1 put 2 safe 0|", "line 3: NothingToPut"),
-        (EDGE, f"transcript 1 2|1 put 2 {HELLO_1}|2 put 1 {HELLO_2}|1 take 2 {HELLO_1}|", "line 4: WrongWire"),
-        (EDGE, f"transcript 1 2|1 take 2 {HELLO_2}|1 put 2 {HELLO_1}|2 put 1 {HELLO_2}|", "line 4: NotWhole"),
+        (
+            EDGE,
+            f"transcript 1 2|1 put 2 {HELLO_1}|2 put 1 {HELLO_2}|1 take 2 {HELLO_1}|",
+            "line 4: WrongWire",
+        ),
+        (
+            EDGE,
+            f"transcript 1 2|1 take 2 {HELLO_2}|1 put 2 {HELLO_1}|2 put 1 {HELLO_2}|",
+            "line 4: NotWhole",
+        ),
         # each takes before it puts: the first of two that wait for each other
-        (EDGE, f"transcript 1 2|2 take 1 {HELLO_1}|1 take 2 {HELLO_2}|1 put 2 {HELLO_1}|2 put 1 {HELLO_2}|",
-         "line 2: LinkEmpty"),
+        (
+            EDGE,
+            f"transcript 1 2|2 take 1 {HELLO_1}|1 take 2 {HELLO_2}|1 put 2 {HELLO_1}|2 put 1 {HELLO_2}|",
+            "line 2: LinkEmpty",
+        ),
         # one that never can comes before one that waits, and one that waits for a node which is through before the
         # others
-        (EDGE, f"transcript 1 2|2 take 1 {HELLO_1}|1 pulse 1|1 put 2 {HELLO_1}|", "line 3: NotReady"),
-        ("p edge 3 2|e 1 2|e 2 3|", f"transcript 1 3|1 take 2 {HELLO_2}|2 take 3 payload 0 hello 3|",
-         "line 3: LinkEmpty"),
+        (
+            EDGE,
+            f"transcript 1 2|2 take 1 {HELLO_1}|1 pulse 1|1 put 2 {HELLO_1}|",
+            "line 3: NotReady",
+        ),
+        (
+            "p edge 3 2|e 1 2|e 2 3|",
+            f"transcript 1 3|1 take 2 {HELLO_2}|2 take 3 payload 0 hello 3|",
+            "line 3: LinkEmpty",
+        ),
     ]
 )
 GREATEST = 2**64 - 1
 # Two nodes apart: both make pulse P at stamp P.
-STAMPED_APART = "transcript 2 2|" + "".join(f"{p} {v} pulse {p}|" for p in range(1, 13) for v in (1, 2))
+STAMPED_APART = "transcript 2 2|" + "".join(
+    f"{p} {v} pulse {p}|" for p in range(1, 13) for v in (1, 2)
+)
 # Both greet, then both take the other's greeting: the put has stamp 1, so has the counter of the one that takes.
 GREETED = f"transcript 2 2|1 1 put 2 {HELLO_1}|1 2 put 1 {HELLO_2}|2 1 take 2 {HELLO_2}|2 2 take 1 {HELLO_1}|"
 
@@ -137,26 +200,47 @@ STAMPED = (
     [
         ("p edge 0 0|", "transcript 2 0|", "whole run of 0 nodes, 0 entries, 0 payloads, 0 wires"),
         ("p edge 2 0|", STAMPED_APART, "whole run of 2 nodes, 24 entries, 0 payloads, 0 wires"),
-        ("p edge 2 0|", "\r| transcript\t2  002\r|" + STAMPED_APART[15:-1],
-         "whole run of 2 nodes, 24 entries, 0 payloads, 0 wires"),
-        ("p edge 2 0|", STAMPED_APART.replace("|7 1", "||007 01"),
-         "whole run of 2 nodes, 24 entries, 0 payloads, 0 wires"),
+        (
+            "p edge 2 0|",
+            "\r| transcript\t2  002\r|" + STAMPED_APART[15:-1],
+            "whole run of 2 nodes, 24 entries, 0 payloads, 0 wires",
+        ),
+        (
+            "p edge 2 0|",
+            STAMPED_APART.replace("|7 1", "||007 01"),
+            "whole run of 2 nodes, 24 entries, 0 payloads, 0 wires",
+        ),
         ("p edge 2 0|", STAMPED_APART[:-14], "line 24: NotWhole"),
         ("p edge 2 0|", "transcript 2 2|", "line 1: NotWhole"),
         ("p edge 2 0|", "transcript 2 3|" + STAMPED_APART[15:], "line 1: Nodes"),
         ("p edge 2 0|", STAMPED_APART + "13 1 put 2 close|", "line 26: NoSuch"),
         # an order by vertex, which comes too late at line 14; and one that isn't by vertex where stamps are equal
-        ("p edge 2 0|", "transcript 2 2|" + "".join(f"{p} {v} pulse {p}|" for v in (1, 2) for p in range(1, 13)),
-         "line 14: WrongStamp"),
+        (
+            "p edge 2 0|",
+            "transcript 2 2|"
+            + "".join(f"{p} {v} pulse {p}|" for v in (1, 2) for p in range(1, 13)),
+            "line 14: WrongStamp",
+        ),
         ("p edge 2 0|", "transcript 2 2|1 2 pulse 1|1 1 pulse 1|", "line 3: WrongStamp"),
         # the reading
         (EDGE, "transcript 02 2|", "line 1: X1"),
         (EDGE, f"transcript 2 2|1 put 2 {HELLO_1}|", "line 2: X1"),
         (EDGE, "transcript 1 2|1 1 pulse 1|", "line 2: X1"),
     ]
-    + [(EDGE, f"transcript 2 2||{entry}|1 1 pulse 1|", "line 3: X1") for entry in (
-        *(f"1 {entry}" for entry in NO_ENTRIES), "1", "1 pulse 1", "pulse 1", "-1 1 pulse 1", "x 1 pulse 1",
-        "18446744073709551616 1 pulse 1", "99999999999999999999 1 pulse 1", "+1 1 pulse 1")]
+    + [
+        (EDGE, f"transcript 2 2||{entry}|1 1 pulse 1|", "line 3: X1")
+        for entry in (
+            *(f"1 {entry}" for entry in NO_ENTRIES),
+            "1",
+            "1 pulse 1",
+            "pulse 1",
+            "-1 1 pulse 1",
+            "x 1 pulse 1",
+            "18446744073709551616 1 pulse 1",
+            "99999999999999999999 1 pulse 1",
+            "+1 1 pulse 1",
+        )
+    ]
     + [
         # the stamps; entries that aren't possible are in tests/workshop/transcripts.py
         (EDGE, GREETED.replace("2 1 take", "3 1 take"), "line 4: WrongStamp"),
@@ -199,8 +283,10 @@ def networks():
         nodes = source.randint(3, 12)
         pairs.append((nodes, shaped(source, kind, nodes, source.randint(3, min(nodes, 8)))))
     texts = [text_of(source, nodes, edges) for nodes, edges in pairs]
-    texts += [text_of(source, nodes, edges, bars=some_bars(source, nodes, 3))
-              for nodes, edges in random_of(24, 1, 6)(source)]
+    texts += [
+        text_of(source, nodes, edges, bars=some_bars(source, nodes, 3))
+        for nodes, edges in random_of(24, 1, 6)(source)
+    ]
     return [(data, network_of(data)) for data in texts]
 
 
@@ -216,7 +302,10 @@ def is_counted(net, data, said):
     nodes, last = net.nodes, last_pulse(net)
     payloads = len(re.findall(rb"put\s+\d+\s+payload", data))
     wires = 2 * payloads + sum(map(len, net.neighbours.values())) * (last + 1)
-    return said == f"whole run of {nodes} nodes, {nodes * last + 2 * wires} entries, {payloads} payloads, {wires} wires"
+    return (
+        said
+        == f"whole run of {nodes} nodes, {nodes * last + 2 * wires} entries, {payloads} payloads, {wires} wires"
+    )
 
 
 def ordered(net, data, program):
@@ -265,17 +354,26 @@ class Transcripts(Case):
             self.note(f"{said} of {transcript[:60]!r}", got[0] == said, got)
             is_stamped = (network, transcript, said) in STAMPED and not said.endswith("Nodes")
             if is_stamped or said.endswith("X1") and transcript.startswith("transcript"):
-                self.same(f"{said} by replay of {transcript!r}", said_by(text(network), text(transcript)),
-                          None if said.startswith("whole") else said)
+                self.same(
+                    f"{said} by replay of {transcript!r}",
+                    said_by(text(network), text(transcript)),
+                    None if said.startswith("whole") else said,
+                )
         edge = network_of(text(EDGE))
         self.same("a run of an edge worked by hand", said_of(edge, EDGE_RUN)[0], EDGE_WHOLE)
         merged = merged_text(2, find_order(edge, read(EDGE_RUN)[1]).made)
-        self.same("with stamps", (said_of(edge, merged)[0], said_by(text(EDGE), merged)), (EDGE_WHOLE, None))
+        self.same(
+            "with stamps",
+            (said_of(edge, merged)[0], said_by(text(EDGE), merged)),
+            (EDGE_WHOLE, None),
+        )
         self.note("it begins as both greet", merged.startswith(text(GREETED)), merged[:200])
         lines = EDGE_RUN.split(b"\n")
         for at in range(len(lines) - 1):
             got = said_of(edge, b"\n".join(lines[:at] + lines[at + 1 :]))
-            self.note(f"a run of an edge without line {at + 1}", not got[0].startswith("whole"), got)
+            self.note(
+                f"a run of an edge without line {at + 1}", not got[0].startswith("whole"), got
+            )
 
     def test_checker(self):
         """The checker as a command: from a file, from standard input, in the order found, and refused."""
@@ -292,20 +390,48 @@ class Transcripts(Case):
         ):
             self.same(f"check {words}", check(*words, data=data), wanted)
         status, ordered, fault = check("--order", network, data=whole)
-        self.same("an order that is a run", (status, fault, said_by(text(EDGE), ordered)), (0, b"", None))
-        self.same("its lines are the transcript's", sorted(ordered.split(b"\n")), sorted(whole.split(b"\n")))
-        for data in (b"", whole, b"p edge\n", b"p edge 2 1\ne 1 1\n", b"p edge 2 1\ne 1 3\n",
-                     b"p edge 2 1\ne 1 x\n", b"p a 1 0\np a 1 0\n"):
+        self.same(
+            "an order that is a run", (status, fault, said_by(text(EDGE), ordered)), (0, b"", None)
+        )
+        self.same(
+            "its lines are the transcript's",
+            sorted(ordered.split(b"\n")),
+            sorted(whole.split(b"\n")),
+        )
+        for data in (
+            b"",
+            whole,
+            b"p edge\n",
+            b"p edge 2 1\ne 1 1\n",
+            b"p edge 2 1\ne 1 3\n",
+            b"p edge 2 1\ne 1 x\n",
+            b"p a 1 0\np a 1 0\n",
+        ):
             done = check(self.file("wrong.col", data), transcript)
-            self.note(f"the network {data[:30]}", done[:2] == (1, b"") and re.fullmatch(
-                rb"transcript: [^\n]*wrong\.col[^\n]* \(F\d\)\n", done[2]), done)
-        for words, wanted in (([], 2), ([network, transcript, "x"], 2), (["--orders", network], 2), ([self.folder], 1),
-                              ([network, self.folder], 1)):
+            self.note(
+                f"the network {data[:30]}",
+                done[:2] == (1, b"")
+                and re.fullmatch(rb"transcript: [^\n]*wrong\.col[^\n]* \(F\d\)\n", done[2]),
+                done,
+            )
+        for words, wanted in (
+            ([], 2),
+            ([network, transcript, "x"], 2),
+            (["--orders", network], 2),
+            ([self.folder], 1),
+            ([network, self.folder], 1),
+        ):
             self.same(f"the words {words}", check(*words, data=whole)[:2], (wanted, b""))
-        for data, wanted in ((whole, {"right": True, "words": EDGE_WHOLE}),
-                             (wrong, {"right": False, "line": 2, "code": "LinkEmpty", "words": why})):
+        for data, wanted in (
+            (whole, {"right": True, "words": EDGE_WHOLE}),
+            (wrong, {"right": False, "line": 2, "code": "LinkEmpty", "words": why}),
+        ):
             status, told, fault = check("--json", network, data=data)
-            self.same(f"--json: {wanted}", (status, json.loads(told), fault), (1 - wanted["right"], wanted, b""))
+            self.same(
+                f"--json: {wanted}",
+                (status, json.loads(told), fault),
+                (1 - wanted["right"], wanted, b""),
+            )
 
     def test_cut(self):
         """Texts that end too early are refused, and the reader is asked whether the text is cut."""
@@ -319,46 +445,74 @@ class Transcripts(Case):
 
     def test_replays(self):
         """`forestlab transcript replay`, which puts the entries in an order and has the program play them."""
+
         def replay(*words, data):
             return forestlab("transcript", "replay", *words, data=data)
 
         whole, network = EDGE_RUN, self.file("edge.col", text(EDGE[:-1]))
-        for words, status in (([], 2), ([network, "x", "y"], 2), (["--order", network], 2), ([network, "nowhere"], 1)):
+        for words, status in (
+            ([], 2),
+            ([network, "x", "y"], 2),
+            (["--order", network], 2),
+            ([network, "nowhere"], 1),
+        ):
             done = replay(*words, data=whole)
-            self.note(f"replay {words}", done[:2] == (status, b"") and re.search(
-                rb"^(forestlab transcript replay: error|transcript): ", done[2], re.M), done)
+            self.note(
+                f"replay {words}",
+                done[:2] == (status, b"")
+                and re.search(
+                    rb"^(forestlab transcript replay: error|transcript): ", done[2], re.M
+                ),
+                done,
+            )
         own = ["--program", os.path.join(TOP, "examples", "algorithms", "tree_count.py")]
-        for words, data, said in (([network], whole[:100], b"cut"), (["-"], whole, b"standard input has one text"),
-                                  ([network, *own], whole, b"no proved program runs tree_count")):
+        for words, data, said in (
+            ([network], whole[:100], b"cut"),
+            (["-"], whole, b"standard input has one text"),
+            ([network, *own], whole, b"no proved program runs tree_count"),
+        ):
             self.refusal(f"replay {words} of {len(data)} bytes", replay(*words, data=data), 1, said)
         for root in ([], ["--root", "2"]):
             layers = ["two", "-", "--program", "layers", *root]
             run = forestlab("simulate", *layers[:1], *layers[2:])[1]
             self.note(f"replay of layers {root}", replay(*layers, data=run)[::2] == (0, b""))
         taken = {v: whole.count(b"\n%d take %d " % (3 - v, v)) for v in (1, 2)}
-        wanted = "".join(f"node {v} pulse {EDGE_LAST} channel {v}\nlink {v} {3 - v} taken {taken[v]}\n" for v in (1, 2))
+        wanted = "".join(
+            f"node {v} pulse {EDGE_LAST} channel {v}\nlink {v} {3 - v} taken {taken[v]}\n"
+            for v in (1, 2)
+        )
         self.same("replay of a run", replay(network, data=whole), (0, wanted.encode(), b""))
 
     def test_signals(self):
         """SIGTERM and SIGHUP end the machine that plays the entries, too, even one that stands still then."""
         ring = forestlab("network", "ring", 300)[1]
-        paths = self.file("ring.col", ring), self.file("run", called(PLAN, "transcript", "--workers", 1, data=ring)[1])
+        paths = self.file("ring.col", ring), self.file(
+            "run", called(PLAN, "transcript", "--workers", 1, data=ring)[1]
+        )
         for number in (signal.SIGTERM, signal.SIGHUP):
-            with subprocess.Popen([FORESTLAB, "transcript", "replay", *paths], stdout=subprocess.DEVNULL,
-                                  stderr=subprocess.DEVNULL) as run:
+            with subprocess.Popen(
+                [FORESTLAB, "transcript", "replay", *paths],
+                stdout=subprocess.DEVNULL,
+                stderr=subprocess.DEVNULL,
+            ) as run:
                 machine = machine_of(run)
                 if machine:
                     os.kill(machine, signal.SIGSTOP)
                     # The command waits for it, whose pipe is full: before, it would find an empty input and end.
                     place = f"/proc/{run.pid}/wchan"
-                    wait_until(lambda: run.poll() is not None or "poll" in text_in(place), LIMIT, 0.001)
+                    wait_until(
+                        lambda: run.poll() is not None or "poll" in text_in(place), LIMIT, 0.001
+                    )
                 run.send_signal(number)
                 status = run.wait(LIMIT)
             is_left = bool(machine) and os.path.exists(f"/proc/{machine}")
             if is_left:
                 os.kill(machine, signal.SIGKILL)
-            self.note(f"{number.name}: the machine ends", machine and (status, is_left) == (128 + number, False),
-                      (machine, status, is_left))
+            self.note(
+                f"{number.name}: the machine ends",
+                machine and (status, is_left) == (128 + number, False),
+                (machine, status, is_left),
+            )
 
     def test_one_worker(self):
         """With one worker the whole text is known: what it does in a look is defined, and nobody else does anything.
@@ -367,12 +521,20 @@ class Transcripts(Case):
         for count, (network, net) in enumerate(networks(), 1):
             capacity = CAPACITIES[count % 3]
             run = Run(net, capacity)
-            for words, wanted in ((["--edition", 1], run.text()), (["--edition", 2] * (count % 2), run.merged())):
-                done = called(PLAN, "transcript", *words, "--workers", 1, "--capacity", capacity, data=network)
+            for words, wanted in (
+                (["--edition", 1], run.text()),
+                (["--edition", 2] * (count % 2), run.merged()),
+            ):
+                done = called(
+                    PLAN, "transcript", *words, "--workers", 1, "--capacity", capacity, data=network
+                )
                 if done != (0, wanted, b""):
                     wrong.append((network, words, capacity, done))
-        self.note(f"the transcripts of one worker of {count} networks, by the definition", not wrong,
-                  f"{len(wrong)}: {wrong[:1]}")
+        self.note(
+            f"the transcripts of one worker of {count} networks, by the definition",
+            not wrong,
+            f"{len(wrong)}: {wrong[:1]}",
+        )
 
     def test_spoiled(self):
         """Runs of four programs: each is refused, and by the program at the same line with the same code. Of edition 1
@@ -384,14 +546,23 @@ class Transcripts(Case):
         for i in range(count):
             kind, run = KINDS[i % len(KINDS)], i // len(KINDS)
             if kind == KINDS[0]:
-                (network, net), program = source.choice(small), PROGRAMS[("colouring", *SEQUELS)[run % 4]]
+                (network, net), program = (
+                    source.choice(small),
+                    PROGRAMS[("colouring", *SEQUELS)[run % 4]],
+                )
                 entries = played(net, seed=str(run), program=program)
                 merged = text_of_run(net.nodes, entries, program).encode()
                 plain = transcript_text(net.nodes, entries)
             data, least = spoiled(source, kind, merged)
-            said, got = said_of(net, data, program)[0], said_by(network, data, "--program", program.name)
+            said, got = said_of(net, data, program)[0], said_by(
+                network, data, "--program", program.name
+            )
             codes.add(said.rpartition(": ")[2])
-            if not said.startswith("line ") or got != said or int(said[5:].partition(":")[0]) < least:
+            if (
+                not said.startswith("line ")
+                or got != said
+                or int(said[5:].partition(":")[0]) < least
+            ):
                 wrong.append((kind, program.name, network, data, said, got, least))
             if kind == KINDS[0] or run // 4 % 4:
                 continue
@@ -400,15 +571,34 @@ class Transcripts(Case):
             accepted[kind] += said.startswith("whole")
             if not said.endswith("X1"):
                 data, wanted = ordered(net, data, program)
-                got, code = said_by(network, data, "--program", program.name), said.rpartition(": ")[2]
+                got, code = (
+                    said_by(network, data, "--program", program.name),
+                    said.rpartition(": ")[2],
+                )
                 # The program plays what isn't whole, too.
-                is_same = wanted.endswith(f": {code}") if wanted else said.startswith("whole") or code == "NotWhole"
+                is_same = (
+                    wanted.endswith(f": {code}")
+                    if wanted
+                    else said.startswith("whole") or code == "NotWhole"
+                )
                 if got != wanted or not is_same:
                     wrong.append((kind, program.name, network, data, said, got, wanted))
         self.note(f"{count} spoiled texts", not wrong, f"{len(wrong)}: {wrong[:1]}")
-        self.note("swapped lines of edition 1 alone may be a run",
-                  {kind for kind, many in accepted.items() if many} == {"two lines swapped"}, accepted)
-        wanted = {"X1", "NoSuch", "NotReady", "NothingToPut", "LinkEmpty", "WrongWire", "WrongStamp", "NotWhole"}
+        self.note(
+            "swapped lines of edition 1 alone may be a run",
+            {kind for kind, many in accepted.items() if many} == {"two lines swapped"},
+            accepted,
+        )
+        wanted = {
+            "X1",
+            "NoSuch",
+            "NotReady",
+            "NothingToPut",
+            "LinkEmpty",
+            "WrongWire",
+            "WrongStamp",
+            "NotWhole",
+        }
         self.note("refusals of each kind", wanted <= codes, codes)
 
     def test_runs(self):
@@ -419,13 +609,22 @@ class Transcripts(Case):
         for (nodes, pairs), at in zip(networks_of_runs(source), range(count)):
             network = text_of(source, nodes, pairs)
             net = network_of(network)
-            words = ["--edition", 1 + at % 2, "--workers", source.choice((2, 4, 5, 8, 16, 64)), "--capacity",
-                     source.choice((1, 2, 4, 64))]
+            words = [
+                "--edition",
+                1 + at % 2,
+                "--workers",
+                source.choice((2, 4, 5, 8, 16, 64)),
+                "--capacity",
+                source.choice((1, 2, 4, 64)),
+            ]
             status, data, fault = called(PLAN, "transcript", *words, data=network)
             good = (status, fault) == (0, b"") and is_counted(net, data, said_of(net, data)[0])
             got = said_by(network, data) if good and at % 2 else None
             if not good or got:
                 wrong.append((network, words, status, fault, said_of(net, data)[0], got))
             entries, most = entries + data.count(b"\n") - 1, max(most, nodes)
-        self.note(f"{count} whole runs on networks of up to {most} nodes, {entries} entries", not wrong,
-                  f"{len(wrong)}: {wrong[:1]}")
+        self.note(
+            f"{count} whole runs on networks of up to {most} nodes, {entries} entries",
+            not wrong,
+            f"{len(wrong)}: {wrong[:1]}",
+        )

@@ -20,7 +20,7 @@ from tests.cases import Case as Rows
 
 DOOR = [FORESTLAB, "workshop"]
 EXAMPLES = os.path.join(TOP, "examples", "workshop")
-LIMIT = 120                     # seconds; a busy machine is slow
+LIMIT = 120  # seconds; a busy machine is slow
 MISTAKES = SimpleNamespace(**runpy.run_path(os.path.join(EXAMPLES, "mistakes.py")))
 
 
@@ -29,7 +29,9 @@ def python(*path: str) -> list[str]:
     return [sys.executable, "-S", os.path.join(EXAMPLES, *path)]
 
 
-ROUNDS, ALPHA, GREEDY = (python("python", f"{name}_node.py") for name in ("rounds", "alpha", "greedy"))
+ROUNDS, ALPHA, GREEDY = (
+    python("python", f"{name}_node.py") for name in ("rounds", "alpha", "greedy")
+)
 
 
 def network(name: str) -> Network:
@@ -43,8 +45,15 @@ def options_of(assignment: str, *words: str, **options) -> Namespace:
     return found
 
 
-def played(assignment: str, name: str | Network, *commands: list[str], policy: str = "random", seed: str = "1",
-           guard: Guard | None = None, **options) -> Case:
+def played(
+    assignment: str,
+    name: str | Network,
+    *commands: list[str],
+    policy: str = "random",
+    seed: str = "1",
+    guard: Guard | None = None,
+    **options,
+) -> Case:
     """One run, in this process, with these options of the command line."""
     case = Case(0, network(name) if isinstance(name, str) else name, policy, seed)
     words = [word for command in commands for word in ("--", *command)]
@@ -58,7 +67,14 @@ class Played(Rows):
         MISTAKES.write(self.folder, [name])
         return [sys.executable, "-S", os.path.join(self.folder, name, file), *words]
 
-    def found(self, right: tuple | None, assignment: str, given: str | Network, *commands: list[str], **more):
+    def found(
+        self,
+        right: tuple | None,
+        assignment: str,
+        given: str | Network,
+        *commands: list[str],
+        **more,
+    ):
         """The row of a run with what is wrong in it, (verdict, node, pulse), or None; returns the finding."""
         finding = played(assignment, given, *commands, **more).finding
         got = finding and (finding.kind, finding.node, finding.pulse)
@@ -74,8 +90,13 @@ class Played(Rows):
 def answering(*lines: str) -> list[str]:
     """A node that answers each message with these lines."""
     text = "".join(line + "\n" for line in [*lines, "end"])
-    return [sys.executable, "-S", "-c", f"import sys\nfor line in sys.stdin:\n    if line == 'end\\n':\n        "
-                                        f"print({text!r}, end='', flush=True)"]
+    return [
+        sys.executable,
+        "-S",
+        "-c",
+        f"import sys\nfor line in sys.stdin:\n    if line == 'end\\n':\n        "
+        f"print({text!r}, end='', flush=True)",
+    ]
 
 
 def call(*words: str, **more) -> subprocess.CompletedProcess:
@@ -86,10 +107,12 @@ def call(*words: str, **more) -> subprocess.CompletedProcess:
 def compiled(source: str) -> list[str] | None:
     """The command of a program in C or Java; None on a machine without Java."""
     to = tempfile.TemporaryDirectory()
-    made.append(to)                     # until the tests end
+    made.append(to)  # until the tests end
     name, ending = os.path.splitext(os.path.basename(source))
     if ending == ".c":
-        subprocess.run(["cc", "-O2", "-Wall", "-Werror", "-o", os.path.join(to.name, name), source], check=True)
+        subprocess.run(
+            ["cc", "-O2", "-Wall", "-Werror", "-o", os.path.join(to.name, name), source], check=True
+        )
         return [os.path.join(to.name, name)]
     if not shutil.which("javac"):
         return None
@@ -98,4 +121,6 @@ def compiled(source: str) -> list[str] | None:
 
 
 made: list[tempfile.TemporaryDirectory] = []
-C, JAVA = os.path.join(EXAMPLES, "c", "rounds_node.c"), os.path.join(EXAMPLES, "java", "AlphaNode.java")
+C, JAVA = os.path.join(EXAMPLES, "c", "rounds_node.c"), os.path.join(
+    EXAMPLES, "java", "AlphaNode.java"
+)

@@ -24,20 +24,42 @@ class Command(Played):
             (["rounds", "two"], 2, "there is no command after `--`"),
             (["rounds", "--"], 2, "there is no command after `--`"),
             (["nothing", "two", "--", *ROUNDS], 2, "invalid choice"),
-            (["rounds", "nothing5", "--", *ROUNDS], 1, "nothing5: there is no such file or example"),
+            (
+                ["rounds", "nothing5", "--", *ROUNDS],
+                1,
+                "nothing5: there is no such file or example",
+            ),
             (["rounds", "ring2", "--", *ROUNDS], 1, "NODES is 2, and has to be at least 3"),
             (["rounds", "two", "--policies", "oldest", "--", *ROUNDS], 2, "of alpha alone"),
             (["alpha", "two", "--policies", "odd", "--", *ALPHA], 2, "there is no policy odd"),
             (["alpha", "two", "--program", "my.py", "--", *ALPHA], 2, "invalid choice: 'my.py'"),
-            (["open", "two", "--program", "layers", "--", *ALPHA], 2, "--program is of rounds and alpha"),
-            (["rounds", "two", "--runs", "0", "--", *ROUNDS], 2, "0 is no number from 1 to 999,999,999"),
+            (
+                ["open", "two", "--program", "layers", "--", *ALPHA],
+                2,
+                "--program is of rounds and alpha",
+            ),
+            (
+                ["rounds", "two", "--runs", "0", "--", *ROUNDS],
+                2,
+                "0 is no number from 1 to 999,999,999",
+            ),
             (["rounds", "two", "--timeout", "0", "--", *ROUNDS], 2, "0 is no number of seconds"),
             (["rounds", "two", "--", "/nonexistent/node"], 2, "can't be started: No such file"),
-            (["rounds", "two", "--", self.file("node", "x")], 2, "Permission denied; is it `chmod +x`"),
+            (
+                ["rounds", "two", "--", self.file("node", "x")],
+                2,
+                "Permission denied; is it `chmod +x`",
+            ),
         ):
             done = call(*words)
-            self.note(f"{words[:4]}", done.returncode == status and said in done.stderr
-                      and bool(said) == (not done.stdout) and "Traceback" not in done.stderr, done)
+            self.note(
+                f"{words[:4]}",
+                done.returncode == status
+                and said in done.stderr
+                and bool(said) == (not done.stdout)
+                and "Traceback" not in done.stderr,
+                done,
+            )
 
     def test_networks(self):
         """A network is named as in all commands, and standard input is read once for all runs."""
@@ -46,22 +68,64 @@ class Command(Played):
             self.note(name, done.returncode == 0 and "2 of 2 runs right" in done.stdout, done)
 
     def test_the_result_for_a_program(self):
-        done = call("alpha", "alone4", "path1", "--policies", "newest", "--runs", "3", "--json", "--one-process", "--",
-                    *self.wrong_node("close_never", "alpha_node.py"))
-        got, right = json.loads(done.stdout), {"case": 1, "network": "path1", "nodes": 1, "policy": "newest"}
-        stuck = {"case": 0, "network": "alone4", "nodes": 4, "policy": "newest", "verdict": "stuck", "node": 1,
-                 "pulse": 30}
+        done = call(
+            "alpha",
+            "alone4",
+            "path1",
+            "--policies",
+            "newest",
+            "--runs",
+            "3",
+            "--json",
+            "--one-process",
+            "--",
+            *self.wrong_node("close_never", "alpha_node.py"),
+        )
+        got, right = json.loads(done.stdout), {
+            "case": 1,
+            "network": "path1",
+            "nodes": 1,
+            "policy": "newest",
+        }
+        stuck = {
+            "case": 0,
+            "network": "alone4",
+            "nodes": 4,
+            "policy": "newest",
+            "verdict": "stuck",
+            "node": 1,
+            "pulse": 30,
+        }
         self.assertEqual(done.returncode, 1)
-        self.assertEqual({name: got[name] for name in ("workshop", "assignment", "program", "seed", "runs", "right")},
-                         {"workshop": 1, "assignment": "alpha", "program": "colouring", "seed": "1", "runs": 3,
-                          "right": 1})
+        self.assertEqual(
+            {
+                name: got[name]
+                for name in ("workshop", "assignment", "program", "seed", "runs", "right")
+            },
+            {
+                "workshop": 1,
+                "assignment": "alpha",
+                "program": "colouring",
+                "seed": "1",
+                "runs": 3,
+                "right": 1,
+            },
+        )
         self.assertEqual(got["cases"][:2], [right | {"verdict": "right"}, stuck])
         self.assertEqual([row["verdict"] for row in got["cases"]], ["right", "stuck", "stuck"])
 
     def test_the_smallest_case_has_no_node_too_many(self):
         """A close that is never put shows on two nodes, and on no fewer."""
-        done = call("alpha", "alone4", "star4", "--policies", "oldest", "--one-process", "--",
-                    *self.wrong_node("close_never", "alpha_node.py"))
+        done = call(
+            "alpha",
+            "alone4",
+            "star4",
+            "--policies",
+            "oldest",
+            "--one-process",
+            "--",
+            *self.wrong_node("close_never", "alpha_node.py"),
+        )
         self.assertIn("smallest case that is wrong: stuck", done.stdout)
         self.assertRegex(done.stdout, r"\ncase   \d: \w+, oldest; 2 nodes, edges 1-2\n")
 
@@ -70,49 +134,94 @@ class Command(Played):
         wrong = self.wrong_node("no_shift", "rounds_node.py")
         node = ["sh", "-c", '"$@" | grep -v --line-buffered channel', "sh", *wrong]
         done = call("rounds", "two", "path3", "--", *node)
-        self.assertRegex(done.stdout, r"\ncase   0: two; 2 nodes, edges 1-2\nwhere  node 1, pulse 7 \(shift\)\n")
+        self.assertRegex(
+            done.stdout, r"\ncase   0: two; 2 nodes, edges 1-2\nwhere  node 1, pulse 7 \(shift\)\n"
+        )
         self.assertRegex(call("rounds", "path1", "--", *node).stdout, "no line `channel 1`")
 
     def test_a_case_by_its_number(self):
-        all_of, one = (json.loads(call("rounds", "random6", *words, "--json", "--one-process", "--", *ROUNDS).stdout)
-                       for words in (["--runs", "4"], ["--case", "2"]))
+        all_of, one = (
+            json.loads(
+                call("rounds", "random6", *words, "--json", "--one-process", "--", *ROUNDS).stdout
+            )
+            for words in (["--runs", "4"], ["--case", "2"])
+        )
         self.assertEqual(one["cases"], [row for row in all_of["cases"] if row["case"] == 2])
 
     def test_anybody_can_repeat_the_verdict(self):
         """The commands in verdict.txt are run as they stand, in the folder in which the workshop was called."""
-        layers = [self.wrong_node("layers_again", f"{kind}_node.py", "layers") for kind in ("alpha", "rounds")]
+        layers = [
+            self.wrong_node("layers_again", f"{kind}_node.py", "layers")
+            for kind in ("alpha", "rounds")
+        ]
         safes = self.wrong_node("safes_none", "alpha_node.py")
-        rows = (("alpha", [], safes, ["forestplay: NotReady line", "NotReady"]),
-                ("rounds", [], self.wrong_node("bit_root", "rounds_node.py"), ["", "payload 3 colour"]),
-                ("open", [], answering("channel 1"), ["forestplan: C4 vertices 1 2"]),
-                ("alpha", ["--program", "layers"], layers[0], ["forestplay: WrongWire line", "WrongWire"]),
-                ("rounds", ["--program", "layers"], layers[1], ["", "1 put 2 payload 1 hops 0"]))
+        rows = (
+            ("alpha", [], safes, ["forestplay: NotReady line", "NotReady"]),
+            ("rounds", [], self.wrong_node("bit_root", "rounds_node.py"), ["", "payload 3 colour"]),
+            ("open", [], answering("channel 1"), ["forestplan: C4 vertices 1 2"]),
+            (
+                "alpha",
+                ["--program", "layers"],
+                layers[0],
+                ["forestplay: WrongWire line", "WrongWire"],
+            ),
+            ("rounds", ["--program", "layers"], layers[1], ["", "1 put 2 payload 1 hops 0"]),
+        )
         for kind, program, command, expected in rows:
             with self.subTest(f"{kind} {program}"):
                 kept, here = f"kept of {kind}{program}", self.path("a folder")
                 os.makedirs(here, exist_ok=True)
-                self.assertEqual(call(kind, "path3", *program, "--keep", kept, "--", *command, cwd=here).returncode, 1)
-                lines = text_in(here, kept, "verdict.txt").partition("The same without the workshop:\n")[2].splitlines()
+                self.assertEqual(
+                    call(
+                        kind, "path3", *program, "--keep", kept, "--", *command, cwd=here
+                    ).returncode,
+                    1,
+                )
+                lines = (
+                    text_in(here, kept, "verdict.txt")
+                    .partition("The same without the workshop:\n")[2]
+                    .splitlines()
+                )
                 self.assertEqual(len(lines), len(expected))
                 for line, words in zip(lines, expected):
-                    done = subprocess.run(["bash", "-c", line], cwd=here, capture_output=True, text=True)
+                    done = subprocess.run(
+                        ["bash", "-c", line], cwd=here, capture_output=True, text=True
+                    )
                     self.assertIn(words, done.stdout + done.stderr)
 
     def test_the_record_is_what_the_programs_read_and_wrote(self):
         logs = self.path("logs")
         os.mkdir(logs)
-        done = call("alpha", "path3", "--keep", self.path("kept"), "--", "sh", "-c", TEE, logs, *ALPHA)
+        done = call(
+            "alpha", "path3", "--keep", self.path("kept"), "--", "sh", "-c", TEE, logs, *ALPHA
+        )
         self.assertEqual(done.returncode, 0, done.stdout)
-        rows = [line.split(" ", 2)[1:] for line in text_in(self.path("kept", "run.transcript")).splitlines()[1:]]
+        rows = [
+            line.split(" ", 2)[1:]
+            for line in text_in(self.path("kept", "run.transcript")).splitlines()[1:]
+        ]
         seen = 0
         for name in (name for name in os.listdir(logs) if name.endswith(".in")):
-            messages, answers = (text_in(logs, name.replace(".in", part)).split("end\n") for part in (".in", ".out"))
-            lines = [line for both in zip(messages, answers) for part in both for line in part.splitlines()]
+            messages, answers = (
+                text_in(logs, name.replace(".in", part)).split("end\n") for part in (".in", ".out")
+            )
+            lines = [
+                line
+                for both in zip(messages, answers)
+                for part in both
+                for line in part.splitlines()
+            ]
             v = next(int(line.split()[1]) for line in lines if line.startswith("identifier"))
             neighbours = {1: [2], 2: [1, 3], 3: [2]}[v]
-            did = [line.split(" ") for line in lines if line.startswith(("take ", "put ", "pulse "))]
-            did = [" ".join([what, str(neighbours[int(at)]), *rest]) if what != "pulse" else f"pulse {at}"
-                   for what, at, *rest in did]
+            did = [
+                line.split(" ") for line in lines if line.startswith(("take ", "put ", "pulse "))
+            ]
+            did = [
+                " ".join([what, str(neighbours[int(at)]), *rest])
+                if what != "pulse"
+                else f"pulse {at}"
+                for what, at, *rest in did
+            ]
             self.assertEqual(did, [words for u, words in rows if u == str(v)])
             seen += len(did)
         self.assertEqual(seen, len(rows))

@@ -13,10 +13,14 @@ from tests.workshop.base import ALPHA, DOOR, EXAMPLES, LIMIT, Played, played
 # A number of seconds that no other process sleeps: so a child that is left can be found.
 MARK = str(100_000 + os.getpid())
 PATIENCE = 10
-BEGIN = f"import os, signal, subprocess, sys, time\nsys.path[:0] = [{os.path.join(EXAMPLES, 'python')!r}]\n" \
-        "sys.argv[1:] = []\nimport talk\n"
+BEGIN = (
+    f"import os, signal, subprocess, sys, time\nsys.path[:0] = [{os.path.join(EXAMPLES, 'python')!r}]\n"
+    "sys.argv[1:] = []\nimport talk\n"
+)
 # The right node up to a message, and what it does from then on in place of an answer.
-NODE = BEGIN + """\
+NODE = (
+    BEGIN
+    + """\
 from rounds_node import RoundsNode
 asked, right = 0, talk.answer
 def misbehave(lines):
@@ -29,20 +33,36 @@ talk.answer = answer
 talk.serve(RoundsNode)
 {last}
 """
+)
 LONG = "time.sleep(1000)"
 TOO_MUCH = "signal.signal(signal.SIGXFSZ, signal.SIG_DFL); open({file!r}, 'wb').write(bytes(40 << 20)); right(lines)"
 # What it does from the fifth message on, which is pulse 4, the verdict, and words of it; None if all is right.
 ROWS = (
     (LONG, "silent", "it wrote nothing within 2 seconds"),
     ("print('put 0 colour', flush=True); " + LONG, "silent", "`put 0 colour`, and no line `end`"),
-    ("raise ValueError('inbox is empty\\x1b[2J')", "ended",
-     "line 12, in answer | File \"<string>\", line 8, in misbehave | ValueError: inbox is empty?[2J`"),
+    (
+        "raise ValueError('inbox is empty\\x1b[2J')",
+        "ended",
+        'line 12, in answer | File "<string>", line 8, in misbehave | ValueError: inbox is empty?[2J`',
+    ),
     ("while True: print('put 0 colour 3')", "flood", "more than 1048576 bytes"),
     ("right(['colour 0 1'] * 30_000)", "flood", "30000 lines"),
-    ("os.write(1, '\\n'.join(['end', *lines, 'end', '']).encode())", "garbage", "after the line `end`"),
-    ("os.write(1, '\\u202e\\r'.encode() + bytes(range(256)) * 4 + b'\\nend\\n')", "garbage", "is no line of an answer"),
+    (
+        "os.write(1, '\\n'.join(['end', *lines, 'end', '']).encode())",
+        "garbage",
+        "after the line `end`",
+    ),
+    (
+        "os.write(1, '\\u202e\\r'.encode() + bytes(range(256)) * 4 + b'\\nend\\n')",
+        "garbage",
+        "is no line of an answer",
+    ),
     ("os.close(1); " + LONG, "ended", "goes on running"),
-    (f"subprocess.Popen(['sleep', {MARK!r}]); " + LONG, "silent", "it wrote nothing within 2 seconds"),
+    (
+        f"subprocess.Popen(['sleep', {MARK!r}]); " + LONG,
+        "silent",
+        "it wrote nothing within 2 seconds",
+    ),
     ("bytearray(1 << 31)", "ended", "MemoryError"),
     (TOO_MUCH, "ended", "SIGXFSZ (it wrote too much"),
     ("sys.stderr.write('debugging\\n' * 100_000); right(lines)", None, ""),
@@ -87,49 +107,84 @@ class Misbehaving(Played):
     def tearDown(self):
         self.assertEqual(left_at_last(), [])
 
-    def named(self, how: str, kind: str | None, words: str, *nodes: list[str], timeout: float = 2) -> None:
+    def named(
+        self, how: str, kind: str | None, words: str, *nodes: list[str], timeout: float = 2
+    ) -> None:
         """What it says is harmless: it has no letter that a terminal obeys."""
         found = played("rounds", "two", *nodes, timeout=timeout).finding
         said = dict(found.lines) if found else {}
-        good = (found and found.kind) == kind and (not kind or words in said["wrong"]) and "".join(
-            said.values()).isprintable()
-        place = re.fullmatch(r"node 1, pulse [045] \(\w+\)", said.get("where", "node 1, pulse 4 (step)"))
+        good = (
+            (found and found.kind) == kind
+            and (not kind or words in said["wrong"])
+            and "".join(said.values()).isprintable()
+        )
+        place = re.fullmatch(
+            r"node 1, pulse [045] \(\w+\)", said.get("where", "node 1, pulse 4 (step)")
+        )
         self.note(how, good and place, said)
         self.same(f"{how}: none is left", left_at_last(), [])
 
     def test_each_is_named(self):
         for code, kind, words in ROWS:
-            self.named(code, kind, words, command(code.replace("{file!r}", repr(os.path.join(self.folder, "big")))))
+            self.named(
+                code,
+                kind,
+                words,
+                command(code.replace("{file!r}", repr(os.path.join(self.folder, "big")))),
+            )
         for code, kind, words in AT_ONCE:
             self.named(code, kind, words, command(code, 1), timeout=0.3 if kind else 2)
         self.named("goes at once", "ended", "status 0", [sys.executable, "-S", "-c", "", MARK])
         # The other answers late, so that the end of this one's output is there before its next message.
-        self.named("goes after an answer", "ended", "status 0 instead of an answer",
-                   command("right(lines); sys.exit(0)"), command("time.sleep(0.5); right(lines)"))
+        self.named(
+            "goes after an answer",
+            "ended",
+            "status 0 instead of an answer",
+            command("right(lines); sys.exit(0)"),
+            command("time.sleep(0.5); right(lines)"),
+        )
         self.named("stays", None, "", command("right(lines)", last=LONG))
 
     def test_a_late_answer_to_a_wrong_step_isn_t_waited_for(self):
         """Node 2 hangs in pulse 1, but before that it acknowledges nothing: that is what it is told."""
-        node = alpha_node("def put(self, at, wire):\n        super().put(at, 'ack 7' if wire[:3] == 'ack' else wire)\n"
-                          f"    def take_safe(self, port, pulse):\n        {LONG}")
+        node = alpha_node(
+            "def put(self, at, wire):\n        super().put(at, 'ack 7' if wire[:3] == 'ack' else wire)\n"
+            f"    def take_safe(self, port, pulse):\n        {LONG}"
+        )
         start = time.monotonic()
         found = played("alpha", "two", ALPHA, node, timeout=60).finding
         self.assertEqual((found.kind, found.node), ("WrongWire", 2))
         self.assertLess(time.monotonic() - start, 30)
 
     def test_a_wrong_step_before_a_line_that_is_none_comes_first(self):
-        node = alpha_node("def enter(self, out):\n        super().enter(out)\n        if self.pulse == 2:\n"
-                          "            self.answer += ['put 0 close', 'colour 0 3']")
+        node = alpha_node(
+            "def enter(self, out):\n        super().enter(out)\n        if self.pulse == 2:\n"
+            "            self.answer += ['put 0 close', 'colour 0 3']"
+        )
         self.found(("NothingToPut", 1, 2), "alpha", "two", node)
 
     def test_what_came_for_a_pulse_in_which_it_ends(self):
-        found = self.found(("ended", 1, 0), "alpha", "two", alpha_node("def enter(self, out):\n        if self.pulse:\n"
-                           "            sys.exit()\n        super().enter(out)"), ALPHA, policy="oldest")
-        self.same("what is right", dict(found.lines)["right"], "pulse 1, for which hello 2 by port 0 came")
+        found = self.found(
+            ("ended", 1, 0),
+            "alpha",
+            "two",
+            alpha_node(
+                "def enter(self, out):\n        if self.pulse:\n"
+                "            sys.exit()\n        super().enter(out)"
+            ),
+            ALPHA,
+            policy="oldest",
+        )
+        self.same(
+            "what is right", dict(found.lines)["right"], "pulse 1, for which hello 2 by port 0 came"
+        )
 
     def test_ending_the_workshop_ends_the_programs(self):
-        rows = (("while True: pass", signal.SIGTERM, 143), (LONG, signal.SIGHUP, 129),
-                (f"subprocess.Popen(['sleep', {MARK!r}]); {LONG}", signal.SIGINT, 130))
+        rows = (
+            ("while True: pass", signal.SIGTERM, 143),
+            (LONG, signal.SIGHUP, 129),
+            (f"subprocess.Popen(['sleep', {MARK!r}]); {LONG}", signal.SIGINT, 130),
+        )
         for code, number, status in rows:
             with self.subTest(number.name):
                 words = [*DOOR, "rounds", "path3", "--timeout", "500", "--", *command(code)]
@@ -138,7 +193,9 @@ class Misbehaving(Played):
                 before = signal.signal(number, lambda *_: None)
                 workshop = subprocess.Popen(words, stdout=pipe, stderr=pipe, start_new_session=True)
                 signal.signal(number, before)
-                wait_until(lambda: len(left()) > 3, LIMIT)      # the workshop's own words have the mark, too
+                wait_until(
+                    lambda: len(left()) > 3, LIMIT
+                )  # the workshop's own words have the mark, too
                 time.sleep(0.3)
                 workshop.send_signal(number)
                 self.assertEqual((workshop.wait(LIMIT), workshop.stdout.read()), (status, b""))

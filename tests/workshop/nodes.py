@@ -14,13 +14,27 @@ from lab.schedules.policies import POLICIES
 from lab.workshop.cases import cases_of
 from lab.workshop.protocol import SEQUELS
 from lab.workshop.right_rounds import RightRounds
-from tests.workshop.base import (ALPHA, C, GREEDY, JAVA, MISTAKES, ROUNDS, Played, answering, compiled, network,
-                                 options_of, played)
+from tests.workshop.base import (
+    ALPHA,
+    C,
+    GREEDY,
+    JAVA,
+    MISTAKES,
+    ROUNDS,
+    Played,
+    answering,
+    compiled,
+    network,
+    options_of,
+    played,
+)
 
 NODES = {"rounds": ROUNDS, "alpha": ALPHA}
 # A ring of four whose root is node 3: node 1 is two edges away on both sides, and its port 0 leads to node 2. Node 5
 # has no neighbour.
-RING = Network(5, [(1, 2), (2, 3), (3, 4), (1, 4)], {1: 40, 2: 1 << 100, 3: 1, 4: 7, 5: 2}, name="ring and one")
+RING = Network(
+    5, [(1, 2), (2, 3), (3, 4), (1, 4)], {1: 40, 2: 1 << 100, 3: 1, 4: 7, 5: 2}, name="ring and one"
+)
 BARRED_RING = Network(5, RING.edges, RING.said, {1: [1], 4: [2]}, name="barred ring")
 # Its colour is 1, since 0 is barred, and 1 again. The last pulse is 14, two after those of the colouring.
 BARRED = Network(1, [], bars={1: [1]}, name="barred one")
@@ -29,40 +43,116 @@ BARRED = Network(1, [], bars={1: [1]}, name="barred one")
 # by hand: node 2 has the parents 3 and 13, in this order, and as texts in the other. The bit steps of 13, 3 and 2 give
 # 1, 3 and 0, and then the same again; the shift gives node 2 the 3, which is dropped in pulse 12 and not in pulse 8.
 COLOURING = {
-    "shift_root": ((1, 7), (1, 7)), "no_shift": ((3, 7), (2, 7)), "drop_parent": ((3, 8), None),
-    "drop_all": (None, (2, 8)), "bit_highest": ((3, 3), (2, 3)), "bit_root": ((1, 3), (1, 3)),
-    "label_ports": ((3, 1), (2, 1)), "label_falling": ((3, 1), (2, 1)), "names_text": (None, (2, 1)),
-    "names_64": ((1, 0), None), "names_float": ((3, 3), None), "merge_this": ((1, 31), (1, 26)),
-    "merge_all": ((1, 13), (2, 13)), "merge_old": ((2, 38), (3, 19)), "merge_keep": ((3, 55), (3, 27)),
-    "bars_forgotten": ((4, 19), (1, 13)), "bars_channels": ((4, 19), (1, 13)), "bars_width": ((4, 19), (3, 16)),
-    "merge_last": (None, None),         # nobody ever chooses in the last pulse of a merge
+    "shift_root": ((1, 7), (1, 7)),
+    "no_shift": ((3, 7), (2, 7)),
+    "drop_parent": ((3, 8), None),
+    "drop_all": (None, (2, 8)),
+    "bit_highest": ((3, 3), (2, 3)),
+    "bit_root": ((1, 3), (1, 3)),
+    "label_ports": ((3, 1), (2, 1)),
+    "label_falling": ((3, 1), (2, 1)),
+    "names_text": (None, (2, 1)),
+    "names_64": ((1, 0), None),
+    "names_float": ((3, 3), None),
+    "merge_this": ((1, 31), (1, 26)),
+    "merge_all": ((1, 13), (2, 13)),
+    "merge_old": ((2, 38), (3, 19)),
+    "merge_keep": ((3, 55), (3, 27)),
+    "bars_forgotten": ((4, 19), (1, 13)),
+    "bars_channels": ((4, 19), (1, 13)),
+    "bars_width": ((4, 19), (3, 16)),
+    "merge_last": (None, None),  # nobody ever chooses in the last pulse of a merge
 }
 # By mistake, what is found on alone4; what else the node could do there, why it can't do that, and what came early.
 PULSE = "a node makes its next pulse once it has said safe and has the safes of all its neighbours"
 SAFE = "once each payload that it sent in P is acknowledged; it "
 NO_ACK = "it can't have said safe yet: it lacks the acknowledgement of pulse 1 by port 0"
 SYNCHRONISER = {
-    "acks_own_pulse": ("WrongWire", 2, 2, "put 1 ack 3", "a payload is acknowledged with its own pulse as soon"),
-    "acks_first": ("NothingToPut", 2, 0, "waits for ack 0 by port 0; safe 0 by ports 0 and 1", f"{SAFE}can't have"),
-    "early_present": ("WrongWire", 2, 23, "one of: put 0 safe 23; put 1 safe 23", "pulse 23 is the turn of the nodes"),
-    "early_lost": ("WrongWire", 2, 23, "one of: put 0 safe 23; put 1 safe 23", "`chosen 0` came by port 0 in pulse 23",
-                   "\ncame   chosen 0 by port 0, chosen 0 by port 1\nearly  `take 1 payload 22 chosen 0` came at pulse "
-                   "21, and is to be kept until pulse 22 is made\nearly  `take 1 safe 23` came at pulse 22, and is to "
-                   "be kept until pulse 23 is made\n"),
-    "early_safe_lost": ("stuck", 2, 1, f"{PULSE}, and this node has", "\nearly  `take 1 safe 1` came at pulse 0, and "
-                        "is to be kept until pulse 1 is made\n",
-                        "\nwaits  node 1 for safe 2 by port 0 | node 3 for safe 2 by port 0\n"),
-    "safes_any": ("NotReady", 2, 0, "waits for safe 0 by port 0", f"{PULSE}; it lacks safe 0 by port 0"),
-    "safes_none": ("NotReady", 3, 0, "waits for safe 0 by port 0", f"{PULSE}; it lacks safe 0 by port 0"),
+    "acks_own_pulse": (
+        "WrongWire",
+        2,
+        2,
+        "put 1 ack 3",
+        "a payload is acknowledged with its own pulse as soon",
+    ),
+    "acks_first": (
+        "NothingToPut",
+        2,
+        0,
+        "waits for ack 0 by port 0; safe 0 by ports 0 and 1",
+        f"{SAFE}can't have",
+    ),
+    "early_present": (
+        "WrongWire",
+        2,
+        23,
+        "one of: put 0 safe 23; put 1 safe 23",
+        "pulse 23 is the turn of the nodes",
+    ),
+    "early_lost": (
+        "WrongWire",
+        2,
+        23,
+        "one of: put 0 safe 23; put 1 safe 23",
+        "`chosen 0` came by port 0 in pulse 23",
+        "\ncame   chosen 0 by port 0, chosen 0 by port 1\nearly  `take 1 payload 22 chosen 0` came at pulse "
+        "21, and is to be kept until pulse 22 is made\nearly  `take 1 safe 23` came at pulse 22, and is to "
+        "be kept until pulse 23 is made\n",
+    ),
+    "early_safe_lost": (
+        "stuck",
+        2,
+        1,
+        f"{PULSE}, and this node has",
+        "\nearly  `take 1 safe 1` came at pulse 0, and " "is to be kept until pulse 1 is made\n",
+        "\nwaits  node 1 for safe 2 by port 0 | node 3 for safe 2 by port 0\n",
+    ),
+    "safes_any": (
+        "NotReady",
+        2,
+        0,
+        "waits for safe 0 by port 0",
+        f"{PULSE}; it lacks safe 0 by port 0",
+    ),
+    "safes_none": (
+        "NotReady",
+        3,
+        0,
+        "waits for safe 0 by port 0",
+        f"{PULSE}; it lacks safe 0 by port 0",
+    ),
     "safe_unsaid": ("NotReady", 2, 1, "waits for ack 1 by port 0", f"{PULSE}; {NO_ACK}"),
-    "safe_twice": ("NothingToPut", 3, 0, "waits for safe 0 by port 0", f"{SAFE}has put safe 0 by port 0 already"),
-    "safe_with_ack": ("WrongWire", 1, 1, "put 0 safe 1", "this link has to get safe 1 before: safe P is said as"),
-    "close_early": ("NothingToPut", 1, 29, "waits for safe 29 by port 0", "its last pulse, 30; it is at pulse 29"),
+    "safe_twice": (
+        "NothingToPut",
+        3,
+        0,
+        "waits for safe 0 by port 0",
+        f"{SAFE}has put safe 0 by port 0 already",
+    ),
+    "safe_with_ack": (
+        "WrongWire",
+        1,
+        1,
+        "put 0 safe 1",
+        "this link has to get safe 1 before: safe P is said as",
+    ),
+    "close_early": (
+        "NothingToPut",
+        1,
+        29,
+        "waits for safe 29 by port 0",
+        "its last pulse, 30; it is at pulse 29",
+    ),
     "close_safe": ("WrongWire", 1, 30, "put 0 close", "its pulse, 30, is the last"),
     "close_never": ("stuck", 1, 30, "close is put on each link as the node makes its last pulse"),
     "one_pulse": ("stuck", 4, 1, f"{PULSE}, and this node has"),
     "leaves": ("ended", 2, 29, "waits for safe 29 by port 0"),
-    "no_channel": ("result", 1, 30, "wrong  no line `channel 1`\nright  channel 1\nwhy    the channel is the merged"),
+    "no_channel": (
+        "result",
+        1,
+        30,
+        "wrong  no line `channel 1`\nright  channel 1\nwhy    the channel is the merged",
+    ),
     # A payload completes nothing, so nothing else is in the answer to it.
     "acks_after": None,
 }
@@ -70,35 +160,113 @@ SYNCHRONISER = {
 # without one, and the rule and this node's numbers.
 OTHERS = {
     "layers": {
-        "layers_again": (1, 1, "WrongWire", 1, "a node sends `hops N` by each port as soon as it knows that it is in"),
-        "layers_last": (2, 3, "result", 3, "the node of identifier 1 is in layer 0, any other in layer N + 1"),
-        "layers_port": (2, 3, "result", 3, "by the least port by which it comes; if none comes, in none"),
+        "layers_again": (
+            1,
+            1,
+            "WrongWire",
+            1,
+            "a node sends `hops N` by each port as soon as it knows that it is in",
+        ),
+        "layers_last": (
+            2,
+            3,
+            "result",
+            3,
+            "the node of identifier 1 is in layer 0, any other in layer N + 1",
+        ),
+        "layers_port": (
+            2,
+            3,
+            "result",
+            3,
+            "by the least port by which it comes; if none comes, in none",
+        ),
     },
     "matching": {
-        "matching_again": (2, 16, "WrongWire", 16, "; in forest 0 it had 1, its parent is by port 1 and its "
-                           "children are by port 0; it sent `free 0` by port 1 in pulse 13, `free 0` came by port 0 in "
-                           "pulse 14, `take 0` came by port 1 in pulse 15, `free 0` came by port 0 in pulse 16"),
-        "matching_all": (1, 13, "NothingToPut", 13, "pulse 13 is the first of the turn of colour 0 in forest 0: a node "
-                         "without a partner sends `free 0` to its parent in this forest, and nothing else is sent; in "
-                         "forest 0 it had 0, its parent is by port 0 and it has no child; nothing has come"),
-        "matching_turn": (2, 14, "WrongWire", 14, "pulse 14 is the second of the turn of colour 0 in forest 0"),
-        "matching_untold": (3, 14, "NothingToPut", 14, "its children are by port 1; `free 0` came by port 1 in pulse"),
+        "matching_again": (
+            2,
+            16,
+            "WrongWire",
+            16,
+            "; in forest 0 it had 1, its parent is by port 1 and its "
+            "children are by port 0; it sent `free 0` by port 1 in pulse 13, `free 0` came by port 0 in "
+            "pulse 14, `take 0` came by port 1 in pulse 15, `free 0` came by port 0 in pulse 16",
+        ),
+        "matching_all": (
+            1,
+            13,
+            "NothingToPut",
+            13,
+            "pulse 13 is the first of the turn of colour 0 in forest 0: a node "
+            "without a partner sends `free 0` to its parent in this forest, and nothing else is sent; in "
+            "forest 0 it had 0, its parent is by port 0 and it has no child; nothing has come",
+        ),
+        "matching_turn": (
+            2,
+            14,
+            "WrongWire",
+            14,
+            "pulse 14 is the second of the turn of colour 0 in forest 0",
+        ),
+        "matching_untold": (
+            3,
+            14,
+            "NothingToPut",
+            14,
+            "its children are by port 1; `free 0` came by port 1 in pulse",
+        ),
         # Up to the cut the words are those of the colouring.
-        "label_falling": (1, 1, "WrongWire", 1, "its parents are the neighbours above its own identifier, 1, by"),
+        "label_falling": (
+            1,
+            1,
+            "WrongWire",
+            1,
+            "its parents are the neighbours above its own identifier, 1, by",
+        ),
     },
     "independent-set": {
-        "set_beside": (1, 32, "WrongWire", 32, "pulse 32 is the turn of the nodes of colour 1, channel 2: one of them "
-                       "joins if no neighbour has sent `joined`, and then sends `joined 1` by each port, but nothing "
-                       "in the last pulse; it had merged colour 1; `joined 0` came by port 1 in pulse 32"),
-        "set_forgets": (2, 33, "result", 33, "a node is in if it has joined in the turn of its colour; it had merged "
-                        "colour 2; `joined 0` came by port 1 in pulse 32"),
+        "set_beside": (
+            1,
+            32,
+            "WrongWire",
+            32,
+            "pulse 32 is the turn of the nodes of colour 1, channel 2: one of them "
+            "joins if no neighbour has sent `joined`, and then sends `joined 1` by each port, but nothing "
+            "in the last pulse; it had merged colour 1; `joined 0` came by port 1 in pulse 32",
+        ),
+        "set_forgets": (
+            2,
+            33,
+            "result",
+            33,
+            "a node is in if it has joined in the turn of its colour; it had merged "
+            "colour 2; `joined 0` came by port 1 in pulse 32",
+        ),
     },
     "recolouring": {
-        "anew_least": (2, 31, "WrongWire", 31, "pulse 31 is the turn of the nodes that have colour 2, channel 3"),
-        "anew_bars": (1, 14, "result", 14, "a node's channel is the colour that it has chosen anew, plus one; it had "
-                      "merged colour 1, and barred at it: colour 0; nothing has come"),
-        "anew_last": (3, 33, "result", 33, "plus one; it had merged colour 0; `anew 0` came by port 1 in pulse 32, "
-                      "`anew 1` came by port 0 in pulse 33"),
+        "anew_least": (
+            2,
+            31,
+            "WrongWire",
+            31,
+            "pulse 31 is the turn of the nodes that have colour 2, channel 3",
+        ),
+        "anew_bars": (
+            1,
+            14,
+            "result",
+            14,
+            "a node's channel is the colour that it has chosen anew, plus one; it had "
+            "merged colour 1, and barred at it: colour 0; nothing has come",
+        ),
+        "anew_last": (
+            3,
+            33,
+            "result",
+            33,
+            "plus one; it had merged colour 0; `anew 0` came by port 1 in pulse 32, "
+            "`anew 1` came by port 0 in pulse 33",
+        ),
     },
 }
 
@@ -118,14 +286,37 @@ class RightNodes(Played):
 
     def test_of_other_programs(self):
         for program in ("layers", *SEQUELS):
-            for given in ("path1", "two", "triangle", "most4", "rest3", "drops", BARRED_RING, BARRED):
+            for given in (
+                "path1",
+                "two",
+                "triangle",
+                "most4",
+                "rest3",
+                "drops",
+                BARRED_RING,
+                BARRED,
+            ):
                 for assignment, command in NODES.items():
-                    self.right(assignment, given, [*command, program], one_process=True, program=program)
+                    self.right(
+                        assignment, given, [*command, program], one_process=True, program=program
+                    )
         for policy, program in zip(POLICIES, ("layers", *SEQUELS) * len(POLICIES)):
-            self.right("alpha", BARRED_RING, [*ALPHA, program], policy=policy, one_process=True, program=program)
+            self.right(
+                "alpha",
+                BARRED_RING,
+                [*ALPHA, program],
+                policy=policy,
+                one_process=True,
+                program=program,
+            )
         # A node alone is silent, and says its result in each pulse.
-        for program, line in (("leader", "leader 01"), ("layers", "layer 00"), ("matching", "partner none"),
-                              ("independent-set", "in"), ("recolouring", "channel 001")):
+        for program, line in (
+            ("leader", "leader 01"),
+            ("layers", "layer 00"),
+            ("matching", "partner none"),
+            ("independent-set", "in"),
+            ("recolouring", "channel 001"),
+        ):
             self.right("rounds", "path1", answering(line), program=program)
         self.right("rounds", "alone4", answering("layer none"), program="layers")
 
@@ -138,8 +329,12 @@ class RightNodes(Played):
     def test_the_same_seed_gives_the_same_run(self):
         """Whatever the language, and in one process or several."""
         first, *others = (
-            played("alpha", "path3", command, policy="bursts", seed="5", one_process=is_shared).run.in_order()
-            for command, is_shared in ((ALPHA, False), (ALPHA, True), (compiled(JAVA), False)) if command)
+            played(
+                "alpha", "path3", command, policy="bursts", seed="5", one_process=is_shared
+            ).run.in_order()
+            for command, is_shared in ((ALPHA, False), (ALPHA, True), (compiled(JAVA), False))
+            if command
+        )
         self.same("the same run", others, [first] * len(others))
         other = played("alpha", "path3", ALPHA, policy="bursts", seed="6", one_process=True)
         self.assertNotEqual(other.run.in_order(), first)
@@ -148,8 +343,12 @@ class RightNodes(Played):
         """In a row whose identifiers ascend the last node chooses in pulse 1, and each other one a pulse after its
         higher neighbour; the last message is heard a pulse later. Each node sends its name and its channel by
         each port."""
-        for name, league in (("path5", (6, 16, 2)), ("ring6", (7, 24, 2)), ("complete4", (5, 24, 4)),
-                             ("path1", (0, 0, 1))):
+        for name, league in (
+            ("path5", (6, 16, 2)),
+            ("ring6", (7, 24, 2)),
+            ("complete4", (5, 24, 4)),
+            ("path1", (0, 0, 1)),
+        ):
             case = played("open", name, GREEDY)
             self.same(name, (case.finding, tuple(case.league.values())), (None, league))
 
@@ -160,7 +359,9 @@ class RightNodes(Played):
             for nodes, pulses in ((first - 1, last), (first, last + 1)):
                 case = played("open", f"{kind}{nodes}", GREEDY, one_process=True)
                 self.same(f"{kind} {nodes}", (case.finding, case.league["pulses"]), (None, pulses))
-                self.same(f"rounds of {kind} {nodes}", RightRounds(network(f"{kind}{nodes}")).last, last)
+                self.same(
+                    f"rounds of {kind} {nodes}", RightRounds(network(f"{kind}{nodes}")).last, last
+                )
 
 
 class Mistakes(Played):
@@ -171,37 +372,75 @@ class Mistakes(Played):
     def test_of_the_colouring(self):
         for name, rights in COLOURING.items():
             for given, right in zip(("most4", "rest3"), rights):
-                self.found(right and ("differs", *right), "rounds", given, self.wrong_node(name, "rounds_node.py"),
-                           one_process=True)
+                self.found(
+                    right and ("differs", *right),
+                    "rounds",
+                    given,
+                    self.wrong_node(name, "rounds_node.py"),
+                    one_process=True,
+                )
 
     def test_of_the_synchroniser(self):
         for name, row in SYNCHRONISER.items():
-            found = self.found(row and row[:3], "alpha", "alone4", self.wrong_node(name, "alpha_node.py"),
-                               policy="newest", one_process=name != "leaves")
+            found = self.found(
+                row and row[:3],
+                "alpha",
+                "alone4",
+                self.wrong_node(name, "alpha_node.py"),
+                policy="newest",
+                one_process=name != "leaves",
+            )
             if row:
                 text = "\n".join(found.text())
-                is_early = not re.search(r"came at pulse (\d+), and is to be kept until pulse \1 ", text)
+                is_early = not re.search(
+                    r"came at pulse (\d+), and is to be kept until pulse \1 ", text
+                )
                 self.note(name, is_early and all(words in text for words in row[3:]), text)
 
     def test_of_other_programs(self):
         for program, names in OTHERS.items():
             for name, (node, pulse, verdict, later, why) in names.items():
-                given = BARRED if name == "anew_bars" else "path4" if program == "layers" else "triangle"
+                given = (
+                    BARRED
+                    if name == "anew_bars"
+                    else "path4"
+                    if program == "layers"
+                    else "triangle"
+                )
                 more = {"program": program, "one_process": True, "policy": "newest"}
-                found = self.found(("differs", node, pulse), "rounds", given,
-                                   self.wrong_node(name, "rounds_node.py", program), **more)
-                self.note(f"why {name} is wrong", why in dict(found.lines)["why"], dict(found.lines)["why"])
+                found = self.found(
+                    ("differs", node, pulse),
+                    "rounds",
+                    given,
+                    self.wrong_node(name, "rounds_node.py", program),
+                    **more,
+                )
+                self.note(
+                    f"why {name} is wrong",
+                    why in dict(found.lines)["why"],
+                    dict(found.lines)["why"],
+                )
                 # Which of two nodes that are wrong in one pulse is the first is the policy's matter.
-                found = played("alpha", given, self.wrong_node(name, "alpha_node.py", program), **more).finding
+                found = played(
+                    "alpha", given, self.wrong_node(name, "alpha_node.py", program), **more
+                ).finding
                 self.same(f"{name} without a clock", (found.kind, found.pulse), (verdict, later))
 
     def test_a_whole_report(self):
         wrong = self.wrong_node("layers_port", "rounds_node.py", "layers")
-        self.same("its words", played("rounds", "path4", wrong, program="layers").finding.text(), [
-            "where  node 2, pulse 3", "came   hops 2 by port 1", "wrong  layer 1", "right  layer 1 by 0",
-            "why    the node of identifier 1 is in layer 0, any other in layer N + 1 where N is the number of the "
-            "first `hops N` that comes, by the least port by which it comes; if none comes, in none",
-            "also   in the same pulse nodes 3 and 4"])
+        self.same(
+            "its words",
+            played("rounds", "path4", wrong, program="layers").finding.text(),
+            [
+                "where  node 2, pulse 3",
+                "came   hops 2 by port 1",
+                "wrong  layer 1",
+                "right  layer 1 by 0",
+                "why    the node of identifier 1 is in layer 0, any other in layer N + 1 where N is the number of the "
+                "first `hops N` that comes, by the least port by which it comes; if none comes, in none",
+                "also   in the same pulse nodes 3 and 4",
+            ],
+        )
 
     def test_a_result_that_isn_t_said(self):
         """A node that is silent is right in every pulse if nobody is the root, up to the last."""
@@ -219,7 +458,14 @@ class Mistakes(Played):
 
     def test_blame_is_of_the_node_whose_mistake_it_is(self):
         """Two right nodes, and one at the end of the row that makes pulses without its neighbours' safes."""
-        self.found(("NotReady", 3, 0), "alpha", "path3", ALPHA, ALPHA, self.wrong_node("safes_none", "alpha_node.py"))
+        self.found(
+            ("NotReady", 3, 0),
+            "alpha",
+            "path3",
+            ALPHA,
+            ALPHA,
+            self.wrong_node("safes_none", "alpha_node.py"),
+        )
 
 
 class Lines(Played):
@@ -230,27 +476,84 @@ class Lines(Played):
             ("layers", "rounds", "layer 1 by", "`layer 1 by` is no line of an answer"),
             ("layers", "rounds", "layer far", "`layer far` is no line of an answer"),
             ("layers", "alpha", "chose 1", f"which are `put PORT WIRE`, `pulse P`, {forms}"),
-            ("layers", "alpha", "put 0 payload 0 hello 1", "`hello` is no payload of layers, which has hops"),
-            ("layers", "alpha", f"put 0 payload 0 hops {1 << 32}", f"`{1 << 32}` is no number of a hops, which is"),
-            ("matching", "rounds", "channel 1",
-             "which are `put PORT WORD NUMBER`, `partner PORT`, `partner none` and "),
+            (
+                "layers",
+                "alpha",
+                "put 0 payload 0 hello 1",
+                "`hello` is no payload of layers, which has hops",
+            ),
+            (
+                "layers",
+                "alpha",
+                f"put 0 payload 0 hops {1 << 32}",
+                f"`{1 << 32}` is no number of a hops, which is",
+            ),
+            (
+                "matching",
+                "rounds",
+                "channel 1",
+                "which are `put PORT WORD NUMBER`, `partner PORT`, `partner none` and ",
+            ),
             ("matching", "rounds", "partner PORT", "`partner PORT` is no line of an answer"),
             ("independent-set", "rounds", "in 1", "`in 1` is no line of an answer"),
             ("recolouring", "rounds", "colour 0 1", "`colour 0 1` is no line of an answer"),
-            ("matching", "alpha", "put 0 payload 0 joined 1",
-             "`joined` is no payload of matching, which has hello, label, colour, chosen, free, take"),
-            ("colouring", "alpha", "put 0 safe", "`safe` is no wire, which are `payload P WORD NUMBER`"),
-            ("colouring", "alpha", f"pulse {1 << 32}", f"`pulse {1 << 32}` is no line of an answer"),
-            ("colouring", "alpha", "colour 0 3", "`colour 0 3` is no line of an answer, which are `put PORT WIRE`"),
-            ("colouring", "rounds", "put 0 hello 1\nput 0 hello 1", "is a second payload by this port in one pulse"),
-            ("colouring", "rounds", "put 7 hello 1", "there is no port 7; the node has port 0 alone"),
-            ("colouring", "open", f"put 0 {'x' * 1001}", "x ..` is no line of an answer, which are `put PORT WORDS..`"),
+            (
+                "matching",
+                "alpha",
+                "put 0 payload 0 joined 1",
+                "`joined` is no payload of matching, which has hello, label, colour, chosen, free, take",
+            ),
+            (
+                "colouring",
+                "alpha",
+                "put 0 safe",
+                "`safe` is no wire, which are `payload P WORD NUMBER`",
+            ),
+            (
+                "colouring",
+                "alpha",
+                f"pulse {1 << 32}",
+                f"`pulse {1 << 32}` is no line of an answer",
+            ),
+            (
+                "colouring",
+                "alpha",
+                "colour 0 3",
+                "`colour 0 3` is no line of an answer, which are `put PORT WIRE`",
+            ),
+            (
+                "colouring",
+                "rounds",
+                "put 0 hello 1\nput 0 hello 1",
+                "is a second payload by this port in one pulse",
+            ),
+            (
+                "colouring",
+                "rounds",
+                "put 7 hello 1",
+                "there is no port 7; the node has port 0 alone",
+            ),
+            (
+                "colouring",
+                "open",
+                f"put 0 {'x' * 1001}",
+                "x ..` is no line of an answer, which are `put PORT WORDS..`",
+            ),
             ("colouring", "rounds", "", "an empty line is no line of an answer"),
-            ("colouring", "rounds", "my colours: [3, 1]", "`my colours: [3, 1]` is no line of an answer"),
+            (
+                "colouring",
+                "rounds",
+                "my colours: [3, 1]",
+                "`my colours: [3, 1]` is no line of an answer",
+            ),
         ):
             found = played(assignment, "two", answering(line), program=program).finding
             said = dict(found.lines)["wrong"]
-            self.note(f"{assignment} of {program}: {line}", found.kind == "garbage" and words in said, found.text())
+            self.note(
+                f"{assignment} of {program}: {line}",
+                found.kind == "garbage" and words in said,
+                found.text(),
+            )
 
 
 class Cases(Played):
@@ -261,8 +564,14 @@ class Cases(Played):
         for case in made:
             with self.subTest(case=case.number):
                 self.assertEqual(len(set(case.network.identifiers.values())), case.network.nodes)
-        self.assertEqual({case.network.name for case in made if case.network.bars}, {"most4", "rest3"})
-        for program, has_bars in (("colouring", True), ("matching", False), ("independent-set", True),
-                                  ("recolouring", True)):
+        self.assertEqual(
+            {case.network.name for case in made if case.network.bars}, {"most4", "rest3"}
+        )
+        for program, has_bars in (
+            ("colouring", True),
+            ("matching", False),
+            ("independent-set", True),
+            ("recolouring", True),
+        ):
             made = cases_of(options_of("rounds", "ring5", "--runs", "20", "--program", program))
             self.same(f"bars of {program}", any(case.network.bars for case in made), has_bars)

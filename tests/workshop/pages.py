@@ -36,7 +36,11 @@ class Pages(Case):
         self.assertEqual({word for word in said - {"start"} if f"`{word}`" not in table}, set())
 
     def test_the_first_failure_of_the_skeleton_is_as_the_page_has_it(self):
-        block = page("WORKSHOP.md").partition("reports what your node has to do next:\n\n")[2].partition("\n\n")[0]
+        block = (
+            page("WORKSHOP.md")
+            .partition("reports what your node has to do next:\n\n")[2]
+            .partition("\n\n")[0]
+        )
         lines = [line.strip() for line in block.splitlines()]
         got = call("rounds", "two", "--", *python("skeletons", "node.py")).stdout.splitlines()[2:]
         self.assertEqual(len(got), len(lines))
@@ -68,7 +72,10 @@ class Pages(Case):
         self.assertEqual(guard.Limits(1, 1, 17).written < guard.Limits(1, 1, 16).written, True)
 
     def test_the_page_has_each_policy_and_each_payload(self):
-        for names, text in ((POLICIES, "WORKSHOP.md"), (map(bytes.decode, PAYLOADS["colouring"]), "PROTOCOL.md")):
+        for names, text in (
+            (POLICIES, "WORKSHOP.md"),
+            (map(bytes.decode, PAYLOADS["colouring"]), "PROTOCOL.md"),
+        ):
             self.same(text, [name for name in names if f"`{name}`" not in page(text)], [])
 
 
@@ -77,8 +84,11 @@ class ClassFolder(Case):
     def setUpClass(cls):
         cls.folder = cls.enterClassContext(tempfile.TemporaryDirectory())
         class_files.copy_class(cls.folder)
-        cls.found = {os.path.relpath(os.path.join(at, name), cls.folder)
-                     for at, _, names in os.walk(cls.folder) for name in names}
+        cls.found = {
+            os.path.relpath(os.path.join(at, name), cls.folder)
+            for at, _, names in os.walk(cls.folder)
+            for name in names
+        }
 
     def text(self, path: str) -> str:
         return text_in(self.folder, path)
@@ -91,7 +101,9 @@ class ClassFolder(Case):
             for target in filter(lambda target: ":" not in target, map("".join, links)):
                 count += 1
                 with self.subTest(page=path, target=target):
-                    self.assertTrue(os.path.exists(os.path.join(self.folder, os.path.dirname(path), target)))
+                    self.assertTrue(
+                        os.path.exists(os.path.join(self.folder, os.path.dirname(path), target))
+                    )
         self.assertGreater(count, 30)
         self.assertIn("(PROMISES)", self.text("docs/learn/WORKSHOP.md"))
         self.assertIn("[PROTOCOL](PROTOCOL.md)", self.text("docs/learn/WORKSHOP.md"))
@@ -99,42 +111,83 @@ class ClassFolder(Case):
     def test_links_to_what_is_copied_stay(self):
         """Beside it, above it, to a folder, elsewhere, a picture, and to a part of the page itself."""
         paths = {"docs/learn/A.md", "docs/learn/B.md", "docs/pictures/c.svg"}
-        for text, right in (("[B](B.md#part)", "[B](B.md#part)"), ("[the c](../pictures/c.svg)",) * 2,
-                            ("[all](../pictures)",) * 2, ("[x](https://x.org/a)",) * 2, ("[part](#part)",) * 2,
-                            ("![C](../pictures/d.svg)",) * 2, ("see [D](../claim/D.md#part).", "see D."),
-                            ("(run it; as\ncode: [D](D.md))", "(run it)"), ("(run it; as [B](B.md))",) * 2):
+        for text, right in (
+            ("[B](B.md#part)", "[B](B.md#part)"),
+            ("[the c](../pictures/c.svg)",) * 2,
+            ("[all](../pictures)",) * 2,
+            ("[x](https://x.org/a)",) * 2,
+            ("[part](#part)",) * 2,
+            ("![C](../pictures/d.svg)",) * 2,
+            ("see [D](../claim/D.md#part).", "see D."),
+            ("(run it; as\ncode: [D](D.md))", "(run it)"),
+            ("(run it; as [B](B.md))",) * 2,
+        ):
             self.same(text, class_files.page_for_a_class(text, "docs/learn/A.md", paths), right)
 
     def test_it_has_no_solution(self):
-        for path in ("lab/definitions", "lab/pictures", "lab/transcripts/check.py", "lab/schedules/ruled_node.py",
-                     "examples/workshop/python", "examples/workshop/c", "examples/workshop/mistakes.py",
-                     "examples/algorithms", "tests",
-                     "docs/learn/WORKSHOP_ANSWERS.md", "docs/learn/TEACHING.md"):
+        for path in (
+            "lab/definitions",
+            "lab/pictures",
+            "lab/transcripts/check.py",
+            "lab/schedules/ruled_node.py",
+            "examples/workshop/python",
+            "examples/workshop/c",
+            "examples/workshop/mistakes.py",
+            "examples/algorithms",
+            "tests",
+            "docs/learn/WORKSHOP_ANSWERS.md",
+            "docs/learn/TEACHING.md",
+        ):
             with self.subTest(path):
                 self.assertTrue(os.path.exists(os.path.join(TOP, path)), "it isn't here either")
                 self.assertFalse([name for name in self.found if name.startswith(path)])
         for path in (path for path in self.found if path.endswith(".py")):
-            self.assertNotRegex(self.text(path), r"def (bit_step|merge|recolour|settle)\(self, t|def bit_step")
+            self.assertNotRegex(
+                self.text(path), r"def (bit_step|merge|recolour|settle)\(self, t|def bit_step"
+            )
 
     def test_any_folder_makes_it(self):
         """The command makes the same here and from the folder of a class itself; of manual pages it copies those that
         there are."""
-        made, again = (os.path.join(self.enterContext(tempfile.TemporaryDirectory()), name) for name in ("a b", "c"))
+        made, again = (
+            os.path.join(self.enterContext(tempfile.TemporaryDirectory()), name)
+            for name in ("a b", "c")
+        )
         for door, to in ((TOP, made), (self.folder, again)):
-            done = subprocess.run([os.path.join(door, "bin", "forestlab"), "workshop", "class", to],
-                                  capture_output=True, text=True)
+            done = subprocess.run(
+                [os.path.join(door, "bin", "forestlab"), "workshop", "class", to],
+                capture_output=True,
+                text=True,
+            )
             self.assertEqual((done.returncode, done.stderr), (0, ""))
-            self.assertEqual(subprocess.run(["sha256sum", "-c", "--quiet", "SHA256SUMS"], cwd=to).returncode, 0)
+            self.assertEqual(
+                subprocess.run(["sha256sum", "-c", "--quiet", "SHA256SUMS"], cwd=to).returncode, 0
+            )
             differ = called("diff", "-rq", "-x", "__pycache__", self.folder, to)
             self.assertEqual(differ, (0, b"", b""))
-        self.refusal("a folder that is there", said_by("workshop", "class", made), 2, f"{made} is there already\n")
+        self.refusal(
+            "a folder that is there",
+            said_by("workshop", "class", made),
+            2,
+            f"{made} is there already\n",
+        )
 
     def test_it_works(self):
         self.assertLessEqual({"README.md", "LICENSE-MIT", "LICENSE-APACHE"}, self.found)
         environment = {"PATH": os.environ["PATH"], "HOME": self.folder}
         node = ["python3", "examples/workshop/skeletons/node.py"]
-        for words, status in ((["workshop", "rounds", "two", "--", *node], 1), (["network", "tell", "petersen"], 0),
-                              *(([name, "examples/two.col"], 2)
-                                for name in ("picture", "explore", "simulate", "transcript", "sheet"))):
-            done = called(os.path.join(self.folder, "bin", "forestlab"), *words, cwd=self.folder, env=environment)
+        for words, status in (
+            (["workshop", "rounds", "two", "--", *node], 1),
+            (["network", "tell", "petersen"], 0),
+            *(
+                ([name, "examples/two.col"], 2)
+                for name in ("picture", "explore", "simulate", "transcript", "sheet")
+            ),
+        ):
+            done = called(
+                os.path.join(self.folder, "bin", "forestlab"),
+                *words,
+                cwd=self.folder,
+                env=environment,
+            )
             self.note(words[0], done[0] == status and b"Traceback" not in done[2], done)

@@ -19,11 +19,19 @@ transcript 2 2
 # What comes then, and what the judge says of it.
 ROWS = (
     ("5 2 pulse 1\n6 2 pulse 2\n", "NotReady: node 2 makes pulse 1, but it lacks safe 0 of 1;"),
-    ("5 2 put 1 safe 1\n", "WrongWire: node 2 puts safe 1 for 1, but the next one there is safe 0;"),
-    ("5 2 put 1 payload 1 label 0\n",
-     "WrongWire: node 2 puts payload 1 label 0 for 1, but the next one there is safe 0;"),
+    (
+        "5 2 put 1 safe 1\n",
+        "WrongWire: node 2 puts safe 1 for 1, but the next one there is safe 0;",
+    ),
+    (
+        "5 2 put 1 payload 1 label 0\n",
+        "WrongWire: node 2 puts payload 1 label 0 for 1, but the next one there is safe 0;",
+    ),
     ("5 2 take 1 safe 0\n", "LinkEmpty: node 2 takes safe 0 from 1, and 1 never puts it"),
-    ("9 2 put 1 safe 0\n", "WrongStamp: node 2 puts safe 0 for 1 with stamp 9, but the clock there gives 5."),
+    (
+        "9 2 put 1 safe 0\n",
+        "WrongStamp: node 2 puts safe 0 for 1 with stamp 9, but the clock there gives 5.",
+    ),
 )
 NOT_POSSIBLE = ["line 9, not possible"]
 # The options, what comes after GREETED, what the picture says, and the titles of what is red.
@@ -32,18 +40,31 @@ DRAWN = (
     # A run that is only cut is drawn as far as it goes, and the vertex at which it stopped is marked.
     ("", "", "Payloads that are put in these pulses, as far as this text goes: 2.", []),
     ("--wrong", "", "the run doesn't reach its end (NotWhole)", []),
-    *((f"--wrong --stopped {v}", "", f"(NotWhole): it stops at node {v}.", [f"node {v}, where the run stops"])
-      for v in (1, 2)),
+    *(
+        (
+            f"--wrong --stopped {v}",
+            "",
+            f"(NotWhole): it stops at node {v}.",
+            [f"node {v}, where the run stops"],
+        )
+        for v in (1, 2)
+    ),
     # An entry that isn't possible says more than where the run ended.
     ("--wrong --stopped 1", ROWS[0][0], "NotReady: ", NOT_POSSIBLE),
 )
 # The kind and options, the text, the status, and what is said.
 REFUSED = (
-    *((kind, GREETED + more, 1, " line 9: ") for kind in ("run", "overview", "node", "tally") for more, _ in ROWS),
+    *(
+        (kind, GREETED + more, 1, " line 9: ")
+        for kind in ("run", "overview", "node", "tally")
+        for more, _ in ROWS
+    ),
     *((f"run --wrong --stopped {v}", GREETED, 1, f"two has no vertex {v}") for v in (0, 3)),
     ("run --stopped 1", GREETED, 2, "--stopped is for --wrong"),
-    *(("run --wrong", GREETED + f"5 2 {line}\n", 1, f" line 9: {code}: ") for line, code in (
-        ("hello", "X1"), ("put 9 safe 0", "NoSuch"))),
+    *(
+        ("run --wrong", GREETED + f"5 2 {line}\n", 1, f" line 9: {code}: ")
+        for line, code in (("hello", "X1"), ("put 9 safe 0", "NoSuch"))
+    ),
 )
 
 
@@ -57,25 +78,49 @@ class Pictures(Played):
     def test_drawn(self):
         for options, more, said, red in DRAWN:
             _, drawn, _ = picture(f"run {options}", GREETED + more)
-            self.same(f"{options} {more!r}: red", re.findall('<g class="wrong"><title>([^<]*)<', drawn), red)
+            self.same(
+                f"{options} {more!r}: red",
+                re.findall('<g class="wrong"><title>([^<]*)<', drawn),
+                red,
+            )
             # What is said, and the acknowledgement that node 2 put last, and nothing else that isn't taken.
-            self.note(f"{options} {more!r}: {said}", said in drawn and "All payloads of these pulses" not in drawn
-                      and ("it stops at" in drawn) == ("it stops at" in said), drawn)
-            self.same(f"{options} {more!r}: not taken", re.findall("<title>([^<]*), not taken</title>", drawn),
-                      ["2 to 1: ack 0"] * bool(options))
+            self.note(
+                f"{options} {more!r}: {said}",
+                said in drawn
+                and "All payloads of these pulses" not in drawn
+                and ("it stops at" in drawn) == ("it stops at" in said),
+                drawn,
+            )
+            self.same(
+                f"{options} {more!r}: not taken",
+                re.findall("<title>([^<]*), not taken</title>", drawn),
+                ["2 to 1: ack 0"] * bool(options),
+            )
         run = transcript(example("two"), "right").decode()
-        plain, *others = (picture(f"run {options}", run)[1] for options in ("", "--wrong", "--wrong --stopped 1"))
-        self.note("a right run is drawn as always", [plain] * 2 == others and "All payloads of these pulses: " in plain,
-                  plain)
+        plain, *others = (
+            picture(f"run {options}", run)[1] for options in ("", "--wrong", "--wrong --stopped 1")
+        )
+        self.note(
+            "a right run is drawn as always",
+            [plain] * 2 == others and "All payloads of these pulses: " in plain,
+            plain,
+        )
         # What comes after the wrong entry isn't drawn, though it is possible.
         text = GREETED.replace("\n4 2", "\n4 1 pulse 1\n4 2")
         drawn = picture("run --wrong", text)[1]
-        self.same("up to what is wrong", re.findall("<title>([^<]*), not ", drawn),
-                  ["1 to 2: ack 0", "2 to 1: ack 0", "line 8"])
+        self.same(
+            "up to what is wrong",
+            re.findall("<title>([^<]*), not ", drawn),
+            ["1 to 2: ack 0", "2 to 1: ack 0", "line 8"],
+        )
         self.note("around what is wrong", "pulses 0 to 0 of 18" in drawn, drawn)
         text = "transcript 1 2\n1 put 2 payload 0 hello 1\n1 pulse 1\n2 put 1 payload 0 hello 2\n2 put 1 ack 0\n"
         drawn = picture("run --wrong", text)[1]
-        self.same("without stamps", re.findall('<g class="wrong"><title>([^<]*)<', drawn), ["line 3, not possible"])
+        self.same(
+            "without stamps",
+            re.findall('<g class="wrong"><title>([^<]*)<', drawn),
+            ["line 3, not possible"],
+        )
 
     def test_refused(self):
         for words, text, status, said in REFUSED:
@@ -88,8 +133,13 @@ class Pictures(Played):
         self.assertEqual(done.returncode, 1)
         svg = text_in(file)
         self.assertRegex(svg, r"\(NotWhole\): it stops at node [12]\.")
-        self.assertRegex(done.stdout, f"node {re.search(r'it stops at node ([12])', svg)[1]} at pulse 0 doesn't put")
-        self.assertEqual(len(re.findall('<g class="payload"', svg[:svg.index('<g class="lower"')])), 2)
+        self.assertRegex(
+            done.stdout,
+            f"node {re.search(r'it stops at node ([12])', svg)[1]} at pulse 0 doesn't put",
+        )
+        self.assertEqual(
+            len(re.findall('<g class="payload"', svg[: svg.index('<g class="lower"')])), 2
+        )
         wrong = self.wrong_node("layers_again", "alpha_node.py", "layers")
         call("alpha", "path3", "--program", "layers", "--picture", file, "--", *wrong)
         self.assertIn(">Red: line ", text_in(file))

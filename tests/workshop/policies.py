@@ -6,12 +6,24 @@ from tests.workshop.base import options_of
 
 VERTICES, EDGES = [1, 2, 3], [(1, 2), (2, 3)]
 # Links 2-1, 1-2 and 2-3 hold wires, and node 3 can make a pulse: put first is the safe, last the second wire of 2-1.
-STEPS = [Step("take", 1, 2, "ack", 3, 9), Step("take", 2, 1, "safe", 1, 1), Step("take", 3, 2, "payload", 4, 4),
-         Step("pulse", 3, 0, "", 2, 2)]
+STEPS = [
+    Step("take", 1, 2, "ack", 3, 9),
+    Step("take", 2, 1, "safe", 1, 1),
+    Step("take", 3, 2, "payload", 4, 4),
+    Step("pulse", 3, 0, "", 2, 2),
+]
 # By policy, which of the steps it chooses: of all, or by the edge or the node that the seed chose.
-RIGHT = {"random": {0, 1, 2, 3}, "newest": {0}, "oldest": {1}, "late-acks": {1, 2, 3}, "late-safes": {0, 2, 3},
-         "in-turn": {0, 1, 2, 3}, "slow-link": {(1, 2): {2, 3}, (2, 3): {0, 1, 3}},
-         "slow-node": {1: {1, 2, 3}, 2: {0, 2, 3}, 3: {0, 1}}, "fast-node": {1: {0}, 2: {1}, 3: {2, 3}}}
+RIGHT = {
+    "random": {0, 1, 2, 3},
+    "newest": {0},
+    "oldest": {1},
+    "late-acks": {1, 2, 3},
+    "late-safes": {0, 2, 3},
+    "in-turn": {0, 1, 2, 3},
+    "slow-link": {(1, 2): {2, 3}, (2, 3): {0, 1, 3}},
+    "slow-node": {1: {1, 2, 3}, 2: {0, 2, 3}, 3: {0, 1}},
+    "fast-node": {1: {0}, 2: {1}, 3: {2, 3}},
+}
 
 
 def chosen(name, seed="1", count=60, steps=STEPS):
@@ -49,5 +61,10 @@ class Policies(Case):
         """A hundred runs of the twelve networks have all ten policies; ten for each network have each on it once."""
         self.assertEqual({case.policy for case in cases_of(options_of("alpha"))}, set(POLICIES))
         for names, runs in ((NETWORKS.split(","), "120"), (["two"], "10")):
-            pairs = [(case.network.name, case.policy) for case in cases_of(options_of("alpha", *names, "--runs", runs))]
-            self.assertEqual(sorted(pairs), sorted((name, policy) for name in names for policy in POLICIES))
+            pairs = [
+                (case.network.name, case.policy)
+                for case in cases_of(options_of("alpha", *names, "--runs", runs))
+            ]
+            self.assertEqual(
+                sorted(pairs), sorted((name, policy) for name in names for policy in POLICIES)
+            )

@@ -17,21 +17,42 @@ LABEL = ["label {}"] * 2
 # comes is printed whole, and in one in C, a field that a wire hasn't as nothing; in one in Java what is in the inbox of
 # port 0.
 ROWS = (
-    *(("node.py", kind, PULSE, PYTHON % "inbox.get(0, ['none'])", ["hops.12 {}", "none {}"])
-      for kind in ("rounds", "open")),
+    *(
+        ("node.py", kind, PULSE, PYTHON % "inbox.get(0, ['none'])", ["hops.12 {}", "none {}"])
+        for kind in ("rounds", "open")
+    ),
     ("node.py", "alpha", TAKE, PYTHON % "wire", ["payload.3.hops.12 {}", "safe.4 {}"]),
-    ("rounds_node.c", "rounds", "/* yours:", 'if (pulse > 0) printf("put 0 label %s\\n", me->identifier); /*', LABEL),
-    ("alpha_node.c", "alpha", "/* yours:",
-     'printf("put 0 %d %s %d %s.%s. %d %s\\n", port, wire->kind, wire->pulse, wire->word, wire->number, me->last, '
-     'me->identifier); /*', ["0 payload 3 hops.12. 18 {}", "0 safe 4 .. 18 {}"]),
-    ("RoundsNode.java", "rounds", "// yours:",
-     'if (pulse > 0) put(0, (inbox.containsKey(0) ? String.join(".", inbox.get(0)) : "none") + " " + own.get("last") '
-     '+ " " + identifier); //', ["hops.12 18 {}", "none 18 {}"]),
+    (
+        "rounds_node.c",
+        "rounds",
+        "/* yours:",
+        'if (pulse > 0) printf("put 0 label %s\\n", me->identifier); /*',
+        LABEL,
+    ),
+    (
+        "alpha_node.c",
+        "alpha",
+        "/* yours:",
+        'printf("put 0 %d %s %d %s.%s. %d %s\\n", port, wire->kind, wire->pulse, wire->word, wire->number, me->last, '
+        "me->identifier); /*",
+        ["0 payload 3 hops.12. 18 {}", "0 safe 4 .. 18 {}"],
+    ),
+    (
+        "RoundsNode.java",
+        "rounds",
+        "// yours:",
+        'if (pulse > 0) put(0, (inbox.containsKey(0) ? String.join(".", inbox.get(0)) : "none") + " " + own.get("last") '
+        '+ " " + identifier); //',
+        ["hops.12 18 {}", "none 18 {}"],
+    ),
     ("AlphaNode.java", "alpha", "// yours:", 'put(0, "label " + identifier); //', LABEL),
 )
 # They greet in pulse 0, so what is wrong is what comes after it.
-WRONG = {"rounds": "node 1, pulse 1 (orient)", "open": "nodes 1, 2 and 3 said no",
-         "alpha": "doesn't put 0 ack 0\nwhy    a payload is acknowledged with its own pulse as soon as it is taken\n"}
+WRONG = {
+    "rounds": "node 1, pulse 1 (orient)",
+    "open": "nodes 1, 2 and 3 said no",
+    "alpha": "doesn't put 0 ack 0\nwhy    a payload is acknowledged with its own pulse as soon as it is taken\n",
+}
 
 
 class Skeletons(Case):
@@ -43,8 +64,12 @@ class Skeletons(Case):
         """In one process it is the same."""
         for name, kind, *_ in ROWS:
             with self.subTest(f"{kind} {name}"):
-                several, one = (call(kind, "path3", *more, "--", *self.command(os.path.join(FOLDER, name)))
-                                .stdout.splitlines()[1:] for more in ([], ["--one-process"]))
+                several, one = (
+                    call(
+                        kind, "path3", *more, "--", *self.command(os.path.join(FOLDER, name))
+                    ).stdout.splitlines()[1:]
+                    for more in ([], ["--one-process"])
+                )
                 self.assertIn(WRONG[kind], "\n".join(several))
                 self.assertEqual([*several, *[f"note   {APART}"] * (kind != "open")], one)
 
@@ -55,11 +80,22 @@ class Skeletons(Case):
                 text = text_in(FOLDER, name)
                 self.assertEqual(text.count(yours), 1)
                 command = self.command(self.file(name, text.replace(yours, mine)))
-                messages = ["take 0 payload 3 hops 12\nend\n", "take 0 safe 4\nend\n"] if kind == "alpha" else [
-                    "pulse 1\ntake 0 hops 12\nend\n", "pulse 2\nend\n"]
+                messages = (
+                    ["take 0 payload 3 hops 12\nend\n", "take 0 safe 4\nend\n"]
+                    if kind == "alpha"
+                    else ["pulse 1\ntake 0 hops 12\nend\n", "pulse 2\nend\n"]
+                )
                 hello = "payload 0 hello {}" if kind == "alpha" else "hello {}"
                 asked = OWN.format(5, kind, 70) + OWN.format(6, kind, 80)
                 asked += "".join(f"to {at}\n{message}" for message in messages for at in (5, 6))
-                done = subprocess.run(command, input=asked, capture_output=True, text=True, timeout=60)
-                self.assertEqual(done.stdout, "".join(f"put 0 {said.format(number)}\nend\n"
-                                                      for said in (hello, *saids) for number in (70, 80)))
+                done = subprocess.run(
+                    command, input=asked, capture_output=True, text=True, timeout=60
+                )
+                self.assertEqual(
+                    done.stdout,
+                    "".join(
+                        f"put 0 {said.format(number)}\nend\n"
+                        for said in (hello, *saids)
+                        for number in (70, 80)
+                    ),
+                )

@@ -17,35 +17,70 @@ from tests.workshop.base import network, options_of
 ROW = Network(3, [(1, 2), (1, 3)], {1: 7, 2: 2, 3: 11}, name="row")
 # Node, pulse, what `Why` is asked of besides, and this node's numbers at the end of what it says.
 OF_ROW = (
-    (1, 1, {"port": 1}, "its parents are the neighbours above its own identifier, 7, by ascending identifier: 11 (port "
-                        "1) in forest 0; each gets the label of its forest"),
-    (3, 1, {"port": 0}, "its own identifier, 11, by ascending identifier: none; each gets the label of its forest"),
-    (2, 2, {"port": 0}, "its identifier, 2, and sends it to its children there; in forest 0 its parent is by port 0 "
-                        "and it has no child"),
-    (1, 3, {"forest": 0}, "in forest 0 it had 7 (binary 111), its parent is by port 1 and sent 11 (binary 1011) and "
-                          "its children are by port 0"),
+    (
+        1,
+        1,
+        {"port": 1},
+        "its parents are the neighbours above its own identifier, 7, by ascending identifier: 11 (port "
+        "1) in forest 0; each gets the label of its forest",
+    ),
+    (
+        3,
+        1,
+        {"port": 0},
+        "its own identifier, 11, by ascending identifier: none; each gets the label of its forest",
+    ),
+    (
+        2,
+        2,
+        {"port": 0},
+        "its identifier, 2, and sends it to its children there; in forest 0 its parent is by port 0 "
+        "and it has no child",
+    ),
+    (
+        1,
+        3,
+        {"forest": 0},
+        "in forest 0 it had 7 (binary 111), its parent is by port 1 and sent 11 (binary 1011) and "
+        "its children are by port 0",
+    ),
     (3, 7, {"forest": 0}, "in forest 0 it had 1, it is a root and its children are by port 0"),
-    (2, 8, {"forest": 0}, "in forest 0 it had 5, its parent is by port 0 and sent 1 and it has "
-                          "no child"),
-    (1, 8, {"port": 0}, "drop of 5: who has 5 takes the least of 0, 1, 2 that neither its parent nor its children "
-                        "have; these have what it had itself before the shift. In pulse 12 nothing is sent, before "
-                        "that its children get it; in forest 0 it had 1, its parent is by port 1 and sent "
-                        "0 and its children are by port 0 and have 5"),
+    (
+        2,
+        8,
+        {"forest": 0},
+        "in forest 0 it had 5, its parent is by port 0 and sent 1 and it has " "no child",
+    ),
+    (
+        1,
+        8,
+        {"port": 0},
+        "drop of 5: who has 5 takes the least of 0, 1, 2 that neither its parent nor its children "
+        "have; these have what it had itself before the shift. In pulse 12 nothing is sent, before "
+        "that its children get it; in forest 0 it had 1, its parent is by port 1 and sent "
+        "0 and its children are by port 0 and have 5",
+    ),
     (1, 12, {}, "nodes choose in the pulses after 12 alone"),
 )
 OF_TWO = (
-    (2, 15, {}, "pulse 15 is the turn of the nodes that have colour 1 in forest 0 and had merged colour 0 before this "
-                "merge: such a node takes the least colour that isn't barred at it and that didn't come in this merge, "
-                "and sends it to its neighbours in forests 0 to 0, but nothing in the last pulse of a merge; in forest "
-                "0 it had 1, it is a root and its children are by port 0; it had merged colour 0; `chosen 0` came by "
-                "port 0 in pulse 14"),
+    (
+        2,
+        15,
+        {},
+        "pulse 15 is the turn of the nodes that have colour 1 in forest 0 and had merged colour 0 before this "
+        "merge: such a node takes the least colour that isn't barred at it and that didn't come in this merge, "
+        "and sends it to its neighbours in forests 0 to 0, but nothing in the last pulse of a merge; in forest "
+        "0 it had 1, it is a root and its children are by port 0; it had merged colour 0; `chosen 0` came by "
+        "port 0 in pulse 14",
+    ),
 )
 
 
 class Words(Case):
     def test_why(self):
         """Of two nodes by hand: their three-colours are 0 and 1, both have the merged colour 0, and there are 2
-        colours. So node 1 chooses in the first pulse, and node 2, which hears of it, in the third."""
+        colours. So node 1 chooses in the first pulse, and node 2, which hears of it, in the third.
+        """
         for given, rows in ((ROW, OF_ROW), (network("two"), OF_TWO)):
             rounds = RightRounds(given)
             for v, p, of, words in rows:
@@ -76,11 +111,17 @@ Exception in thread "main" java.lang.NullPointerException: Cannot read "String.l
 class StandardError(Case):
     def test_the_place_of_a_mistake_is_among_the_last_lines(self):
         for text, words in (
-            (PYTHON, '`File "my_node.py", line 19, in pulse | return self.to(self.ports[0]) + self.to(port) | File '
-                     '"my_node.py", line 31, in to | return "put " + port | TypeError: can only concatenate str (not '
-                     '"int") to str`'),
-            (JAVA, '`debugging | Exception in thread "main" java.lang.NullPointerException: Cannot read '
-                   '"String.length()" | at AlphaNode.take(AlphaNode.java:28) | at AlphaNode.read(AlphaNode.java:35)`'),
+            (
+                PYTHON,
+                '`File "my_node.py", line 19, in pulse | return self.to(self.ports[0]) + self.to(port) | File '
+                '"my_node.py", line 31, in to | return "put " + port | TypeError: can only concatenate str (not '
+                '"int") to str`',
+            ),
+            (
+                JAVA,
+                '`debugging | Exception in thread "main" java.lang.NullPointerException: Cannot read '
+                '"String.length()" | at AlphaNode.take(AlphaNode.java:28) | at AlphaNode.read(AlphaNode.java:35)`',
+            ),
             ("\n  ^^^ \n", ""),
         ):
             self.same(repr(text[:20]), last_errors(text.encode()), words)

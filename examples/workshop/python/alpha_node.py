@@ -6,9 +6,11 @@ from talk import serve
 
 class Port:
     def __init__(self):
-        self.waits = False                      # for the acknowledgement of our payload of this pulse
-        self.safe = self.early_safe = False     # whether the neighbour said safe of this pulse, and of the next
-        self.present = self.early = None        # the neighbour's payload of this pulse, and of the next
+        self.waits = False  # for the acknowledgement of our payload of this pulse
+        self.safe = (
+            self.early_safe
+        ) = False  # whether the neighbour said safe of this pulse, and of the next
+        self.present = self.early = None  # the neighbour's payload of this pulse, and of the next
 
 
 class AlphaNode:
@@ -33,7 +35,7 @@ class AlphaNode:
             self.say_safe_if_it_is()
         elif kind == "safe":
             self.take_safe(port, int(rest[0]))
-        self.go_on()                            # a `close` asks for nothing
+        self.go_on()  # a `close` asks for nothing
         return self.flush()
 
     def take_payload(self, port, pulse, payload):

@@ -6,10 +6,10 @@ class Colouring:
         self.name = own["identifier"]
         self.ports = range(own["degree"])
         self.forests, self.last = own["forests"], own["last"]
-        self.width = own["delta"] + own["bars"] + 1         # as many colours are enough
-        self.up, self.down = {}, {}                         # port: the forest in which a parent, or a child, is there
+        self.width = own["delta"] + own["bars"] + 1  # as many colours are enough
+        self.up, self.down = {}, {}  # port: the forest in which a parent, or a child, is there
         self.colours = [self.name] * self.forests
-        self.before = list(self.colours)                    # before a shift: the colours of the children after it
+        self.before = list(self.colours)  # before a shift: the colours of the children after it
         self.barred = {channel - 1 for channel in own["barred"]}
         self.merged = self.least_free(set())
         self.old, self.taken = self.merged, set()
@@ -72,7 +72,9 @@ class Colouring:
         self.merged = self.least_free(self.taken)
         if step == 3 * self.width - 1:
             return {}
-        merged_so_far = [port for port, f in sorted({**self.up, **self.down}.items()) if f <= forest]
+        merged_so_far = [
+            port for port, f in sorted({**self.up, **self.down}.items()) if f <= forest
+        ]
         return {port: ("chosen", self.merged) for port in merged_so_far}
 
 

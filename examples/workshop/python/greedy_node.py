@@ -23,7 +23,10 @@ class GreedyNode:
 
     def choose(self):
         self.channel = next(c for c in range(1, len(self.taken) + 2) if c not in self.taken)
-        return [f"channel {self.channel}", *(f"put {port} mine {self.channel}" for port in self.ports)]
+        return [
+            f"channel {self.channel}",
+            *(f"put {port} mine {self.channel}" for port in self.ports),
+        ]
 
 
 if __name__ == "__main__":

@@ -16,14 +16,16 @@ def messages():
 
 def answer(lines):
     sys.stdout.write("".join(line + "\n" for line in [*lines, "end"]))
-    sys.stdout.flush()      # without it the answer waits in a buffer, and the workshop waits for the answer
+    sys.stdout.flush()  # without it the answer waits in a buffer, and the workshop waits for the answer
 
 
 def own_data(lines):
     """What a node knows of itself, by word; `barred` is the set of the channels that are barred to it."""
     assert lines[0][:2] == ["workshop", "1"], "another edition of the protocol"
     own = {words[0]: int(words[1]) for words in lines[1:]}
-    own["barred"] = {int(channel) for words in lines if words[0] == "barred" for channel in words[2:]}
+    own["barred"] = {
+        int(channel) for words in lines if words[0] == "barred" for channel in words[2:]
+    }
     return own
 
 

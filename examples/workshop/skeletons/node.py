@@ -15,17 +15,24 @@ class Node:
         """With a clock, in `rounds` and `open`: what the node does in pulse p, as lines; `inbox` is {port: words}, as
         {0: ["hello", "3"]}, and empty in pulse 0."""
         if p == 0:
-            return [f"put {port} hello {self.own['identifier']}" for port in range(self.own["degree"])]
-        return []           # yours: `put PORT WORD NUMBER`, and in the last pulse, of `open` once, `channel C`
+            return [
+                f"put {port} hello {self.own['identifier']}" for port in range(self.own["degree"])
+            ]
+        return (
+            []
+        )  # yours: `put PORT WORD NUMBER`, and in the last pulse, of `open` once, `channel C`
 
     def start(self):
         """Without a clock, in `alpha`: what the node does at its start, in pulse 0, as lines."""
-        return [f"put {port} payload 0 hello {self.own['identifier']}" for port in range(self.own["degree"])]
+        return [
+            f"put {port} payload 0 hello {self.own['identifier']}"
+            for port in range(self.own["degree"])
+        ]
 
     def take(self, port, wire):
         """What it does after it has taken a wire, as lines; a wire is a list of words: ["payload", "0", "hello", "3"],
         ["ack", "0"], ["safe", "0"] or ["close"]."""
-        return []           # yours: `put PORT WIRE`, `pulse P`, and after the last pulse `channel C`
+        return []  # yours: `put PORT WIRE`, `pulse P`, and after the last pulse `channel C`
 
 
 def own_data(lines):
@@ -48,7 +55,9 @@ def main():
             nodes[which] = Node(own_data(more))
             answer = nodes[which].start() if first[2] == "alpha" else nodes[which].pulse(0, {})
         elif first[0] == "pulse":
-            answer = nodes[which].pulse(int(first[1]), {int(port): words for _, port, *words in more})
+            answer = nodes[which].pulse(
+                int(first[1]), {int(port): words for _, port, *words in more}
+            )
         else:
             answer = nodes[which].take(int(first[1]), first[2:])
         print("\n".join([*answer, "end"]), flush=True)
