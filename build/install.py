@@ -34,7 +34,8 @@ lessons, the licences, a manual page for each of the three, and what completes t
 in bash and zsh. With its bin/ on the PATH the lessons' commands work in it as they do here.
 VERSION says what it was made from, and SHA256SUMS has a sum of each file: sha256sum -c
 SHA256SUMS. The programs need the C library alone, the scripts bash and Python 3. One such
-folder serves every machine of the same kind: copy it with cp -r or tar. After `pip install DIR` Python can import forestplan.
+folder serves every machine of the same kind: copy it with cp -r or tar. After
+`pip install DIR` Python can import forestplan.
 
 Programs that aren't built from these sources are proved and built first. That takes
 the minutes that README.md says, and needs the toolchain's command rt.

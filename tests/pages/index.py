@@ -94,7 +94,8 @@ class Index(Case):
         )
 
     def test_crates_below(self):
-        """What pages say of crates.txt: LAYERS how many are above each, and LOOKUP which a first call of each program leaves unproved, those that aren't below it."""
+        """LAYERS says how many crates are above each, and LOOKUP which ones a first call of each program
+        leaves unproved: those that aren't below it."""
         below = {crate: with_below([crate], listed()) for crate in listed()}
         found = re.findall(r"^\| `(\w+)` \| (\d+) \| ", text_in("docs", "work", "LAYERS.md"), re.M)
         above = {crate: str(sum(crate in below[other] for other in below) - 1) for crate in below}

@@ -23,7 +23,7 @@ PAGES = ["README.md"] + sorted(
     os.path.relpath(path, TOP)
     for path in glob.glob(os.path.join(TOP, "docs", "**", "*.md"), recursive=True)
 )
-WIDEST, WIDEST_OF_PYTHON = 150, 120
+WIDEST, WIDEST_OF_PYTHON = 150, 126
 
 
 def lines_of(page):
