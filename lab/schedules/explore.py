@@ -45,7 +45,8 @@ With --reduce a safe or a close that comes next on its link is taken at once, an
 nothing else is tried in that state: it neither helps nor hinders what could come
 before it. Three nodes that are all neighbours then have 4,620 states in place of
 16,473. What goes wrong and all ends are found; shortest lists, the number of
-schedules, how far neighbours are apart and how much a link holds are not.
+schedules, how far neighbours are apart and how much a link holds are not. It is
+refused without the rules safes and fifo, on which it rests.
 
 This is Python over slow definitions: tested, and not proved.
 
