@@ -17,7 +17,7 @@ HEAD = """\
 if [ -n "${ZSH_VERSION-}" ]; then autoload -U +X bashcompinit && bashcompinit; fi
 _forestplan() {
   local words= commands=
-  case "$(IFS=' '; echo "${COMP_WORDS[*]:0:COMP_CWORD}") " in
+  case "$(IFS=' '; echo "${COMP_WORDS[*]:0:$COMP_CWORD}") " in
 """
 TAIL = """\
   esac

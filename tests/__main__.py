@@ -19,11 +19,13 @@ import subprocess
 import sys
 import tempfile
 import textwrap
+from collections import defaultdict
 from concurrent.futures import ThreadPoolExecutor
 
 from build import program
 from tests import TOP
 from tests.settings import PATHS, SETTINGS, built, variable
+from tests.tools import not_run
 
 # The modules that take longest, which begin first.
 LONGEST = (
@@ -155,12 +157,21 @@ def report(module, status, said):
     last = re.search(r"^(\d+) passed, (\d+) failed\n\Z", said, re.M)
     passed, failed = map(int, last.groups()) if last else (0, 0)
     if (status != 0) != (failed > 0) or not last:
-        print(
-            f"FAILED {module}: it ended with status {status}{'' if last else ' and without its count'}"
-        )
+        count = "" if last else " and without its count"
+        print(f"FAILED {module}: it ended with status {status}{count}")
         failed += 1
     sys.stdout.flush()
     return passed, failed
+
+
+def report_missing(tests):
+    """Prints each tool that isn't installed with the tests that didn't run without it: the last
+    lines before the count."""
+    by_tool = defaultdict(set)
+    for tool, test in tests:
+        by_tool[tool].add(test)
+    for tool, names in sorted(by_tool.items()):
+        print(f"{tool} isn't installed, and these tests didn't run: {', '.join(sorted(names))}")
 
 
 def run_all(chosen, jobs, folder):
@@ -168,7 +179,7 @@ def run_all(chosen, jobs, folder):
     order = sorted(
         chosen, key=lambda module: LONGEST.index(module) if module in LONGEST else len(LONGEST)
     )
-    running, sums = [], [0, 0]
+    running, sums, skipped = [], [0, 0], []
     with ThreadPoolExecutor(jobs) as pool:
         done = {
             module: pool.submit(run_module, module, chosen[module], folder, running)
@@ -176,12 +187,15 @@ def run_all(chosen, jobs, folder):
         }
         try:
             for module in chosen:
-                sums = [a + b for a, b in zip(sums, report(module, *done[module].result()))]
+                status, said = done[module].result()
+                sums = [a + b for a, b in zip(sums, report(module, status, said))]
+                skipped += [(tool, f"{module}.{test}") for tool, test in not_run(said)]
         except BaseException:
             pool.shutdown(wait=False, cancel_futures=True)
             for process in running:
                 end_all_of(process)
             raise
+    report_missing(skipped)
     return sums
 
 

@@ -97,7 +97,7 @@ def main():
     faulthandler.dump_traceback_later(float(setting("limit")), exit=True)
     tests = tests_of(module)
     unittest.TestSuite(tests[name] for name in chosen or tests if name in tests).run(counted)
-    if counted.passed + counted.failed == 0:
+    if counted.passed + counted.failed + len(counted.skipped) == 0:
         counted.failed = 1
         print(f"FAILED {module}: nothing was run")
     print(f"{counted.passed} passed, {counted.failed} failed")

@@ -4,7 +4,8 @@ import re
 import sys
 
 from lab.networks import tables
-from lab.networks.network_text import MAX_CHANNEL, shown
+from lab.networks.fields import shown
+from lab.networks.network_text import MAX_CHANNEL
 from lab.networks.plan_text import rows_of
 from lab.words import add_output, bytes_at, parser_of, text_at, write
 from lab.wrong import Wrong, wrong_line

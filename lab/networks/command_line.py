@@ -165,8 +165,8 @@ OPTIONS = (
         {
             "metavar": "TABLE",
             "help": "the channels that all may use, as '1 6 11', or a CSV file with a column "
-            "`channel`: the first is channel 1 of the plan; bars are of these numbers, and `forestlab channels` puts them "
-            "back",
+            "`channel`: the first is channel 1 of the plan; bars are of these numbers, and `forestlab channels` puts "
+            "them back",
         },
     ),
     (

@@ -11,7 +11,7 @@ import warnings
 from xml.etree import ElementTree
 
 from lab.networks.tables import Listed, clean
-from lab.networks.network_text import shown
+from lab.networks.fields import shown
 from lab.words import counted
 from lab.wrong import Wrong
 

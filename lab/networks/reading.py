@@ -3,7 +3,8 @@ import os
 
 from lab.network import Network
 from lab.networks import foreign, tables
-from lab.networks.network_text import checked, read_network, stem, whole
+from lab.networks.fields import whole
+from lab.networks.network_text import checked, read_network, stem
 from lab.networks.tables import Listed
 from lab.networks.texts import text_of
 from lab.words import counted

@@ -8,7 +8,8 @@ import re
 import unicodedata
 from dataclasses import dataclass, field
 
-from lab.networks.network_text import IDENTIFIERS, MAX_BARS, MAX_CHANNEL, MAX_EDGES, shown, whole
+from lab.networks.fields import shown, whole
+from lab.networks.network_text import IDENTIFIERS, MAX_BARS, MAX_CHANNEL, MAX_EDGES
 from lab.networks.places import across_of, near, on_ground, on_map
 from lab.words import counted
 from lab.wrong import Wrong, wrong_line

@@ -56,7 +56,7 @@ def draw(rounds, forest=0, vertex=None):
 
 def draw_pair(svg, top, pulse, child, parent, most, cell):
     """The two numbers after a pulse, and what the child makes of them in the next."""
-    (vertex, own), (_, above) = child, parent
+    (_, own), (_, above) = child, parent
     is_last = pulse == LAST
     place = None if is_last else bit_step(own, above) // 2
     length = max(digits(own), digits(above))

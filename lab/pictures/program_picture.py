@@ -23,8 +23,8 @@ def draw(rounds, pulses=None):
         ""
         if len(shown) > rounds.last
         else (
-            f"{rounds.last + 1 - len(shown)} of {rounds.last + 1} pulses aren't drawn: nothing is sent in them and nothing "
-            "found, or they aren't asked for."
+            f"{rounds.last + 1 - len(shown)} of {rounds.last + 1} pulses aren't drawn: nothing is sent in them and "
+            "nothing found, or they aren't asked for."
         )
     )
     column = max(88, max(text_width(result, SIZE) for result in words) + 22)

@@ -98,7 +98,10 @@ class RuledRounds:
         """What goes wrong, in a sentence or two."""
         clash, v, w = self.clash, self.clash.v, self.clash.w
         if clash.pulse is None:
-            said = f"after the merge of forest {clash.forest} the neighbours {v} and {w} both have colour {clash.colour}"
+            said = (
+                f"after the merge of forest {clash.forest} the neighbours {v} and {w} both have "
+                f"colour {clash.colour}"
+            )
         else:
             said = (
                 f"after pulse {clash.pulse} node {v} and its parent {w} in forest {clash.forest} "

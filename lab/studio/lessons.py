@@ -9,8 +9,8 @@ PLACES = [
     (
         "example=petersen&tab=draw",
         "In a circle is a node's channel, and beside it its number. No edge has one channel at both its ends. Four "
-        "channels would always be enough: whoever chooses last avoids three others. Move, join and part nodes: the plan "
-        "follows.",
+        "channels would always be enough: whoever chooses last avoids three others. Move, join and part nodes: the "
+        "plan follows.",
         "Number four in a row so that the plan takes three channels: clear, click four nodes, and join them in another "
         "order than 1 – 2 – 3 – 4. Then make a path of 4 and one of 400: both take rounds 0 to 21.",
     ),
@@ -48,8 +48,8 @@ PLACES = [
         "example=triangle&tab=rounds&program=matching",
         "After pulse 12 each forest has a turn for each of its three colours, and a free node of the turn's colour "
         "takes one of the children that are free. A partner is a port, counted from 0.",
-        "Choose the program independent-set, then recolouring: what has each node found at the end? The tab Pictures has "
-        "it on the map, as results.",
+        "Choose the program independent-set, then recolouring: what has each node found at the end? The tab Pictures "
+        "has it on the map, as results.",
     ),
 ]
 

@@ -5,7 +5,8 @@ import time
 
 from lab.definitions.colours import plan_text
 from lab.networks.network_text import network_of
-from lab.transcripts.check import Wrong, whole_run
+from lab.transcripts.check import whole_run
+from lab.transcripts.reading import Wrong
 from tests.cases import Case, example, text
 from tests.commands import EDGE
 from tests.commands import TRIANGLE as THREE

@@ -3,8 +3,7 @@
 - Each table of docs/learn/TUTORIAL.md is worked out from the definitions (lab/definitions/), not from the program.
 - Each excerpt of code, a fence whose first line names its file, has its lines in that file, in this order; a comment
   `..` means lines that are left out.
-- README.md or docs/work/LAYERS.md names each crate. No line of a page is wider than 150 columns, and none of a Python
-  file than 120.
+- README.md or docs/work/LAYERS.md names each crate. No line of a page is wider than 150 columns.
 - Each file named in backquotes exists, also if it is named without its folder; each link leads to a page and a
   heading, and each function and clause that docs/claim/PROMISES.md names is in the code. It names each public law.
 """
@@ -23,7 +22,7 @@ PAGES = ["README.md"] + sorted(
     os.path.relpath(path, TOP)
     for path in glob.glob(os.path.join(TOP, "docs", "**", "*.md"), recursive=True)
 )
-WIDEST, WIDEST_OF_PYTHON = 150, 126
+WIDEST = 150
 
 
 def lines_of(page):
@@ -282,17 +281,6 @@ class Pages(Case):
         )
 
     def test_lengths(self):
-        python = [
-            os.path.relpath(path, TOP)
-            for folder in ("lab", "build", "tests", "bench", "examples")
-            for path in glob.glob(os.path.join(TOP, folder, "**", "*.py"), recursive=True)
-        ]
-        self.note("files of Python", len(python) > 200, len(python))
-        for kind, files, widest in (("pages", PAGES, WIDEST), ("Python", python, WIDEST_OF_PYTHON)):
-            wide = [
-                f"{file}:{number}"
-                for file in files
-                for number, line in enumerate(lines_of(file), 1)
-                if len(line) > widest
-            ]
-            self.note(f"lines of {kind} wider than {widest} columns", not wide, wide[:5])
+        for page in PAGES:
+            wide = [n for n, line in enumerate(lines_of(page), 1) if len(line) > WIDEST]
+            self.same(f"{page}: lines wider than {WIDEST} columns", wide, [])

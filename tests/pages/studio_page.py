@@ -21,6 +21,7 @@ from lab.pictures.palette import (
 from tests import TOP, browser
 from tests.cases import Case
 from tests.programs.studio import begin
+from tests.tools import need
 
 EVIL = "<img src=x onerror=document.title='bad'></script><script>document.title='bad'</script>"
 TABS = ("rounds", "run", "adversary", "check", "pictures")
@@ -113,8 +114,6 @@ class Page(Case):
     def setUpClass(cls):
         program = browser.command()
         if program is None:
-            print("no Chromium and no Chrome is installed: the studio's page isn't looked at")
-            cls.page = None
             return
         cls.process, cls.address = begin(*cls.words)
         cls.addClassCleanup(cls.end_server)
@@ -131,8 +130,7 @@ class Page(Case):
         cls.process.stderr.close()
 
     def setUp(self):
-        if self.page is None:
-            self.skipTest("no browser")
+        need(self, "a browser")
 
     def go_to(self, words):
         self.page.value(f"location.hash = {json.dumps(words)}")

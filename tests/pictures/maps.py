@@ -20,7 +20,6 @@ from tests.pictures.marks import (
     numbered,
     pairs_joined,
     parsed,
-    shapes,
     texts,
     title,
     titles,
@@ -292,7 +291,7 @@ class Maps(PictureCase):
                     self.bits_rows(f"bits of {name}, forest {f}", net, f, v, root)
 
     def bits_rows(self, name, net, f, v, root):
-        w, before, shown = net.parent(f, v), net.identifiers, []
+        w, before = net.parent(f, v), net.identifiers
         for p, pair in enumerate(marks(root, "pair"), 2):
             after, boxes = bit(net, f, before), marks(pair, "digit", "ringed")
             digits = max(1, before[v].bit_length(), before[w].bit_length())

@@ -1,7 +1,6 @@
 """Pictures of runs without a clock, read back: into the entries of their transcripts, and what those are by
 lab/definitions/nodes.py."""
 import re
-from collections import Counter
 from itertools import product
 
 from lab.definitions.nodes import last_pulse
@@ -10,18 +9,7 @@ from lab.networks.network_text import network_of
 from tests.cases import called, example
 from tests.pictures.base import PictureCase, transcript
 from tests.pictures.counted import fields_of
-from tests.pictures.marks import (
-    SVG,
-    centre,
-    ends,
-    marks,
-    number,
-    parsed,
-    texts,
-    title,
-    titles,
-    words,
-)
+from tests.pictures.marks import SVG, ends, marks, parsed, texts, title, words
 from tests.programs.made_transcripts import entries_of
 from tests.settings import PLAN
 
@@ -225,7 +213,7 @@ class Runs(PictureCase):
         is 12 + 3 · 3 · (3 + 200 + 1)."""
         network = example("petersen") + b"".join(b"b 1 %d\n" % channel for channel in range(1, 201))
         net = network_of(network)
-        last, stamped = last_pulse(net), transcript_by(network, 1)
+        stamped = transcript_by(network, 1)
         rows = [" ".join(row) for _, *row in fields_of(stamped)]
 
         def by_vertex(rows):

@@ -1,6 +1,7 @@
 """The table of all commands (tests/commands.py) beside the help texts and bin/: none is missing."""
+import contextlib
 import os
-import shutil
+import pty
 import subprocess
 import sys
 
@@ -11,9 +12,32 @@ from tests import TOP
 from tests.cases import Case, called, contents, text_in
 from tests.commands import HELPS, SCRIPTS, commands_of
 from tests.settings import PATHS
+from tests.tools import need
 
 # Seconds; a busy machine takes long for the many calls.
 LIMIT = 300
+
+
+def typed_in_zsh(script, line):
+    """What a terminal shows where a line is typed, completed by Tab, and then printed: before it, after the key that
+    goes to its beginning, the command `print` is typed."""
+    ours, its = pty.openpty()
+    keys = f"autoload -Uz compinit && compinit -u -D\n. {script}\n{line}\t\x01print -r -- \nexit\n"
+    words = ["zsh", "-f", "-i"]
+    env = dict(os.environ, TERM="dumb")
+    with subprocess.Popen(
+        words, stdin=its, stdout=its, stderr=its, env=env, start_new_session=True
+    ) as zsh:
+        os.close(its)
+        os.write(ours, keys.encode())
+        said = b""
+        # At its end the other side of the terminal is closed, which is an error to who reads.
+        with contextlib.suppress(OSError):
+            while more := os.read(ours, 1 << 16):
+                said += more
+        os.close(ours)
+        zsh.wait(LIMIT)
+    return said.decode()
 
 
 class Commands(Case):
@@ -111,31 +135,34 @@ class Commands(Case):
         """What completes the words knows each command of forestlab and its options, in bash, and in zsh if it is
         there."""
         script = completion.completion(os.path.join(TOP, "bin"))
-        for shell in ("bash", "zsh"):
-            if not shutil.which(shell):
-                continue
-            for words, wanted in (
-                (["forestlab", ""], list(OF_LAB)),
-                (["forestlab", "network", "que"], ["queen"]),
-                (["bin/forestlab", "transcript", "check", "--j"], ["--json"]),
-                (["forestlab", "network", "tell", "path5", "--h"], ["--help"]),
-                (["forestplan", "tr"], ["transcript"]),
-                (["forestplay", "run", "--tr"], ["--transcript"]),
-            ):
-                quoted = " ".join(map(repr, words))
-                line = (
-                    f"{script}\nCOMP_WORDS=({quoted}); COMP_CWORD={len(words) - 1}\n_forestplan\n"
-                )
-                line += "printf '%s\\n' \"${COMPREPLY[@]}\"\n"
-                line = (
-                    line.replace("COMP_CWORD=", "setopt ksh_arrays; COMP_CWORD=")
-                    if shell == "zsh"
-                    else line
-                )
-                done = subprocess.run(
-                    [shell, "-c", line], capture_output=True, text=True, timeout=LIMIT
-                )
-                self.note(f"{shell}: {words}", sorted(done.stdout.split()) == sorted(wanted), done)
+        for words, wanted in (
+            (["forestlab", ""], list(OF_LAB)),
+            (["forestlab", "network", "que"], ["queen"]),
+            (["bin/forestlab", "transcript", "check", "--j"], ["--json"]),
+            (["forestlab", "network", "tell", "path5", "--h"], ["--help"]),
+            (["forestplan", "tr"], ["transcript"]),
+            (["forestplay", "run", "--tr"], ["--transcript"]),
+        ):
+            quoted = " ".join(map(repr, words))
+            line = f"{script}\nCOMP_WORDS=({quoted}); COMP_CWORD={len(words) - 1}\n_forestplan\n"
+            line += "printf '%s\\n' \"${COMPREPLY[@]}\"\n"
+            done = subprocess.run(
+                ["bash", "-c", line], capture_output=True, text=True, timeout=LIMIT
+            )
+            self.note(f"bash: {words}", sorted(done.stdout.split()) == sorted(wanted), done)
+
+    def test_completion_in_zsh(self):
+        """A line that has one completion, after the key Tab."""
+        need(self, "zsh")
+        script = completion.completion(os.path.join(TOP, "bin"))
+        for line, wanted in (
+            ("forestlab network que", "forestlab network queen"),
+            ("forestlab transcript check --j", "forestlab transcript check --json"),
+            ("forestplan tr", "forestplan transcript"),
+            ("forestplay run --tr", "forestplay run --transcript"),
+        ):
+            said = typed_in_zsh(self.file("completion", script), line)
+            self.note(f"zsh: {line}", f"\n{wanted}\r\n" in said, said)
 
     def call(self, name, *words, data=b""):
         path = os.path.join(TOP, "bin", name)

@@ -16,9 +16,9 @@ from lab.networks.network_text import network_of
 from lab.schedules.simulate import Player
 from lab.transcripts.reading import line_of
 from tests.cases import Case, text
-from tests.commands import COMMANDS, PROGRAM_OF
+from tests.commands import COMMANDS, EDGE, PROGRAM_OF, TRIANGLE
 from tests.faults.refused_memory import build_front
-from tests.programs.events import EDGE, TRIANGLE, random_events, words_of
+from tests.programs.events import random_events, words_of
 from tests.programs.plain_networks import long_names, pairs_of, some_bars, text_of
 from tests.programs.slow_reader import answer_to
 from tests.settings import PATHS, setting

@@ -1,7 +1,6 @@
 """Tests of the module `forestplan` of lab/python, and of the notebook examples/forestplan.ipynb that shows it."""
 import ast
 import contextlib
-import importlib.util
 import io
 import json
 import os
@@ -14,6 +13,7 @@ from lab.definitions.rounds import rounds_text
 from lab.networks.network_text import network_of
 from tests import TOP
 from tests.cases import Case
+from tests.tools import need
 
 sys.path.append(os.path.join(TOP, "lab", "python"))
 import forestplan  # noqa: E402
@@ -264,8 +264,7 @@ class InPython(Case):
 
     def test_networkx(self):
         """A graph of networkx, if that is installed: its own plan is judged, and a plan of ours is proper to it."""
-        if importlib.util.find_spec("networkx") is None:
-            return
+        need(self, "networkx")
         import networkx
 
         for graph in (
@@ -290,8 +289,8 @@ class InPython(Case):
         known = {"__name__": "notebook"}
         for count, cell in enumerate(cells, 1):
             code = "".join(cell["source"])
-            if "networkx" in code and importlib.util.find_spec("networkx") is None:
-                break
+            if "networkx" in code:
+                need(self, "networkx")
             said, result = run_cell(code, known)
             stored = "".join(
                 "".join(out.get("text", ""))

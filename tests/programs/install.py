@@ -6,7 +6,6 @@ import hashlib
 import os
 import re
 import resource
-import shutil
 import signal
 import subprocess
 import sys
@@ -14,13 +13,12 @@ import tempfile
 
 from build import completion
 from lab.__main__ import COMMANDS as OF_LAB
-from lab.definitions.colours import plan_text
-from lab.networks.network_text import network_of
 from tests import TOP
-from tests.cases import Case, called, contents, copied, example, text, wait_until
+from tests.cases import Case, called, contents, copied, text, wait_until
 from tests.commands import APART, COMMANDS, HELPS, PROGRAMS
 from tests.commands import SCRIPTS as OF_BIN
 from tests.pages.pages import PAGES, lines_of
+from tests.tools import need
 
 # Seconds; a busy machine takes long for the many calls of help that the manual pages are made of.
 LIMIT = 600
@@ -199,9 +197,10 @@ class Install(Case):
             self.same(f"the manual page of {name}", blocks, wanted)
             purpose = re.search(rf"^\.SH NAME\n{name} \\- [a-z][^\n]*[a-z]$", page, re.M)
             self.note(f"the purpose of {name}", purpose, page)
-            if shutil.which("groff"):
+            with self.subTest(f"groff sets the page of {name}"):
+                need(self, "groff")
                 got = run(["groff", "-man", "-Tutf8", "-ww", os.path.join(pages, f"{name}.1")])
-                self.note(f"groff sets the page of {name}", got[::2] == (0, b""), got)
+                self.assertEqual(got[::2], (0, b""), got)
         missing = {f"forestlab {it.name}" for it in OF_BIN} - blocks.keys()
         self.note("the commands of forestlab", not missing, missing)
 

@@ -4,7 +4,8 @@ import os
 import re
 import shutil
 
-from build.new_program import CHANGES, MODEL, PARTS, SEQUEL, add_line, check_name, copy
+from build.kit import PARTS
+from build.new_program import CHANGES, MODEL, SEQUEL, add_line, check_name, copy
 from lab.wrong import Wrong
 from tests import TOP
 from tests.cases import Case, text_in

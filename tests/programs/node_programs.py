@@ -105,8 +105,8 @@ ROUNDS = [
         EDGE,
         "rounds 1 2 1 1 18|"
         + EDGE_BEGINNING
-        + "pulse 13 merge 0 0 0|1 chose 0|1 put 2 payload 13 chosen 0|pulse 14 merge 0 0 1|pulse 15 merge 0 1 0|2 chose 1|"
-        "2 put 1 payload 15 chosen 1|pulse 16 merge 0 1 1|pulse 17 merge 0 2 0|pulse 18 merge 0 2 1|",
+        + "pulse 13 merge 0 0 0|1 chose 0|1 put 2 payload 13 chosen 0|pulse 14 merge 0 0 1|pulse 15 merge 0 1 0|2 "
+        "chose 1|2 put 1 payload 15 chosen 1|pulse 16 merge 0 1 1|pulse 17 merge 0 2 0|pulse 18 merge 0 2 1|",
     ),
     (
         "colouring",

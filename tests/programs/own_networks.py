@@ -11,7 +11,6 @@ from lab.networks import network
 from lab.networks.describe import most_payloads
 from lab.networks.network_text import network_of
 from lab.words import duration
-from lab.wrong import Wrong
 from tests.cases import Case, called, example, forestlab, in_process
 from tests.programs.plain_networks import payloads_of, reached
 from tests.settings import PLAN, PLAY

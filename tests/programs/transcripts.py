@@ -15,8 +15,8 @@ from lab.definitions.nodes import Colouring, last_pulse
 from lab.definitions.programs import PROGRAMS
 from lab.networks.network_text import network_of
 from lab.schedules.simulate import played, text_of_run
-from lab.transcripts.check import Wrong, find_order, in_order, whole_run
-from lab.transcripts.reading import read
+from lab.transcripts.check import find_order, in_order, whole_run
+from lab.transcripts.reading import Wrong, read
 from tests import FORESTLAB, TOP
 from tests.cases import Case, called, forestlab, text, text_in, wait_until
 from tests.programs.made_transcripts import KINDS, Run, merged_text, spoiled, transcript_text

@@ -9,7 +9,6 @@ import platform
 import re
 import shutil
 import socket
-import time
 from unittest import mock
 
 from lab.schedules.policies import POLICIES
@@ -18,6 +17,7 @@ from lab.workshop.cases import NETWORKS
 from lab.workshop.guard import Guard
 from lab.workshop.workshop import main
 from tests.cases import Case, text_in
+from tests.tools import need
 from tests.workshop.base import EXAMPLES, call
 from tests.workshop.forgers import BEGIN, OUTSIDE, got, program
 from tests.workshop.misbehaving import MARK, left_at_last
@@ -253,8 +253,7 @@ class Grades(Case):
 
     def test_java(self):
         """A class is run, and not its source, which each start would compile."""
-        if not shutil.which("javac"):
-            self.skipTest("there is no javac")
+        need(self, "javac")
         folder = self.submit("anna")
         shutil.copy(os.path.join(EXAMPLES, "java", "AlphaNode.java"), folder)
         command = grade.command_of(folder, "alpha")

@@ -5,6 +5,7 @@ import sys
 
 from lab.workshop.playing import APART
 from tests.cases import Case, text_in
+from tests.tools import need
 from tests.workshop.base import EXAMPLES, call, compiled
 
 FOLDER = os.path.join(EXAMPLES, "skeletons")
@@ -41,8 +42,8 @@ ROWS = (
         "RoundsNode.java",
         "rounds",
         "// yours:",
-        'if (pulse > 0) put(0, (inbox.containsKey(0) ? String.join(".", inbox.get(0)) : "none") + " " + own.get("last") '
-        '+ " " + identifier); //',
+        'if (pulse > 0) put(0, (inbox.containsKey(0) ? String.join(".", inbox.get(0)) : "none") + " " + '
+        'own.get("last") + " " + identifier); //',
         ["hops.12 18 {}", "none 18 {}"],
     ),
     ("AlphaNode.java", "alpha", "// yours:", 'put(0, "label " + identifier); //', LABEL),
@@ -57,8 +58,9 @@ WRONG = {
 
 class Skeletons(Case):
     def command(self, path: str) -> list[str]:
-        command = [sys.executable, path] if path.endswith(".py") else compiled(path)
-        return command or self.skipTest("there is no javac")
+        if path.endswith(".java"):
+            need(self, "javac")
+        return [sys.executable, path] if path.endswith(".py") else compiled(path)
 
     def test_they_talk(self):
         """In one process it is the same."""

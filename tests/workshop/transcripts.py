@@ -19,33 +19,33 @@ NEVER_PUT = ", and 2 never puts it (is the text cut?)"
 ROWS = (
     (
         GREETED + "3 2 put 1 ack 1|",
-        "line 6: WrongWire: node 2 puts ack 1 for 1, but the next one there is ack 0; a payload is acknowledged with its "
-        "own pulse as soon as it is taken, before anything else is put on that link",
+        "line 6: WrongWire: node 2 puts ack 1 for 1, but the next one there is ack 0; a payload is acknowledged with "
+        "its own pulse as soon as it is taken, before anything else is put on that link",
     ),
     (
         "1 1 put 2 payload 0 hello 7|",
-        "line 2: WrongWire: node 1 puts payload 0 hello 7 for 2, but the next one there is payload 0 hello 1; the rounds "
-        "have payload 0 hello 1 there",
+        "line 2: WrongWire: node 1 puts payload 0 hello 7 for 2, but the next one there is payload 0 hello 1; the "
+        "rounds have payload 0 hello 1 there",
     ),
     (
         "1 1 put 2 safe 0|",
-        "line 2: WrongWire: node 1 puts safe 0 for 2, but the next one there is payload 0 hello 1; in pulse 0 it has to "
-        "send payload 0 hello 1 for 2 first",
+        "line 2: WrongWire: node 1 puts safe 0 for 2, but the next one there is payload 0 hello 1; in pulse 0 it has "
+        "to send payload 0 hello 1 for 2 first",
     ),
     (
         "1 1 put 2 payload 1 label 0|",
-        "line 2: WrongWire: node 1 puts payload 1 label 0 for 2, but the next one there is payload 0 hello 1; the node is "
-        "at pulse 0, and a payload of pulse P is put after pulse P is made",
+        "line 2: WrongWire: node 1 puts payload 1 label 0 for 2, but the next one there is payload 0 hello 1; the node "
+        "is at pulse 0, and a payload of pulse P is put after pulse P is made",
     ),
     (
         f"1 1 put 2 {HELLO_1}|2 1 put 2 ack 0|",
-        "line 3: NothingToPut: node 1 puts ack 0 for 2, for which it has nothing; each payload is acknowledged once, with "
-        "the payload's own pulse",
+        "line 3: NothingToPut: node 1 puts ack 0 for 2, for which it has nothing; each payload is acknowledged once, "
+        "with the payload's own pulse",
     ),
     (
         ACKED + "5 1 put 2 safe 0|6 1 put 2 safe 1|",
-        "line 11: NothingToPut: node 1 puts safe 1 for 2, for which it has nothing; the node is at pulse 0, and safe P is "
-        "said in pulse P",
+        "line 11: NothingToPut: node 1 puts safe 1 for 2, for which it has nothing; the node is at pulse 0, and safe P "
+        "is said in pulse P",
     ),
     (
         "1 3 pulse 1|",
