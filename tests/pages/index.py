@@ -56,6 +56,7 @@ SAID_OF_LIMITS = {
     ),
     "docs/claim/PROMISES.md": (
         "{MAX_NODES:,} vertices and {MAX_EDGES:,} edges, {MAX_DEGREE:,} neighbours, {MAX_WORKERS} workers",
+        " workers, {MAX_PASSES} passes.",
         "and B at most {MAX_BARS:,}.",
     ),
     "docs/learn/TUTORIAL.md": ("every network of up to {MAX_NODES:,} nodes",),
@@ -210,12 +211,15 @@ class Index(Case):
             )
 
     def test_limits(self):
-        """Pages, and what of lab/ has a limit of its own, have the numbers of the constants."""
+        """Pages, and what of lab/ has a limit of its own, have the numbers of the constants, which are proved."""
         text = "".join(text_in("crates", file) for file in LIMITS)
+        proved = "".join(re.findall(r"^const _: \(\) = prove!\(([^;]*)\);", text, re.M))
         limits = {
             name: int(number.replace("_", ""))
             for name, number in re.findall(r"^pub const (MAX_\w+): \w+ = ([\d_]+);", text, re.M)
         }
+        for name, number in limits.items():
+            self.note(f"{name} is proved to be {number}", f"{name} == {number:_}" in proved, proved)
         limits |= {name.replace("MAX", "ABOVE"): number + 1 for name, number in limits.items()}
         limits["ALL_PASSES"] = tuple(range(1, limits["ABOVE_PASSES"]))
         for path, rows in SAID_OF_LIMITS.items():

@@ -1,6 +1,6 @@
 //! The programs of nodes that a command can run, in `clap`'s builders and as what its words name.
 
-ghost use Rattle.std.specs.Prelude.{◌≡◌, [], IfOk, codes, false, is_some, option_map, unwrap_or};
+ghost use Rattle.std.specs.Prelude.{◌≡◌, ◌≤◌, [], IfOk, IsSome, codes, false, is_some, option_map, unwrap_or};
 ghost use Rattle.clap.specs.Words.{app_of, first_of, found_of, rows_of, rule_of};
 ghost use Rattle.command_line.specs.Line.{IsLocal};
 ghost use Rattle.command_line.specs.NodePrograms.{passed_program, passes_of, passes_rule, passes_with, program_of};
@@ -17,6 +17,8 @@ use std::alloc::{AllocError, Global};
 
 /// The most passes of the recolouring.
 pub const MAX_PASSES: u32 = 3;
+
+const _: () = prove!(MAX_PASSES == 3);
 
 /// How often the classes of a plan choose anew.
 #[derive(Clone, Copy, Debug, PartialEq, Eq)]
@@ -208,9 +210,10 @@ fn passes_of(matches: &ArgMatches<'_>) -> Option<u32>
     small_number(matches, "passes")
 }
 
-// As many passes.
+// As many passes. Each number that the option takes is one of passes.
 fn passes_with(number: u32) -> Option<Passes>
-    ensures { result ≡ passes_with number }
+    ensures passes { result ≡ passes_with number }
+    ensures taken { 1 ≤ number → number ≤ MAX_PASSES → IsSome result }
 {
     match number {
         1 => Some(Passes::One),
