@@ -61,9 +61,11 @@ def main():
     # Run as a folder, its own place comes first where modules are looked for; the package's is one above.
     sys.path[0] = os.path.dirname(os.path.dirname(os.path.realpath(__file__)))
     name, words = sys.argv[1] if len(sys.argv) > 1 else "", sys.argv[2:]
-    return importlib.import_module("lab.door").run(
-        name if name in COMMANDS else "forestlab", lambda: command_of(name, words)
-    )
+    door = importlib.import_module("lab.door")
+    # What a file of the user's does mustn't end this command, nor its status.
+    calls_a_file = name != "studio" and any(word.endswith(".py") for word in words)
+    run = door.run_apart if calls_a_file else door.run
+    return run(name if name in COMMANDS else "forestlab", lambda: command_of(name, words))
 
 
 def command_of(name, words):

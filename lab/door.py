@@ -2,22 +2,26 @@
 
 What was given may be wrong; a closed or full output, too little memory and Ctrl-C are no faults of the command. A
 reader that has gone away is no fault at all."""
+import atexit
+import ctypes
 import os
 import signal
 import sys
 import traceback
 
-from lab.wrong import Wrong
+from lab.wrong import Stopped, Wrong
 
 # What ends a command so that nothing is left of it and of what it runs.
 STOPS = (signal.SIGINT, signal.SIGTERM, signal.SIGHUP)
+# Of prctl(2): the signal that a process gets when its parent ends.
+PR_SET_PDEATHSIG = 1
 
 
 def stop(number, _):
     signal.signal(number, signal.SIG_IGN)  # a second one doesn't disturb how the command ends
     if number == signal.SIGINT:
         raise KeyboardInterrupt
-    sys.exit(128 + number)
+    raise Stopped(128 + number)
 
 
 def run(name, load):
@@ -51,3 +55,33 @@ def run(name, load):
     os.dup2(os.open(os.devnull, os.O_WRONLY), 1)
     sys.stderr.write(line and f"{name}: {line}\n")
     return status
+
+
+def run_apart(name, load):
+    """The same in a process of its own, for a command that calls a file of the user's: whatever the file does, this
+    process returns the status."""
+    reader, writer = os.pipe()
+    child = os.fork()
+    if child == 0:
+        ctypes.CDLL(None).prctl(PR_SET_PDEATHSIG, signal.SIGKILL)
+        for number in STOPS:
+            signal.signal(number, signal.SIG_IGN)
+        # Nothing else that ends the process gets here.
+        atexit.register(os.write, writer, b".")
+        return run(name, load)
+    os.close(writer)
+    return run(name, lambda: lambda: status_of(child, reader))
+
+
+def status_of(child, reader):
+    """The status of a command that runs in a process of its own; if this one is ended, that one is first."""
+    try:
+        _, ended = os.waitpid(child, 0)
+    except BaseException:
+        os.kill(child, signal.SIGKILL)
+        os.waitpid(child, 0)
+        raise
+    if not os.read(reader, 1):
+        how = f"by signal {os.WTERMSIG(ended)}" if os.WIFSIGNALED(ended) else "by itself"
+        raise Wrong(f"the program's file has ended the command {how}, before it was done")
+    return os.waitstatus_to_exitcode(ended)

@@ -14,7 +14,7 @@ def greet(me):
     return sends(me)
 
 
-def next(me, pulse, inbox):
+def step(me, pulse, inbox):
     for port, payload in enumerate(inbox):
         if payload and payload[0] == "count":
             me.heard[port] = payload[1]

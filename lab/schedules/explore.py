@@ -6,16 +6,25 @@ import sys
 from collections import Counter
 from typing import NamedTuple
 
-from lab.definitions.own_program import AGAIN, check_repeats
+from lab.definitions.own_program import AGAIN, OwnNode, check_repeats, has_verdict, wrong_end
 from lab.definitions.programs import add_program, program_asked
 from lab.networks.named import network_at
+from lab.schedules.own_rounds import verdict_of, verdict_on_many
 from lab.schedules.ruled_rounds import looked_at
 from lab.schedules.rules import ALL, OF_SCHEDULES, program_of, table, unknown_to
 from lab.schedules.space import Space
-from lab.words import add_output, count, counted, parser_of, write
+from lab.words import add_output, add_seed, count, counted, parser_of, write
 from lab.wrong import Wrong
 
 MOST_NODES, LIMIT, BYTES_A_STATE = 4, 1_000_000, 420
+
+# The most networks by chance.
+MOST_NETWORKS = 10_000
+
+# What is said after the rounds of a network that is too large for all schedules.
+ROUNDS_ALONE = f"""the rounds alone: every schedule is played of at most {MOST_NODES} nodes; in each of them a node finds
+what it finds in the rounds, if the file keeps everything in `me`
+"""
 
 # What is printed in place of what a reduced search doesn't know.
 REDUCED = "reduced: a safe or close is taken at once, so schedules, pulses apart and wires under way aren't counted"
@@ -25,6 +34,11 @@ Plays every schedule of a network of up to {MOST_NODES} nodes: all lists of even
 the synchroniser and its links allow, a put being made as soon as it can be. In
 every state it checks that each pulse had the round's inbox, and that something is
 possible unless all nodes are at the end and all links are empty.
+
+Of a file of your own whose `right` says that the rounds already end wrong, it writes
+these rounds, pulse by pulse, and of a larger network how the rounds end. With
+--networks it plays the rounds on networks by chance, and writes a smallest one on
+which they end wrong.
 
 With --without it leaves rules out, and writes a list of events that goes wrong, with
 as few takes and pulses as there can be (and puts, with --puts), or `not broken`. For
@@ -56,6 +70,7 @@ Examples:
   (cat examples/two.col; forestlab explore examples/two.col --without early --list) |
       forestplay events
   forestlab explore --without digit
+  forestlab explore --program mine.py --networks 100 --seed 3
 
 Status: 0 nothing goes wrong, 1 something does, or it can't be searched (one line on
 standard error says why), 2 the command line is refused.
@@ -73,6 +88,12 @@ def rules_of(text):
             "together with others"
         )
     return list(dict.fromkeys(words))
+
+
+def networks_of(text):
+    if not text.isascii() or not text.isdigit() or not 1 <= int(text) <= MOST_NETWORKS:
+        raise argparse.ArgumentTypeError(f"a number from 1 to {MOST_NETWORKS:,}")
+    return int(text)
 
 
 def command_line():
@@ -111,6 +132,16 @@ def command_line():
         "--puts", action="store_true", help="count puts as events of their own, made at any time"
     )
     words.add_argument("--json", action="store_true", help="write what was found for a program")
+    words.add_argument(
+        "--networks",
+        type=networks_of,
+        metavar="N",
+        help="play the rounds of a file on N networks by chance, and ask its `right`",
+    )
+    words.add_argument(
+        "--connected", action="store_true", help="of --networks, connected networks alone"
+    )
+    add_seed(words, "the networks of --networks come from it")
     add_program(words)
     add_output(words)
     return words
@@ -119,21 +150,48 @@ def command_line():
 def main(words):
     line = command_line()
     given = line.parse_args(words)
-    of_rounds = given.without and program_of(given.without)
-    if given.network is None and not of_rounds:
-        line.error("NETWORK is missing")
-    if of_rounds and (why := unknown_to(given.program, given.without)):
+    if why := refused_together(given):
         line.error(why)
-    if of_rounds and (given.list or given.puts or given.reduce):
-        rules = ",".join(OF_SCHEDULES)
-        line.error(
-            f"the rounds have no events: --list, --puts and --reduce are for the rules {rules}"
-        )
-    if given.reduce and set(given.without) & {"safes", "fifo"}:
-        line.error("--reduce is right only if nodes keep the rules safes and fifo")
-    found = rounds_found(given) if of_rounds else schedules_found(given)
+    found = found_of(given)
     write(given, json.dumps(found._asdict()) + "\n" if given.json else found.words)
     return int(found.broken)
+
+
+def asks_for_rounds(given):
+    """Whether rules of the rounds are left out, and not of the synchroniser."""
+    return bool(given.without and program_of(given.without))
+
+
+def refused_together(given):
+    """Why these options don't go together, in words."""
+    if given.networks:
+        is_alone = not (given.network or given.without or given.list)
+        why = "--networks makes networks by chance: without NETWORK, --without and --list"
+        return "" if is_alone else why
+    if given.connected:
+        return "--connected is for --networks"
+    if asks_for_rounds(given):
+        return refused_of_rounds(given)
+    if given.network is None:
+        return "NETWORK is missing"
+    if given.reduce and set(given.without) & {"safes", "fifo"}:
+        return "--reduce is right only if nodes keep the rules safes and fifo"
+    return ""
+
+
+def refused_of_rounds(given):
+    if why := unknown_to(given.program, given.without):
+        return why
+    if given.list or given.puts or given.reduce:
+        rules = ",".join(OF_SCHEDULES)
+        return f"the rounds have no events: --list, --puts and --reduce are for the rules {rules}"
+    return ""
+
+
+def found_of(given):
+    if given.networks:
+        return networks_found(given)
+    return rounds_found(given) if asks_for_rounds(given) else schedules_found(given)
 
 
 class Found(NamedTuple):
@@ -166,29 +224,56 @@ def refused_words(without):
     )
 
 
+def networks_found(given):
+    """Whether the rounds of a file end right on networks by chance, by its `right`."""
+    program = program_asked("explore", given)
+    if not has_verdict(program):
+        raise Wrong(
+            f"--networks is for a file with a function `right`, and {given.program} has none"
+        )
+    is_right, words = verdict_on_many(program, given.networks, given.seed, given.connected)
+    return Found(not is_right, words)
+
+
 # The schedules.
 
 
 def schedules_found(given):
     net = network_at(given.network)
+    program = program_asked("explore", given, net)
+    check_repeats(net, program)
+    if (found := found_by_rounds(given, net, program)) is not None:
+        return found
     if net.nodes > MOST_NODES:
+        asks = " (of more the rounds are, if the file has a function `right`)"
         raise Wrong(
             f"{net.name} has {net.nodes} nodes, and every schedule is played of at most {MOST_NODES}"
+            + (asks if issubclass(program, OwnNode) else "")
         )
-    space = searched(given, net)
+    space = searched(given, net, program)
     events = space.with_puts(space.path_to_fault() if space.faults else space.path(space.ends[0]))
     if given.list:
         text = "".join(f"{event}\n" for event in events)
+    elif space.faults:
+        text = broken_text(given, space, events)
     else:
-        text = (
-            broken_text(given, space, events)
-            if space.faults
-            else whole_text(given, net.name, space)
-        )
+        text = whole_text(given, net.name, space)
     return Found(bool(space.faults), text, list(map(str, events)), space.count, len(space.target))
 
 
-def searched(given, net):
+def found_by_rounds(given, net, program):
+    """What the rounds show already of a file that says what is right: all of a network that is too large for its
+    schedules, and of another one that they end wrong."""
+    if given.without or given.list or not has_verdict(program):
+        return None
+    is_large = net.nodes > MOST_NODES
+    if not is_large and not wrong_end(net, program):
+        return None
+    is_right, words = verdict_of(net, program)
+    return Found(not is_right, words + (ROUNDS_ALONE if is_large else ""))
+
+
+def searched(given, net, program):
     """The search, with a line of progress if somebody looks on."""
     show = sys.stderr.isatty()
     if show:
@@ -202,8 +287,6 @@ def searched(given, net):
         )
         sys.stderr.flush()
 
-    program = program_asked("explore", given, net)
-    check_repeats(net, program)
     try:
         space = Space(
             net,
@@ -219,9 +302,11 @@ def searched(given, net):
         if show:
             sys.stderr.write("\r\033[K")
     if space.is_cut:
+        can_reduce = not given.reduce and not set(given.without) & {"safes", "fifo"}
         raise Wrong(
-            f"there are more than {given.limit:,} states: use --limit for more, "
-            f"at some {BYTES_A_STATE} bytes each"
+            f"there are more than {given.limit:,} states: "
+            + ("--reduce leaves most of them out, " if can_reduce else "")
+            + f"--limit allows more, at some {BYTES_A_STATE} bytes each"
         )
     return space
 
@@ -240,20 +325,23 @@ def whole_text(given, name, space):
     rest = space.depth[space.ends[0]] - pulses
     kinds = f"{rest // 2:,} puts, {rest // 2:,} takes" if space.puts else f"{rest:,} takes"
     found = [results_words(space.nodes(s)) for s in space.ends]
+    ends = "one end" if len(found) == 1 else f"{len(found)} ends"
     return "".join(
         f"{line}\n"
         for line in [
             f"{what}: {space.count:,} states, {len(space.target):,} steps{schedules}",
             f"each has {rest + pulses:,} events: {kinds} and {pulses:,} pulses",
             "each pulse had the round's inbox, and something was possible until all was done",
-            REDUCED
-            if space.reduce
-            else f"neighbours at most {space.farthest} pulse{'s' * (space.farthest != 1)} apart, "
-            f"at most {space.most_wires} wires of a link under way",
-            f"{'one end' if len(found) == 1 else f'{len(found)} ends'}: {' or '.join(dict.fromkeys(found))}",
+            REDUCED if space.reduce else distances_words(space),
+            f"{ends}: {' or '.join(dict.fromkeys(found))}",
             *([f"all this of the draws of --lots {given.lots} alone"] if has_drawn(space) else []),
         ]
     ) + refused_words(given.without)
+
+
+def distances_words(space):
+    apart = counted(space.farthest, "pulse")
+    return f"neighbours at most {apart} apart, at most {space.most_wires} wires of a link under way"
 
 
 def has_drawn(space):
@@ -287,9 +375,8 @@ def broken_text(given, space, listed):
         raise Wrong(
             f"{given.program} does something else in another order of events: {AGAIN} ({what})"
         )
-    first = (
-        f"broken after {events_words(listed)}{', maybe not the fewest' * space.reduce}: {what}\n"
-    )
+    fewest = ", maybe not the fewest" if space.reduce else ""
+    first = f"broken after {events_words(listed)}{fewest}: {what}\n"
     return "".join([first, *event_lines(listed), refused_words(given.without)])
 
 
@@ -309,4 +396,5 @@ def event_lines(listed):
         elif event.kind == "put":
             yield f"{event}: {event.wire} for {event.w}\n"
         else:
-            yield f"{event}: {event.wire} from {event.w}{', out of turn' if event.place else ''}\n"
+            turn = ", out of turn" if event.place else ""
+            yield f"{event}: {event.wire} from {event.w}{turn}\n"

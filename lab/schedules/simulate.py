@@ -7,7 +7,7 @@ import sys
 from collections import deque
 
 from lab.definitions.nodes import Colouring, NetState, Refused, missing_words
-from lab.definitions.own_program import check_repeats
+from lab.definitions.own_program import check_repeats, wrong_end
 from lab.definitions.programs import add_program, program_asked
 from lab.networks.fields import shown
 from lab.networks.named import network_at
@@ -46,9 +46,9 @@ in the DIMACS format, - for standard input, or a name, as petersen or path5. 4,5
 This is Python over slow definitions: tested, and not proved. `forestplay replay`, which
 is, accepts what it writes of its three programs, if it is given the same --program.
 
-Status: 0 done, 1 the network or the list can't be read, an event isn't possible, or the
-network hasn't the slow edge (one line on standard error says why), 2 the command line
-is refused.
+Status: 0 done, 1 the network or the list can't be read, an event isn't possible, the
+network hasn't the slow edge, or the `right` of a file of your own says that the end isn't
+right (one line on standard error says why), 2 the command line is refused.
 
 Examples:
   forestlab simulate examples/chain6.col --slow 2-3 --seed 7 > slow.transcript
@@ -265,4 +265,6 @@ def main(words):
     check_names(net, given)
     program = program_asked("simulate", given, net)
     write(given, text_of_run(net.nodes, run_asked(net, given, program), program))
-    return 0
+    if why := wrong_end(net, program):
+        print(f"simulate: what the nodes find at the end isn't right: {why}", file=sys.stderr)
+    return int(bool(why))

@@ -44,7 +44,7 @@ from array import array
 from collections import Counter, namedtuple
 
 from lab.definitions.nodes import Colouring, Refused, wire_words
-from lab.definitions.own_program import OwnNode, what_is_wrong
+from lab.definitions.own_program import OwnNode, asks_for_messages, what_is_wrong
 from lab.definitions.rounds import phase_words
 from lab.schedules.ruled_node import Rounds, RuledNode
 
@@ -97,6 +97,7 @@ class Space:
             beyond,
         )
         self.reduce, self.program = reduce, program
+        self.asks_for_messages = issubclass(program, OwnNode) and asks_for_messages(program)
         self.rounds = Rounds(net, program)
         self.vertices, self.ports, self.last = net.vertices, self.rounds.ports, self.rounds.last
         self.links = [(v, w) for v in self.vertices for w in self.ports[v]]
@@ -297,12 +298,28 @@ class Space:
     def wrong_words(self, state, is_end):
         """What the file of a program says of what its nodes have found in a state."""
         found = tuple(self.locals[a][state[a]].program.result() for a in range(len(self.vertices)))
-        if (found, is_end) not in self.said:
+        messages = tuple(self.messages(state)) if self.asks_for_messages else ()
+        key = found, messages, is_end
+        if key not in self.said:
             results = dict(zip(self.vertices, found))
-            self.said[found, is_end] = what_is_wrong(self.net, self.program, results, "always") or (
-                what_is_wrong(self.net, self.program, results) if is_end else ""
-            )
-        return self.said[found, is_end]
+            words = what_is_wrong(self.net, self.program, results, "always", messages)
+            if is_end and not words:
+                words = what_is_wrong(self.net, self.program, results)
+            self.said[key] = words
+        return self.said[key]
+
+    def messages(self, state):
+        """(sender, receiver, payload) by identifier, ascending, of what is sent and not yet read: in an out-list, on
+        its link, or taken for this pulse's inbox or the next."""
+        name, found = self.net.identifiers, []
+        for a, v in enumerate(self.vertices):
+            for w, port in zip(self.ports[v], self.locals[a][state[a]].ports):
+                on_link = self.contents[state[self.slot[v, w]]]
+                sent = [wire[2] for wire in (*port.out, *on_link) if wire[0] == "Payload"]
+                came = [slot for slot in (port.present, port.early) if slot is not None]
+                found += [(name[v], name[w], payload) for payload in sent]
+                found += [(name[w], name[v], payload) for payload in came]
+        return sorted((v, w, (word.lower(), number)) for v, w, (word, number) in found)
 
     def reached(self, state, s, e):
         t = self.number.get(state)
@@ -325,17 +342,12 @@ class Space:
         return self.count > self.limit
 
     def steps(self, s):
-        return (
-            [
-                (
-                    self.events[self.event_of[k]],
-                    None if self.target[k] == REFUSED else self.target[k],
-                )
-                for k in range(self.first[s], self.first[s + 1])
-            ]
-            if s < self.expanded
-            else []
-        )
+        if s >= self.expanded:
+            return []
+        return [
+            (self.events[self.event_of[k]], None if self.target[k] == REFUSED else self.target[k])
+            for k in range(self.first[s], self.first[s + 1])
+        ]
 
     def is_whole(self, state):
         return all(
@@ -359,21 +371,22 @@ class Space:
         }
 
     def node_words(self, v, node):
+        p, (stage, waits) = node.pulse_number, self.stage_of(v, node)
+        colour = node.program.merged if self.program is Colouring else None
+        return Node(p, stage, waits, node.wrong, colour, self.phase(p), node.program.result())
+
+    def stage_of(self, v, node):
+        """How far a node is in its pulse, and the wires for which it waits there."""
         p, ports = node.pulse_number, list(zip(self.ports[v], node.ports))
         if p == self.last:
             waits = [("close", w) for w, port in ports if not port.closed]
-            stage = "last" if waits else "whole"
-        elif not node.said:
-            stage, waits = "asks", [(f"ack {p}", w) for w, port in ports if port.waits]
-        else:
-            waits = (
-                []
-                if "safes" in self.without
-                else [(f"safe {p}", w) for w, port in ports if not port.safe]
-            )
-            stage = "safe" if waits else "ready"
-        colour = node.program.merged if self.program is Colouring else None
-        return Node(p, stage, waits, node.wrong, colour, self.phase(p), node.program.result())
+            return ("last" if waits else "whole"), waits
+        if not node.said:
+            return "asks", [(f"ack {p}", w) for w, port in ports if port.waits]
+        if "safes" in self.without:
+            return "ready", []
+        waits = [(f"safe {p}", w) for w, port in ports if not port.safe]
+        return ("safe" if waits else "ready"), waits
 
     def phase(self, p):
         return phase_words(self.net, p) if self.program is Colouring else ""

@@ -46,14 +46,16 @@ class Head(NamedTuple):
 
 
 class Wrong(wrong.Wrong):
-    """Why a text isn't the transcript of a whole run: its `line`, the `code` of the refusal, and `what` is wrong."""
+    """Why a text isn't the transcript of a whole run that is right: its `line`, if it is one line's fault, the `code` of
+    the refusal, and `what` is wrong."""
 
     def __init__(self, line, code, what):
         super().__init__(line, code, what)
         self.line, self.code, self.what = line, code, what
 
     def __str__(self):
-        return f"line {self.line}: {self.code}: {self.what}"
+        where = "" if self.line is None else f"line {self.line}: "
+        return f"{where}{self.code}: {self.what}"
 
 
 def entry_of(line, fields, program, is_stamped=False):

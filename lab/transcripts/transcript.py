@@ -4,7 +4,7 @@ import json
 import sys
 
 from lab import programs
-from lab.definitions.own_program import OwnNode
+from lab.definitions.own_program import OwnNode, wrong_end
 from lab.definitions.programs import add_program, program_asked, program_words
 from lab.networks.named import network_bytes
 from lab.networks.network_text import network_of
@@ -152,6 +152,8 @@ def checked(given):
     """The verdict on a transcript that is right, or its entries in order."""
     net, _, text, program = texts_of(given)
     made, said = whole_run(net, text, program)
+    if why := wrong_end(net, program):
+        raise WrongEntry(None, "NotRight", f"{said}, whose nodes find what isn't right: {why}")
     if given.order:
         return in_order(made, text)
     return (json.dumps({"right": True, "words": said}) if given.json else said) + "\n"

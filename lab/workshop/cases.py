@@ -4,10 +4,11 @@ from argparse import Namespace
 from dataclasses import dataclass, field
 from functools import lru_cache
 from random import Random
-from typing import Any, Iterable, Iterator
+from typing import Any
 
 from lab.network import Network
 from lab.networks.named import network_at, path_of
+from lab.networks.smaller import remade
 from lab.workshop.findings import Finding
 from lab.workshop.protocol import COLOURING
 
@@ -103,39 +104,3 @@ def cases_of(options: Namespace) -> list[Case]:
     return sorted(
         cases, key=lambda case: (case.network.nodes, len(case.network.edges), case.number)
     )
-
-
-def remade(
-    network: Network, edges: Iterable, identifiers: dict[int, int], bars: dict[int, list[int]]
-) -> Network:
-    """A network of this name with other edges, identifiers and bars."""
-    return Network(len(identifiers), edges, identifiers, bars, name=network.name)
-
-
-def smaller(network: Network) -> Iterator[tuple[Network, list[int]]]:
-    """The networks without one of the nodes, without one of the edges, or without the bars of one node; and that with
-    small identifiers in the same order. With each the vertices that its own were."""
-    same, names = list(network.vertices), network.identifiers
-    for gone in same:
-        left = [v for v in same if v != gone]
-        new = {v: k for k, v in enumerate(left, 1)}
-        yield remade(
-            network,
-            [(new[v], new[w]) for v, w in network.edges if gone not in (v, w)],
-            {new[v]: names[v] for v in left},
-            {new[v]: network.bars.get(v, []) for v in left},
-        ), left
-    for edge in network.edges:
-        yield remade(
-            network, [other for other in network.edges if other != edge], names, network.bars
-        ), same
-    for gone in network.bars:
-        yield remade(
-            network,
-            network.edges,
-            names,
-            {v: bars for v, bars in network.bars.items() if v != gone},
-        ), same
-    small = {v: k for k, v in enumerate(sorted(same, key=names.get), 1)}
-    if small != names:
-        yield remade(network, network.edges, small, network.bars), same

@@ -4,10 +4,11 @@ import sys
 import time
 from argparse import Namespace
 
+from lab.networks.smaller import smaller
 from lab.schedules.policies import Policy
 from lab.workshop.alpha_run import AlphaRun
 from lab.workshop.alpha_verdict import finding_of
-from lab.workshop.cases import Case, smaller
+from lab.workshop.cases import Case
 from lab.workshop.clock_run import ClockRun, OpenRun, RoundsRun
 from lab.workshop.findings import Fault, Finding, listed
 from lab.workshop.guard import Guard, Limits

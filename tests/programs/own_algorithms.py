@@ -1,11 +1,13 @@
 """Tests of programs of one's own, from a Python file, and of those that have a name, in `explore`, `simulate`,
 `transcript` and `picture`. sequels.py has what nodes find."""
+import subprocess
 import textwrap
+import time
 
 from lab.definitions.nodes import synchronous_run
 from lab.definitions.programs import program_at
 from lab.network import Network
-from tests.cases import Case, forestlab, said_by, text_in
+from tests.cases import FORESTLAB, Case, forestlab, said_by, text_in
 from tests.pictures.marks import data_of
 from tests.programs.sequels import SAMPLES
 
@@ -26,12 +28,17 @@ def result(me):
 DRAWS = FLOOD.replace("me.best = me.id", "me.best = me.random.randrange(1000)").replace(
     "me.id)", "me.best)"
 )
-SHARED = FLOOD.replace("def greet", "best = 0\ndef greet").replace(
-    "    heard =", "    global best\n    heard ="
-)
-SHARED = SHARED.replace("me.best = heard", "me.best = best = max(best, heard)").replace(
-    '"best", heard', '"best", best'
-)
+# What one node keeps, all nodes would know.
+SHARED = """\
+import builtins
+def greet(me):
+    builtins.kept = max(getattr(builtins, "kept", 0), me.id)
+    return ("best", builtins.kept)
+def next(me, pulse, inbox):
+    return None
+def result(me):
+    return f"best {builtins.kept}"
+"""
 TREE = """\
 def greet(me):
     me.layer, me.by = (0, None) if me.id == 1 else (None, None)
@@ -49,10 +56,56 @@ def drawn(me):
 def right(results, neighbours):
     return RIGHT
 """
+# An election without a message, if nodes had one variable in common.
+ELECTION = """\
+best = 0
+def greet(me):
+    global best
+    best = max(best, me.id)
+    return ("n", me.id)
+def step(me, pulse, inbox):
+    return None
+def result(me):
+    return f"leader {best}"
+"""
+RIGHT = (
+    FLOOD
+    + """\
+def right(results, neighbours):
+    return set(results.values()) == {f"best {max(results)}"} or "no leader"
+"""
+)
+# Three rounds reach three links far.
+TOO_SHORT = (
+    RIGHT.replace("me.nodes", "3")
+    + """\
+def last_pulse(nodes, degree):
+    return 3
+"""
+)
+TOKEN = """\
+def greet(me):
+    me.has = False
+    return [("token", 0)] + [None] * (me.degree - 1) if me.id == 1 else None
+def step(me, pulse, inbox):
+    me.has = any(inbox)
+    if me.has and pulse < me.nodes:
+        me.has = False
+        return [None] * (me.degree - 1) + [("token", pulse)]
+    return None
+def result(me):
+    return f"token {me.has}"
+def always(results, neighbours, messages):
+    there = [words for words in results.values() if words == "token True"]
+    return len(there) + len(messages) == 1 or f"{len(there)} held, under way: {messages}"
+"""
 TWICE = (
     "does something else the second time: does it use chance other than `me.random`, or a variable"
 )
-LATE = "CALLS = []\n" + FLOOD.replace("    if heard", "    CALLS.append(pulse)\n    if heard")
+# What counts its calls where no value shows it.
+LATE = "import builtins\nbuiltins.calls = getattr(builtins, 'calls', 0)\n" + FLOOD.replace(
+    "    if heard", "    builtins.calls += 1\n    if heard"
+)
 
 
 def keeping(what):
@@ -69,10 +122,23 @@ def sending(what):
 WRONG = [
     ("def greet(me:\n", " line 1: '(' was never closed"),
     ("x = 1 / 0\n", " line 1: ZeroDivisionError: division by zero"),
-    (keeping("__import__('sys').exit(0)"), " line 2: SystemExit: 0"),
-    (keeping("me.colour"), " line 2: AttributeError: `me` has no `colour`"),
+    (
+        keeping("__import__('sys').exit(0)"),
+        " line 2: SystemExit: 0, in `greet` at pulse 0 of the node of identifier 1\n",
+    ),
+    (keeping("me.colour"), " line 2: AttributeError: `me` has no `colour`, in `greet`"),
+    (
+        FLOOD.replace("    heard =", "    heard = inbox[7]\n    heard ="),
+        " line 5: IndexError: list index out of range, in `next` at pulse 1 of the node of identifier 1, "
+        "whose inbox is [('best', 2)]\n",
+    ),
+    (
+        sending("{0: ('best', 1)}"),
+        ": `greet` at pulse 0 of the node of identifier 1 returns a dict: one payload for all ports, a list "
+        "with a payload or None for each port, or None can be sent\n",
+    ),
     (FLOOD.replace("def result", "def results"), " has no function result"),
-    ("greet = 1\n", " has no function greet and no function next and no function result"),
+    ("greet = 1\n", " has no function greet and no function step or next and no function result"),
     (
         sending("('Word', 1)"),
         ": `greet` at pulse 0 of the node of identifier 1 sends ('Word', 1): a payload is a pair, "
@@ -100,10 +166,15 @@ WRONG = [
         )
     ),
     # A place for each node in one variable.
-    ("KEPT = {}\n" + FLOOD.replace("me.best", "KEPT[me.id]"), TWICE),
-    # The rounds, twice, have 12 calls, so they can't show this one.
     (
-        LATE.replace('("best", heard)', '("best", heard + (len(CALLS) > 12))'),
+        "KEPT = {}\n" + FLOOD.replace("me.best", "KEPT[me.id]"),
+        ": `greet` at pulse 0 of the node of identifier 1 changes the variable `KEPT` outside `me`: keep "
+        "everything in `me`",
+    ),
+    (ELECTION, "changes the variable `best` outside `me`"),
+    # The rounds, played twice and once more, have 12 calls, so they can't show this one.
+    (
+        LATE.replace('("best", heard)', '("best", heard + (builtins.calls > 12))'),
         "does something else in another order of events: ",
     ),
     *(
@@ -262,7 +333,7 @@ class OwnAlgorithms(Case):
         chance = "import random\n" + DRAWS.replace("me.random", "random")
         for text, where in (
             (chance, "`greet` at pulse 0 of the node of "),
-            (SHARED, "`next` at pulse 1 of the node "),
+            (SHARED, "`greet` at pulse 0 of the node of identifier 1 "),
         ):
             for command, network in (("explore", "path"), ("simulate", "chain6")):
                 got = self.told(text, command=command, network=network)
@@ -285,7 +356,7 @@ class OwnAlgorithms(Case):
             (
                 FLOOD
                 + "def right(results, neighbours):\n    return f'{results[1]} and {neighbours[2]}'\n",
-                "broken after 28 events (16 takes and pulses): best 2 and [1]\n",
+                "not right after 2 pulses of two: best 2 and [1]\n",
             ),
             (
                 FLOOD + "def always(results, neighbours):\n    return results[1] != 'best 2'\n",
@@ -293,17 +364,111 @@ class OwnAlgorithms(Case):
             ),
         ):
             got = self.told(text)
-            self.note(first, got[0] == first.startswith("broken") and got[1].startswith(first), got)
+            is_wrong = not first.startswith("every")
+            self.note(first, got[0] == is_wrong and got[1].startswith(first), got)
+        text = FLOOD + "def right(results, neighbours):\n    return False\n"
+        listed = self.told(text, "--list")
+        self.same("its list of events", (listed[0], len(listed[1].splitlines())), (1, 28))
         page = text_in("docs", "learn", "OWN_ALGORITHM.md")
         block = page.partition("Of an independent set:\n\n")[2].partition("\n\n## ")[0]
         text = text_in(SET) + "\n" + textwrap.dedent(block) + "\n"
         for change, first in (
             (("", ""), "every schedule of two"),
-            (('words == "set in"', "words"), "broken after"),
+            (('words == "set in"', "words"), "not right after 3 pulses of two: 1 is in, and so is"),
         ):
             got = self.told(text.replace(*change))
-            good = got[0] == first.startswith("broken") and got[1].startswith(first)
+            good = got[0] == first.startswith("not") and got[1].startswith(first)
             self.note(f"the function of the page, {change}", good, got)
+
+    def test_verdicts(self):
+        """By hand: in three rounds of a row of six, node 1 hears of 4 and no further. A file that is wrong in the rounds
+        is shown with them, pulse by pulse; `simulate` and `transcript check` end with 1."""
+        status, text, fault = self.told(TOO_SHORT, network="path6")
+        rows = text.splitlines()
+        self.same(
+            "explore",
+            (status, rows[0], fault),
+            (1, "not right after 3 pulses of path6: no leader", ""),
+        )
+        for row in (
+            "  node 1 sends best 1 to 2; has best 1",
+            "  node 2 hears best 1 from 1, best 3 from 3; sends best 3 to 1 and 3; has best 3",
+            "  node 1 has best 4",
+        ):
+            self.note(f"a line of the rounds: {row.strip()}", row in rows, text)
+        self.same(
+            "pulses",
+            [row for row in rows if row.startswith("pulse")],
+            [f"pulse {p}" for p in range(4)],
+        )
+        status, text, _ = self.told(TOO_SHORT, network="path3")
+        self.note(
+            "on three nodes", status == 0 and text.startswith("every schedule of path3"), text
+        )
+        status, text, _ = self.told(RIGHT, network="path6")
+        wanted = "right after 6 pulses of path6: " + ", ".join(f"{v} best 6" for v in range(1, 7))
+        self.same("a right one on six nodes", (status, text.splitlines()[0]), (0, wanted))
+        self.refusal(
+            "without `right`", self.told(FLOOD, network="path6"), 1, "of more the rounds are, if"
+        )
+        status, run, fault = self.told(TOO_SHORT, command="simulate", network="path6")
+        self.note("simulate", status == 1 and run.startswith("transcript 3 flood 6\n"), run[:40])
+        self.note("simulate says why", fault.endswith(" isn't right: no leader\n"), fault)
+        words = ["transcript", "check", "path6", "-", "--program", self.file("flood.py", TOO_SHORT)]
+        done = said_by(*words, data=run.encode())
+        self.refusal("transcript check", done, 1, "NotRight: whole run of 6 nodes, ")
+        status, text, _ = said_by(*words, "--json", data=run.encode())
+        self.note("transcript check --json", status == 1 and '"right": false' in text, text)
+
+    def test_networks_by_chance(self):
+        """A smallest network on which a file is wrong: by hand, three rounds are one too few for a row of five whose
+        greatest is at an end, and two apart nodes have no leader."""
+        path = self.file("flood.py", TOO_SHORT)
+        status, text, _ = said_by("explore", "--program", path, "--networks", "60", "--connected")
+        self.note("connected", status == 1 and "\np edge 5 4\n" in text, text)
+        self.note("its rounds", "\npulse 3\n" in text and "\nthe end\n" in text, text)
+        status, text, _ = said_by("explore", "--program", path, "--networks", "60")
+        self.note("any", status == 1 and "\np edge 2 0\n" in text, text)
+        path = self.file("right.py", RIGHT)
+        done = said_by("explore", "--program", path, "--networks", "60", "--connected")
+        self.same("a right one", done, (0, "right on 60 networks of up to 12 nodes\n", ""))
+        for words, status, said in (
+            (["--networks", "9", "--program", self.file("flood.py", FLOOD)], 1, "has none"),
+            (["two", "--networks", "9", "--program", path], 2, "without NETWORK"),
+            (["--networks", "0", "--program", path], 2, "a number from 1 to"),
+            (["two", "--connected"], 2, "--connected is for --networks"),
+        ):
+            self.refusal(" ".join(words[:2]), said_by("explore", *words), status, said)
+
+    def test_messages(self):
+        """One token walks along a row: held, or under way; a second one is found at once."""
+        status, text, _ = self.told(TOKEN, network="path3")
+        self.note("one token", status == 0 and text.startswith("every schedule of path3"), text)
+        twice = TOKEN.replace(
+            "[None] * (me.degree - 1) + [", "[('token', pulse)] * (me.degree - 1) + ["
+        )
+        status, text, _ = self.told(twice, network="path3")
+        said = "0 held, under way: [(2, 1, ('token', 1)), (2, 3, ('token', 1))]"
+        self.note("two tokens", status == 1 and text.splitlines()[0].endswith(said), text)
+
+    def test_how_it_ends(self):
+        """What the file does can't end the command with another status: an end of the process, a signal, a loop."""
+        for what, status, said in (
+            ("__import__('os')._exit(0)", 1, "has ended the command by itself"),
+            ("__import__('os').kill(__import__('os').getpid(), 9)", 1, "by signal 9"),
+            ("[0 for _ in iter(int, 1)]", 143, ""),
+        ):
+            words = [FORESTLAB, "explore", "two", "--program", self.file("ends.py", keeping(what))]
+            with subprocess.Popen(words, stdout=subprocess.PIPE, stderr=subprocess.PIPE) as process:
+                if status == 143:
+                    time.sleep(2)
+                    process.terminate()
+                out, fault = process.communicate(timeout=60)
+            self.note(
+                f"the file ends: {what}",
+                (process.returncode, out) == (status, b"") and said in fault.decode(),
+                (process.returncode, fault),
+            )
 
     def test_what_it_prints(self):
         """It goes to standard error, and leaves what the command writes as it was."""
@@ -328,8 +493,6 @@ class OwnAlgorithms(Case):
             ("rounds", "petersen"),
             ("run", "chain6"),
             ("overview", "chain6"),
-            ("node", "path"),
-            ("tally", "path"),
             ("schedules", "two"),
             ("player", "petersen"),
         ):

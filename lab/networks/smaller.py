@@ -1,0 +1,35 @@
+"""Networks that are a little smaller than another one, for who looks for the smallest on which something is wrong."""
+from collections.abc import Iterable, Iterator
+
+from lab.network import Network
+
+
+def remade(
+    network: Network, edges: Iterable, identifiers: dict[int, int], bars: dict[int, list[int]]
+) -> Network:
+    """A network of this name with other edges, identifiers and bars."""
+    return Network(len(identifiers), edges, identifiers, bars, name=network.name)
+
+
+def smaller(network: Network) -> Iterator[tuple[Network, list[int]]]:
+    """The networks without one of the nodes, without one of the edges, or without the bars of one node; and that with
+    small identifiers in the same order. With each the vertices that its own were."""
+    same, names = list(network.vertices), network.identifiers
+    for gone in same:
+        left = [v for v in same if v != gone]
+        new = {v: k for k, v in enumerate(left, 1)}
+        yield remade(
+            network,
+            [(new[v], new[w]) for v, w in network.edges if gone not in (v, w)],
+            {new[v]: names[v] for v in left},
+            {new[v]: network.bars.get(v, []) for v in left},
+        ), left
+    for edge in network.edges:
+        edges = [other for other in network.edges if other != edge]
+        yield remade(network, edges, names, network.bars), same
+    for gone in network.bars:
+        bars = {v: channels for v, channels in network.bars.items() if v != gone}
+        yield remade(network, network.edges, names, bars), same
+    small = {v: k for k, v in enumerate(sorted(same, key=names.get), 1)}
+    if small != names:
+        yield remade(network, network.edges, small, network.bars), same
