@@ -3,22 +3,21 @@ import os
 import re
 import sys
 
-from lab.networks import tables
 from lab.networks.fields import shown
 from lab.networks.network_text import MAX_CHANNEL
+from lab.networks.options import add_stated, commands_for, stated_by
 from lab.networks.plan_text import rows_of
-from lab.words import add_output, bytes_at, parser_of, text_at, write
+from lab.networks.stated import Unsaid, decoded
+from lab.networks.tables import MOST_DIGITS, licence_of
+from lab.words import add_output, bytes_at, one_line, parser_of, text_at, write
 from lab.wrong import Wrong, wrong_line
-
-# How many digits a real number of a channel has at most, as a frequency in kHz.
-MOST_DIGITS = 12
 
 HELP = """\
 Puts real channel numbers in place of a plan's channels, or the other way round.
 
 A plan counts channels from 1. TABLE has the real number of channel 1, then of channel
 2, and so on: `36 40 44 48`, or `1-13`, or `36-64/4` for each fourth; or it is a file, CSV
-with a column `channel`. The plan is read from standard input, and written with the other
+with a column `channel` (--columns channel=TITLE, if it is called otherwise). The plan is read from standard input, and written with the other
 numbers. So `forestplan check` can judge a plan of real numbers, whoever made it.
 
 With --back without TABLE, channel 1 is the lowest number that the plan has, channel 2
@@ -41,42 +40,62 @@ Examples:
 """
 
 
-def table_of(words: list[str]) -> list[int]:
-    """The real numbers that words name, or a file of this name, in their order; each once."""
-    is_file = len(words) == 1 and re.search(r"[^\d\s,;/-]", words[0]) and os.path.isfile(words[0])
-    found = numbers_in(words[0]) if is_file else numbers_of(words)
-    if len(set(found)) != len(found) or len(found) > MAX_CHANNEL:
-        raise Wrong(f"the table names a channel twice, or more than {MAX_CHANNEL} channels")
-    return found
+def file_in(words: list[str]) -> str | None:
+    """The file that words name; what has digits and what is between them alone is no file."""
+    is_file = len(words) == 1 and re.search("[^0-9\\s,;/-]", words[0])
+    return words[0] if is_file and os.path.isfile(words[0]) else None
 
 
-def numbers_in(path: str) -> list[int]:
-    """The column of channels of a table."""
-    table = tables.Table(tables.decoded(bytes_at(path), path), path, ("channel",))
-    for line, row in table.rows:
-        if not re.fullmatch(r"\d{1,%d}" % MOST_DIGITS, row["channel"]):
-            raise table.wrong(line, f"no channel: `{shown(row['channel'])}`")
-    return [int(row["channel"]) for _, row in table.rows]
+def channels_asked(given, words: list[str], command: str) -> list[int] | None:
+    """The table of real channel numbers that words of a command name, or a file; None without words.
+
+    Its first number is channel 1 of the plan, and none comes twice.
+    """
+    if not words:
+        return None
+    path = file_in(words)
+    if path is not None:
+        name = one_line(path)
+        text = decoded(bytes_at(path), name, given.stated.encoding)
+        numbers, notes = licence_of(text, name, given.stated)
+        for note in notes:
+            print(f"{command}: {name}: {note}", file=sys.stderr)
+        return each_once(numbers, f"{name}: ")
+    try:
+        return each_once(numbers_of(words))
+    except Wrong as why:
+        given.refuse(str(why))
+
+
+def each_once(numbers: list[int], begin: str = "") -> list[int]:
+    if len(set(numbers)) != len(numbers) or len(numbers) > MAX_CHANNEL:
+        raise Wrong(f"{begin}the table names a channel twice, or more than {MAX_CHANNEL} channels")
+    return numbers
 
 
 def numbers_of(words: list[str]) -> list[int]:
-    found = []
+    """The numbers of words, each a number or a range."""
+    found: list[int] = []
     for word in re.split(r"[\s,;]+", " ".join(words).strip(" ,;")):
-        parts = re.fullmatch(
-            r"(\d{1,%d})(?:-(\d{1,%d})(?:/(\d{1,6}))?)?" % (MOST_DIGITS, MOST_DIGITS), word
-        )
-        if not parts:
-            raise Wrong(f"`{shown(word)}` is no file, no channel, and no range as 1-13 or 36-64/4")
-        first, last, step = (int(part) if part else None for part in parts.groups())
-        numbers = (
-            range(first, (first if last is None else last) + 1, step or 1) if step != 0 else ()
-        )
-        if not numbers or len(numbers) > MAX_CHANNEL or last not in (None, numbers[-1]):
-            raise Wrong(
-                f"`{word}` names no channel, or more than {MAX_CHANNEL}, or its last one isn't reached"
-            )
-        found += numbers
+        found += range_of(word)
     return found
+
+
+def range_of(word: str) -> range:
+    """`6`, `1-13` or `36-64/4`."""
+    digits = f"([0-9]{{1,{MOST_DIGITS}}})"
+    parts = re.fullmatch(f"{digits}(?:-{digits}(?:/([0-9]{{1,6}}))?)?", word)
+    if not parts:
+        raise Wrong(f"`{shown(word)}` is no file, no channel, and no range as 1-13 or 36-64/4")
+    first = int(parts[1])
+    last = int(parts[2] or first)
+    step = int(parts[3] or 1)
+    numbers = range(first, last + 1, step) if step else range(0)
+    if not numbers or len(numbers) > MAX_CHANNEL or numbers[-1] != last:
+        raise Wrong(
+            f"`{word}` names no channel, or more than {MAX_CHANNEL}, or its last one isn't reached"
+        )
+    return numbers
 
 
 def rows_of_run(text: str, name: str) -> list[tuple[int, int, int]]:
@@ -100,25 +119,22 @@ def numbers_for(rows: list, table: list[int] | None, given) -> dict[int, int]:
     if table is None:
         table = sorted({number for _, _, number in rows})
         print(f"channels: 1 to {len(table)} are {' '.join(map(str, table))}", file=sys.stderr)
-    found = (
-        {number: channel for channel, number in enumerate(table, 1)}
-        if given.back
-        else dict(enumerate(table, 1))
-    )
+    found = dict(enumerate(table, 1))
+    if given.back:
+        found = {number: channel for channel, number in found.items()}
     for line, _, number in rows:
         if number not in found:
-            most = max(channel for _, _, channel in rows)
-            raise wrong_line(
-                "the plan",
-                line,
-                f"channel {number} isn't one of the table"
-                if given.back
-                else f"channel {number}, and the table has {len(table)}: it takes {most} channels",
-            )
+            what = " isn't one of the table" if given.back else too_many(rows, table)
+            raise wrong_line("the plan", line, f"channel {number}{what}")
     return found
 
 
-def main(words: list[str]) -> int:
+def too_many(rows: list, table: list[int]) -> str:
+    most = max(channel for _, _, channel in rows)
+    return f", and the table has {len(table)}: it takes {most} channels"
+
+
+def command_line():
     asked = parser_of(
         "channels",
         "[--back] TABLE.. < PLAN\n       forestlab channels --run [TABLE..] < RUN",
@@ -139,22 +155,40 @@ def main(words: list[str]) -> int:
         metavar="TABLE",
         help="the real numbers, in order, or a file that has them",
     )
+    add_stated(asked)
     add_output(asked)
-    given = asked.parse_args(words)
+    asked.set_defaults(refuse=asked.error)
+    return asked
+
+
+def refuse_words(given) -> None:
+    """Refuses words that don't go together."""
     if not given.table and not given.back and not given.run:
-        asked.error("a table is wanted, as 1 6 11")
+        given.refuse("a table is wanted, as 1 6 11")
     if given.back and given.run:
-        asked.error("a run has no real channels, so --back and --run can't be together")
+        given.refuse("a run has no real channels, so --back and --run can't be together")
+    if is_stated(given) and file_in(given.table) is None:
+        given.refuse("--columns, --no-heading and --encoding are of a TABLE in a file")
+
+
+def is_stated(given) -> bool:
+    """Whether something is stated of a table."""
+    return bool(given.columns or given.no_heading or given.encoding)
+
+
+def main(words: list[str]) -> int:
+    given = command_line().parse_args(words)
+    given.stated = stated_by(given)
+    refuse_words(given)
     try:
-        table = table_of(given.table) if given.table else None
-    except Wrong as why:
-        asked.error(str(why))
+        table = channels_asked(given, given.table, "channels")
+    except Unsaid as why:
+        raise Wrong(commands_for(why, ["channels"], words)) from None
     text = text_at("-")
-    rows = (
-        rows_of_run(text, "the run")
-        if given.run
-        else rows_of(text, "the plan", 0, 10**MOST_DIGITS)
-    )
+    if given.run:
+        rows = rows_of_run(text, "the run")
+    else:
+        rows = rows_of(text, "the plan", 0, 10**MOST_DIGITS)
     of = numbers_for(rows, table, given)
     write(given, "plan\n" + "".join(f"{vertex} {of[channel]}\n" for _, vertex, channel in rows))
     return 0

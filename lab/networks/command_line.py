@@ -1,10 +1,7 @@
 """The command line of `forestlab network`: its commands, and what each says of itself."""
-import argparse
-
-from lab.networks.reading import FORMS
 from lab.networks.kinds import KINDS
-from lab.networks.tables import TITLES
 from lab.networks.numbering import WAYS
+from lab.networks.options import add_form, add_stated
 from lab.words import add_command, add_commands, add_options, add_output, add_seed, parser_of
 
 HELP = """\
@@ -35,19 +32,29 @@ COMMANDS = {
         "[FILE] [options]",
         "Reads a network in another form, and writes it in the DIMACS format.",
         """\
-  pairs       .csv .tsv    a table with the columns source and target (or from and to)
+  pairs       .csv .tsv    a table with a heading source,target (or from,to)
   edges       .edgelist    two nodes a line, with blanks between, as networkx writes
   adjacency   .adjlist     a node and its neighbours a line, and a line for each node
-  graphml, gexf, gml, json, graph6, sparse6    by networkx, if it is installed
+  dimacs      .col         what the programs read
+  graphml gexf gml json    .graphml .gexf .gml .json    by networkx
+  graph6 sparse6           .g6 .s6                      by networkx
 The file's ending says the form, or --as; standard input is DIMACS unless --as is there.
-A table is CSV with a heading. --columns source=Von,target=Nach says which columns are
-meant if they are called otherwise; --no-heading, that the first two are. What isn't as
-its form has it is refused with its line; columns and keys that aren't read are said.
+What isn't as its form has it is refused with its line. What isn't read of it, as columns,
+keys and directions, is said.
 
-A table of sites has a column site (or name, or id), and if there are any lat and lon
-(degrees), x_km and y_km, or x_m and y_m (easting, northing), and identifier. The nodes are
-then its sites, in its order; an edge of another site is refused. A table of bars has the
-columns site and channel.""",
+The columns of tables, by their titles in small letters; commas, semicolons or tabs are
+between:
+  pairs       source (from) and target (to)
+  sites       site (name, id); if there are any, lat (latitude) and lon (lng, longitude)
+              in degrees, or x_km and y_km, or x_m (easting) and y_m (northing); identifier
+  bars        site and channel
+  channels    channel
+--columns says which columns are meant if they are called otherwise. With --no-heading
+they are the first of those named here, or those whose numbers --columns has. In a form of
+networkx --columns site=KEY is the key by which nodes are named.
+
+With a table of sites the nodes are its sites, in its order, and each end of a pair has to
+be one of them.""",
         "forestlab network read pairs.csv --sites sites.csv > sites.col\n"
         "  forestlab network read --sites sites.csv --reach 5.5 --bars bars.csv > sites.col",
     ),
@@ -91,18 +98,9 @@ With --channels the channels are real numbers: see `forestlab channels --help`."
         "forestplan plain < sites.col | forestlab network names sites.col --channels '1 6 11'",
     ),
 }
+SAME = "the same one chooses the same again"
 # How many words FILE may be, where it isn't one.
 FILES = {"read": "?", "tell": "+"}
-
-
-def titles_of(words):
-    """`source=Von,target=Nach` as pairs."""
-    pairs = [word.partition("=") for word in words.split(",")]
-    if not all(mark and title and column in TITLES for column, mark, title in pairs):
-        raise argparse.ArgumentTypeError(
-            f"COLUMN=TITLE with commas between, and a column of {', '.join(TITLES)}"
-        )
-    return [(column, title) for column, _, title in pairs]
 
 
 # The options of the commands, in the order of the help.
@@ -128,26 +126,6 @@ OPTIONS = (
         {"type": int, "metavar": "D", "help": "the node with the most neighbours has D"},
     ),
     (("random",), "--forests", {"type": int, "metavar": "U", "help": "there are U forests"}),
-    (
-        ("read",),
-        "--as",
-        {"dest": "form", "choices": FORMS, "help": "the form, whatever the file is called"},
-    ),
-    (
-        ("read",),
-        "--columns",
-        {"type": titles_of, "metavar": "COLUMN=TITLE,..", "help": "what columns are called"},
-    ),
-    (
-        ("read",),
-        "--no-heading",
-        {"action": "store_true", "help": "a table of pairs has no heading"},
-    ),
-    (
-        ("read",),
-        "--encoding",
-        {"metavar": "NAME", "help": "that of all tables, as cp1252; default: UTF-8"},
-    ),
     (("read",), "--sites", {"metavar": "CSV", "help": "a table of sites"}),
     (
         ("read",),
@@ -189,34 +167,51 @@ OPTIONS = (
 )
 
 
+def of_kinds():
+    """The same of each kind of networks."""
+    rows = {}
+    for name, kind in KINDS.items():
+        sizes = " ".join(map(str.upper, kind.sizes))
+        example = f"forestlab network {name} {'10 ' * len(kind.sizes)}> net.col"
+        rows[name] = (f"{sizes} [options]", f"{kind.does.capitalize()}.", kind.more, example)
+    return rows
+
+
 def command_line():
     titles = {name: " ".join([name, *map(str.upper, kind.sizes)]) for name, kind in KINDS.items()}
     kinds = "".join(f"  {titles[name]:<20}{kind.does}\n" for name, kind in KINDS.items())
     words = parser_of("network", "COMMAND WORDS.. [options]", HELP.format(kinds=kinds), MORE_HELP)
     commands = add_commands(words)
-    of_kinds = {
-        name: (
-            f"{titles[name].partition(' ')[2]} [options]",
-            f"{kind.does.capitalize()}.",
-            kind.more,
-            f"forestlab network {name} {'10 ' * len(kind.sizes)}> net.col",
-        )
-        for name, kind in KINDS.items()
-    }
-    for name, does in (of_kinds | COMMANDS).items():
+    for name, does in (of_kinds() | COMMANDS).items():
         command = add_command(commands, f"network {name}", *does)
-        for size in KINDS[name].sizes if name in KINDS else ():
-            command.add_argument(size, type=int, metavar=size.upper(), help=f"how many {size}")
-        if name in COMMANDS:
-            command.add_argument(
-                "file",
-                metavar="FILE",
-                nargs=FILES.get(name),
-                help="a file, - for standard input, or a name, as path5",
-            )
-        if name == "number" or name in KINDS and KINDS[name].is_by_chance:
-            add_seed(command, "the same one chooses the same again")
+        if name in KINDS:
+            add_sizes(command, KINDS[name])
+        else:
+            add_file(command, name)
+        if name == "number":
+            add_seed(command, SAME)
         add_options(command, name, OPTIONS)
+        if name == "read":
+            add_form(command)
+        if name in ("read", "names"):
+            add_stated(command)
         add_output(command)
         command.set_defaults(refuse=command.error)
     return words
+
+
+def add_sizes(command, kind):
+    """The words of a kind."""
+    for size in kind.sizes:
+        command.add_argument(size, type=int, metavar=size.upper(), help=f"how many {size}")
+    if kind.is_by_chance:
+        add_seed(command, SAME)
+
+
+def add_file(command, name):
+    command.add_argument(
+        "file",
+        metavar="FILE",
+        nargs=FILES.get(name),
+        help="a file, - for standard input, or a name, as path5",
+    )

@@ -1,73 +1,34 @@
-"""Networks that other programs wrote, read by networkx, where that is installed. What it reads is compared with what a
-count of the text's nodes and edges says: networkx makes one node of two of a name, adds a node that only an edge names,
-and leaves out graphs in a node and all graphs but the first, each without a word."""
+"""Networks that other programs wrote, read by networkx, where that is installed.
+
+What the text declares (declared.py) is compared with what networkx makes of it.
+"""
 import importlib
+import importlib.util
 import io
 import json
 import re
 import site
 import sys
 import warnings
-from xml.etree import ElementTree
+from collections.abc import Iterable
 
-from lab.networks.tables import Listed, clean
+from lab.networks.declared import Declared, in_gml, in_json, in_xml
 from lab.networks.fields import shown
-from lab.words import counted
-from lab.wrong import Wrong
+from lab.networks.listed import Listed, Where, name_of
+from lab.networks.stated import Stated, decoded
+from lab.words import counted, one_line
+from lab.wrong import Wrong, wrong_line
 
-# What joins two nodes, whatever it is called, has a source.
-NODES, EDGES = re.compile(r"\bnode\s*\["), re.compile(r"[\s\[]source\s")
-PACKAGE = "it is read by networkx, which isn't installed (apt install python3-networkx, or pip install networkx)"
-
-
-def in_xml(text: str) -> tuple[int, int]:
-    """How many nodes and edges a text in XML has, wherever they are."""
-    elements = list(ElementTree.fromstring(text.encode()).iter())
-    return (
-        sum(one.tag.rpartition("}")[2].lower() in ("node", "hyperedge") for one in elements),
-        sum("source" in one.attrib for one in elements),
-    )
-
-
-def in_gml(text: str) -> tuple[int, int]:
-    bare = re.sub('"[^"]*"', '""', text)
-    return len(NODES.findall(bare)), len(EDGES.findall(bare))
-
-
-def in_json(text: str) -> tuple[int, int]:
-    edges: list[dict] = []
-    data = json.loads(
-        text, object_hook=lambda one: edges.append(one) or one if "source" in one else one
-    )
-    return len(data["nodes"]), len(edges)
-
-
-def node_link(nx, text: str):
-    """By hand, since networkx' name of the list of edges depends on its version."""
-    data, graph = json.loads(text), nx.MultiGraph()
-    graph.add_nodes_from((node["id"], node) for node in data["nodes"])
-    for edge in data["links" if "links" in data else "edges"]:
-        graph.add_edge(
-            edge["source"],
-            edge["target"],
-            key=None,
-            **{key: value for key, value in edge.items() if key not in ("source", "target", "key")},
-        )
-    return graph
-
-
-# Of each form: how networkx reads it, and how many nodes and edges the text has; None if the form has no such count.
-FORMS = {
-    "graphml": (
-        lambda nx, text: nx.read_graphml(io.BytesIO(text.encode()), force_multigraph=True),
-        in_xml,
-    ),
-    "gexf": (lambda nx, text: nx.read_gexf(io.BytesIO(text.encode())), in_xml),
-    "gml": (lambda nx, text: nx.parse_gml(text, label=None), in_gml),
-    "json": (node_link, in_json),
-    "graph6": (lambda nx, text: nx.from_graph6_bytes(text.strip().encode()), None),
-    "sparse6": (lambda nx, text: nx.from_sparse6_bytes(text.strip().encode()), None),
-}
+PACKAGE = "apt install python3-networkx, or pip install networkx"
+# What names a node, in this order: the first that each node has, with a value of its own. If there is none, its id does.
+NAMES = ("label", "name")
+# Keys that are read, or only repeat what is.
+READ = {"label", "name", "id", "x", "y"}
+MOST_VALUES = 3
+# How much of the reason of networkx is said.
+MOST_SAID = 300
+NEW_GEXF, GEXF = b"http://gexf.net/1.3", b"http://www.gexf.net/1.2draft"
+GRAPH_OF_GML = re.compile(r"^\s*graph\s*\[", re.M)
 
 
 def networkx():
@@ -80,68 +41,176 @@ def networkx():
         return None
 
 
-def read(text: str, name: str, form: str) -> Listed:
-    """What networkx reads, if it has all nodes and edges of the text."""
-    library, (reader, counts) = networkx(), FORMS[form]
-    if library is None:
-        raise Wrong(f"{name}: {PACKAGE}")
-    # The text is decoded, whatever encoding its first line names.
-    text = re.sub(r"\A\s*<\?xml[^>]*\?>", "", text)
+def from_graphml(nx, data: bytes):
+    return nx.read_graphml(io.BytesIO(data), force_multigraph=True)
+
+
+def from_gexf(nx, data: bytes):
+    """Gephi writes GEXF 1.3, whose nodes and edges are those of 1.2."""
+    return nx.read_gexf(io.BytesIO(data.replace(NEW_GEXF, GEXF)))
+
+
+def from_gml(nx, data: bytes):
+    """Two edges may have the same ends: without the word `multigraph` networkx refuses that."""
+    text = GRAPH_OF_GML.sub("graph [ multigraph 1 ", data.decode(), count=1)
+    return nx.parse_gml(text, label=None)
+
+
+def from_json(nx, data: bytes):
+    """What networkx calls the list of edges depends on its version."""
+    whole = json.loads(data)
+    edges = whole.get("links", whole.get("edges"))
+    return nx.node_link_graph({**whole, "multigraph": True, "links": edges, "edges": edges})
+
+
+def from_graph6(nx, data: bytes):
+    return nx.from_graph6_bytes(data.strip())
+
+
+def from_sparse6(nx, data: bytes):
+    return nx.from_sparse6_bytes(data.strip())
+
+
+def in_one_line(data: bytes, path: str) -> None:
+    """Refuses a second graph: each is a line."""
+    rows = data.strip().split(b"\n")
+    if len(rows) > 1:
+        raise wrong_line(path, 2, "a second graph: a file of one graph is read")
+
+
+# Of each form: how networkx reads it, and what counts the nodes and edges that its text declares.
+READERS = {
+    "graphml": (from_graphml, in_xml),
+    "gexf": (from_gexf, in_xml),
+    "gml": (from_gml, in_gml),
+    "json": (from_json, in_json),
+    "graph6": (from_graph6, in_one_line),
+    "sparse6": (from_sparse6, in_one_line),
+}
+
+
+def bytes_for(data: bytes, name: str, form: str, stated: Stated) -> bytes:
+    """The text in UTF-8. XML says its encoding itself, if nothing else is stated."""
+    if form in ("graphml", "gexf") and stated.encoding is None:
+        return data
+    text = decoded(data, name, stated.encoding)
+    return re.sub(r"\A\s*<\?xml[^>]*\?>", "", text).encode()
+
+
+def read(data: bytes, name: str, form: str, stated: Stated = Stated()) -> Listed:
+    """What networkx reads, if it has all nodes and edges that the text declares."""
+    nx = networkx()
+    if nx is None:
+        raise Wrong(f"{name}: {form} is read by networkx, which isn't installed ({PACKAGE})")
+    reader, declares = READERS[form]
+    data = bytes_for(data, name, form, stated)
+    declared = declares(data, name)
+    if declared:
+        declared.check_ends()
+    graph, notes = graph_of(nx, reader, data, name, form)
+    if declared:
+        compare(declared, graph, name)
+    found = listed(graph, name, form, declared, stated)
+    found.notes = notes + found.notes
+    return found
+
+
+def graph_of(nx, reader, data: bytes, name: str, form: str):
+    """The graph that networkx reads, and what it warns of."""
     try:
         with warnings.catch_warnings(record=True) as warned:
             warnings.simplefilter("always")
-            graph = reader(library, text)
-            there = counts(text) if counts else None
+            warnings.simplefilter("ignore", FutureWarning)
+            graph = reader(nx, data)
     except MemoryError:
         raise
     except Exception as why:
+        said = one_line(str(why))[:MOST_SAID] or type(why).__name__
+        raise Wrong(f"{name}: networkx can't read it as {form}: {said}") from None
+    return graph, [f"networkx warns: {one_line(str(one.message))[:MOST_SAID]}" for one in warned]
+
+
+def compare(declared: Declared, graph, name: str) -> None:
+    """Refuses a graph that hasn't as many nodes and edges as its text declares."""
+    there = len(declared.nodes), len(declared.edges)
+    read = graph.number_of_nodes(), graph.number_of_edges()
+    if there != read:
         raise Wrong(
-            f"{name}: networkx can't read it as {form}: {shown(str(why)) or type(why).__name__}"
-        ) from None
-    found = Listed(form, notes=[f"networkx warns: {shown(str(one.message))}" for one in warned])
-    got = graph.number_of_nodes(), graph.number_of_edges()
-    if there not in (None, got):
-        raise Wrong(
-            f"{name}: the text has {there[0]} nodes and {there[1]} edges, and networkx reads {got[0]} and "
-            f"{got[1]}: are two nodes or edges one, is one not declared, or inside of another?"
+            f"{name}: the text has {there[0]} nodes and {there[1]} edges, and networkx reads "
+            f"{read[0]} and {read[1]}"
         )
-    return listed(found, graph, name)
 
 
-def listed(found: Listed, graph, name: str) -> Listed:
-    """The nodes of a graph by their labels, if each has one of its own, or else by their ids; and what isn't read."""
-    ids = {node: clean(str(node), name, at) for at, node in enumerate(graph, 1)}
-    labels = {
-        node: clean(str(word), name, 0)
-        for node, said in graph.nodes(data=True)
-        if (word := said.get("label") or said.get("name"))
-    }
-    is_labelled = len(set(labels.values())) == len(ids)
-    own = labels if is_labelled else ids
-    if len(set(own.values())) < len(own):
-        raise Wrong(f"{name}: two nodes have one name, but for blanks or the kind of letters")
-    found.nodes = [own[node] for node in graph]
-    found.edges = [(0, own[one], own[other]) for one, other in graph.edges()]
-    for node, said in graph.nodes(data=True):
-        if all(isinstance(said.get(way), (int, float)) for way in "xy"):
-            found.places[own[node]] = float(said["x"]), float(said["y"])
-    found.notes += ["directions aren't read"] if graph.is_directed() else []
-    if labels and not is_labelled:
-        found.notes.append("nodes are named by their id, since not each has a label of its own")
-    for what, rows in (("nodes", graph.nodes(data=True)), ("edges", graph.edges(data=True))):
-        keys: dict[str, set] = {}
-        for *_, said in rows:
-            for key, value in said.items():
-                keys.setdefault(str(key), set()).add(str(value))
-        keys = {
-            key: sorted(values)
-            for key, values in keys.items()
-            if key not in ("label", "name", "id", "x", "y")
-        }
-        if keys:
-            said = "; ".join(
-                f"{key} ({', '.join(map(shown, [*values[:3], '..'] if len(values) > 3 else values))})"
-                for key, values in keys.items()
-            )
-            found.notes.append(f"{counted(len(keys), 'key')} of {what} not read: {said}")
+def listed(graph, name: str, form: str, declared: Declared | None, stated: Stated) -> Listed:
+    """The nodes and edges of a graph by the names of its nodes."""
+    found = Listed(form)
+    key = naming(graph, name, stated)
+    where = where_of(graph, declared)
+    named: dict[str, object] = {}
+    own = {}
+    for node, has in graph.nodes(data=True):
+        own[node] = name_of(str(has[key] if key else node), name, where[node])
+        if named.setdefault(own[node], node) != node:
+            raise Wrong(f"{name}: two nodes are called {shown(own[node])}")
+    found.nodes = list(own.values())
+    found.edges = [("an edge", own[one], own[other]) for one, other in graph.edges()]
+    found.places = places_in(graph, own)
+    found.notes.append(f"nodes are named by their {key or 'id'}")
+    if graph.is_directed():
+        found.notes.append("directions aren't read")
+    found.notes += unread("nodes", [has for _, has in graph.nodes(data=True)], key)
+    found.notes += unread("edges", [has for *_, has in graph.edges(data=True)], None)
     return found
+
+
+def where_of(graph, declared: Declared | None) -> dict[object, Where]:
+    """Where each node is in the text: networkx keeps the order of the nodes."""
+    places: Iterable[Where] = declared.nodes.values() if declared else [1] * len(graph)
+    return dict(zip(graph, places))
+
+
+def naming(graph, name: str, stated: Stated) -> str | None:
+    """The key that names the nodes, None for the id: the one that the user states, or one of NAMES."""
+    key = stated.columns.get("site")
+    if key == "id":
+        return None
+    if key is not None:
+        if not is_own(graph, key):
+            raise Wrong(f"{name}: not each node has a `{shown(key)}` of its own")
+        return key
+    return next((key for key in NAMES if is_own(graph, key)), None)
+
+
+def is_own(graph, key: str) -> bool:
+    """Whether each node has a value of a key that no other has."""
+    values = [has.get(key) for _, has in graph.nodes(data=True)]
+    return None not in values and "" not in values and len(set(map(str, values))) == len(values)
+
+
+def places_in(graph, own: dict[object, str]) -> dict[str, tuple[float, float]]:
+    """The places of the nodes, if each has one in numbers `x` and `y`."""
+    try:
+        return {
+            own[node]: (float(has["x"]), float(has["y"])) for node, has in graph.nodes(data=True)
+        }
+    except (KeyError, TypeError, ValueError):
+        return {}
+
+
+def unread(what: str, rows: list[dict], named_by: str | None) -> list[str]:
+    """The keys of nodes or edges that aren't read, with their first values."""
+    values: dict[str, set[str]] = {}
+    for has in rows:
+        for key, value in has.items():
+            values.setdefault(str(key), set()).add(str(value))
+    said = []
+    for key in values:
+        if key not in READ:
+            said.append(f"{shown(key)} ({first_values(values[key])})")
+    return [f"{counted(len(said), 'key')} of {what} not read: {'; '.join(said)}"] if said else []
+
+
+def first_values(values: set[str]) -> str:
+    first = sorted(values)[:MOST_VALUES]
+    more = [".."] if len(values) > MOST_VALUES else []
+    return ", ".join([*map(shown, first), *more])

@@ -56,12 +56,12 @@ def complete(nodes):
 def board(rows, columns, ways, far):
     """The squares of a board, numbered row by row, each joined to those that are up to so far in these directions."""
     number = {(x, y): y * columns + x + 1 for y in range(rows) for x in range(columns)}
+    moves = [(step * x, step * y) for step in range(1, far + 1) for x, y in ways]
     edges = (
-        (v, number[square])
+        (v, number[x + across, y + down])
         for (x, y), v in number.items()
-        for across, down in ways
-        for step in range(1, far + 1)
-        if (square := (x + step * across, y + step * down)) in number
+        for across, down in moves
+        if (x + across, y + down) in number
     )
     return made(rows * columns, edges, {v: square for square, v in number.items()})
 

@@ -6,21 +6,26 @@ import io
 import sys
 
 from lab.networks import tables
-from lab.networks.channels import table_of
+from lab.networks.channels import channels_asked, file_in, is_stated
 from lab.networks.codes import code_of, tell_code
 from lab.networks.command_line import command_line
 from lab.networks.describe import facts, warnings
+from lab.networks.foreign import READERS
 from lab.networks.kinds import KINDS
+from lab.networks.listed import Listed
 from lab.networks.named import network_at, network_bytes, path_of
 from lab.networks.network_text import reading_of
 from lab.networks.numbering import renumbered
+from lab.networks.options import commands_for, stated_by
 from lab.networks.plan_text import clashes, read_plan
-from lab.networks.reading import form_of, listed_of, made_of
-from lab.networks.tables import MOST_BYTES, Listed, with_bars, with_sites
+from lab.networks.reading import form_read, listed_of, made_of
+from lab.networks.stated import Unsaid, decoded
 from lab.networks.texts import text_of
-from lab.words import bytes_at, one_line, source_of, text_at, write
+from lab.words import bytes_at, in_words, one_line, source_of, text_at, write
 from lab.wrong import Wrong
 
+# No file of a network within the limits is longer.
+MOST_BYTES = 1 << 28
 # Kilometres: less than that no two sites are apart, and numbers of places have no such digits.
 LEAST_REACH = 1e-6
 
@@ -60,16 +65,36 @@ def made(given):
     return text_of(network, [f"Made by forestlab network {given.command} {' '.join(words)}"])
 
 
-def channels_asked(given):
-    """The table of real channel numbers of the option, or None."""
-    try:
-        return None if given.channels is None else table_of([given.channels])
-    except Wrong as why:
-        given.refuse(str(why))
-
-
 def was_read(given):
-    licence, named = channels_asked(given), dict(given.columns or ())
+    """The network of a file, of a table of sites, or of both."""
+    refuse_words(given)
+    path = given.file if given.file is not None else given.sites
+    name = one_line(path)
+    form = None if given.file is None else form_read(given.file, given.stated)
+    refuse_options(given, form)
+    licence = channels_asked(given, words_of_channels(given), "network")
+    found = Listed("sites") if given.file is None else file_listed(given, name, form)
+    if given.sites:
+        sites = tables.sites_of(*text_asked(given, given.sites), given.stated)
+        tables.with_sites(found, sites, name)
+        if given.reach is not None:
+            tables.join_near(found, sites, given.reach)
+    if given.bars:
+        tables.with_bars(found, *text_asked(given, given.bars), given.stated, licence)
+    network, notes = made_of(found, name)
+    for note in notes:
+        say(f"{name}: {note}")
+    head = [f"Channel {channel} is {real}" for channel, real in enumerate(licence or (), 1)]
+    return text_of(network, head)
+
+
+def words_of_channels(given):
+    """The words of --channels, which are one of the shell."""
+    return [] if given.channels is None else [given.channels]
+
+
+def refuse_words(given):
+    """Refuses words that don't go together."""
     if given.reach is not None and not (given.sites and LEAST_REACH <= given.reach <= 20000):
         given.refuse(
             f"--reach is for a table of --sites, and {LEAST_REACH:g} or more, which is a millimetre"
@@ -78,30 +103,44 @@ def was_read(given):
         given.refuse("a FILE is wanted, or --sites with --reach")
     if [given.file, given.sites, given.bars].count("-") > 1:
         given.refuse("standard input is one file, not two")
-    name = one_line(given.file or given.sites)
-    if given.file is None:
-        found = Listed("sites")
-    else:
-        form = given.form or (
-            "dimacs" if path_of(given.file) != given.file else form_of(given.file, name)
-        )
-        found = listed_of(
-            bytes_of_file(given.file), name, form, given.encoding, named, not given.no_heading
-        )
-    for path, add, more in (
-        (given.sites, with_sites, (name, given.reach)),
-        (given.bars, with_bars, (licence,)),
+
+
+def refuse_options(given, form):
+    """Refuses what is said of columns that no table of this call has."""
+    columns = set()
+    if form == "pairs":
+        columns.update(tables.PAIRS)
+    if form in READERS:
+        columns.add("site")
+    for path, more in (
+        (given.sites, tables.SITES),
+        (given.bars, tables.BARS),
+        (file_in(words_of_channels(given)), tables.LICENCE),
     ):
-        if path:
-            text = tables.decoded(bytes_of_file(path), one_line(path), given.encoding)
-            add(found, text, one_line(path), *more, named)
-    network, said = made_of(found, name)
-    for what in said:
-        say(f"{name}: {what}")
-    return text_of(
-        network,
-        [f"Channel {channel} is {number}" for channel, number in enumerate(licence or (), 1)],
-    )
+        columns.update(more if path else ())
+    others = sorted(given.stated.columns.keys() - columns)
+    if others:
+        given.refuse(f"--columns: nothing that is read here has a column {in_words(others)}")
+    if not given.stated.has_heading and not columns - {"site"}:
+        given.refuse("--no-heading: no table is read here")
+
+
+def text_asked(given, path):
+    """The text of a table, and what it is called."""
+    name = one_line(path)
+    return decoded(bytes_of_file(path), name, given.stated.encoding), name
+
+
+def file_listed(given, name, form):
+    """What FILE lists."""
+    try:
+        return listed_of(bytes_of_file(given.file), name, form, given.stated)
+    except Unsaid:
+        raise
+    except Wrong as why:
+        if given.file != "-" or given.stated.form:
+            raise
+        raise Wrong(f"{why}; standard input is read as DIMACS, unless --as says its form") from None
 
 
 def was_told(given):
@@ -132,7 +171,10 @@ def was_named(given):
     if given.file == "-":
         raise Wrong("names: standard input has the plan, so the network has to be a file")
     network = network_at(given.file)
-    table = channels_asked(given)
+    words = words_of_channels(given)
+    if is_stated(given) and file_in(words) is None:
+        given.refuse("--columns, --no-heading and --encoding are of a TABLE in a file")
+    table = channels_asked(given, words, "network")
     plan = read_plan(text_at("-"), "the plan", network)
     for v, w in clashes(network, plan)[:1]:
         raise Wrong(
@@ -153,6 +195,12 @@ def was_named(given):
 
 def main(words):
     given = command_line().parse_args(words)
+    if given.command in ("read", "names"):
+        given.stated = stated_by(given)
     doers = {"read": was_read, "tell": was_told, "number": was_numbered, "names": was_named}
-    write(given, doers[given.command](given) if given.command in doers else made(given))
+    try:
+        text = doers[given.command](given) if given.command in doers else made(given)
+    except Unsaid as why:
+        raise Wrong(commands_for(why, ["network", words[0]], words[1:])) from None
+    write(given, text)
     return 0

@@ -1,6 +1,7 @@
 """Places of sites, on a plane in kilometres or on the globe, and which of them are near each other."""
 import math
 from collections.abc import Iterator
+from itertools import product
 
 # The mean radius of the earth in kilometres, and half of its circumference.
 EARTH = 6371.0088
@@ -38,14 +39,18 @@ def near(points: list[Point | None], reach: float, is_globe: bool) -> Iterator[t
     """The pairs of rows that are less than the reach apart on the ground; those in neighbouring cells are looked at."""
     # On a globe the straight line is shorter than the way on the ground.
     span = 2 * EARTH * math.sin(min(reach / (2 * EARTH), math.pi / 2)) if is_globe else reach
-    cells = {}
+    cells: dict[tuple[int, ...], list[int]] = {}
     for at, point in enumerate(points):
         if point:
             cells.setdefault(tuple(math.floor(part / span) for part in point), []).append(at)
-    ways = [(i, j, k) for i in (-1, 0, 1) for j in (-1, 0, 1) for k in (-1, 0, 1)]
     for cell, rows in cells.items():
-        around = [other for way in ways for other in cells.get(tuple(map(sum, zip(cell, way))), ())]
-        for at in rows:
-            for other in around:
-                if at < other and math.dist(points[at], points[other]) < span:
-                    yield at, other
+        around = list(rows_around(cells, cell))
+        for at, other in product(rows, around):
+            if at < other and math.dist(points[at], points[other]) < span:
+                yield at, other
+
+
+def rows_around(cells: dict[tuple[int, ...], list[int]], cell: tuple[int, ...]) -> Iterator[int]:
+    """The rows of a cell and of those beside it."""
+    for way in product((-1, 0, 1), repeat=3):
+        yield from cells.get(tuple(map(sum, zip(cell, way))), ())

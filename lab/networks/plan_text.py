@@ -5,22 +5,26 @@ from lab.wrong import Wrong, wrong_line
 
 def rows_of(text, name, least=1, below=2**32):
     """(line, vertex, channel) of the lines of a plan, with numbers in these bounds."""
-    lines = [
-        (number, [field for field in fields_of(raw) if field])
-        for number, raw in enumerate(text.split("\n"), 1)
-    ]
-    lines = [(number, fields) for number, fields in lines if fields]
-    if not lines or lines[0][1] != ["plan"]:
-        raise wrong_line(name, lines[0][0] if lines else 1, "no line `plan` (C6)")
+    rows = list(fields_by_line(text))
+    line, fields = rows[0] if rows else (1, [])
+    if fields != ["plan"]:
+        raise wrong_line(name, line, "no line `plan` (C6)")
     found = []
-    for line, fields in lines[1:]:
-        numbers = [whole(field) for field in fields]
-        if len(numbers) != 2 or None in numbers or max(numbers) >= below or numbers[1] < least:
-            raise wrong_line(
-                name, line, f"no vertex and its channel: `{shown(' '.join(fields))}` (C6)"
-            )
+    for line, fields in rows[1:]:
+        numbers = [number for number in map(whole, fields) if number is not None and number < below]
+        if not len(numbers) == len(fields) == 2 or numbers[1] < least:
+            what = f"no vertex and its channel: `{shown(' '.join(fields))}` (C6)"
+            raise wrong_line(name, line, what)
         found.append((line, *numbers))
     return found
+
+
+def fields_by_line(text):
+    """(line, fields) of the lines that aren't blank."""
+    for line, raw in enumerate(text.split("\n"), 1):
+        fields = [field for field in fields_of(raw) if field]
+        if fields:
+            yield line, fields
 
 
 def read_plan(text, name, network):

@@ -1,146 +1,122 @@
-"""`forestlab network read`: a text of another form as a network of the programs, and what of it isn't read."""
-import os
-
+"""`forestlab network read`: a text of another form as a network, and what of it isn't read."""
 from lab.network import Network
-from lab.networks import foreign, tables
+from lab.networks import foreign, lines, tables
 from lab.networks.fields import whole
-from lab.networks.network_text import checked, read_network, stem
-from lab.networks.tables import Listed
+from lab.networks.listed import Listed, note_alike
+from lab.networks.named import path_of
+from lab.networks.network_text import checked, network_of, read_network, stem
+from lab.networks.stated import Stated, decoded, form_of
 from lab.networks.texts import text_of
-from lab.words import counted
+from lab.words import counted, one_line
 from lab.wrong import Wrong
 
-# The forms, and the endings of files that say which it is.
-ENDINGS = {
-    "pairs": ("csv", "tsv"),
-    "edges": ("edges", "edgelist"),
-    "adjacency": ("adj", "adjlist"),
-    "dimacs": ("col",),
-    "graphml": ("graphml",),
-    "gexf": ("gexf",),
-    "gml": ("gml",),
-    "json": ("json",),
-    "graph6": ("g6",),
-    "sparse6": ("s6",),
-}
-FORMS = tuple(ENDINGS)
-# What makes another form of a file, by its ending.
-ELSEWHERE = {
-    "dot": "gv2gml -o net.gml FILE (Debian: graphviz)",
-    "gv": "gv2gml -o net.gml FILE (Debian: graphviz)",
-    "net": "networkx: nx.write_graphml(nx.read_pajek(FILE), 'net.graphml')",
-    "xlsx": "save the sheet as CSV",
-    "ods": "save the sheet as CSV",
-    "mtx": "networkx and scipy: nx.write_graphml(nx.Graph(scipy.io.mmread(FILE)), 'net.graphml')",
-}
 
-
-def form_of(path: str, name: str) -> str:
-    """The form that a file's ending says; standard input is DIMACS."""
-    ending = os.path.splitext(path)[1][1:].lower()
-    found = (
-        "dimacs"
-        if path == "-"
-        else next((form for form, known in ENDINGS.items() if ending in known), None)
-    )
-    if found is None:
-        raise Wrong(
-            f"{name}: its ending doesn't say what it is"
-            + (
-                f": {ELSEWHERE[ending]}"
-                if ending in ELSEWHERE
-                else "; one of these does:\n"
-                f"  forestlab network read --as pairs {name}       CSV with a heading source,target\n"
-                f"  forestlab network read --as edges {name}       two nodes a line, with blanks between\n"
-                f"  forestlab network read --as adjacency {name}   a node and its neighbours a line"
-            )
-        )
-    return found
-
-
-def listed_of(
-    data: bytes, name: str, form: str, encoding=None, named=None, is_headed=True
-) -> Listed:
+def listed_of(data: bytes, name: str, form: str, stated: Stated = Stated()) -> Listed:
     """What a text of a form lists."""
-    text = tables.decoded(data, name, encoding)
+    if form in foreign.READERS:
+        return foreign.read(data, name, form, stated)
     if form == "dimacs":
-        network = read_network(text, name)
-        own = {v: network.names.get(v, str(v)) for v in network.vertices}
-        if len(set(own.values())) < len(own):
-            own = {v: str(v) for v in network.vertices}
-        return Listed(
-            form,
-            [(0, own[v], own[w]) for v, w in network.edges],
-            list(own.values()),
-            {},
-            {own[v]: place for v, place in network.places.items() if v in own},
-            {own[v]: said for v, said in network.said.items()},
-            {own[v]: set(said) for v, said in network.bars.items()},
-        )
+        return listed_in(dimacs_of(data, name, stated), name)
+    text = decoded(data, name, stated.encoding)
     if form == "pairs":
-        found = tables.pairs(text, name, named, is_headed)
-    elif form in foreign.FORMS:
-        found = foreign.read(text, name, form)
-    else:
-        found = getattr(tables, form)(text, name)
-    return found
+        return tables.pairs(text, name, stated)
+    return {"edges": lines.edges, "adjacency": lines.adjacency}[form](text, name)
+
+
+def dimacs_of(data: bytes, name: str, stated: Stated) -> Network:
+    """The network of a text in the DIMACS format, of which nothing is mended, not even its line ends."""
+    if stated.encoding is None:
+        return network_of(data, name)
+    decoded(data, name, stated.encoding)
+    return read_network(data.decode(stated.encoding), name)
+
+
+def listed_in(network: Network, name: str) -> Listed:
+    """The nodes and edges of a network by their names, which differ."""
+    names = {v: network.names.get(v, str(v)) for v in network.vertices}
+    vertices: dict[str, int] = {}
+    for v, own in names.items():
+        if vertices.setdefault(own, v) != v:
+            raise Wrong(f"{name}: vertices {vertices[own]} and {v} are both called {own}")
+    return Listed(
+        "dimacs",
+        edges=[(f"vertex {v}", names[v], names[w]) for v, w in network.edges],
+        nodes=list(names.values()),
+        places={names[v]: place for v, place in network.places.items() if v in names},
+        identifiers={names[v]: number for v, number in network.said.items()},
+        bars={names[v]: set(channels) for v, channels in network.bars.items()},
+    )
 
 
 def made_of(found: Listed, name: str) -> tuple[Network, list[str]]:
-    """The network of what a text lists, and the lines that say what was read, and what wasn't."""
-    names = found.nodes or list(dict.fromkeys(end for _, *ends in found.edges for end in ends))
-    tables.note_alike(found, names)
-    order, by = numbered(names)
-    number = {node: v for v, node in enumerate(order, 1)}
+    """The network of what a text lists, and what is said of it: how it was read, and what of it wasn't."""
+    note_alike(found)
+    names, by = numbered(found.names())
+    number = {node: v for v, node in enumerate(names, 1)}
+    edges, notes = edges_of(found, number)
+    network = Network(
+        len(names),
+        edges,
+        {number[node]: identifier for node, identifier in found.identifiers.items()},
+        {number[node]: channels for node, channels in found.bars.items()},
+        {v: node for node, v in number.items() if node != str(v)},
+        {number[node]: place for node, place in found.places.items()},
+        stem(name),
+    )
+    checked(network, name)
+    return network, [summary(network, found.form, by), *found.notes, *notes]
+
+
+def edges_of(found: Listed, number: dict[str, int]) -> tuple[set[tuple[int, int]], list[str]]:
+    """The edges by numbers, and notes of those that aren't there for themselves."""
     edges, loops, again = set(), 0, 0
     for _, one, other in found.edges:
-        pair = tuple(sorted((number[one], number[other])))
-        loops += pair[0] == pair[1]
-        again += pair in edges
-        edges |= {pair} if pair[0] < pair[1] else set()
-    said = [f"{counted(loops, 'edge')} from a node to itself left out"] if loops else []
-    said += (
-        [f"{counted(again, 'edge')} there before, in one direction or the other"] if again else []
-    )
-    made = checked(
-        Network(
-            len(order),
-            edges,
-            {number[node]: what for node, what in found.identifiers.items()},
-            {number[node]: what for node, what in found.bars.items()},
-            {v: node for node, v in number.items() if node != str(v)},
-            {number[node]: place for node, place in found.places.items()},
-            stem(name),
-        ),
-        name,
-    )
-    alone = sum(not ws for ws in made.neighbours.values())
+        v, w = sorted((number[one], number[other]))
+        if v == w:
+            loops += 1
+        elif (v, w) in edges:
+            again += 1
+        else:
+            edges.add((v, w))
+    notes = []
+    if loops:
+        notes.append(f"{counted(loops, 'edge')} from a node to itself left out")
+    if again:
+        notes.append(f"{counted(again, 'edge')} there before, in one direction or the other")
+    return edges, notes
+
+
+def summary(network: Network, form: str, by: str) -> str:
+    """The form and the counts, to be compared with one's data."""
+    alone = sum(not beside for beside in network.neighbours.values())
     lone = f", {alone} of them without a neighbour" if alone else ""
-    first = (
-        f"{found.form}; {counted(made.nodes, 'node')}{lone}, {counted(len(made.edges), 'edge')}, "
-        f"at most {counted(made.greatest_degree, 'neighbour')}; {by}"
-    )
-    return made, [first, *found.notes, *said]
+    nodes, edges = counted(network.nodes, "node"), counted(len(network.edges), "edge")
+    most = counted(network.greatest_degree, "neighbour")
+    return f"{form}; {nodes}{lone}, {edges}, at most {most}; {by}"
 
 
 def numbered(names: list[str]) -> tuple[list[str], str]:
-    """The names by their numbers. Whole numbers without a gap from 0 or 1 on stay in their order."""
+    """The names by their numbers, which are those that the names are, if these count from 1 or from 0."""
     numbers = {whole(name) for name in names}
-    for least, by in (
-        (1, "numbers as in the text"),
-        (0, "it counts from 0, so each number is one more"),
-    ):
+    by = {1: "numbers as in the text", 0: "it counts from 0, so each number is one more"}
+    for least, words in by.items():
         if len(numbers) == len(names) and numbers == set(range(least, len(names) + least)):
-            return sorted(names, key=whole), by
+            return sorted(names, key=int), words
     return names, "numbers by the order in which they come"
 
 
-def read_any(data: bytes, name: str) -> tuple[Network, list[str]]:
-    """The network of a file by its ending, as the studio opens it."""
-    form = form_of(name, name) if "." in name else "dimacs"
+def form_read(path: str, stated: Stated) -> str:
+    """The form of what a command line names; what is called by the name of a network is DIMACS."""
+    if stated.form is None and path_of(path) != path:
+        return "dimacs"
+    return form_of(path, one_line(path), stated)
+
+
+def read_any(data: bytes, name: str, form: str, stated: Stated) -> tuple[Network, list[str]]:
+    """The network of a file as the studio opens it, and what is said of it."""
     if form == "dimacs":
-        return read_network(data.decode("utf-8", "replace"), name), []
-    made, said = made_of(listed_of(data, name, form), name)
+        return network_of(data, name), []
+    made, notes = made_of(listed_of(data, name, form, stated), name)
     network = read_network(text_of(made), name)
     network.name = stem(name)
-    return network, said
+    return network, notes

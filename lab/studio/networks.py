@@ -7,6 +7,7 @@ from lab.definitions.programs import PROGRAMS
 from lab.networks.kinds import KINDS
 from lab.networks.network_text import read_network, stem
 from lab.networks.reading import read_any
+from lab.networks.stated import FORMS, Stated, Unsaid, form_of
 from lab.networks.texts import text_of
 from lab.pictures.pages import net_of
 from lab.pictures.places import places_of
@@ -17,6 +18,8 @@ from lab.studio.asked import MOST_DRAWN, OPENED, network_asked
 from lab.studio.lessons import lessons
 from lab.wrong import Wrong
 
+# How many letters of a file's name are shown.
+MOST_NAME = 80
 EXAMPLES = os.path.join(TOP, "examples")
 
 
@@ -61,8 +64,24 @@ def example(asked, _tell):
 
 
 def file_read(asked, _tell):
-    """A file that was dropped on the page, in any form that `network read` reads."""
-    return shown(*read_any(base64.b64decode(asked["data"]), str(asked["name"])[:80]))
+    """A file that was dropped on the page, or the page's question if something of it isn't stated."""
+    name = str(asked["name"])[:MOST_NAME]
+    stated = stated_asked(asked.get("stated") or {})
+    try:
+        form = form_of(name, name, stated)
+        return shown(*read_any(base64.b64decode(asked["data"]), name, form, stated))
+    except Unsaid as why:
+        choices = [{"stated": choice, "means": means} for choice, means in why.choices]
+        return {"unsaid": why.what, "choices": choices}
+
+
+def stated_asked(said) -> Stated:
+    """What the page states of a file."""
+    form, encoding = said.get("form"), said.get("encoding")
+    if form not in (None, *FORMS):
+        raise Wrong("the page states a form that isn't read")
+    columns = {str(column): str(title) for column, title in (said.get("columns") or {}).items()}
+    return Stated(form, columns, said.get("has_heading") is not False, encoding and str(encoding))
 
 
 def make(asked, _tell):

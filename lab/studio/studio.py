@@ -9,7 +9,9 @@ import webbrowser
 
 from lab.definitions.programs import PROGRAMS, program_at
 from lab.networks.named import network_bytes
-from lab.networks.reading import read_any
+from lab.networks.options import commands_for
+from lab.networks.reading import form_read, read_any
+from lab.networks.stated import Stated, Unsaid
 from lab.studio.asked import OPENED
 from lab.studio.building import are_built
 from lab.studio.networks import shown
@@ -114,14 +116,23 @@ def open_browser(address, folder):
     webbrowser.open("file://" + path)
 
 
+def opened(path):
+    """The network that the command line names, and what is said of it."""
+    try:
+        form = form_read(path, Stated())
+        return read_any(network_bytes(path), called(path), form, Stated())
+    except Unsaid as why:
+        raise Wrong(
+            commands_for(why, ["network", "read"], [path], " | forestlab studio -")
+        ) from None
+
+
 def main(words):
     given = command_line().parse_args(words)
     with tempfile.TemporaryDirectory(prefix="forestplan-studio-") as folder:
         try:
             if given.network is not None:
-                OPENED["network"] = shown(
-                    *read_any(network_bytes(given.network), called(given.network))
-                )
+                OPENED["network"] = shown(*opened(given.network))
             OPENED.update(own=own_programs(given.own), is_proved=are_built())
             server = server_at(given.port, folder)
         except Wrong as why:

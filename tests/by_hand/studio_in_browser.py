@@ -250,12 +250,19 @@ class More(studio_page.Page):
         self.sees(
             "a wrong text is said", "document.getElementById('wrong').textContent.includes('F5')"
         )
-        drop("a,b\nOslo,Ulm\nUlm,Rom\n", "x.csv")
-        self.sees("a table may have a heading", "!document.getElementById('heading').hidden")
-        self.page.click_on("#heading [data-heading=yes]")
+        drop("a,b\nOslo,Ulm\nUlm,Rom\n", "x.txt")
+        self.sees("it is asked what a file is", "!document.getElementById('unsaid').hidden")
+        self.page.click_on("#unsaidchoices button:nth-child(1)")
         self.sees(
-            "which is said", "studio.net.nodes.length === 3 && studio.net.nodes[0].name === 'Oslo'"
+            "and what its columns are",
+            "document.getElementById('unsaidwhat').textContent.includes('no heading')",
         )
+        self.page.click_on("#unsaidchoices button:nth-child(1)")
+        self.sees(
+            "which is stated",
+            "studio.net.nodes.length === 3 && studio.net.nodes[0].name === 'Oslo'",
+        )
+        self.sees("and no longer asked", "document.getElementById('unsaid').hidden")
         self.page.click_on("#make button")
         self.sees("a random network", "studio.net.nodes.length === 8")
 

@@ -8,8 +8,9 @@ import unittest
 import unittest.mock
 from xml.sax.saxutils import quoteattr
 
-from lab.networks import foreign, tables
-from lab.networks.reading import form_of, listed_of, made_of
+from lab.networks import foreign
+from lab.networks.reading import listed_of, made_of
+from lab.networks.stated import Stated, form_of
 from lab.wrong import Wrong
 from tests.cases import Case
 
@@ -26,7 +27,7 @@ GRAPHS, SEED = 40, 20261129
 def read(text, form, **more):
     """The edges by names, the nodes without one, and what is said."""
     data = text if isinstance(text, bytes) else text.encode()
-    made, said = made_of(listed_of(data, "net", form, **more), "net")
+    made, said = made_of(listed_of(data, "net", form, Stated(**more)), "net")
     names = {v: made.names.get(v, str(v)) for v in made.vertices}
     edges = {frozenset((names[v], names[w])) for v, w in made.edges}
     return edges, set(names.values()).difference(*edges), said
@@ -77,7 +78,7 @@ WRITERS = [
         "pairs",
         True,
         lambda nodes, pairs: as_csv([("Von", "Nach"), *pairs], ";"),
-        {"named": {"source": "von", "target": "Nach"}},
+        {"columns": {"source": "von", "target": "Nach"}},
     ),
     (
         "pairs",
@@ -86,7 +87,7 @@ WRITERS = [
         + as_csv([("from", "to"), *pairs], "\t").replace("\n", "\r\n"),
         {},
     ),
-    ("pairs", True, lambda nodes, pairs: as_csv(pairs, ","), {"is_headed": False}),
+    ("pairs", True, lambda nodes, pairs: as_csv(pairs, ","), {"has_heading": False}),
     (
         "edges",
         False,
@@ -125,88 +126,146 @@ WRITERS = [
 PAIR = "source,target\n"
 # (form, text, a part of what is said). Each is refused.
 REFUSED = (
-    ("dimacs", "Ulm,Aue\n", "(F8)"),
-    ("pairs", "Ulm,Aue\nAue,Hof\n", "no heading with a column source and one target"),
-    ("pairs", "source,target,from\na,b,c\n", "each once"),
-    ("pairs", PAIR, "no row"),
-    ("pairs", PAIR + "a,\n", "line 2"),
-    ("pairs", "a,b;c\n", "no heading"),
-    ("pairs", PAIR + "a,b,c\n", "line 2: 3 fields"),
-    ("pairs", PAIR + '"a,b\nc,d\n', "no row of a table"),
-    ("pairs", PAIR + "a,#N/A\n", "no name of a node"),
-    ("pairs", PAIR + "a,----\n", "no name of a node"),
-    ("pairs", PAIR.encode() + b"K\xf6ln,a\n", "--encoding"),
+    ("dimacs", "Ulm,Aue\n", "line 1: `Ulm,Aue` begins no line of a network (F8)"),
+    ("dimacs", "\ufeffp edge 1 0\n", "(F8)"),
+    ("dimacs", "c name 2 1\np edge 2 0\n", "vertices 1 and 2 are both called 1"),
+    ("pairs", "Ulm,Aue\nAue,Hof\n", "line 1: no heading with the columns source and target"),
+    ("pairs", "\n\nUlm,Aue\n", "line 3: no heading"),
+    (
+        "pairs",
+        "source,target,from\na,b,c\n",
+        "line 1: source and from may each be the column source",
+    ),
+    ("pairs", "source,target,target\na,b,c\n", "line 1: two columns are called target"),
+    ("pairs", "", "it has no row"),
+    ("pairs", PAIR, "line 1: it has no row below its heading"),
+    ("pairs", PAIR + "a,b\nsource,target\nb,c\n", "line 3: the heading a second time"),
+    ("pairs", PAIR + "a,\n", "line 2: no name of a node: ``"),
+    ("pairs", "a,b;c\n", "line 1: no heading"),
+    ("pairs", PAIR + "a,b\na,b,c\n", "line 3: 3 fields, and the first row has 2"),
+    ("pairs", PAIR + "a;b\n", "line 2: 1 field, and the first row has 2"),
+    ("pairs", PAIR + 'a,"b\nc,d\n', "line 2: no row of a table"),
+    ("pairs", PAIR + '"a\nb",c\nd,"e" f\n', "line 4: no row of a table"),
+    ("pairs", PAIR + 'c,"a\nb"\n', "line 2: no name of a node: `a\\nb`"),
+    ("pairs", PAIR + "a,#N/A\n", "line 2: no name of a node"),
+    ("pairs", PAIR + "a,----\n", "line 2: no name of a node"),
+    ("pairs", PAIR + "a,b\u00adc\n", "line 2: no name of a node"),
+    ("pairs", PAIR.encode() + b"a,b\nK\xf6ln,a\n", "line 3: it isn't in UTF-8"),
+    ("pairs", PAIR.encode("utf-16-le"), "line 1: a letter of value zero"),
     ("edges", "a\n", "line 1: no two nodes"),
-    ("edges", "Upper Hill Mill\n", "no two nodes"),
-    ("edges", "1 : 2\n", "no name of a node"),
-    ("edges", "source target\na b\n", "it is a heading"),
-    ("edges", "0 2\n3 {}\n4 {}\n", "no name of a node"),
-    ("adjacency", "a b\n", "b has no line of its own"),
-    ("adjacency", "a b\nb\na\n", "a second line of a"),
-    ("adjacency", "a,b\nb,c\n", "no node has a neighbour"),
+    ("edges", "", "it has no row"),
+    ("edges", "# a b\n", "it has no row"),
+    ("edges", "Upper Hill Mill\n", "line 1: no two nodes"),
+    (
+        "edges",
+        "2 3\nUlm Site 1\n",
+        "line 2: a number after two nodes, and nothing in the first row",
+    ),
+    ("edges", "1 : 2\n", "line 1: no name of a node: `:`"),
+    ("edges", "source target\na b\n", "line 1: it is a heading"),
+    ("edges", "a b\n#c d\n", "line 2: comments come before all rows"),
+    ("edges", "2 Mill,\n", "line 1: no name of a node: `Mill,`; a table is read --as pairs"),
+    ("edges", '"a" "b"\n', "a table is read --as pairs"),
+    ("edges", "0 2\n3 {}\n4 {}\n", "line 2: no name of a node"),
+    ("adjacency", "a b\n", "line 1: b has no line of its own"),
+    ("adjacency", "a b\nb\na\n", "line 3: a second line of a"),
+    ("adjacency", "a,b\nb,c\n", "line 1: no name of a node: `a,b`; a table is read --as pairs"),
     (
         "json",
         '{"nodes": [{"id": "a"}, {"id": "a"}], "links": []}',
-        "has 2 nodes and 0 edges, and networkx reads 1",
+        "nodes[1]: a second node of the id a",
     ),
     (
         "json",
-        '{"nodes": [{"id": "a"}, {"id": "b"}], "links": [{"source": 0, "target": 1}]}',
-        "networkx reads 4 and 1",
+        '{"nodes": [{"id": "a"}], "links": [{"source": 0, "target": "a"}]}',
+        "links[0]: 0 isn't the id of a node",
     ),
-    (
-        "json",
-        '{"nodes": [{"id": "a"}], "links": [], "more": [{"source": "a"}]}',
-        "networkx reads 1 and 0",
-    ),
-    ("json", '{"nodes": [{"name": "a"}], "links": []}', "can't read it"),
-    (
-        "graphml",
-        '<graphml><graph><node id="a"/><edge source="a" target="b"/></graph></graphml>',
-        "has 1 nodes",
-    ),
+    ("json", '{"nodes": [{"id": "a"}], "links": [], "more": [{"source": "a"}]}', "and no other"),
+    ("json", '{"nodes": [{"id": "a"}], "links": [], "edges": []}', "and no other"),
+    ("json", '{"nodes": [{"name": "a"}], "links": []}', "nodes[0]: its `id` is no text"),
+    ("json", '{"nodes": [{"id": true}], "links": []}', "nodes[0]: its `id` is no text"),
+    ("json", '{"nodes": [{"id": 1}, {"id": "1"}], "links": []}', "two nodes are called 1"),
+    ("json", '{"nodes": [],\n "links": []', "line 2: no JSON"),
+    ("json", "[" * 100000, "no JSON of nodes and links"),
     (
         "graphml",
-        '<graphml><graph><node id="a"><graph><node id="b"/></graph></node></graph></graphml>',
-        "has 2 nodes",
+        '<graphml><graph><node id="a"/>\n<edge source="a" target="b"/></graph></graphml>',
+        "line 2: b isn't the id of a node",
     ),
     (
         "graphml",
-        '<graphml><graph><node id="a"/><node id="a "/></graph></graphml>',
-        "two nodes have one name",
+        '<graphml><graph><node id="a">\n<graph><node id="b"/></graph></node></graph></graphml>',
+        "line 2: a second graph",
+    ),
+    ("graphml", "<graphml><graph/>\n<graph/></graphml>", "line 2: a second graph"),
+    (
+        "graphml",
+        '<graphml><graph><node id="a"/>\n<node id="a "/></graph></graphml>',
+        "two nodes are called a",
+    ),
+    (
+        "graphml",
+        '<graphml><graph><node id="a"/><link source="a" target="a"/></graph></graphml>',
+        "line 1: `link` joins nodes and isn't an edge",
+    ),
+    ("graphml", "<graphml>\n<graph>\n</graphml>", "line 3: no XML"),
+    ("gml", "graph [ node [ id 1 ]\nnode [ id 1 ] ]", "line 2: a second node of the id 1"),
+    ("gml", "graph [ node [ id 1 ]\nlink [ source 1 target 1 ] ]", "line 2: `link` is neither"),
+    ("gml", "graph [ node [ id 1 ]\ngraph [ node [ id 5 ] ] ]", "line 2: a second graph"),
+    ("gml", "graph [ node [ id 1 ] edge [ source 1\ntarget 2 ] ]", "line 1: 2 isn't the id"),
+    ("gml", 'graph [\nnode [ id 1 name "say "hi" 1" ] ]', "line 2: a quotation mark within"),
+    (
+        "gml",
+        'graph [ node [ id 1 ]\nnode [ id 2 label "a" label "b" ] ]',
+        "line 2: a second `label` of one `node`",
+    ),
+    ("gml", "graph [ node [ id 1 ]", "a list isn't closed"),
+    ("gml", "node [ id 1 ]", "networkx can't read it as gml"),
+    ("gexf", "<gexf><graph/></gexf>", "can't read it"),
+    ("graph6", "A_\nA_\n", "line 2: a second graph"),
+    ("graph6", "A", "can't read it"),
+)
+YED = """\
+<graphml xmlns="http://graphml.graphdrawing.org/xmlns" xmlns:y="http://www.yworks.com/xml/graphml">
+<key id="d5" for="node" yfiles.type="nodegraphics"/><key id="d9" for="edge" yfiles.type="edgegraphics"/>
+<graph edgedefault="directed" id="G">
+<node id="n0"><data key="d5"><y:ShapeNode><y:Geometry height="30.0" width="30.0" x="1.5" y="2.0"/>
+<y:NodeLabel>Ulm</y:NodeLabel></y:ShapeNode></data></node>
+<node id="n1"><data key="d5"><y:ShapeNode><y:Geometry height="30.0" width="30.0" x="4.0" y="2.0"/>
+<y:NodeLabel>Aue</y:NodeLabel></y:ShapeNode></data></node>
+<edge id="e0" source="n0" target="n1"><data key="d9"><y:PolyLineEdge>
+<y:Path sx="0.0" sy="0.0" tx="0.0" ty="0.0"/><y:Arrows source="none" target="standard"/></y:PolyLineEdge>
+</data></edge></graph></graphml>"""
+GEPHI = """\
+<gexf xmlns="http://gexf.net/1.3" version="1.3" xmlns:viz="http://gexf.net/1.3/viz">
+<graph defaultedgetype="undirected"><attributes class="node"><attribute id="0" title="source" type="string"/>
+</attributes><nodes><node id="0" label="Ulm"><attvalues><attvalue for="0" value="x"/></attvalues></node>
+<node id="1" label="Aue"/></nodes><edges><edge id="0" source="0" target="1"/></edges></graph></gexf>"""
+# (form, text): the network of Ulm and Aue with an edge between them.
+READ = (
+    ("pairs", " Source , Target \n Ulm , Aue \n"),
+    ("pairs", 'source, target\n"Ulm", "Aue"\n'),
+    ("pairs", "source;target\r\nUlm;Aue\r\n;\r\n"),
+    ("pairs", "\ufeffsource,target\nUlm,Aue\n"),
+    ("pairs", "source,target\nUlm,Aue\n".encode("utf-16")),
+    ("edges", "# Graph\n# by hand\nUlm\tAue\n"),
+    ("adjacency", "Ulm: Aue\nAue:\n"),
+    ("dimacs", "c name 1 Ulm\nc name 2 Aue\np edge 2 1\ne 1 2\n"),
+    ("graphml", YED),
+    ("gexf", GEPHI),
+    (
+        "gml",
+        'graph [ node [ id 7 name "Ulm" source 3 ] node [ id 8 name "Aue" ] edge [ source 7 target 8 ] ]',
     ),
     (
         "gml",
-        "graph [ node [ id 1 ] node [ id 2 ] link [ source 1 target 2 ] ]",
-        "has 2 nodes and 1 edges",
+        'graph [ node [ id 7 label "Ulm" ] node [ id 8 label "Aue" ] # [\n edge [ source 7 target 8 ] ]',
     ),
-    ("gml", "graph [ node [ id 1 ] graph [ node [ id 5 ] ] ]", "has 2 nodes and 0 edges"),
-    ("gexf", "<gexf><graph/></gexf>", "can't read it"),
+    (
+        "json",
+        '{"nodes": [{"id": "Ulm", "source": 1}, {"id": "Aue"}], "edges": [{"source": "Aue", "target": "Ulm"}]}',
+    ),
 )
-SITES = "site,lat,lon\nUlm,48.4,10\nAue,48.41,10\nHof,,\n"
-# Tables of sites and of bars: each is refused.
-TABLES = (
-    ("site\nUlm\nUlm\n", "", "line 3: a second site"),
-    ("name,id\na,b\n", "", "each once"),
-    ("site,lat\nUlm,1\n", "", "places are in two columns"),
-    ("site,x,y\nUlm,1,2\n", "", "no site has a place"),
-    ("site,x_km,y_km,lat,lon\nUlm,1,2,3,4\n", "", "places are in two columns"),
-    ("site,lat,lon\nUlm,100.5,48\n", "", "are they exchanged"),
-    ('site,x_m,y_m\nUlm,"1,234",0\n', "", "thousands"),
-    ("site,identifier\nUlm,x\n", "", "no identifier"),
-    (SITES, "site,channel\nHoff,1\n", "is it Hof?"),
-    (SITES, "site,channel\nHof,0\n", "no channel from 1"),
-    (SITES, "site,channel,channel\nHof,1,2\n", "each once"),
-)
-
-
-def of_tables(places, bars="", licence=None):
-    """The network of a table of sites, joined within 3 km, and of bars."""
-    found = tables.Listed("sites")
-    tables.with_sites(found, places, "sites", "sites", 3)
-    if bars:
-        tables.with_bars(found, bars, "bars", licence)
-    return made_of(found, "sites")
 
 
 class Reading(Case):
@@ -218,11 +277,11 @@ class Reading(Case):
     def test_random(self):
         source = random.Random(SEED)
         for at, (form, is_free, writer, more) in enumerate(WRITERS):
-            if form in foreign.FORMS and not self.has_networkx:
+            if form in foreign.READERS and not self.has_networkx:
                 continue
             wrong = []
             for _ in range(GRAPHS):
-                marks = ' #"' if not is_free else ";" if "is_headed" in more else ""
+                marks = ' #";,' if not is_free else ";" if "has_heading" in more else ""
                 names = [name for name in source.choice(NAMES) if not set(name) & set(marks)]
                 nodes = source.sample(names, source.randint(2, len(names)))
                 pairs = [
@@ -239,41 +298,28 @@ class Reading(Case):
 
     def test_refused(self):
         for form, text, said in REFUSED:
-            if form in foreign.FORMS and not self.has_networkx:
+            if form in foreign.READERS and not self.has_networkx:
                 continue
             with self.subTest(f"{form} {text!r}"), self.assertRaises(Wrong) as found:
                 read(text, form)
             self.note(f"{form} {text!r} says why", said in str(found.exception), found.exception)
 
-    def test_tables(self):
-        for places, bars, said in TABLES:
-            with self.subTest(f"{places!r} {bars!r}"), self.assertRaisesRegex(Wrong, said):
-                of_tables(places, bars)
+    def test_read(self):
+        """Each of these is one network, whatever other elements and keys are called."""
+        for form, text in READ:
+            if form in foreign.READERS and not self.has_networkx:
+                continue
+            edges, alone, _ = read(text, form)
+            self.same(f"{form} {text[:40]!r}", (edges, alone), ({frozenset(("Ulm", "Aue"))}, set()))
 
-    def test_sites(self):
-        """Sites in their order, those of a reach joined, with bars that a licence counts."""
-        made, said = of_tables(SITES, "site,channel\nHof,6\nHof,7\n", [1, 6, 11])
-        self.same(
-            "a network of sites",
-            (made.names, made.edges, made.bars),
-            ({1: "Ulm", 2: "Aue", 3: "Hof"}, [(1, 2)], {3: [2]}),
-        )
-        self.same(
-            "what is said",
-            said[1:],
-            [
-                "the places of sites are by lat and lon, and 1.11 km across",
-                "1 pair of sites less than 3 km apart, and 1 site without a place",
-                "1 bar of bars of a channel outside the licence",
-            ],
-        )
-        self.note("north is on top", made.places[2][1] < made.places[1][1], made.places)
-        for unit, far in (("km", 2.0), ("m", 2000.0)):
-            made, _ = of_tables(f"site;x_{unit};y ({unit})\nA;0,5;0\nB;{far:g};0\nC;9000;0\n")
-            self.same(f"places in {unit}", made.edges, [(1, 2)])
-        found = listed_of(b"source,target\nHof,Ulm\nUlm,Hoff\n", "pairs", "pairs")
-        with self.assertRaisesRegex(Wrong, "pairs line 3: Hoff isn't a site of sites, is it Hof?"):
-            tables.with_sites(found, SITES, "sites", "pairs", None)
+    def test_keys(self):
+        """Nodes are named by the key that is stated."""
+        text = '{"nodes": [{"id": 1, "town": "Ulm"}, {"id": 2, "town": "Aue"}], "links": []}'
+        for key, names in (("town", {"Ulm", "Aue"}), ("id", {"1", "2"})):
+            alone = read(text, "json", columns={"site": key})[1] if self.has_networkx else names
+            self.same(f"by {key}", alone, names)
+        with self.assertRaisesRegex(Wrong, "not each node has a `land` of its own"):
+            read(text, "json", columns={"site": "land"})
 
     def test_endings(self):
         for path, form in (
@@ -283,14 +329,6 @@ class Reading(Case):
             ("b.adjlist", "adjacency"),
         ):
             self.same(f"the form of {path}", form_of(path, path), form)
-        for path, said in (
-            ("a.txt", "--as edges a.txt"),
-            ("net", "--as pairs net"),
-            ("a.dot", "gv2gml"),
-            ("a.mtx", "scipy"),
-        ):
-            with self.subTest(path), self.assertRaisesRegex(Wrong, said):
-                form_of(path, path)
 
     def test_said(self):
         """What isn't read is said, with its values."""
@@ -300,19 +338,30 @@ class Reading(Case):
         )
         said = read(text, "json")[2] if self.has_networkx else []
         self.note(
-            "keys", not said or said[1] == "2 keys of edges not read: weight (0); on (False)", said
+            "keys", not said or said[2] == "2 keys of edges not read: weight (0); on (False)", said
         )
         said = read(PAIR.replace("\n", ",km\n") + "a,a,1\na,b,2\nb,a,3\nA,b,1\n", "pairs")[2]
         self.same(
             "pairs",
             said[1:],
             [
-                "net: columns that aren't read: km",
+                "columns that aren't read: km",
                 "a and A are two nodes: are they meant to be one?",
                 "1 edge from a node to itself left out",
                 "1 edge there before, in one direction or the other",
             ],
         )
+        said = read("# x\n#\na b 2\na c 1\n", "edges")[2]
+        self.same(
+            "edges",
+            said[1:],
+            ["2 lines that begin with # left out", "a number after each edge not read"],
+        )
+        said = read(
+            "a,b,c\nd,e,f\n", "pairs", columns={"source": "3", "target": "1"}, has_heading=False
+        )
+        self.same("without a heading", said[0], {frozenset("ca"), frozenset("fd")})
+        self.same("a column by its number", said[2][1:], ["columns that aren't read: column 2"])
 
     @unittest.mock.patch.object(foreign, "networkx", lambda: None)
     def test_without_networkx(self):

@@ -3,6 +3,7 @@
 import math
 import random
 
+from lab.networks.network_text import network_of
 from tests.cases import Case, called, example, said_by
 from tests.programs.own_networks import call, edges_of
 from tests.settings import PLAN
@@ -13,6 +14,28 @@ def on_ground(one, other):
     (a, b), (c, d) = (tuple(map(math.radians, place)) for place in (one, other))
     half = math.sin((c - a) / 2) ** 2 + math.cos(a) * math.cos(c) * math.sin((d - b) / 2) ** 2
     return 2 * 6371.0088 * math.asin(math.sqrt(half))
+
+
+SITES = "site,lat,lon\nUlm,48.4,10\nAue,48.41,10\nHof,,\n"
+# Tables of sites and of bars, and what is said of the first fault.
+TABLES = (
+    ("site\nUlm\nUlm\n", "", "line 3: a second site Ulm"),
+    ("name,id\na,b\n", "", "line 1: name and id may each be the column site"),
+    ("site,lat\nUlm,1\n", "", "line 1: places are in lat and lon, and no column is lon"),
+    ("site,x,y\nUlm,1,2\n", "", "no site has a place"),
+    ("site,x_km,y_km,lat,lon\nUlm,1,2,3,4\n", "", "line 1: places are in lat and lon, or in x_km"),
+    ("site,lat,lon\nUlm,100.5,48\n", "", "line 2: no latitude and longitude in degrees"),
+    ("site,lat,lon\nUlm,48.1,\n", "", "line 2: no number"),
+    ('site,x_m,y_m\nUlm,"1,234",0\n', "", "line 2: no number, or one with thousands"),
+    ("site;x_m;y_m\nUlm;1.234,5;0\n", "", "line 2: no number, or one with thousands"),
+    ("site,identifier\nUlm,x\n", "", "line 2: no identifier"),
+    ("site,identifier\nUlm,%d\n" % 2**128, "", "line 2: no identifier below 2^128"),
+    (SITES, "site,channel\nHoff,1\n", "line 2: Hoff is no site, is it Hof?"),
+    (SITES, "site,channel\nHof,0\n", "line 2: no channel from 1 to 2048"),
+    (SITES, "site,channel\nHof,2049\n", "line 2: no channel from 1 to 2048"),
+    (SITES, "site,channel\nHof,6.0\n", "line 2: no channel: `6.0`"),
+    (SITES, "site,channel,channel\nHof,1,2\n", "line 1: two columns are called channel"),
+)
 
 
 class Sites(Case):
@@ -40,6 +63,54 @@ class Sites(Case):
             "- --columns a=b",
         ):
             self.refusal(f"refused words: {words}", call("read", *words.split()), 2, b"error: ")
+
+    def test_sites(self):
+        """Sites in their order, those of a reach joined, with bars that a licence counts."""
+        bars = self.file("bars.csv", "site,channel\nHof,6\nHof,7\n")
+        sites = self.file("sites.csv", SITES)
+        words = ("--sites", sites, "--reach", 3, "--bars", bars, "--channels", "1 6 11")
+        status, text, said = call("read", *words)
+        net = network_of(text)
+        self.same(
+            "a network of sites",
+            (status, net.names, net.edges, net.bars),
+            (0, {1: "Ulm", 2: "Aue", 3: "Hof"}, [(1, 2)], {3: [2]}),
+        )
+        self.same(
+            "what is said",
+            [line.partition(f"{sites}: ")[2] for line in said.decode().split("\n")[1:-1]],
+            [
+                f"the places of {sites} are by lat and lon, and 1.11 km across",
+                "1 pair of sites less than 3 km apart, and 1 site without a place",
+                f"1 bar of {bars} of a channel outside the licence",
+            ],
+        )
+        self.note("north is on top", net.places[2][1] < net.places[1][1], net.places)
+        for unit, far in (("km", "2,0"), ("m", "2000")):
+            table = f"site;x_{unit};y_{unit}\nA;0,5;0\nB;{far};0\nC;9000;0\n"
+            self.same(
+                f"places in {unit}", edges_of(self.read(None, table, "--reach 3")[1]), {(1, 2)}
+            )
+
+    def test_known_sites(self):
+        """Each node of a file has to be a site, whatever form the file has."""
+        for name, data, said in (
+            ("a.csv", "source,target\nHof,Ulm\nUlm,Hoff\n", "line 3: Hoff isn't a site"),
+            ("a.edgelist", "Hof Ulm\nUlm Hoff\n", "line 2: Hoff isn't a site"),
+            ("a.adjlist", "Hof\nHoff\n", "Hoff isn't a site"),
+            ("a.col", "c name 1 Hof\nc name 2 Hoff\np edge 2 0\n", "Hoff isn't a site"),
+        ):
+            words = (self.file(name, data), "--sites", self.file("sites.csv", SITES))
+            done = call("read", *words)
+            self.refusal(name, done, 1, said.encode())
+            self.note(f"{name}: the nearest is said", b"is it Hof?" in done[2], done)
+
+    def test_tables(self):
+        """Tables that aren't as they have to be are refused with their line."""
+        for sites, bars, said in TABLES:
+            more = f"--reach 3 --bars {self.file('bars.csv', bars)}" if bars else "--reach 3"
+            done = self.read(None, sites, more)
+            self.refusal(f"{sites!r} {bars!r}", done, 1, said.encode())
 
     def test_reach(self):
         """Places by chance: two are joined just if they are less than the reach apart, on a plane and on the ground;
@@ -118,22 +189,30 @@ class Channels(Case):
 
     def test_files(self):
         """The licence as a table, as spreadsheets write it."""
-        for table, wanted in (
-            ("Channel,Frequency (MHz)\r\n36,5180\r\n40,5200\r\n", (0, "plan\n1 40\n2 36\n", "")),
-            ("Bemerkung;channel\r\ngut;36\r\ngut;40\r\n;;\r\n", (0, "plan\n1 40\n2 36\n", "")),
-            ("channel\n36\n40\n", (0, "plan\n1 40\n2 36\n", "")),
-            ("Frequency\n5180\n", "no heading with a column channel"),
-            ("channel,power\n36,1\nforty,1\n", "line 3"),
-            ("channel,power\n36,1\n36,2\n", "names a channel twice"),
-            ("channel\n", "no row"),
+        done = (0, "plan\n1 40\n2 36\n")
+        for table, unread in (
+            ("Channel,Frequency (MHz)\r\n36,5180\r\n40,5200\r\n", "Frequency (MHz)"),
+            ("Bemerkung;channel\r\ngut;36\r\ngut;40\r\n;;\r\n", "Bemerkung"),
+            ("channel\n36\n40\n", None),
         ):
-            got = self.call(self.file("my licence.csv", table), data="plan\n1 2\n2 1\n")
-            good = (
-                got == wanted
-                if isinstance(wanted, tuple)
-                else got[:2] == (2, "") and wanted in got[2]
-            )
-            self.note(f"a licence {table!r}", good, got)
+            path = self.file("my licence.csv", table)
+            said = f"channels: {path}: columns that aren't read: {unread}\n" if unread else ""
+            self.same(table, self.call(path, data="plan\n1 2\n2 1\n"), (*done, said))
+        for table, words, wanted in (
+            ("Kanal,MHz\n36,1\n40,2\n", ["--columns", "channel=kanal"], done),
+            ("x,36\ny,40\n", ["--no-heading", "--columns", "channel=2"], done),
+            ("36\n40\n", ["--no-heading"], done),
+            ("Frequency\n5180\n", [], "line 1: no heading with the column channel"),
+            ("channel,power\n36,1\nforty,1\n", [], "line 3: no channel: `forty`"),
+            ("channel,power\n36,1\n36,2\n", [], "names a channel twice"),
+            ("channel\n", [], "line 1: it has no row below its heading"),
+            ("channel\n36\n", ["--no-heading"], "line 1: it is a heading"),
+        ):
+            got = self.call(*words, self.file("licence.csv", table), data="plan\n1 2\n2 1\n")
+            if wanted == done:
+                self.same(f"{table!r} {words}", got[:2], done)
+            else:
+                self.refusal(f"{table!r} {words}", got, 1, wanted)
         path, bars = self.file("licence", "channel\n1\n6\n11\n"), self.file(
             "bars.csv", "site,channel\nAue,11\n"
         )

@@ -135,21 +135,31 @@ tabs.draw = {
 };
 
 // Files.
-export async function openFile(file, heading = null, name = null) {
-  by("heading").hidden = true;
+// `stated` is what is said of the file beside its ending; `name` is that of the network.
+export async function openFile(file, stated = {}, name = null) {
+  by("unsaid").hidden = true;
   if (file.size > 4e6) return wrong("That file is larger than the studio reads.");
   const bytes = new Uint8Array(await file.arrayBuffer());
   let words = "";
   for (let k = 0; k < bytes.length; k += 32768) words += String.fromCharCode(...bytes.subarray(k, k + 32768));
-  await asks("read", {name: file.name, data: btoa(words), heading}, "reading the file", found => {
+  await asks("read", {name: file.name, data: btoa(words), stated}, "reading the file", found => {
+    if (found.unsaid) return askWhat(file, stated, name, found);
     model.load({...found, name: name === null ? found.name : name});
     if (seen.tab !== "draw") go("draw");
     const {said} = found, all_ = [count(net.nodes.length, "node"), count(net.edges.length, "edge")];
     by("notes").textContent = `Read: ${(said.length ? said : all_).join("; ")}.`;
   });
-  // Whether a table's first row is a heading can't always be seen.
-  by("heading").hidden = heading !== null || !by("wrong").textContent.includes("--heading");
-  all("#heading button").forEach(one => { one.onclick = () => openFile(file, one.dataset.heading === "yes", name); });
+}
+// Nothing is guessed: what isn't said of a file is asked.
+function askWhat(file, stated, name, {unsaid, choices}) {
+  if (seen.tab !== "draw") go("draw");
+  by("unsaid").hidden = false;
+  by("unsaidwhat").textContent = `${unsaid}. Say what it is:`;
+  by("unsaidchoices").replaceChildren(...choices.map(({stated: more, means}) => {
+    const button = html("button", means), columns = {...stated.columns, ...more.columns};
+    button.onclick = () => openFile(file, {...stated, ...more, columns}, name);
+    return button;
+  }));
 }
 function download(words, name) {
   const link = html("a", null, {href: URL.createObjectURL(new Blob([words], {type: "text/plain"})), download: name});
@@ -189,7 +199,7 @@ by("tidy").onclick = () => asks("tidy", {network: text()}, "laying it out", ({no
   stage.fit();
   show();
 });
-by("apply").onclick = () => openFile(new File([by("text").value], "the text"), null, net.name);
+by("apply").onclick = () => openFile(new File([by("text").value], "the text"), {form: "dimacs"}, net.name);
 by("file").onchange = () => { if (by("file").files[0]) openFile(by("file").files[0]); by("file").value = ""; };
 by("save").onclick = () => download(text(), (net.name || "network") + ".col");
 
