@@ -28,7 +28,7 @@ SETTINGS = {
         "1200",
         "how many seconds a test may take; one that takes longer is ended, and has failed",
     ),
-    "texts": ("60000", "how many random texts programs.hostile makes, over all commands"),
+    "texts": ("10000", "how many random texts programs.hostile makes, over all commands"),
     "seed": ("2026", "the seed of these random texts"),
     "runs": (
         "90",

@@ -25,6 +25,10 @@ Wire = tuple
 Event = tuple[str, int, int | None]
 
 
+# The colour that is dropped, by the pulse.
+DROPPED = {8: 5, 10: 4, 12: 3}
+
+
 class Refused(Exception):
     """Why an event isn't possible, in one word of docs/claim/FORMATS.md; of a wire that isn't due, which it is."""
 
@@ -119,7 +123,7 @@ class Colouring:
             elif pulse % 2 == 1:
                 self.before[f] = own
                 self.colours[f] = other_than(own) if parent is None else parent
-            elif own == {8: 5, 10: 4, 12: 3}[pulse]:
+            elif own == DROPPED[pulse]:
                 self.colours[f] = other_than(self.before[f], parent)
         return [None] * self.degree if pulse == 12 else self.colours_sent()
 
@@ -131,13 +135,18 @@ class Colouring:
         if step == 0:
             self.old, self.chosen = self.merged, set()
         self.chosen |= {slot[1] for slot in inbox if slot}
-        if (self.colours[forest], self.old) != divmod(step, width):
+        if not self.has_turn((forest, *divmod(step, width))):
             return [None] * self.degree
         self.merged = self.least_free(self.chosen)
         is_last = step == 3 * width - 1
         return [
             ("Chosen", self.merged) if f <= forest and not is_last else None for _, f in self.roles
         ]
+
+    def has_turn(self, step: tuple[int, int, int]) -> bool:
+        """Whether it chooses in the merge step of a forest, a three-colour and an old colour."""
+        forest, three, old = step
+        return (self.colours[forest], self.old) == (three, old)
 
 
 def bit_step(own: int, parent: int | None) -> int:
@@ -154,11 +163,13 @@ def synchronous_pulses(
     read in it and sends at each port. They are made and called in an order, by default that of the network.
     """
     ports = net.neighbours
-    nodes = {v: program(net, v) for v in order or net.neighbours}
+    # Where each port leads: the neighbour, and its port back.
+    ends = {v: [(w, ports[w].index(v)) for w in ws] for v, ws in ports.items()}
+    nodes = {v: program(net, v) for v in order or ports}
     inboxes, sent = {}, {v: nodes[v].greet() for v in nodes}
     yield 0, nodes, inboxes, sent
     for pulse in range(1, program.last_pulse(net) + 1):
-        inboxes = {v: [sent[w][ports[w].index(v)] for w in ports[v]] for v in nodes}
+        inboxes = {v: [sent[w][back] for w, back in ends[v]] for v in nodes}
         sent = {v: nodes[v].next(pulse, inboxes[v]) for v in nodes}
         yield pulse, nodes, inboxes, sent
 

@@ -1,21 +1,22 @@
-"""The rounds of the colouring by the definitions (docs/claim/DEFINITIONS.md), pulse by pulse, and their text
-(docs/claim/FORMATS.md), slow and plain: from lists over the vertices, as lab/definitions/colours.py has them, and
-without a node that keeps anything.
+"""The rounds of the colouring pulse by pulse, as the nodes of lab/definitions/nodes.py make them, and their text
+(docs/claim/FORMATS.md). Plans come from lab/definitions/colours.py, without a node.
 
 A pulse p is 0 to R, a vertex v from 1, a forest f and a colour from 0."""
 from collections.abc import Iterable, Iterator
 from dataclasses import dataclass, field
 from operator import itemgetter
 
-from lab.definitions.colours import Colours, bit, drop, first_colours, merge, shift, text_of
-from lab.definitions.nodes import last_pulse
+from lab.definitions.colours import Colours, text_of
+from lab.definitions.nodes import Colouring, Slot, last_pulse, synchronous_pulses
 from lab.network import Network
 from lab.wrong import Wrong
+
+# A payload that is sent: from, to, and its words.
+Put = tuple[int, int, str, int]
 
 SEED, FIRST_MERGE = 2, 13
 LAST_COLOUR = FIRST_MERGE - 1
 WORK_NAMES = ["step"] * 4 + ["shift", "drop"] * 3
-DROPPED = {8: 5, 10: 4, 12: 3}
 
 
 def rounds_text(net: Network) -> bytes:
@@ -44,16 +45,14 @@ def merge_step(net: Network, p: int) -> tuple[int, int, int]:
     return forest, *divmod(step, net.span + 1)
 
 
-def forest_colours(net: Network, f: int) -> dict[int, Colours]:
-    """The colours in forest f by pulse, from 2: the identifiers, four bit steps, then a shift and a drop for 5, 4 and
-    3."""
-    lists = [net.identifiers]
-    for _ in range(4):
-        lists.append(bit(net, f, lists[-1]))
-    for x in (5, 4, 3):
-        lists.append(shift(net, f, lists[-1]))
-        lists.append(drop(x, net, f, lists[-1], lists[-2]))
-    return dict(enumerate(lists, 2))
+def puts_of(net: Network, sent: dict[int, list[Slot]]) -> list[Put]:
+    """What the nodes send in a pulse."""
+    return [
+        (v, w, slot[0].lower(), slot[1])
+        for v, slots in sent.items()
+        for w, slot in zip(net.neighbours[v], slots)
+        if slot
+    ]
 
 
 @dataclass
@@ -65,7 +64,7 @@ class Pulse:
     """
 
     number: int
-    puts: list[tuple[int, int, str, int]]
+    puts: list[Put]
     phase: str = ""
     step: tuple[int, int, int] | None = None
     colours: dict[tuple[int, int], int] = field(default_factory=dict)
@@ -85,10 +84,11 @@ class Pulse:
 
 
 class Rounds:
-    """A synchronous run. `colours[f][p]` are the colours in forest f after pulse p, 2 to 12, and `merged[f]` the merged
-    colours once the forests below f are merged; `choosing[p]` are the vertices that choose at pulse p, if some do, and
-    `pulses` are those from 0 to `last`. `parents[v, f]` is v's parent in forest f; `first[v]` is the least colour that
-    isn't barred at v, which it has before it chooses."""
+    """The synchronous run of the colouring: `pulses` are those from 0 to `last`. `parents[v, f]` is v's parent in
+    forest f, and `forest_of[v, w]` the forest of an edge. `colours[f][p]` are the colours in forest f after pulse p, 2
+    to 12, and `merged[f]` the merged colours once the forests below f are merged; `first`, which is `merged[0]`, are
+    the least colours that aren't barred. `turns[f, v]` is the pulse of the merge of forest f at which v chooses.
+    """
 
     def __init__(self, network: Network):
         self.network, self.forests, self.width = network, network.forest_count, network.channels
@@ -96,61 +96,32 @@ class Rounds:
         self.forest_of = {
             pair: f for (v, f), w in self.parents.items() for pair in ((v, w), (w, v))
         }
-        self.first, self.last = first_colours(network), last_pulse(network)
-        self.colours = [forest_colours(network, f) for f in range(self.forests)]
-        self.merged, self.choosing = [self.first], {}
-        for f in range(self.forests):
-            for v in network.vertices:
-                self.choosing.setdefault(self.turn(f, v), []).append(v)
-            self.merged.append(merge(network, f, self.merged[f]))
-        self.pulses = [self.pulse(p) for p in range(self.last + 1)]
+        self.last = last_pulse(network)
+        self.colours: list[dict[int, Colours]] = [{} for _ in range(self.forests)]
+        self.merged: list[Colours] = []
+        self.turns: dict[tuple[int, int], int] = {}
+        self.pulses = [
+            self.pulse(p, nodes, puts_of(network, sent))
+            for p, nodes, _, sent in synchronous_pulses(network)
+        ]
+        self.first = self.merged[0]
 
-    def turn(self, f: int, v: int) -> int:
-        """The one pulse of the merge of forest f at which v chooses: its three-colour and its old colour are the pair
-        of the merge step."""
-        three, old = self.colours[f][LAST_COLOUR][v], self.merged[f][v]
-        return FIRST_MERGE + (3 * f + three) * self.width + old
-
-    def pulse(self, p: int) -> Pulse:
-        """What all nodes do in a pulse; in a merge those that choose."""
+    def pulse(self, p: int, nodes: dict[int, Colouring], puts: list[Put]) -> Pulse:
+        """What all nodes have done in a pulse, after which they are these nodes."""
+        is_end_of_merge = p >= LAST_COLOUR and (p - LAST_COLOUR) % (3 * self.width) == 0
+        if is_end_of_merge:
+            self.merged.append({v: node.merged for v, node in nodes.items()})
         if p >= FIRST_MERGE:
-            step, at_work = merge_step(self.network, p), self.choosing.get(p, [])
-            chosen = {v: self.merged[step[0] + 1][v] for v in at_work}
-            return Pulse(
-                p,
-                [(v, *put) for v in at_work for put in self.sent(p, v)],
-                "merge",
-                step,
-                chosen=chosen,
-            )
-        colours = {
-            (v, f): of_pulse[p][v]
-            for v in self.network.vertices
-            for f, of_pulse in enumerate(self.colours)
-            if p >= SEED
-        }
-        puts = [(v, *put) for v in self.network.vertices for put in self.sent(p, v)]
+            step = merge_step(self.network, p)
+            chosen = {v: node.merged for v, node in nodes.items() if node.has_turn(step)}
+            self.turns |= {(step[0], v): p for v in chosen}
+            return Pulse(p, puts, "merge", step, chosen=chosen)
+        colours = {}
+        if p >= SEED:
+            for f, of_pulse in enumerate(self.colours):
+                of_pulse[p] = {v: node.colours[f] for v, node in nodes.items()}
+            colours = {(v, f): c for v, node in nodes.items() for f, c in enumerate(node.colours)}
         return Pulse(p, puts, phase_words(self.network, p), colours=colours)
-
-    def sent(self, p: int, v: int) -> Iterator[tuple[int, str, int]]:
-        """(neighbour, word, number): all hear the identifier; parents the forest; children the colour; and who is a
-        neighbour in the forests merged so far the choice of v in this pulse, but at the last step of a forest.
-        """
-        for w in self.network.neighbours[v]:
-            f, is_parent = (
-                self.forest_of[v, w],
-                self.network.identifiers[w] > self.network.identifiers[v],
-            )
-            if p == 0:
-                yield w, "hello", self.network.identifiers[v]
-            elif p == 1 and is_parent:
-                yield w, "label", f
-            elif SEED <= p < LAST_COLOUR and not is_parent:
-                yield w, "colour", self.colours[f][p][v]
-            elif p >= FIRST_MERGE:
-                merging, *pair = merge_step(self.network, p)
-                if f <= merging and pair != [2, self.network.span]:
-                    yield w, "chosen", self.merged[merging + 1][v]
 
     def lines(self) -> Iterator[str]:
         """The text of rounds, line by line."""

@@ -8,7 +8,7 @@ from lab.programs import program_file
 from lab.words import counted, duration
 from lab.wrong import Wrong
 
-# The most nodes times pulses for which the rounds are worked out here, in about a second.
+# The most nodes times pulses for which the rounds are worked out here, in some seconds.
 MOST_AT_ONCE = 300_000
 # The last pulse before the merges.
 LAST_COLOUR = 12

@@ -4,7 +4,7 @@ from itertools import zip_longest
 
 from lab.definitions.nodes import Colouring, synchronous_pulses
 from lab.definitions.own_program import OwnNode, check_repeats, what_is_wrong
-from lab.definitions.rounds import Pulse, Rounds
+from lab.definitions.rounds import Pulse, Rounds, puts_of
 from lab.wrong import Wrong, wrong_line
 
 # Rounds of more steps of nodes than this take minutes to work out.
@@ -28,12 +28,7 @@ class ProgramRounds:
         check_repeats(network, program)
         self.pulses, ports = [], network.neighbours
         for p, nodes, _, sent in synchronous_pulses(network, program):
-            puts = [
-                (v, w, slot[0].lower(), slot[1])
-                for v in nodes
-                for w, slot in zip(ports[v], sent[v])
-                if slot
-            ]
+            puts = puts_of(network, sent)
             drawn = {
                 v: (colour, None if port is None else ports[v][port])
                 for v, node in nodes.items()

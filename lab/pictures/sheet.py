@@ -166,7 +166,7 @@ class Sheet:
         ]
         yield "<p>Merge the two forests; all begin with colour 0.</p>" + self.table("node", rows)
         v, f = self.any_of(self.vertices), FORESTS - 1
-        turn = self.rounds.turn(f, v)
+        turn = self.rounds.turns[f, v]
         yield (
             f"<p>At which pulse does node {v} choose in the merge of forest {f}? {self.filled(turn)} Which pulse is "
             f"the last? {self.filled(last_pulse(self.net))}</p>"

@@ -4,7 +4,8 @@ A fact is what a node is at some point of the rounds: ("identifier", v), ("colou
 after pulse p, or ("merged", v, f), the colour that v chose in the merge of forest f. `Cone` goes back from the last
 choice of a node to all facts that its value was worked out from. What a node didn't hear is no fact: that a channel is
 free follows from nobody's having taken it before; and who is whose parent follows from the greetings."""
-from lab.definitions.rounds import DROPPED, LAST_COLOUR, SEED
+from lab.definitions.nodes import DROPPED
+from lab.definitions.rounds import LAST_COLOUR, SEED
 from lab.pictures.layout import distances
 from lab.pictures.rounds_picture import MOST_ROWS, draw_strips
 from lab.words import counted, in_words
@@ -60,7 +61,7 @@ class Cone:
         """(lower colour, pulse, neighbour that took it first) of v's choice; no neighbour of one that is barred."""
         rounds, merged = self.rounds, self.rounds.merged[f + 1]
         near = [
-            (rounds.turn(f, w), w)
+            (rounds.turns[f, w], w)
             for w in self.network.neighbours[v]
             if rounds.forest_of[v, w] <= f
         ]
@@ -69,7 +70,9 @@ class Cone:
                 (None, None)
                 if lower in self.network.barred[v]
                 else min(
-                    (turn, w) for turn, w in near if merged[w] == lower and turn < rounds.turn(f, v)
+                    (turn, w)
+                    for turn, w in near
+                    if merged[w] == lower and turn < rounds.turns[f, v]
                 )
             )
 
@@ -128,7 +131,7 @@ def text(cone):
         summary(cone),
     ]
     choices = sorted(
-        (-cone.rounds.turn(f, v), v, f)
+        (-cone.rounds.turns[f, v], v, f)
         for kind, v, *of in cone.facts
         if kind == "merged"
         for f in of
@@ -159,7 +162,7 @@ def message_words(cone, pulse, v, w, said):
 
 
 def choice_lines(cone, v, f):
-    pulse, colour = cone.rounds.turn(f, v), cone.rounds.merged[f + 1][v]
+    pulse, colour = cone.rounds.turns[f, v], cone.rounds.merged[f + 1][v]
     _, three, old = cone.rounds.pulses[pulse].step
     yield (
         f"pulse {pulse}, merge of forest {f}: the turn of node {v}, with colour {three} in the forest and {old} so "

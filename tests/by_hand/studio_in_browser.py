@@ -271,15 +271,12 @@ class More(studio_page.Page):
         for kind in (
             "plan",
             "results",
-            "matrix",
             "forests",
             "rounds",
             "bits",
             "why",
             "run",
             "overview",
-            "node",
-            "tally",
         ):
             self.go_to(f"example=triangle&tab=pictures&kind={kind}")
             self.sees(kind, f"document.querySelector('#picture img[alt={kind}]')")

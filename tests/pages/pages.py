@@ -13,7 +13,7 @@ import re
 
 from lab.definitions.colours import colours
 from lab.definitions.nodes import NetState, last_pulse, text_of_wire
-from lab.definitions.rounds import forest_colours
+from lab.definitions.rounds import Rounds
 from lab.networks.network_text import network_of
 from tests import TOP
 from tests.cases import Case, contents, text_in
@@ -70,7 +70,8 @@ def tutorial_table(title, rows):
     found = re.match(r"Forest (\d+) of `(.*)`, pulse by pulse:", title)
     if found:
         net, f = network_of(contents(found.group(2))), int(found.group(1))
-        joined, lists = [v for v in net.vertices if net.neighbours[v]], forest_colours(net, f)
+        joined = [v for v in net.vertices if net.neighbours[v]]
+        lists = Rounds(net).colours[f]
         return [[str(v) for v in joined], [str(net.parent(f, v) or "-") for v in joined]] + [
             [
                 f"**{c[v]}**" if p in (8, 10, 12) and c[v] != lists[p - 1][v] else str(c[v])

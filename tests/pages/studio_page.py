@@ -337,16 +337,15 @@ class Drawn(Page):
             "as the address says", self.page.value("document.getElementById('passes').value") == "3"
         )
         for passes, does, words in (
-            (3, self.page.click_on, ("#kinds [data-kind=tally]",)),
+            (3, self.page.click_on, ("#kinds [data-kind=overview]",)),
             (1, self.page.choose, ("passes", "1")),
         ):
-            shown = self.picture("tally", does, *words)
-            self.note(
-                f"the run has {passes} passes", f"· ({30 + 3 * passes} + 1)" in shown, shown[:400]
-            )
+            shown = self.picture("overview", does, *words)
+            last = f" of {30 + 3 * passes}"
+            self.note(f"the run has {passes} passes", last in shown, shown[:400])
         for program, last in (("matching", 25), ("independent-set", 33)):
-            shown = self.picture("tally", self.page.choose, "program4", program)
-            self.note(f"the run is one of {program}", f"· ({last} + 1)" in shown, shown[:400])
+            shown = self.picture("overview", self.page.choose, "program4", program)
+            self.note(f"the run is one of {program}", f" of {last}" in shown, shown[:400])
 
     def test_check(self):
         self.go_to("example=petersen&tab=check&plan=1_1")

@@ -67,7 +67,7 @@ class Watch(PictureCase):
                     ),
                     "since when it has a channel": (
                         dict(sorted(since.items())),
-                        {v: Rounds(net).turn(0, v) for v in net.vertices},
+                        {v: Rounds(net).turns[0, v] for v in net.vertices},
                     ),
                     "the plan": (
                         {v: (look["c"] - 1, bool(look["e"])) for v, look in last.items()},

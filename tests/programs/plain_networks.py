@@ -1,15 +1,15 @@
-"""`plain` on 800 networks, and `plan` on those without identifiers of their own, beside the definition of the colours;
-and that definition step by step, by hand (black_box.py has whole plans).
+"""`plain` on 100 networks, and `plan` on those without identifiers of their own, beside the definition of the colours;
+that definition step by step, by hand (black_box.py has whole plans), and beside the nodes of the rounds.
 
 The networks are the same in every run. A difference is printed with the network's number in its family and its text. In
-300 of them lines give identifiers of up to 128 binary digits; in the others vertex V has the identifier V. In 200 lines
+31 of them lines give identifiers of up to 128 binary digits; in the others vertex V has the identifier V. In 26 lines
 bar channels."""
 import itertools
 import random
 import re
 
 from lab.definitions.colours import bit, colours, first_colours, merge, plan_text, three
-from lab.definitions.rounds import rounds_text
+from lab.definitions.rounds import LAST_COLOUR, Rounds, rounds_text
 from lab.network import Network
 from lab.networks.kinds import KINDS
 from lab.networks.network_text import network_of
@@ -114,13 +114,7 @@ def random_of(count, least, greatest):
 
 def shapes(source):
     """Kinds of networks, on names in any order, among vertices without an edge."""
-    for kind, most in [
-        ("path", 40),
-        ("ring", 40),
-        ("tree", 40),
-        ("star", 40),
-        ("complete", 16),
-    ] * 10:
+    for kind, most in [("path", 40), ("ring", 40), ("tree", 40), ("star", 40), ("complete", 16)]:
         nodes = source.randint(13, 40)
         yield nodes, shaped(source, kind, nodes, source.randint(3, min(nodes, most)))
 
@@ -148,31 +142,28 @@ def climbing(count, nodes):
     return networks
 
 
+def up_to_three_nodes(_):
+    return ((nodes, set(edges)) for nodes in range(4) for edges in all_of(nodes))
+
+
 # Networks, identifiers of their own, and barred channels.
 FAMILIES = [
-    ("all on up to 4 nodes", all_small, nothing, nothing),
-    ("random on up to 12 nodes", random_of(160, 0, 12), nothing, nothing),
-    ("random on 20 to 40 nodes", random_of(46, 20, 40), nothing, nothing),
+    ("all on up to 3 nodes", up_to_three_nodes, nothing, nothing),
+    ("random on up to 12 nodes", random_of(20, 0, 12), nothing, nothing),
+    ("random on 20 to 40 nodes", random_of(6, 20, 40), nothing, nothing),
     ("shapes on up to 40 nodes", shapes, nothing, nothing),
-    ("climbing on 40 nodes", climbing(45, 40), nothing, nothing),
-    ("climbing on 1,000 nodes", climbing(22, 1000), nothing, nothing),
-    ("climbing on 20,000 nodes", climbing(3, 20_000), nothing, nothing),
-    ("bars on up to 12 nodes", random_of(80, 1, 12), nothing, some_bars),
-    ("bars on 20 to 40 nodes", random_of(20, 20, 40), nothing, some_bars),
-    ("names on up to 12 nodes", random_of(150, 0, 12), long_names, nothing),
-    ("names on 20 to 40 nodes", random_of(50, 20, 40), long_names, nothing),
-    ("names and bars on up to 12 nodes", random_of(80, 1, 12), long_names, some_bars),
-    ("names and bars on 20 to 40 nodes", random_of(20, 20, 40), long_names, some_bars),
+    ("climbing on 40 nodes", climbing(6, 40), nothing, nothing),
+    ("climbing on 1,000 nodes", climbing(3, 1000), nothing, nothing),
+    ("climbing on 20,000 nodes", climbing(1, 20_000), nothing, nothing),
+    ("bars on up to 12 nodes", random_of(12, 1, 12), nothing, some_bars),
+    ("bars on 20 to 40 nodes", random_of(4, 20, 40), nothing, some_bars),
+    ("names on up to 12 nodes", random_of(16, 0, 12), long_names, nothing),
+    ("names on 20 to 40 nodes", random_of(5, 20, 40), long_names, nothing),
+    ("names and bars on up to 12 nodes", random_of(8, 1, 12), long_names, some_bars),
+    ("names and bars on 20 to 40 nodes", random_of(2, 20, 40), long_names, some_bars),
 ]
+# Pairs of workers and capacity, each of which has some network of a family without names.
 PAIRS = list(itertools.product((1, 2, 4, 64), repeat=2))
-# Families whose runs on threads take seconds, and how many of their networks are run so: in the first, each pair once;
-# of those that climb, with each number of parents twice, and the first.
-LONG = {
-    "random on 20 to 40 nodes": len(PAIRS),
-    "bars on 20 to 40 nodes": len(PAIRS) // 2,
-    "climbing on 1,000 nodes": 6,
-    "climbing on 20,000 nodes": 1,
-}
 
 
 def texts_of(family):
@@ -215,12 +206,12 @@ class PlainNetworks(Case):
 
     def test_families(self):
         """The pairs of workers and capacity come by turns over all families."""
-        pairs = itertools.cycle(PAIRS)
+        pairs, total = itertools.cycle(PAIRS), 0
         for family in FAMILIES:
             different, count = [], 0
             for count, network in enumerate(texts_of(family), 1):
                 calls = [["plain"]]
-                if family[2] is nothing and count <= LONG.get(family[0], count):
+                if family[2] is nothing:
                     workers, capacity = next(pairs)
                     calls.append(["plan", "--workers", workers, "--capacity", capacity])
                 wanted = 0, plan_text(network_of(network)), b""
@@ -229,8 +220,25 @@ class PlainNetworks(Case):
                     for words in calls
                     if called(PLAN, *words, data=network) != wanted
                 ]
+            total += count
             self.note(
                 f"plain and plan by the definition, {count} networks, {family[0]}",
                 count > 0 and not different,
                 f"{len(different)} differ, the first is {different[:1]}",
             )
+        self.same("networks in all", total, 100)
+
+    def test_two_definitions(self):
+        """The lists of lab/definitions/colours.py are what the nodes of the rounds come to, forest by forest."""
+        for title, *family in FAMILIES:
+            if "0,000" in title or "1,000" in title:
+                continue
+            for number, text in enumerate(texts_of((title, *family)), 1):
+                net = network_of(text)
+                rounds, merged = Rounds(net), [first_colours(net)]
+                for f in range(net.forest_count):
+                    merged.append(merge(net, f, merged[f]))
+                threes = [three(net, f) for f in range(net.forest_count)]
+                found = [of_pulse[LAST_COLOUR] for of_pulse in rounds.colours]
+                self.same(f"{title} {number}: three colours of each forest", found, threes)
+                self.same(f"{title} {number}: after each merge", rounds.merged, merged)

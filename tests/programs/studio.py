@@ -422,12 +422,10 @@ class Answers(Server):
             "seed": "1",
         }
         text = self.answer("run", passes=2, **asked)["answer"]["text"]
-        for kind in ("run", "overview", "node", "tally"):
+        for kind in ("run", "overview"):
             got = self.answer("picture", kind=kind, transcript=text, passes=2, **asked)
             self.note(f"{kind} of two passes", "</svg>" in got.get("answer", ""), got)
-            self.note(
-                "its last pulse", kind != "tally" or "· (22 + 1)" in got.get("answer", ""), got
-            )
+            self.note(f"{kind}: its last pulse", " of 22" in got.get("answer", ""), got)
             got = self.answer("picture", kind=kind, transcript=text, **asked)
             self.note(f"{kind}: it is no run of one", "wrong" in got, got)
 

@@ -56,7 +56,7 @@ DRAWN = (
 REFUSED = (
     *(
         (kind, GREETED + more, 1, " line 9: ")
-        for kind in ("run", "overview", "node", "tally")
+        for kind in ("run", "overview")
         for more, _ in ROWS
     ),
     *((f"run --wrong --stopped {v}", GREETED, 1, f"two has no vertex {v}") for v in (0, 3)),

@@ -206,13 +206,12 @@ by("save").onclick = () => download(text(), (net.name || "network") + ".col");
 // The tab Pictures: what the command `picture` draws.
 const KINDS = {
   plan: "The plan.", results: "What the nodes have found at the end.",
-  matrix: "Who interferes with whom, by channel.", forests: "The forests, and each merge.",
+  forests: "The forests, and each merge.",
   rounds: "A row for each node; of the colouring, for each node of each forest.",
   bits: "One node above its parent, digit by digit.", why: "What decided the channel of the chosen node.",
   run: "Space and time of the run of the tab No clock.",
-  overview: "The pulses of that run.", node: "The synchroniser as an automaton.",
-  tally: "The wires of that run by pulse."};
-const OF_RUN = ["run", "overview", "node", "tally"], OF_NODE = ["why", "bits", "node"];
+  overview: "The pulses of that run."};
+const OF_RUN = ["run", "overview"], OF_NODE = ["why", "bits"];
 // Those that draw any program.
 const OF_PROGRAM = ["results", "rounds", ...OF_RUN];
 let kind = "forests";
