@@ -268,16 +268,7 @@ class More(studio_page.Page):
 
     def test_links(self):
         """Each picture is drawn, and each lesson opens."""
-        for kind in (
-            "plan",
-            "results",
-            "forests",
-            "rounds",
-            "bits",
-            "why",
-            "run",
-            "overview",
-        ):
+        for kind in ("plan", "results", "forests", "rounds", "bits", "why", "run", "overview"):
             self.go_to(f"example=triangle&tab=pictures&kind={kind}")
             self.sees(kind, f"document.querySelector('#picture img[alt={kind}]')")
         for number in range(1, 8):
