@@ -10,9 +10,11 @@ out/build/wrong-bodies.log.
 With --since REV, the crates are those whose sources or wrong bodies differ from the commit REV, and those that list in
 crates.txt a crate whose contracts or definitions (src/, specs/) differ from it.
 
-A proof of the right body may name a value or a goal that the edit takes away. Then the check fails for that name, which
-says little of the contract; such an edit counts as refused, and is printed as WEAK. Change it so that it keeps the
-name.
+An edit is to be refused by a goal of the contract. Two refusals say little of that; such an edit counts as refused, and is
+printed as WEAK. A proof of the right body may name a value or a goal that the edit takes away: change the edit so that it
+keeps the name. Or a proof that is written by hand doesn't fit the edited code, and another proof might: read the contract.
+If it lets the edit through, make it stronger; if it doesn't, say in the edit's file which clause refuses it, by a line
+`clause: NAME`, or `clause: NAME of WHAT` of another function, type or record.
 
 The last line is 'N refused, W of them WEAK, M PROVED, K not run'. Status: 0 every edit was tried and refused, 1 one was
 proved or not run, 2 the command line is refused, 3 all were refused, some of them WEAK. It takes about 20 seconds an
@@ -29,6 +31,9 @@ from lab.wrong import Wrong
 
 # What the kit says of a refusal for a name alone.
 NAME_ALONE = "only because a proof file names"
+# A proof by hand that doesn't fit, and is no search that found nothing.
+BY_HAND = re.compile(r"^[^:]*: (?:\./)?proofs/\S+ error: (?!.*(?:no proof of|did not prove))")
+CLAUSE = re.compile(r"^clause: \S", re.M)
 VERDICT = re.compile(
     r"^rt: must-fail (\w+/\S+\.edit): (refused|NOT REFUSED|BAD EDIT|NOT TRIED)(.*)$", re.M
 )
@@ -40,6 +45,15 @@ def edits_of(crate):
     return sorted(
         os.path.join(folder, name) for name in os.listdir(folder) if name.endswith(".edit")
     )
+
+
+def is_weak(path, why):
+    """Whether a refusal says little of the contract."""
+    if NAME_ALONE in why:
+        return True
+    with open(path, encoding="utf-8") as edit:
+        names_clause = CLAUSE.search(edit.read())
+    return bool(BY_HAND.match(why)) and not names_clause
 
 
 def changed_since(rev, given, at_hand):
@@ -68,7 +82,7 @@ def chosen(names, at_hand):
 
 
 def tell(said, edits):
-    """Prints each edit that `rt ci` doesn't say is refused, or refused for a name alone, and returns the status."""
+    """Prints each edit that `rt ci` doesn't say is refused, or refused for a proof alone, and returns the status."""
     found = {name: (verdict, why) for name, verdict, why in VERDICT.findall(said)}
     counts = dict.fromkeys(("refused", "WEAK", "PROVED", "not run"), 0)
     for path in (os.path.relpath(path, TOP) for crate in edits for path in edits[crate]):
@@ -76,7 +90,7 @@ def tell(said, edits):
             path.removeprefix("crates/").replace("/wrong-bodies/", "/"), ("NOT TRIED", "")
         )
         counts[COUNTED.get(verdict, "not run")] += 1
-        if NAME_ALONE in why:
+        if verdict == "refused" and is_weak(os.path.join(TOP, path), why):
             verdict = "WEAK"
             counts["WEAK"] += 1
         if verdict != "refused":

@@ -1,7 +1,8 @@
 """Checks of the files of crates/ by their text alone; nothing is compiled.
 
 - Each wrong body (crates/NAME/must-fail/ and wrong-bodies/) still applies: each `old:` text is exactly once in its file
-  and is changed.
+  and is changed. A line `clause: NAME`, which says what refuses it, names a clause of a function in a file that it
+  changes, or `result` if the clause has no name; `clause: NAME of WHAT` one of another function, type or record.
 - Each crate of crates.txt lists each crate that its own files name, and no other. A crate that the head of a `lib.rt`
   names as a caller ("`answers` calls ..") lists the crate. No file passes a name of another crate on: no `pub use` of a
   lower crate in src/, specs/ or proofs/, and no import by way of one (`below`).
@@ -15,6 +16,11 @@ from tests import TOP
 from tests.cases import Case, text_in
 
 GHOST, CODE = r"\bRattle\.(\w+)\.", r"(?<![\w:.])([a-z_]\w*)::"
+SOURCES = [
+    path
+    for part in ("src", "specs")
+    for path in sorted(glob.glob(f"{TOP}/crates/*/{part}/**/*.*t", recursive=True))
+]
 CALLERS = (
     r"((?:`\w+`(?:, and |, | and )?)+) "
     r"(?:calls?|cites?|uses?|reads?|writes?|prints?|plays?|checks?|keeps?|numbers|builds)\b"
@@ -50,6 +56,22 @@ def files_of(crate):
             )
 
 
+def has_clause(path):
+    """Whether the clause that an edit names is there."""
+    name, _, other = re.search(r"^clause: (.*)$", text_in(path), re.M)[1].partition(" of ")
+    crate = os.path.dirname(os.path.dirname(path))
+    if not other:
+        files = re.findall(r"^file: (.*)$", text_in(path), re.M)
+        clause = "ensures {" if name == "result" else f"ensures {name} {{"
+        return any(clause in text_in(crate, file) for file in files)
+    what = rf"\b(?:fn|struct|trait|record|Model for) {other.rpartition('::')[2]}\b"
+    clause = rf"\b(?:requires|ensures|ghost|pub)? ?{name}(?: \{{|:| :| =)"
+    return any(
+        re.search(what, text) and re.search(clause, text)
+        for text in (text_in(TOP, path) for path in SOURCES)
+    )
+
+
 class Crates(Case):
     needs_programs = False
 
@@ -62,6 +84,10 @@ class Crates(Case):
         self.note("there are edits", len(edits) > 100, len(edits))
         for path in edits:
             self.same(os.path.relpath(path, TOP), list(unfound(path)), [])
+        said = [path for path in edits if re.search("^clause:", text_in(path), re.M)]
+        self.note("edits say what refuses them", len(said) > 100, len(said))
+        for path in said:
+            self.note(f"clause of {os.path.relpath(path, TOP)}", has_clause(path), text_in(path))
 
     def test_lists(self):
         """What a crate lists, who a head says that calls it, and names that are passed on."""

@@ -357,6 +357,8 @@ class FirstRun(Case):
     def run_wrong_bodies(self, tree):
         """Edits are tried in the place of the gate's, and each is counted by what `rt ci` says of it."""
         weak = "refused, as it must be (only because a proof file names what the edit took away)"
+        answers = "refused, as it must be: ./proofs/f/Answers.antt:9:48: error: `returns`: "
+        by_hand = f"{answers}as printed, the two types first differ"
         for edits, wanted, status in (
             (
                 {"one": "refused, as it must be"},
@@ -370,6 +372,24 @@ class FirstRun(Case):
                     "2 refused, 1 of them WEAK, 0 PROVED, 0 not run",
                 ],
                 3,
+            ),
+            (
+                {"two": by_hand},
+                [
+                    f"WEAK crates/middle/wrong-bodies/two.edit{by_hand.removeprefix('refused')}",
+                    "2 refused, 1 of them WEAK, 0 PROVED, 0 not run",
+                ],
+                3,
+            ),
+            (
+                {"two": f"{by_hand}\nclause: ok"},
+                ["2 refused, 0 of them WEAK, 0 PROVED, 0 not run"],
+                0,
+            ),
+            (
+                {"two": f"{answers}`search`: no proof of `2 ≡ 3`"},
+                ["2 refused, 0 of them WEAK, 0 PROVED, 0 not run"],
+                0,
             ),
             (
                 {"two": "NOT REFUSED: still proved", "three": "BAD EDIT: no text"},
