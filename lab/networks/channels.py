@@ -17,8 +17,9 @@ Puts real channel numbers in place of a plan's channels, or the other way round.
 
 A plan counts channels from 1. TABLE has the real number of channel 1, then of channel
 2, and so on: `36 40 44 48`, or `1-13`, or `36-64/4` for each fourth; or it is a file, CSV
-with a column `channel` (--columns channel=TITLE, if it is called otherwise). The plan is read from standard input, and written with the other
-numbers. So `forestplan check` can judge a plan of real numbers, whoever made it.
+with a column `channel` (or TITLE, by --columns channel=TITLE). The plan is read from
+standard input, and written with the other numbers. So `forestplan check` can judge a plan
+of real numbers, whoever made it.
 
 With --back without TABLE, channel 1 is the lowest number that the plan has, channel 2
 the next, and so on; which is which is said on standard error. Take that only for a

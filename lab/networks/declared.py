@@ -100,6 +100,8 @@ def in_xml(data: bytes, path: str) -> Declared:
         parser.parse(BytesIO(data))
     except xml.sax.SAXParseException as why:
         raise wrong_line(path, why.getLineNumber(), f"no XML: {why.getMessage()}") from None
+    except (ValueError, LookupError) as why:
+        raise Wrong(f"{path}: no XML: {why}") from None
     return declared
 
 
@@ -129,25 +131,30 @@ def tokens_of(text: str, path: str) -> Iterator[tuple[str, int]]:
         line += found[0].count("\n")
 
 
-def pairs_of(tokens: Iterator[tuple[str, int]], path: str) -> Pairs:
-    """The keys and values of a text, with the lists in it."""
-    open_lists: list[Pairs] = [[]]
+def pairs_of(tokens: Iterator[tuple[str, int]], declared: Declared) -> Pairs:
+    """The keys and values of a text, with the lists in it; each list `graph` is declared."""
+    whole: Pairs = []
+    open_lists = [(whole, 0)]
     for key, line in tokens:
         if key == "]":
-            if len(open_lists) == 1:
-                raise wrong_line(path, line, "a bracket that closes no list")
             open_lists.pop()
+            if not open_lists:
+                raise wrong_line(declared.path, line, "a bracket that closes no list")
             continue
         value, _ = next(tokens, ("", line))
         if value == "[":
             inner: Pairs = []
-            open_lists[-1].append((key, inner, line))
-            open_lists.append(inner)
+            open_lists[-1][0].append((key, inner, line))
+            open_lists.append((inner, line))
+            if key == "graph":
+                declared.graph(line)
         else:
-            open_lists[-1].append((key, value, line))
+            open_lists[-1][0].append((key, value, line))
     if len(open_lists) > 1:
-        raise Wrong(f"{path}: a list isn't closed: is the text cut?")
-    return open_lists[0]
+        raise wrong_line(
+            declared.path, open_lists[-1][1], "a list that isn't closed: is the text cut?"
+        )
+    return whole
 
 
 def lists_of(pairs: Pairs) -> Iterator[tuple[str, Pairs, int]]:
@@ -157,20 +164,10 @@ def lists_of(pairs: Pairs) -> Iterator[tuple[str, Pairs, int]]:
             yield key, value, line
 
 
-def lines_of_graphs(pairs: Pairs) -> Iterator[int]:
-    """The lines of the lists that are called `graph`, wherever they are."""
-    for key, inner, line in lists_of(pairs):
-        if key == "graph":
-            yield line
-        yield from lines_of_graphs(inner)
-
-
 def in_gml(data: bytes, path: str) -> Declared:
     """The nodes and edges of the list `graph`."""
     declared = Declared(path)
-    top = pairs_of(tokens_of(data.decode(), path), path)
-    for line in lines_of_graphs(top):
-        declared.graph(line)
+    top = pairs_of(tokens_of(data.decode(), path), declared)
     for graph, inner, _ in lists_of(top):
         for key, item, line in lists_of(inner) if graph == "graph" else ():
             declare_item(declared, key, item, line)
@@ -210,9 +207,23 @@ def in_json(data: bytes, path: str) -> Declared:
     return declared
 
 
+class Doubled(Exception):
+    """An object of JSON has a key twice, of which a dict has the second alone."""
+
+
+def each_once(pairs: list[tuple[str, object]]) -> dict[str, object]:
+    found = dict(pairs)
+    if len(found) < len(pairs):
+        keys = [key for key, _ in pairs]
+        raise Doubled(next(key for key in keys if keys.count(key) > 1))
+    return found
+
+
 def loaded(data: bytes, path: str) -> dict:
     try:
-        return json.loads(data)
+        return json.loads(data, object_pairs_hook=each_once)
+    except Doubled as why:
+        raise Wrong(f"{path}: an object has `{shown(str(why))}` twice") from None
     except json.JSONDecodeError as why:
         raise wrong_line(path, why.lineno, f"no JSON: {why.msg}") from None
     except RecursionError:
@@ -229,9 +240,8 @@ def edges_key(whole: object, path: str) -> str:
     others = sorted(lists - {"nodes"})
     if "nodes" in lists and others in (["links"], ["edges"]):
         return others[0]
-    raise Wrong(
-        f"{path}: no JSON of nodes and links, as networkx writes it: a list `nodes`, a list `links` or `edges`, and no other"
-    )
+    what = "a list `nodes`, a list `links` or `edges`, and no other"
+    raise Wrong(f"{path}: no JSON of nodes and links, as networkx writes it: {what}")
 
 
 def id_in(item: object, key: str, path: str, where: str) -> str | int:

@@ -14,16 +14,15 @@ from collections.abc import Iterable
 
 from lab.networks.declared import Declared, in_gml, in_json, in_xml
 from lab.networks.fields import shown
-from lab.networks.listed import Listed, Where, name_of
+from lab.networks.listed import Listed, Where, name_of, wrong_at
 from lab.networks.stated import Stated, decoded
+from lab.networks.table import FARTHEST
 from lab.words import counted, one_line
 from lab.wrong import Wrong, wrong_line
 
 PACKAGE = "apt install python3-networkx, or pip install networkx"
-# What names a node, in this order: the first that each node has, with a value of its own. If there is none, its id does.
+# What names a node, in this order: the first that each node has with a value of its own, or else its id.
 NAMES = ("label", "name")
-# Keys that are read, or only repeat what is.
-READ = {"label", "name", "id", "x", "y"}
 MOST_VALUES = 3
 # How much of the reason of networkx is said.
 MOST_SAID = 300
@@ -143,23 +142,23 @@ def compare(declared: Declared, graph, name: str) -> None:
 
 def listed(graph, name: str, form: str, declared: Declared | None, stated: Stated) -> Listed:
     """The nodes and edges of a graph by the names of its nodes."""
-    found = Listed(form)
-    key = naming(graph, name, stated)
     where = where_of(graph, declared)
-    named: dict[str, object] = {}
-    own = {}
+    key = naming(graph, name, where, stated)
+    own: dict[object, str] = {}
+    nodes: dict[str, Where] = {}
     for node, has in graph.nodes(data=True):
         own[node] = name_of(str(has[key] if key else node), name, where[node])
-        if named.setdefault(own[node], node) != node:
-            raise Wrong(f"{name}: two nodes are called {shown(own[node])}")
-    found.nodes = list(own.values())
-    found.edges = [("an edge", own[one], own[other]) for one, other in graph.edges()]
-    found.places = places_in(graph, own)
+        if own[node] in nodes:
+            raise wrong_at(name, where[node], f"a second node is called {shown(own[node])}")
+        nodes[own[node]] = where[node]
+    edges = [(where[one], own[one], own[other]) for one, other in graph.edges()]
+    found = Listed(form, edges, nodes, places_in(graph, own))
     found.notes.append(f"nodes are named by their {key or 'id'}")
     if graph.is_directed():
         found.notes.append("directions aren't read")
-    found.notes += unread("nodes", [has for _, has in graph.nodes(data=True)], key)
-    found.notes += unread("edges", [has for *_, has in graph.edges(data=True)], None)
+    read = {key, "id", *(("x", "y") if found.places else ())}
+    found.notes += unread("nodes", [has for _, has in graph.nodes(data=True)], read)
+    found.notes += unread("edges", [has for *_, has in graph.edges(data=True)], {"id"})
     return found
 
 
@@ -169,44 +168,49 @@ def where_of(graph, declared: Declared | None) -> dict[object, Where]:
     return dict(zip(graph, places))
 
 
-def naming(graph, name: str, stated: Stated) -> str | None:
+def naming(graph, name: str, where: dict[object, Where], stated: Stated) -> str | None:
     """The key that names the nodes, None for the id: the one that the user states, or one of NAMES."""
     key = stated.columns.get("site")
     if key == "id":
         return None
-    if key is not None:
-        if not is_own(graph, key):
-            raise Wrong(f"{name}: not each node has a `{shown(key)}` of its own")
-        return key
-    return next((key for key in NAMES if is_own(graph, key)), None)
+    if key is None:
+        return next((own for own in NAMES if first_without(graph, own) is None), None)
+    node = first_without(graph, key)
+    if node is not None:
+        raise wrong_at(name, where[node], f"a node without a `{shown(key)}` of its own")
+    return key
 
 
-def is_own(graph, key: str) -> bool:
-    """Whether each node has a value of a key that no other has."""
-    values = [has.get(key) for _, has in graph.nodes(data=True)]
-    return None not in values and "" not in values and len(set(map(str, values))) == len(values)
+def first_without(graph, key: str):
+    """The first node that has no value of a key, or one that a node before it has; None if there is none."""
+    seen: set[str] = set()
+    for node, has in graph.nodes(data=True):
+        value = str(has.get(key, ""))
+        if value in seen or not value:
+            return node
+        seen.add(value)
+    return None
 
 
 def places_in(graph, own: dict[object, str]) -> dict[str, tuple[float, float]]:
     """The places of the nodes, if each has one in numbers `x` and `y`."""
     try:
-        return {
+        places = {
             own[node]: (float(has["x"]), float(has["y"])) for node, has in graph.nodes(data=True)
         }
     except (KeyError, TypeError, ValueError):
         return {}
+    are_near = all(abs(part) < FARTHEST for place in places.values() for part in place)
+    return places if are_near else {}
 
 
-def unread(what: str, rows: list[dict], named_by: str | None) -> list[str]:
+def unread(what: str, rows: list[dict], read: set[str | None]) -> list[str]:
     """The keys of nodes or edges that aren't read, with their first values."""
     values: dict[str, set[str]] = {}
     for has in rows:
-        for key, value in has.items():
-            values.setdefault(str(key), set()).add(str(value))
-    said = []
-    for key in values:
-        if key not in READ:
-            said.append(f"{shown(key)} ({first_values(values[key])})")
+        for key in has.keys() - read:
+            values.setdefault(str(key), set()).add(str(has[key]))
+    said = [f"{shown(key)} ({first_values(values[key])})" for key in sorted(values)]
     return [f"{counted(len(said), 'key')} of {what} not read: {'; '.join(said)}"] if said else []
 
 

@@ -1,13 +1,14 @@
 """Edges and adjacency as networkx writes them: words with blanks between, below comments."""
 import re
-from collections.abc import Iterator
 
 from lab.networks.fields import shown
-from lab.networks.listed import Listed, name_of
+from lab.networks.listed import Listed, Where, name_of
 from lab.networks.table import NUMBER, TITLES
 from lab.words import counted
 from lab.wrong import Wrong, wrong_line
 
+BLANKS = " \t"
+BETWEEN = re.compile("[ \t]+")
 DATA = re.compile(r"\{.*\}")
 TABLE = "a table is read --as pairs"
 NO_NAME = re.compile('[,;"]')
@@ -18,7 +19,7 @@ def rows_below_comments(text: str, name: str) -> tuple[list[tuple[int, str]], li
     rows: list[tuple[int, str]] = []
     comments = 0
     for line, raw in enumerate(text.split("\n"), 1):
-        row = raw.strip()
+        row = raw.strip(BLANKS)
         if not row.startswith("#"):
             rows += [(line, row)] if row else []
         elif rows:
@@ -53,7 +54,7 @@ def edges(text: str, name: str) -> Listed:
     found = Listed("edges", notes=notes)
     first_shape = None
     for line, row in rows:
-        one, other, more = (row.split(None, 2) + ["", ""])[:3]
+        one, other, more = (BETWEEN.split(row, 2) + ["", ""])[:3]
         shape = shape_of(more)
         first_shape = first_shape or shape
         if not other or shape == "more":
@@ -78,10 +79,10 @@ def is_heading(one: str, other: str) -> bool:
 def adjacency(text: str, name: str) -> Listed:
     """A node, maybe with a colon after it, and its neighbours; each node has a line of its own."""
     rows, notes = rows_below_comments(text, name)
-    nodes: dict[str, int] = {}
+    nodes: dict[str, Where] = {}
     found = Listed("adjacency", notes=notes)
     for line, row in rows:
-        first, *others = row.split()
+        first, *others = BETWEEN.split(row)
         node = node_of(first.removesuffix(":"), name, line)
         if node in nodes:
             raise wrong_line(name, line, f"a second line of {shown(node)}")
@@ -90,5 +91,5 @@ def adjacency(text: str, name: str) -> Listed:
     for line, _, other in found.edges:
         if other not in nodes:
             raise wrong_line(name, line, f"{shown(other)} has no line of its own: is the text cut?")
-    found.nodes = list(nodes)
+    found.nodes = nodes
     return found

@@ -21,13 +21,13 @@ Edge = tuple[Where, str, str]
 class Listed:
     """The nodes and edges of a text.
 
-    `nodes` is None if the nodes are those that edges name, in the order in which they come. `notes` says how the text
-    was read, and what of it isn't in the network.
+    `nodes` has the nodes in their order, and where each is in the text; it is None if the nodes are those that edges
+    name, in the order in which they come. `notes` says how the text was read, and what of it isn't in the network.
     """
 
     form: str
     edges: list[Edge] = field(default_factory=list)
-    nodes: list[str] | None = None
+    nodes: dict[str, Where] | None = None
     places: dict[str, tuple[float, float]] = field(default_factory=dict)
     identifiers: dict[str, int] = field(default_factory=dict)
     bars: dict[str, set[int]] = field(default_factory=dict)
@@ -36,7 +36,7 @@ class Listed:
     def names(self) -> list[str]:
         """The nodes in their order."""
         if self.nodes is not None:
-            return self.nodes
+            return list(self.nodes)
         return list(dict.fromkeys(end for _, *ends in self.edges for end in ends))
 
 
@@ -93,11 +93,8 @@ def nearest(name: str, known: Iterable[str]) -> str:
 
 def known_nodes(found: Listed, known: set[str], path: str, table: str) -> None:
     """Refuses a node of a text that isn't a site of a table."""
-    for where, *ends in found.edges:
-        for end in ends:
-            if end not in known:
-                what = f"{shown(end)} isn't a site of {table}{nearest(end, known)}"
-                raise wrong_at(path, where, what)
-    for node in found.nodes or ():
+    named = [(end, where) for where, *ends in found.edges for end in ends]
+    for node, where in named if found.nodes is None else found.nodes.items():
         if node not in known:
-            raise Wrong(f"{path}: {shown(node)} isn't a site of {table}{nearest(node, known)}")
+            what = f"{shown(node)} isn't a site of {table}{nearest(node, known)}"
+            raise wrong_at(path, where, what)

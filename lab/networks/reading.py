@@ -2,9 +2,9 @@
 from lab.network import Network
 from lab.networks import foreign, lines, tables
 from lab.networks.fields import whole
-from lab.networks.listed import Listed, note_alike
+from lab.networks.listed import Listed, note_alike, wrong_at
 from lab.networks.named import path_of
-from lab.networks.network_text import checked, network_of, read_network, stem
+from lab.networks.network_text import MAX_EDGES, checked, network_of, read_network, stem
 from lab.networks.stated import Stated, decoded, form_of
 from lab.networks.texts import text_of
 from lab.words import counted, one_line
@@ -41,7 +41,7 @@ def listed_in(network: Network, name: str) -> Listed:
     return Listed(
         "dimacs",
         edges=[(f"vertex {v}", names[v], names[w]) for v, w in network.edges],
-        nodes=list(names.values()),
+        nodes={own: f"vertex {v}" for v, own in names.items()},
         places={names[v]: place for v, place in network.places.items() if v in names},
         identifiers={names[v]: number for v, number in network.said.items()},
         bars={names[v]: set(channels) for v, channels in network.bars.items()},
@@ -53,7 +53,7 @@ def made_of(found: Listed, name: str) -> tuple[Network, list[str]]:
     note_alike(found)
     names, by = numbered(found.names())
     number = {node: v for v, node in enumerate(names, 1)}
-    edges, notes = edges_of(found, number)
+    edges, notes = edges_of(found, number, name)
     network = Network(
         len(names),
         edges,
@@ -67,15 +67,19 @@ def made_of(found: Listed, name: str) -> tuple[Network, list[str]]:
     return network, [summary(network, found.form, by), *found.notes, *notes]
 
 
-def edges_of(found: Listed, number: dict[str, int]) -> tuple[set[tuple[int, int]], list[str]]:
+def edges_of(
+    found: Listed, number: dict[str, int], path: str
+) -> tuple[set[tuple[int, int]], list[str]]:
     """The edges by numbers, and notes of those that aren't there for themselves."""
     edges, loops, again = set(), 0, 0
-    for _, one, other in found.edges:
+    for where, one, other in found.edges:
         v, w = sorted((number[one], number[other]))
         if v == w:
             loops += 1
         elif (v, w) in edges:
             again += 1
+        elif len(edges) == MAX_EDGES:
+            raise wrong_at(path, where, f"more than {MAX_EDGES} different edges")
         else:
             edges.add((v, w))
     notes = []

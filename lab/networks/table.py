@@ -28,6 +28,8 @@ TITLES = {
 MARKS = {",": "commas", ";": "semicolons", "\t": "tabs"}
 COLUMNS = ("column", "columns")
 NUMBER = re.compile(r"-?[0-9]{1,20}(?:[.,][0-9]{1,20})?(?:[eE][+-]?[0-9]{1,2})?")
+# No coordinate is as great, in metres or kilometres.
+FARTHEST = 1e9
 Row = tuple[int, list[str]]
 
 
@@ -98,17 +100,23 @@ class Table:
 
     def places_of(self, column: str, first: list[str]) -> list[int]:
         """Where a column is, by its title or, without a heading, by its number."""
+        if not self.stated.has_heading:
+            number = self.number_of(column)
+            return [number - 1] if 1 <= number <= len(first) else []
         stated = self.stated.columns.get(column)
-        if self.stated.has_heading:
-            titles = TITLES[column] if stated is None else (stated.strip().casefold(),)
-            return [at for at, title in enumerate(first) if title.casefold() in titles]
+        if stated in first:
+            return [at for at, title in enumerate(first) if title == stated]
+        titles = TITLES[column] if stated is None else (stated.strip().casefold(),)
+        return [at for at, title in enumerate(first) if title.casefold() in titles]
+
+    def number_of(self, column: str) -> int:
+        """Which column of a table without a heading it is, from 1; 0 if it is none."""
+        stated = self.stated.columns.get(column)
         if stated is not None:
-            number = int(stated) if re.fullmatch("[0-9]{1,4}", stated) else 0
-        elif self.are_numbered() or column in self.others:
-            number = 0
-        else:
-            number = self.wanted.index(column) + 1
-        return [number - 1] if 1 <= number <= len(first) else []
+            return int(stated) if re.fullmatch("[0-9]{1,4}", stated) else 0
+        if self.are_numbered() or column in self.others:
+            return 0
+        return self.wanted.index(column) + 1
 
     def are_numbered(self) -> bool:
         """Whether the user states which column is which of a table without a heading."""
@@ -177,12 +185,14 @@ class Table:
         """The refusal of a first row that doesn't have all wanted columns."""
         line, first = row
         wanted = f"{COLUMNS[len(self.wanted) > 1]} {in_words(self.wanted)}"
-        if not self.stated.has_heading:
-            return self.wrong(line, f"{counted(len(first), 'field')}, and no {wanted}")
         named = [column for column in self.wanted if column in self.stated.columns]
         for column in named:
             if not self.places_of(column, first):
                 return self.missing(line, column)
+        if named and not self.stated.has_heading:
+            return self.wrong(line, f"--columns has to have the numbers of the {wanted}")
+        if not self.stated.has_heading:
+            return self.wrong(line, f"{counted(len(first), 'field')}, and no {wanted}")
         what = self.wrong(line, f"no heading with the {wanted}: `{shown(','.join(first))}`")
         choices = [] if named else self.headings(first, wanted)
         return Unsaid(str(what), choices) if choices else what
@@ -225,4 +235,7 @@ class Table:
         has_comma = "," in field
         if not NUMBER.fullmatch(field) or has_comma and self.mark == ",":
             raise self.wrong(line, f"no number, or one with thousands: `{shown(field)}`")
-        return float(field.replace(",", "."))
+        number = float(field.replace(",", "."))
+        if abs(number) >= FARTHEST:
+            raise self.wrong(line, f"no place on this earth: `{shown(field)}`")
+        return number

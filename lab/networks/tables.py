@@ -9,7 +9,7 @@ from lab.networks.places import Point, across_of, near, on_ground, on_map
 from lab.networks.stated import Stated, Unsaid
 from lab.networks.table import Table
 from lab.words import counted, in_words
-from lab.wrong import Wrong
+from lab.wrong import Wrong, wrong_line
 
 # How many digits a real number of a channel has at most, as a frequency in kHz.
 MOST_DIGITS = 12
@@ -97,13 +97,16 @@ def sites_of(text: str, path: str, stated: Stated) -> Sites:
     """The sites of a table, each once."""
     table = Table(text, path, stated, SITES[:1], SITES[1:])
     columns = place_columns(table)
-    sites, seen = [], set()
+    sites, seen, identifiers = [], set(), set()
     for line, row in table.rows:
         name = name_of(row["site"], path, line)
         if name in seen:
             raise table.wrong(line, f"a second site {shown(name)}")
         seen.add(name)
         identifier = identifier_in(table, line, row.get("identifier", ""))
+        if identifier is not None and identifier in identifiers:
+            raise table.wrong(line, f"a second site of the identifier {identifier}")
+        identifiers.add(identifier)
         sites.append(Site(line, name, identifier, place_in(table, line, row, columns)))
     return Sites(path, sites, columns, table.notes)
 
@@ -160,13 +163,15 @@ def place_in(
 
 def with_sites(found: Listed, sites: Sites, path: str) -> None:
     """Makes the sites of a table the nodes, in its order, with their identifiers and places."""
-    names = [site.name for site in sites.sites]
-    known_nodes(found, set(names), path, sites.path)
-    found.nodes = names
+    known_nodes(found, {site.name for site in sites.sites}, path, sites.path)
+    found.nodes = {site.name: site.line for site in sites.sites}
     found.notes += [f"{sites.path}: {note}" for note in sites.notes]
     for site in sites.sites:
-        if site.identifier is not None:
-            found.identifiers[site.name] = site.identifier
+        if site.identifier is None:
+            continue
+        if found.identifiers.setdefault(site.name, site.identifier) != site.identifier:
+            what = f"{shown(site.name)} has another identifier in {path}"
+            raise wrong_line(sites.path, site.line, what)
     if sites.columns is None:
         return
     found.places = sites.on_picture()

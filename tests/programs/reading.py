@@ -165,6 +165,7 @@ REFUSED = (
     ("edges", "source target\na b\n", "line 1: it is a heading"),
     ("edges", "a b\n#c d\n", "line 2: comments come before all rows"),
     ("edges", "2 Mill,\n", "line 1: no name of a node: `Mill,`; a table is read --as pairs"),
+    ("edges", "A\u00a0B 3\n", "line 1: no name of a node: `A\\xa0B`"),
     ("edges", '"a" "b"\n', "a table is read --as pairs"),
     ("edges", "0 2\n3 {}\n4 {}\n", "line 2: no name of a node"),
     ("adjacency", "a b\n", "line 1: b has no line of its own"),
@@ -184,8 +185,13 @@ REFUSED = (
     ("json", '{"nodes": [{"id": "a"}], "links": [], "edges": []}', "and no other"),
     ("json", '{"nodes": [{"name": "a"}], "links": []}', "nodes[0]: its `id` is no text"),
     ("json", '{"nodes": [{"id": true}], "links": []}', "nodes[0]: its `id` is no text"),
-    ("json", '{"nodes": [{"id": 1}, {"id": "1"}], "links": []}', "two nodes are called 1"),
+    (
+        "json",
+        '{"nodes": [{"id": 1}, {"id": "1"}], "links": []}',
+        "nodes[1]: a second node is called 1",
+    ),
     ("json", '{"nodes": [],\n "links": []', "line 2: no JSON"),
+    ("json", '{"nodes": [], "nodes": [{"id": 1}], "links": []}', "an object has `nodes` twice"),
     ("json", "[" * 100000, "no JSON of nodes and links"),
     (
         "graphml",
@@ -201,13 +207,15 @@ REFUSED = (
     (
         "graphml",
         '<graphml><graph><node id="a"/>\n<node id="a "/></graph></graphml>',
-        "two nodes are called a",
+        "line 2: a second node is called a",
     ),
     (
         "graphml",
         '<graphml><graph><node id="a"/><link source="a" target="a"/></graph></graphml>',
         "line 1: `link` joins nodes and isn't an edge",
     ),
+    ("graphml", "<?xml version='1.0' encoding='utf-x8'?><graphml/>", "no XML: unknown encoding"),
+    ("graphml", "<?xml version='1.0' encoding='gbk'?><graphml/>", "no XML"),
     ("graphml", "<graphml>\n<graph>\n</graphml>", "line 3: no XML"),
     ("gml", "graph [ node [ id 1 ]\nnode [ id 1 ] ]", "line 2: a second node of the id 1"),
     ("gml", "graph [ node [ id 1 ]\nlink [ source 1 target 1 ] ]", "line 2: `link` is neither"),
@@ -219,7 +227,8 @@ REFUSED = (
         'graph [ node [ id 1 ]\nnode [ id 2 label "a" label "b" ] ]',
         "line 2: a second `label` of one `node`",
     ),
-    ("gml", "graph [ node [ id 1 ]", "a list isn't closed"),
+    ("gml", "graph [ node [ id 1 ]", "line 1: a list that isn't closed"),
+    ("gml", "graph [ " + "a [ " * 5000 + "]" * 5001, "can't read it as gml"),
     ("gml", "node [ id 1 ]", "networkx can't read it as gml"),
     ("gexf", "<gexf><graph/></gexf>", "can't read it"),
     ("graph6", "A_\nA_\n", "line 2: a second graph"),
@@ -300,9 +309,11 @@ class Reading(Case):
         for form, text, said in REFUSED:
             if form in foreign.READERS and not self.has_networkx:
                 continue
-            with self.subTest(f"{form} {text!r}"), self.assertRaises(Wrong) as found:
+            with self.subTest(f"{form} {text[:80]!r}"), self.assertRaises(Wrong) as found:
                 read(text, form)
-            self.note(f"{form} {text!r} says why", said in str(found.exception), found.exception)
+            self.note(
+                f"{form} {text[:80]!r} says why", said in str(found.exception), found.exception
+            )
 
     def test_read(self):
         """Each of these is one network, whatever other elements and keys are called."""
@@ -318,7 +329,7 @@ class Reading(Case):
         for key, names in (("town", {"Ulm", "Aue"}), ("id", {"1", "2"})):
             alone = read(text, "json", columns={"site": key})[1] if self.has_networkx else names
             self.same(f"by {key}", alone, names)
-        with self.assertRaisesRegex(Wrong, "not each node has a `land` of its own"):
+        with self.assertRaisesRegex(Wrong, "a node without a `land` of its own"):
             read(text, "json", columns={"site": "land"})
 
     def test_endings(self):
@@ -338,7 +349,7 @@ class Reading(Case):
         )
         said = read(text, "json")[2] if self.has_networkx else []
         self.note(
-            "keys", not said or said[2] == "2 keys of edges not read: weight (0); on (False)", said
+            "keys", not said or said[2] == "2 keys of edges not read: on (False); weight (0)", said
         )
         said = read(PAIR.replace("\n", ",km\n") + "a,a,1\na,b,2\nb,a,3\nA,b,1\n", "pairs")[2]
         self.same(

@@ -1,12 +1,11 @@
 """Tests of what `forestlab network read` asks for: each refusal that names commands names some that work as printed."""
-import importlib.util
 import os
 import re
 import shutil
 import subprocess
 
 from tests import TOP
-from tests.cases import Case, forestlab
+from tests.cases import Case
 from tests.programs.own_networks import pairs_in
 
 # What a shell finds: the commands of the repository, and Debian's Python with its packages.
