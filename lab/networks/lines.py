@@ -14,8 +14,13 @@ TABLE = "a table is read --as pairs"
 NO_NAME = re.compile('[,;"]')
 
 
-def rows_below_comments(text: str, name: str) -> tuple[list[tuple[int, str]], list[str]]:
-    """(line, what it has) of the lines in which something is, and a note of the comments, which come before them."""
+def rows_below_comments(
+    text: str, name: str, begins_free: bool = False
+) -> tuple[list[tuple[int, str]], list[str]]:
+    """(line, what it has) of the lines in which something is, and a note of the comments, which come before them.
+
+    A comment is `#`, alone or with a blank after it. With `begins_free` the first line may have anything after it.
+    """
     rows: list[tuple[int, str]] = []
     comments = 0
     for line, raw in enumerate(text.split("\n"), 1):
@@ -24,8 +29,10 @@ def rows_below_comments(text: str, name: str) -> tuple[list[tuple[int, str]], li
             rows += [(line, row)] if row else []
         elif rows:
             raise wrong_line(name, line, f"comments come before all rows: `{shown(row)}`")
-        else:
+        elif row == "#" or row.startswith("# ") or line == 1 and begins_free:
             comments += 1
+        else:
+            raise wrong_line(name, line, f"a comment has a blank after its #: `{shown(row)}`")
     if not rows:
         raise Wrong(f"{name}: it has no row")
     said = counted(comments, "line that begins", "lines that begin")
@@ -77,8 +84,11 @@ def is_heading(one: str, other: str) -> bool:
 
 
 def adjacency(text: str, name: str) -> Listed:
-    """A node, maybe with a colon after it, and its neighbours; each node has a line of its own."""
-    rows, notes = rows_below_comments(text, name)
+    """A node, maybe with a colon after it, and its neighbours; each node has a line of its own.
+
+    networkx writes the words of its script after the `#` of the first line.
+    """
+    rows, notes = rows_below_comments(text, name, begins_free=True)
     nodes: dict[str, Where] = {}
     found = Listed("adjacency", notes=notes)
     for line, row in rows:

@@ -4,7 +4,7 @@ import csv
 import io
 import shlex
 
-from lab.networks.stated import FORMS, Stated, Unsaid
+from lab.networks.stated import FORMS, Elsewhere, Stated, Unsaid
 from lab.networks.table import TITLES
 
 
@@ -71,8 +71,14 @@ def option_of(stated: dict) -> list[str]:
     }[what]()
 
 
-def commands_for(why: Unsaid, begin: list[str], words: list[str], after: str = "") -> str:
-    """What isn't stated, and the commands to choose from, ready to be copied."""
+def commands_for(
+    why: Unsaid | Elsewhere, begin: list[str], words: list[str], after: str = ""
+) -> str:
+    """What isn't stated or read, and the commands to choose from or to type, ready to be copied."""
+    if isinstance(why, Elsewhere):
+        again = [why.new if word == why.path else word for word in words]
+        command = shlex.join(["forestlab", *begin, *again])
+        return f"{why.what}:\n  {why.command}\n  {command}{after}"
     lines = [f"{why.what}; say what it is:"]
     for stated, means in why.choices:
         command = shlex.join(["forestlab", *begin, *option_of(stated), *words])

@@ -49,13 +49,34 @@ class Stated:
 class Unsaid(Wrong):
     """A text of which something isn't stated: `choices` has (what may be stated, what that means).
 
-    What may be stated is a dict with one of the names of `Stated`.
+    What may be stated is a dict with one of the names of `Stated`. If a table has none of the columns that are wanted,
+    `titles` are those that it has.
     """
 
-    def __init__(self, what: str, choices: list[tuple[dict, str]]):
+    def __init__(
+        self,
+        what: str,
+        choices: list[tuple[dict, str]],
+        wanted: tuple[str, ...] = (),
+        titles: tuple[str, ...] = (),
+    ):
         super().__init__(what)
         self.what = what
         self.choices = choices
+        self.wanted, self.titles = wanted, titles
+
+
+class Elsewhere(Wrong):
+    """A file that isn't read: `command`, of a Debian package, makes the file `new` of it, which is."""
+
+    def __init__(self, name: str, path: str, package: str, command: list[str], new: str):
+        self.what = f"{name}: it isn't read, but what this makes of it is (apt install {package})"
+        self.path, self.new = path, new
+        self.command = shlex.join(command)
+        super().__init__(f"{self.what}:\n  {self.command}\n  {shlex.join(READ + [new])}")
+
+
+READ = ["forestlab", "network", "read"]
 
 
 def form_of(path: str, name: str, stated: Stated = Stated()) -> str:
@@ -68,8 +89,8 @@ def form_of(path: str, name: str, stated: Stated = Stated()) -> str:
     for form, endings in ENDINGS.items():
         if ending in endings:
             return form
-    if ending in ELSEWHERE:
-        raise Wrong(f"{name}: {ELSEWHERE[ending](path)}")
+    if ending in OTHERS:
+        raise OTHERS[ending](name, path)
     choices = [({"form": form}, means) for form, means in COMMON.items()]
     raise Unsaid(f"{name}: its ending doesn't say what it is", choices)
 
@@ -77,44 +98,38 @@ def form_of(path: str, name: str, stated: Stated = Stated()) -> str:
 # Forms that aren't read, and what makes a form of them that is.
 
 
-def by_python(path: str, package: str, line: str, ending: str) -> str:
-    """The commands by which a line of Python writes another form, and that read it."""
-    new = os.path.splitext(path)[0] + ending
+def by_python(name: str, path: str, package: str, line: str) -> Wrong:
+    """A line of Python that writes GraphML."""
+    new = os.path.splitext(path)[0] + ".graphml"
     code = line.format(json.dumps(path), json.dumps(new))
-    return (
-        f"it isn't read, but what this makes of it is (apt install {package}):\n"
-        f"  python3 -c {shlex.quote(code)}\n"
-        f"  forestlab network read {shlex.quote(new)}"
-    )
+    return Elsewhere(name, path, package, ["python3", "-c", code], new)
 
 
-def from_pajek(path: str) -> str:
+def from_pajek(name: str, path: str) -> Wrong:
     line = "import igraph; igraph.Graph.Read_Pajek({}).write_graphml({})"
-    return by_python(path, "python3-igraph", line, ".graphml")
+    return by_python(name, path, "python3-igraph", line)
 
 
-def from_matrix_market(path: str) -> str:
+def from_matrix_market(name: str, path: str) -> Wrong:
     line = (
         "import networkx, scipy.io; "
         "networkx.write_graphml(networkx.Graph(scipy.io.mmread({})), {})"
     )
-    return by_python(path, "python3-networkx python3-scipy", line, ".graphml")
+    return by_python(name, path, "python3-networkx python3-scipy", line)
 
 
-def from_dot(path: str) -> str:
-    new = shlex.quote(os.path.splitext(path)[0] + ".gml")
-    return (
-        "it isn't read, but what this makes of it is (apt install graphviz):\n"
-        f"  gv2gml -o {new} {shlex.quote(path)}\n"
-        f"  forestlab network read {new}"
-    )
+def from_dot(name: str, path: str) -> Wrong:
+    # A name that begins with a hyphen is no option if it begins with its folder.
+    file = f"./{path}" if path.startswith("-") else path
+    new = os.path.splitext(file)[0] + ".gml"
+    return Elsewhere(name, path, "graphviz", ["gv2gml", "-o", new, file], new)
 
 
-def from_spreadsheet(path: str) -> str:
-    return "a spreadsheet isn't read: save its sheet as CSV"
+def from_spreadsheet(name: str, path: str) -> Wrong:
+    return Wrong(f"{name}: a spreadsheet isn't read: save its sheet as CSV")
 
 
-ELSEWHERE = {
+OTHERS = {
     ".dot": from_dot,
     ".gv": from_dot,
     ".net": from_pajek,

@@ -189,19 +189,17 @@ class Table:
         for column in named:
             if not self.places_of(column, first):
                 return self.missing(line, column)
-        if named and not self.stated.has_heading:
-            return self.wrong(line, f"--columns has to have the numbers of the {wanted}")
         if not self.stated.has_heading:
-            return self.wrong(line, f"{counted(len(first), 'field')}, and no {wanted}")
+            has = "--columns has to have the numbers of the" if named else "too few fields for the"
+            return self.wrong(line, f"{has} {wanted}")
         what = self.wrong(line, f"no heading with the {wanted}: `{shown(','.join(first))}`")
-        choices = [] if named else self.headings(first, wanted)
-        return Unsaid(str(what), choices) if choices else what
+        titles = tuple(title for title in first if title and first.count(title) == 1)
+        if named or len(titles) < len(self.wanted):
+            return what
+        return Unsaid(str(what), self.headings(titles, wanted), self.wanted, titles)
 
-    def headings(self, first: list[str], wanted: str) -> list[tuple[dict, str]]:
+    def headings(self, titles: tuple[str, ...], wanted: str) -> list[tuple[dict, str]]:
         """What a first row without standard titles may be."""
-        titles = [title for title in first if title and first.count(title) == 1]
-        if len(titles) < len(self.wanted):
-            return []
         columns = dict(zip(self.wanted, titles))
         said = in_words(f"{column} is {shown(title)}" for column, title in columns.items())
         return [

@@ -72,7 +72,7 @@ def file_read(asked, _tell):
         return shown(*read_any(base64.b64decode(asked["data"]), name, form, stated))
     except Unsaid as why:
         choices = [{"stated": choice, "means": means} for choice, means in why.choices]
-        return {"unsaid": why.what, "choices": choices}
+        return {"unsaid": why.what, "choices": choices, "wanted": why.wanted, "titles": why.titles}
 
 
 def stated_asked(said) -> Stated:

@@ -40,6 +40,8 @@ ASKED = (
     ),
     ({"a b.dot": "graph { Ulm -- Aue }"}, "'a b.dot'", 1),
     ({"a.gv": "graph { Ulm -- Aue; Ulm -- Aue }"}, "a.gv", 1),
+    ({"-a.gv": "graph { Ulm -- Aue }"}, "-- -a.gv", 1),
+    ({"a.gv": "graph { Ulm -- Aue }", "s.csv": "site\nUlm\nAue\n"}, "a.gv --sites s.csv", 1),
     ({"a.net": '*Vertices 2\n1 "Ulm"\n2 "Aue"\n*Edges\n1 2\n'}, "a.net", 1),
 )
 MATRIX = "%%MatrixMarket matrix coordinate pattern symmetric\n% of 3\n3 3 1\n3 1\n"

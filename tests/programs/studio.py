@@ -1,5 +1,6 @@
 """Tests of the server of the studio: whom it answers, what it refuses, what it answers, and that a call ends with its
 browser."""
+import base64
 import http.client
 import json
 import os
@@ -250,6 +251,36 @@ class Memory(Server):
 
 
 class Answers(Server):
+    def opened(self, name, text, **stated):
+        """What is answered to a file that is dropped on the page."""
+        data = base64.b64encode(text.encode()).decode()
+        return self.answer("read", name=name, data=data, stated=stated)
+
+    def test_files(self):
+        """A file is read by what is stated of it, and what isn't is asked."""
+        table = "a,b\nOslo,Ulm\n"
+        asked = self.opened("x.txt", table)["answer"]
+        self.same("its form is asked", len(asked["choices"]), 3)
+        asked = self.opened("x.txt", table, **asked["choices"][0]["stated"])["answer"]
+        self.same("its columns are asked", asked["titles"], ["a", "b"])
+        columns = dict(zip(asked["wanted"], asked["titles"]))
+        got = self.opened("x.txt", table, form="pairs", columns=columns)["answer"]
+        self.same("it is read", (got["edges"], got["nodes"][0]["name"]), ([[1, 2]], "Oslo"))
+        got = self.opened("x.csv", table, has_heading=False)["answer"]
+        self.same("without a heading", got["edges"], [[1, 2], [3, 4]])
+        got = self.opened("the text", TRIANGLE, form="dimacs")["answer"]
+        self.same("the page's own text", got["edges"], [[1, 2], [1, 3], [2, 3]])
+        for name, text, said in (
+            ("x.col", "p edge 2 1\ne 1 3\n", "F5"),
+            ("x.csv", "source,target\na,b,c\n", "line 2: 3 fields"),
+            ("x.dot", "graph { a -- b }", "gv2gml -o x.gml x.dot"),
+        ):
+            got = self.opened(name, text)
+            self.note(f"{name} is refused", said in got.get("wrong", ""), got)
+        for stated in ({"form": "text"}, {"columns": 7}, {"columns": {"x": 1}, "form": "json"}):
+            got = self.opened("x.csv", table, **stated)
+            self.note(f"stated as {stated}: an answer", set(got) & {"answer", "wrong"}, got)
+
     def test_answers(self):
         lessons = self.answer("hello")["answer"]["lessons"]
         self.note("all lessons", [one["number"] for one in lessons] == [*range(1, 8)], lessons)

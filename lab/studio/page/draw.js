@@ -150,16 +150,29 @@ export async function openFile(file, stated = {}, name = null) {
     by("notes").textContent = `Read: ${(said.length ? said : all_).join("; ")}.`;
   });
 }
-// Nothing is guessed: what isn't said of a file is asked.
-function askWhat(file, stated, name, {unsaid, choices}) {
+// Nothing is guessed: what isn't said of a file is asked. Of a table without standard titles any columns may be meant.
+function askWhat(file, stated, name, {unsaid, choices, wanted, titles}) {
+  const say = (means, more) => {
+    const button = html("button", means);
+    button.onclick = () => {
+      const said = more();
+      openFile(file, {...stated, ...said, columns: {...stated.columns, ...said.columns}}, name);
+    };
+    return button;
+  };
+  const columns = wanted.map(column => {
+    const label = html("label", column + " is "), choice = html("select", null, {name: column});
+    titles.forEach(title => choice.append(html("option", title)));
+    choice.selectedIndex = wanted.indexOf(column);
+    label.append(choice);
+    return label;
+  });
+  const chosen = () => Object.fromEntries(columns.map(one => [one.lastChild.name, one.lastChild.value]));
   if (seen.tab !== "draw") go("draw");
   by("unsaid").hidden = false;
   by("unsaidwhat").textContent = `${unsaid}. Say what it is:`;
-  by("unsaidchoices").replaceChildren(...choices.map(({stated: more, means}) => {
-    const button = html("button", means), columns = {...stated.columns, ...more.columns};
-    button.onclick = () => openFile(file, {...stated, ...more, columns}, name);
-    return button;
-  }));
+  by("unsaidchoices").replaceChildren(...choices.map(({stated: more, means}) => say(means, () => more)));
+  if (columns.length) by("unsaidchoices").append(...columns, say("read these", () => ({columns: chosen()})));
 }
 function download(words, name) {
   const link = html("a", null, {href: URL.createObjectURL(new Blob([words], {type: "text/plain"})), download: name});
