@@ -14,9 +14,9 @@ from build import kit, program
 from build.completion import COMMANDS, completion, manual
 from build.crate_lists import PROGRAMS, TOP
 from lab import checksums, version
+from lab.door import held
 from lab.words import parser_of
 from lab.workshop.class_files import write, write_scripts
-from lab.workshop.guard import held
 
 # What is copied, each at the path that it has here.
 FOLDERS = ("examples", "docs", "lab")

@@ -3,6 +3,7 @@
 What was given may be wrong; a closed or full output, too little memory and Ctrl-C are no faults of the command. A
 reader that has gone away is no fault at all."""
 import atexit
+import contextlib
 import ctypes
 import os
 import signal
@@ -22,6 +23,17 @@ def stop(number, _):
     if number == signal.SIGINT:
         raise KeyboardInterrupt
     raise Stopped(128 + number)
+
+
+@contextlib.contextmanager
+def held():
+    """Signals that end a command wait for the end of this block. A process that is started in it has to let them in
+    again."""
+    before = signal.pthread_sigmask(signal.SIG_BLOCK, STOPS)
+    try:
+        yield
+    finally:
+        signal.pthread_sigmask(signal.SIG_SETMASK, before)
 
 
 def run(name, load):

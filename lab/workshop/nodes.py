@@ -2,8 +2,10 @@
 import time
 from typing import Callable
 
+from lab.door import held
 from lab.workshop.findings import Fault
-from lab.workshop.guard import Guard, Limits, end_all, held, is_reaper
+from lab.workshop.guard import Guard, Limits
+from lab.workshop.leftovers import end_all, is_reaper
 from lab.workshop.processes import Process
 
 Answer = list[str] | Fault
@@ -42,8 +44,9 @@ class Nodes:
             self.of[v] = self.of[same]
             return
         with held():
-            guard = self.guard.at(len(self.processes))
-            self.processes.append(Process(self.commands[owner], self.limits, guard, self.tasks))
+            self.processes.append(
+                Process(self.commands[owner], self.limits, self.guard, self.tasks)
+            )
         self.of[v] = self.processes[-1]
 
     def __exit__(self, *why):

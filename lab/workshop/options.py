@@ -83,11 +83,6 @@ def command_line() -> argparse.ArgumentParser:
     )
     add_limits(words)
     words.add_argument(
-        "--no-guard",
-        action="store_true",
-        help="let programs reach other processes: for a container's command that needs more rights",
-    )
-    words.add_argument(
         "--one-process",
         action="store_true",
         help="one process for all nodes of a command: each message begins with `to K`; not for grading",

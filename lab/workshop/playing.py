@@ -40,7 +40,7 @@ class Player:
             over,
             is_shown,
         )
-        self.guard, self.said = guard or Guard(is_open=options.no_guard), time.monotonic()
+        self.guard, self.said = guard or Guard(), time.monotonic()
 
     def say(self, words: str) -> None:
         if self.is_shown and time.monotonic() - self.said > PROGRESS_SECONDS:

@@ -25,9 +25,16 @@ LAST_LINES, LAST_LETTERS, LAST_BYTES = 5, 600, 1 << 14
 # JavaScript print it, all but the two innermost.
 UNSHOWN = re.compile(r"(?m)^[ \t\r^~]*\n|((?:^[ \t]*at .*\n){2})(?:^[ \t]*at .*\n)+")
 START_HINT = (
-    "; is it `chmod +x`, does its first line say what runs it, as `#!/usr/bin/env python3`, and is it called "
-    "as `./FILE` or `python3 FILE`?"
+    "; is it `chmod +x`, does its first line say what runs it, as `#!/usr/bin/env python3`, without Windows' line "
+    "ends, and is it called as `./FILE` or `python3 FILE`?"
 )
+ENDED_BY = 128
+SIGNALS = {int(one): one.name for one in signal.Signals}
+# What a signal means that is one of a limit.
+OF_LIMITS = {
+    signal.SIGXFSZ: " (it wrote too much to a file or to standard error)",
+    signal.SIGXCPU: " (it used too much processor time)",
+}
 
 
 class Process:
@@ -35,27 +42,21 @@ class Process:
 
     def __init__(self, command: list[str], limits: Limits, guard: Guard, tasks: int):
         self.limits, self.guard, self.asked, self.until = limits, guard, 0, 0.0
-        self.errors = None
-        workshop = os.getpid()
+        self.command, self.errors = command, None
         try:
             self.errors = tempfile.TemporaryFile()
             self.process = subprocess.Popen(
-                command,
+                guard.words(command),
                 stdin=subprocess.PIPE,
                 stdout=subprocess.PIPE,
                 stderr=self.errors,
                 bufsize=0,
-                start_new_session=True,
-                env=guard.environment(),
-                cwd=guard.folder,
-                **guard.owner(),
-                preexec_fn=lambda: guard.enter(limits, tasks, workshop),
+                **guard.start(limits, tasks),
             )
         except OSError as why:
             if self.errors:
                 self.errors.close()
-            words = f"{shown(' '.join(command))} can't be started: {why.strerror}{START_HINT}"
-            raise Fault("start", words) from None
+            raise Fault("start", not_started(command, why.strerror)) from None
         guard.programs.add(self.process.pid)
         self.input, self.output = self.process.stdin.fileno(), self.process.stdout.fileno()
         os.set_blocking(self.input, False)
@@ -127,23 +128,29 @@ class Process:
         """How it ended in the middle."""
         found = exit_of(self.process.pid, time.monotonic() + 1)
         if found is None:
-            return Fault(
-                "ended",
-                f"it closed its standard input or output, and goes on running{self.last_errors()}",
-            )
+            words = "it closed its standard input or output, and goes on running"
+            return Fault("ended", words + self.last_errors())
+        reason = self.guard.why_not_started(self.written_last()) if self.asked == 1 else None
+        if reason:
+            return Fault("ended", not_started(self.command, reason))
         after = f" after {shown(got)}" if got else ""
-        return Fault(
-            "ended", f"it ended with {found}{after} instead of an answer{self.last_errors()}"
-        )
+        words = f"it ended with {found}{after} instead of an answer"
+        return Fault("ended", words + self.last_errors())
 
-    def last_errors(self) -> str:
+    def written_last(self) -> bytes:
+        """The end of what is on its standard error."""
         size = self.errors.seek(0, os.SEEK_END)
         self.errors.seek(max(0, size - LAST_BYTES))
-        words = last_errors(self.errors.read())
-        full = f"; standard error has {size >> 20} megabytes, the most that it may have" * (
-            size >= self.limits.written
-        )
-        return full + (f"; on standard error: {words}" if words else "")
+        return self.errors.read()
+
+    def last_errors(self) -> str:
+        """The same in words, if there is any."""
+        said = ""
+        size = self.errors.seek(0, os.SEEK_END)
+        if size >= self.limits.written:
+            said = f"; standard error has {size >> 20} megabytes, the most that it may have"
+        words = last_errors(self.written_last())
+        return f"{said}; on standard error: {words}" if words else said
 
     def end(self) -> None:
         """No more messages: a program that reads to the end of its input ends now."""
@@ -163,6 +170,10 @@ class Process:
         self.errors.close()
 
 
+def not_started(command: list[str], reason: str) -> str:
+    return f"{shown(' '.join(command))} can't be started: {reason}{START_HINT}"
+
+
 def after_its_end(got: bytes | bytearray) -> Fault:
     return Fault("garbage", f"it wrote after the line `end` of its answer: {shown(got)}")
 
@@ -172,23 +183,21 @@ def exit_of(pid: int, until: float) -> str | None:
     while True:
         found = os.waitid(os.P_PID, pid, os.WEXITED | os.WNOHANG | os.WNOWAIT)
         if found:
-            is_exit = found.si_code == os.CLD_EXITED
-            return f"status {found.si_status}" if is_exit else f"signal {name_of(found.si_status)}"
+            return ending(found.si_status, found.si_code == os.CLD_EXITED)
         left = until - time.monotonic()
         if left <= 0:
             return None
         time.sleep(min(LOOK, left))
 
 
-def name_of(number: int) -> str:
-    """A signal's name, and what it means if it is one of a limit."""
-    why = {
-        signal.SIGXFSZ: " (it wrote too much to a file or to standard error)",
-        signal.SIGXCPU: " (it used too much processor time)",
-    }
-    return next((one.name for one in signal.Signals if one == number), str(number)) + why.get(
-        number, ""
-    )
+def ending(number: int, is_status: bool) -> str:
+    """`status 3`, or `signal SIGKILL`. Of a program that a signal has ended shells and bubblewrap say 128 and its
+    number."""
+    if is_status and number - ENDED_BY not in SIGNALS:
+        return f"status {number}"
+    if is_status:
+        number -= ENDED_BY
+    return f"signal {SIGNALS.get(number, number)}{OF_LIMITS.get(number, '')}"
 
 
 def last_errors(text: bytes) -> str:

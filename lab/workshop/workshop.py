@@ -12,7 +12,7 @@ from lab.networks.texts import plain_text
 from lab.programs import TOP
 from lab.workshop import class_files, grade
 from lab.workshop.cases import Case, cases_of
-from lab.workshop.guard import shut
+from lab.workshop.leftovers import shut
 from lab.workshop.options import parsed
 from lab.workshop.playing import Player
 from lab.workshop.report import as_json, described, report

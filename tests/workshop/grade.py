@@ -5,22 +5,20 @@ import contextlib
 import io
 import json
 import os
-import platform
 import re
 import shutil
-import socket
+import subprocess
 from unittest import mock
 
 from lab.schedules.policies import POLICIES
-from lab.workshop import grade
+from lab.workshop import grade, parts, submissions
 from lab.workshop.cases import NETWORKS
-from lab.workshop.guard import Guard
 from lab.workshop.workshop import main
-from tests.cases import Case, text_in
+from tests.cases import Case, text_in, wait_until
 from tests.tools import need
-from tests.workshop.base import EXAMPLES, call
-from tests.workshop.forgers import BEGIN, OUTSIDE, got, program
-from tests.workshop.misbehaving import MARK, left_at_last
+from tests.workshop.base import DOOR, EXAMPLES, LIMIT, call
+from tests.workshop.forgers import BEGIN, got, program
+from tests.workshop.misbehaving import MARK, left, left_at_last
 
 RIGHT = os.path.join(EXAMPLES, "python")
 ZERO = "import sys\nfor line in sys.stdin:\n    if line == 'end\\n':\n        print('channel 0\\nend ', flush=True)\n"
@@ -108,136 +106,85 @@ class Grades(Case):
         cases = self.graded(runs="50", timeout="0.5")["cleo"]["open"]["cases"]
         self.assertEqual([case["verdict"] for case in cases], ["silent"] * 50)
 
-    def test_nothing_outside_is_reached(self):
-        if Guard().edition < 6:
-            self.skipTest("this system has no Landlock that keeps signals apart")
-        server = socket.create_server(("127.0.0.1", 0))
-        self.addCleanup(server.close)
-        names = {
-            "subs": self.subs,
-            "other": os.path.join(self.subs, "ben", "rounds_node.py"),
-            "right": os.path.join(RIGHT, "rounds_node.py"),
-            "loot": os.path.join(self.folder, "loot"),
-            "port": server.getsockname()[1],
-            "home": self.file("home/secret", "x"),
-        }
-        os.symlink(
-            self.subs, os.path.join(self.folder, "beside")
-        )  # what leads there isn't open, either
-        attacks = {name: attack.format(**names) for name, attack in OUTSIDE.items()}
-        own = {
-            "own": "open('kept', 'w').write('x')",
-            "names": "os.environ['HOME'] == os.getcwd() == os.environ['TMPDIR']",
-        }
-        self.submit("anna", rounds_node_py=program(attacks | own, f"away({MARK})\n"))
-        self.submit("ben", rounds_node_py=program({}))
-        done = call(
-            "grade",
-            self.subs,
-            "--runs",
-            "1",
-            "--timeout",
-            "30",
-            "--reports",
-            os.path.join(self.folder, "to"),
-            env={**os.environ, "HOME": os.path.dirname(self.subs)},
-        )
-        self.assertEqual(done.returncode, 0, done)
-        found = got(text_in(self.folder, "to", "anna.txt"))
-        self.assertEqual(
-            {name: found.pop(name) for name in own}, {"own": "1", "names": "True"}, found
-        )
-        self.assertEqual(found.keys(), attacks.keys())
-        self.assertEqual(set(found.values()), {"PermissionError"}, found)
-        self.assertFalse(os.path.exists(names["loot"]))
-        self.assertEqual(sorted(os.listdir(os.path.join(self.subs, "anna"))), ["rounds_node.py"])
-
-    def test_what_is_left_behind(self):
-        """Folders that are too deep for Python, and memory and queues of the system: the others have their table, and
-        nothing is left."""
-
-        def kept():
-            return [
-                open(f"/proc/sysvipc/{what}", encoding="ascii").read().count("\n")
-                for what in ("shm", "msg")
-            ]
-
+    def test_what_tries_to_reach_out(self):
+        """A node of each kind that fails, and what it starts; all that is left is the table."""
+        need(self, "bwrap")
+        other = os.path.join(self.subs, "ben", "rounds_node.py")
         attacks = {
-            "memory": "SYSTEM.shmget(0, 1 << 20, 0o600) >= 0",
-            "queue": "SYSTEM.msgget(0, 0o600) >= 0",
+            "another": f"open({other!r}).read()",
+            "right": f"open({os.path.join(RIGHT, 'rounds_node.py')!r}).read()",
+            "own": "open('kept', 'w').write('x')",
         }
         deep = "for _ in range(1500):\n    os.mkdir('d')\n    os.chdir('d')\n"
-        attacks |= {
-            "rights": "os.chmod('..', 0)",
-            "times": "os.utime('../..')",
-            "own": "os.chmod('rounds_node.py', 0)",
-            "limits": "resource.prlimit(WORKSHOP, resource.RLIMIT_CPU, (0, 0))",
-            "sockets": "socket.socket(socket.AF_UNIX)",
-            "udp": "socket.socket(socket.AF_INET, socket.SOCK_DGRAM)",
-            "watches": "SYSTEM.inotify_add_watch(SYSTEM.inotify_init(), b'..', 0xFFF) >= 0",
-            "lock": "fcntl.flock(os.open('rounds_node.py', os.O_RDONLY), fcntl.LOCK_SH)",
-            "range": "fcntl.lockf(os.open('rounds_node.py', os.O_RDONLY), fcntl.LOCK_SH)",
-            "flags": "fcntl.fcntl(0, fcntl.F_GETFD) >= 0",
-            "mine": "resource.setrlimit(resource.RLIMIT_CORE, (0, 0))",
-        }
-        self.submit("anna", rounds_node_py=program(attacks, "import fcntl, resource\n"))
-        self.submit("cleo", rounds_node_py=program({}, deep))
-        self.submit("ben", rounds_node_py=ZERO)
-        before, room = kept(), os.path.join(self.folder, "room")
-        os.mkdir(room, 0o755)
-        reports = os.path.join(self.folder, "reports")
-        done = call(
-            "grade",
-            self.subs,
-            "--runs",
-            "1",
-            "--json",
-            "--reports",
-            reports,
-            env={**os.environ, "TMPDIR": room},
-        )
-        table = {
-            one["student"]: one["rounds"]["cases"] for one in json.loads(done.stdout)["submissions"]
-        }
-        verdicts = {name: cases[0]["verdict"] for name, cases in table.items()}
-        self.assertIn(verdicts.pop("cleo"), ("ended", "flood"))
-        self.assertEqual(verdicts, {"anna": "ended", "ben": "differs"})
-        self.assertEqual((kept(), os.listdir(room)), (before, []))
+        os.makedirs(os.path.join(self.folder, "room"))
+        self.submit("anna", rounds_node_py=program(attacks, f"away({MARK})\n"))
+        self.submit("ben", rounds_node_py=program({}, deep))
+        self.submit("cleo", rounds_node_py=ZERO)
+        reports, room = (os.path.join(self.folder, name) for name in ("reports", "room"))
+        os.chmod(room, 0o755)
+        words = ["--runs", "1", "--json", "--reports", reports]
+        given = {**os.environ, "HOME": os.path.dirname(self.subs), "TMPDIR": room}
+        done = call("grade", self.subs, *words, env=given)
+        table = {one["student"]: one["rounds"] for one in json.loads(done.stdout)["submissions"]}
+        verdicts = {name: found["cases"][0]["verdict"] for name, found in table.items()}
+        self.same("verdicts", verdicts, {"anna": "ended", "ben": "ended", "cleo": "differs"})
         found = got(text_in(reports, "anna.txt"))
-        self.assertEqual(
-            (found.pop("mine"), found.pop("flags"), found.keys()),
-            ("None", "True", attacks.keys() - {"mine", "flags"}),
-            found,
-        )
-        if platform.machine() == "x86_64":
-            self.assertLessEqual(set(found.values()), {"PermissionError", "False"}, found)
+        missing = "FileNotFoundError"
+        self.same("what is reached", found, {"another": missing, "right": missing, "own": "1"})
+        self.same("its folder", os.listdir(os.path.join(self.subs, "anna")), ["rounds_node.py"])
+        self.same("what is left", os.listdir(room), [])
+
+    def test_if_the_one_that_grades_is_killed(self):
+        self.submit("anna", rounds_node_py=f"import os\nos.execvp('sleep', ['sleep', '{MARK}'])\n")
+        grading = subprocess.Popen([*DOOR, "grade", self.subs], stderr=subprocess.DEVNULL)
+        self.assertTrue(wait_until(left, LIMIT))
+        grading.kill()
+        grading.wait()
+        self.same("what is left", left_at_last(), [])
+
+    def test_where_bubblewrap_isnt_there(self):
+        """It says what to do; without grading nothing needs it."""
+        tools = os.path.join(self.folder, "tools")
+        os.makedirs(tools)
+        for name in ("bash", "python3", "readlink", "dirname", "chmod", "rm"):
+            os.symlink(os.path.realpath(shutil.which(name)), os.path.join(tools, name))
+        self.submit("anna", rounds_node_py=ZERO)
+        given = {**os.environ, "PATH": tools}
+        done = call("grade", self.subs, env=given)
+        self.same("status and table", (done.returncode, done.stdout), (2, ""))
+        self.same("one line", done.stderr.count("\n"), 1)
+        self.note("what to do", "apt install bubblewrap" in done.stderr, done.stderr)
+        node = [os.path.join(tools, "python3"), os.path.join(RIGHT, "rounds_node.py")]
+        done = call("rounds", "two", "--", *node, env=given)
+        self.same("a run without it", done.returncode, 0)
 
     def test_a_neighbours_programs(self):
-        """As root each student is another user, so nobody ends another's programs by their limits; and what a signal
-        ended is played once more, alone."""
-        if os.geteuid():
-            self.skipTest("students have one user if it isn't root who grades")
+        """Nobody ends another's programs by their limits."""
+        need(self, "bwrap")
         forger = BEGIN + (
-            "import resource\nfor pid in range(2, 1 << 16):\n    if pid != os.getpid():\n        try:\n"
-            "            resource.prlimit(pid, resource.RLIMIT_CPU, (0, 0))\n        except OSError:\n"
-            "            pass\n"
+            "import resource\nfor pid in range(2, 1 << 16):\n    try:\n        if pid != os.getpid():\n"
+            "            resource.prlimit(pid, resource.RLIMIT_CPU, (0, 0))\n    except OSError:\n"
+            "        pass\n"
         )
         shutil.copytree(RIGHT, os.path.join(self.subs, "anna"))
         self.submit("ben", rounds_node_py=forger, alpha_node_py=forger)
         self.assertEqual(self.graded(runs="3")["anna"]["rounds"]["points"], 40)
+
+    def test_what_is_in_doubt(self):
+        """What a signal ended is played once more, alone."""
         for ending, is_in_doubt in (("status 1", False), ("signal SIGKILL", True)):
             found = {
                 "result": {"cases": [{"verdict": "ended"}]},
                 "report": [f"wrong  it ended with {ending} instead"],
             }
-            self.same(
-                ending, grade.Part("anna", "", "rounds", ["x"], found).is_in_doubt(), is_in_doubt
-            )
+            part = submissions.Part("anna", "", "rounds", ["x"], found)
+            self.same(ending, part.is_in_doubt(), is_in_doubt)
 
     def test_second_plays(self):
         """They share a time, whatever their number, and the better of both results counts."""
-        parts = [
-            grade.Part(f"s{at}", "", "rounds", ["x"], {"result": {"right": 5}}) for at in range(9)
+        some = [
+            submissions.Part(f"s{at}", "", "rounds", ["x"], {"result": {"right": 5}})
+            for at in range(9)
         ]
         given, seen = argparse.Namespace(seconds=600.0), []
 
@@ -245,23 +192,24 @@ class Grades(Case):
             seen.append(limits.seconds)
             some[0].found = {"result": {"right": 9}} if some[0].student == "s1" else {"why": "over"}
 
-        with mock.patch.object(grade, "play_all", play):
-            grade.play_again(parts, given, "room")
+        with mock.patch.object(parts, "play_all", play):
+            parts.play_again(some, given, "room")
         self.assertTrue(all(199 < seconds <= 600 for seconds in seen), seen)
         self.assertLess(max(seen[:1]), 201)
-        self.assertEqual([part.result["right"] for part in parts], [5, 9] + [5] * 7)
+        self.assertEqual([part.result["right"] for part in some], [5, 9] + [5] * 7)
 
     def test_java(self):
         """A class is run, and not its source, which each start would compile."""
         need(self, "javac")
         folder = self.submit("anna")
         shutil.copy(os.path.join(EXAMPLES, "java", "AlphaNode.java"), folder)
-        command = grade.command_of(folder, "alpha")
-        self.assertEqual(command, ["java", "AlphaNode.java"])
-        self.assertEqual(grade.compiled(command, folder, Guard())[-2:], [".", "AlphaNode"])
-        self.assertEqual(
-            grade.compiled(["java", "None.java"], folder, Guard()), ["java", "None.java"]
+        self.same(
+            "its command", submissions.command_of(folder, "alpha"), ["java", "AlphaNode.java"]
         )
+        self.submit("ben", commands="alpha: java None.java\n")
+        table = self.graded(runs="1")
+        rights = [table[name]["alpha"]["right"] for name in ("anna", "ben")]
+        self.same("anna's runs, and ben's", rights, [1, 0])
 
     def test_a_result_is_only_what_the_workshop_says_itself(self):
         """A process that plays a part is ended, has a fault, hangs, or ends badly after it has said something: that is
@@ -271,15 +219,15 @@ class Grades(Case):
             ("os._exit(3)", "status 3"),
             ("os.kill(os.getpid(), 9)", "SIGKILL"),
             ("1 / 0", "status 2"),
-            ("time.sleep(30)", "SIGKILL"),
+            ("__import__('time').sleep(30)", "SIGKILL"),
             ("os._exit = lambda _: os.kill(os.getpid(), 9)", "SIGKILL"),
         ):
             with self.subTest(code):
-                part = grade.Part("anna", "", "rounds", ["x"])
+                part = submissions.Part("anna", "", "rounds", ["x"])
                 with mock.patch.multiple(
-                    grade, play=lambda *_, code=code: exec(code), GRACE=0
+                    parts, play=lambda *_, code=code: exec(code), GRACE=0
                 ), contextlib.redirect_stderr(io.StringIO()):
-                    grade.play_all([part], given, 1, "")
+                    parts.play_all([part], given, 1, "")
                 self.assertEqual(part.found, {"why": f"no result: its process ended with {why}"})
                 own = grade.as_one({"anna": [part]}, "7")["submissions"][0]
                 self.assertEqual((own["in_all"], own["rounds"]["points"]), ("0?", None))
@@ -331,9 +279,11 @@ class Grades(Case):
                 "node/v20/bin",
             )
         )
+        for part in path.split(":"):
+            os.makedirs(part, exist_ok=True)
         closed = [os.path.join(home, part) for part in ("work/forestplan", "subs")]
         with mock.patch.dict(os.environ, HOME=home, PATH=f"/usr/bin:{path}"):
-            found = [os.path.relpath(path, home) for path in grade.programs_at_home(closed)]
+            found = [os.path.relpath(path, home) for path in parts.programs_at_home(closed)]
         self.assertEqual(found, [".pyenv", "bin", "node/v20", "work/bin"])
 
     def test_words_before_a_command(self):
@@ -348,7 +298,7 @@ class Points(Case):
 
     def test_they_add_up(self):
         def of(assignment, rows):
-            return grade.points({"assignment": assignment, "cases": rows})
+            return submissions.points({"assignment": assignment, "cases": rows})
 
         right, wrong = {"verdict": "right"}, {"verdict": "stuck"}
         alpha = [{"policy": policy, "verdict": "right"} for policy in POLICIES for _ in range(12)]
@@ -376,7 +326,7 @@ class Points(Case):
             name: int(number) for name, number in re.findall(r"(?m)^\| (\w+) \| (\d+) \|", table)
         }
         self.assertEqual(sum(found.values()), 100)
-        self.assertEqual({name: found[name] for name in grade.POINTS}, grade.POINTS)
+        self.assertEqual({name: found[name] for name in submissions.POINTS}, submissions.POINTS)
 
     def test_each_policy_meets_each_network(self):
-        self.assertEqual(grade.RUNS["alpha"], len(POLICIES) * len(NETWORKS.split(",")))
+        self.assertEqual(submissions.RUNS["alpha"], len(POLICIES) * len(NETWORKS.split(",")))

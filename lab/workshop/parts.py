@@ -1,0 +1,155 @@
+"""Plays the parts of submissions, several at a time, each in a process and a folder of its own."""
+import argparse
+import contextlib
+import json
+import multiprocessing
+import os
+import shutil
+import signal
+import subprocess
+import sys
+import tempfile
+import time
+from multiprocessing.connection import Connection, wait
+
+from lab.door import held
+from lab.programs import TOP
+from lab.workshop.cases import cases_of
+from lab.workshop.compiling import compiled
+from lab.workshop.guard import Unguarded
+from lab.workshop.leftovers import PARENT_DEATH_SIGNAL, control, end_all, shut
+from lab.workshop.options import parsed
+from lab.workshop.playing import Player
+from lab.workshop.report import as_json, report
+from lab.workshop.sandbox import Sandbox
+from lab.workshop.submissions import RUNS, Part, clean
+from lab.wrong import Wrong
+
+GRACE = 60  # seconds beside those of --seconds, in which a part ends
+# All second plays together take at most so many times the seconds of one part.
+AGAIN = 3
+FORK = multiprocessing.get_context("fork")
+
+
+def sandbox_of(folder: str, given: argparse.Namespace, room: str, user: int) -> Sandbox:
+    """The container of what is in a folder of the room."""
+    hidden = [given.folder, TOP, room, os.path.expanduser("~")]
+    return Sandbox(folder, hidden, programs_at_home([given.folder, TOP]), user)
+
+
+def programs_at_home(closed: list[str]) -> list[str]:
+    """What programs on the PATH may need: the folders beside theirs, as far as none that is closed is there."""
+    found, home = set(), os.path.realpath(os.path.expanduser("~"))
+    for path in filter(os.path.isabs, os.environ.get("PATH", "").split(":")):
+        for place in (os.path.dirname(os.path.realpath(path)), os.path.realpath(path)):
+            if place.startswith((f"{home}/", "/home/")) and not any(
+                os.path.commonpath([place, other]) in (place, other) for other in closed
+            ):
+                found.add(place)
+                break
+    return sorted(path for path in found if os.path.isdir(path))
+
+
+def play(part: Part, given: argparse.Namespace, room: str) -> dict:
+    """What is found of a part, in a copy of its folder."""
+    place = tempfile.mkdtemp(dir=room)
+    copy = os.path.join(place, "submission")
+    shutil.copytree(part.folder, copy, symlinks=True)
+    if given.before:
+        guard = Unguarded()
+        command = [*(word.replace("{}", copy) for word in given.before), *part.command]
+    else:
+        guard = sandbox_of(copy, given, room, given.users[part.student])
+        if guard.user is not None:
+            subprocess.run(["chown", "-hR", f"{guard.user}:{guard.user}", place], check=True)
+        command = compiled(part.command, copy, guard)
+    limits = ["--timeout", str(given.timeout), "--memory", str(given.memory)]
+    runs = ["--runs", str(given.runs or RUNS[part.assignment]), "--seed", given.seed]
+    options = parsed([part.assignment, *runs, *limits, "--", *command])
+    try:
+        found = Player(options, guard, time.monotonic() + given.seconds).played(cases_of(options))
+    except Wrong as why:
+        return {"why": str(why)}
+    return {"result": as_json(options, *found), "report": report(*found)}
+
+
+def run(part: Part, given: argparse.Namespace, room: str, to: Connection) -> None:
+    """In the process itself: its status is 0 if it has said what there is to say."""
+    status = 2  # ended from outside, or a mistake of the workshop's own
+    try:
+        os.setpgid(0, 0)  # so that Ctrl-C ends the one that grades, which ends this one
+        signal.pthread_sigmask(signal.SIG_SETMASK, ())
+        shut()
+        control(PARENT_DEATH_SIGNAL, signal.SIGTERM)
+        to.send_bytes(json.dumps(play(part, given, room)).encode())
+        status = 0
+    except (shutil.Error, OSError, Wrong) as why:
+        say(part, clean(str(why)))
+        status = 1
+    finally:
+        os._exit(status)  # nothing else leaves this process
+
+
+def say(part: Part, words: str) -> None:
+    line = f"grade: {clean(part.student)} {part.assignment}: {words}"
+    print(line, file=sys.stderr, flush=True)
+
+
+def play_all(parts: list[Part], given: argparse.Namespace, jobs: int, room: str) -> None:
+    """Plays parts, so many at a time."""
+    waiting, running = parts[::-1], {}
+    try:
+        while waiting or running:
+            while waiting and len(running) < jobs:
+                part, (pipe, to) = waiting.pop(), FORK.Pipe(duplex=False)
+                process = FORK.Process(target=run, args=(part, given, room, to))
+                with held():
+                    process.start()
+                    running[pipe] = part, process, time.monotonic() + given.seconds + GRACE
+                to.close()
+            ready = wait(list(running), 1.0)
+            for pipe, (part, process, until) in list(running.items()):
+                if pipe in ready or time.monotonic() > until:
+                    del running[pipe]
+                    part.found = finished(process, pipe)
+                    end_all([other.pid for _, other, _ in running.values()])
+                    say(part, clean(f"{part.words()} {part.said()}".strip()))
+    finally:
+        with held():
+            for _, process, _ in running.values():
+                process.terminate()
+            for _, process, _ in running.values():
+                process.join(3)  # a moment to end its programs
+            end_all()
+
+
+def finished(process, pipe: Connection) -> dict:
+    """What a process has found: only what it says itself and ends well on is a result."""
+    said = b""
+    if not pipe.poll():  # its time is over
+        process.kill()
+    with contextlib.suppress(EOFError, OSError):
+        said = pipe.recv_bytes()
+    process.join()
+    if process.exitcode == 0:
+        return json.loads(said)
+    ending = f"status {process.exitcode}"
+    if process.exitcode < 0:
+        ending = signal.Signals(-process.exitcode).name
+    return {"why": f"no result: its process ended with {ending}"}
+
+
+def play_again(parts: list[Part], given: argparse.Namespace, room: str) -> None:
+    """Plays parts once more, one after the other: each has an equal share of the time that is left, and the better of
+    both results counts."""
+    until = time.monotonic() + AGAIN * given.seconds
+    for at, part in enumerate(parts):
+        first, share = part.found, (until - time.monotonic()) / (len(parts) - at)
+        less = {"seconds": max(1.0, min(given.seconds, share))}
+        play_all([part], argparse.Namespace(**vars(given) | less), 1, room)
+        if "result" in first and not is_better(part.result, first["result"]):
+            part.found = first
+
+
+def is_better(result: dict | None, first: dict) -> bool:
+    return result is not None and result["right"] >= first["right"]

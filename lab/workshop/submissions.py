@@ -1,0 +1,176 @@
+"""What is submitted: each folder is a student's, and has the programs of the assignments; and the points of each."""
+import contextlib
+import os
+import shlex
+from dataclasses import dataclass, field
+
+from lab.schedules.policies import POLICIES
+from lab.workshop.protocol import shown
+from lab.wrong import Wrong
+
+# Of each assignment how many runs are played, and the most points. For another scale change these lines.
+RUNS = {"rounds": 100, "alpha": 120, "open": 50}
+POINTS = {"rounds": 40, "alpha": 40, "open": 10}
+EACH, RUNS_EACH = POINTS["alpha"] // len(POLICIES), RUNS["alpha"] // len(POLICIES)
+# The names of its program without the ending, and what runs a file that has one.
+STEMS = {
+    "rounds": ("rounds_node", "RoundsNode"),
+    "alpha": ("alpha_node", "AlphaNode"),
+    "open": ("open_node", "OpenNode", "own_node", "OwnNode"),
+}
+RUNNERS = {".py": "python3", ".js": "node", ".java": "java", ".pl": "perl", ".rb": "ruby"}
+MOST_BYTES, MOST_FILES, DEEPEST = 16 << 20, 10_000, 64
+
+
+@dataclass
+class Part:
+    """An assignment of a student's folder: its command, or none; and what is found of it: `result` as the workshop
+    prints it for a program, with its `report` for people, or `why` there is no result."""
+
+    student: str
+    folder: str
+    assignment: str
+    command: list[str] = field(default_factory=list)
+    found: dict = field(default_factory=dict)
+
+    @property
+    def result(self) -> dict | None:
+        return self.found.get("result")
+
+    @property
+    def points(self) -> int:
+        return points(self.result) if self.result else 0
+
+    def said(self) -> str:
+        """The verdicts of wrong runs, or why there is no result."""
+        verdicts = {case["verdict"] for case in self.result["cases"]} if self.result else set()
+        return self.found.get("why") or ", ".join(sorted(verdicts - {"right"}))
+
+    def words(self) -> str:
+        if self.result:
+            return f"{self.result['right']}/{self.result['runs']}"
+        return "?" if self.command else "-"
+
+    def lacks_a_result(self) -> bool:
+        return bool(self.command) and not self.result
+
+    def is_in_doubt(self) -> bool:
+        """Whether another's program or a busy machine may be the reason: an answer was late, or a signal ended it."""
+        if not self.result:
+            return self.lacks_a_result()
+        is_late = any(case["verdict"] in ("silent", "late") for case in self.result["cases"])
+        return is_late or any("it ended with signal" in line for line in self.found["report"])
+
+
+def points(result: dict) -> int:
+    right = [case["verdict"] == "right" for case in result["cases"]]
+    most = POINTS[result["assignment"]]
+    if result["assignment"] == "rounds":
+        return most * sum(right) // len(right)
+    if result["assignment"] == "alpha":
+        policies = {case["policy"] for case in result["cases"]}
+        wrong = {case["policy"] for case in result["cases"] if case["verdict"] != "right"}
+        return most * len(policies - wrong) // len(policies)
+    return most * all(right)
+
+
+def submissions_of(folder: str) -> dict[str, list[Part]]:
+    """The assignments of each student."""
+    try:
+        students = sorted(entry.name for entry in os.scandir(folder) if entry.is_dir())
+    except OSError as why:
+        raise Wrong(f"{folder}: {why.strerror}") from None
+    if not students:
+        raise Wrong(f"{folder} has no folder of a submission in it")
+    return {
+        name: [part_of(name, os.path.join(folder, name), assignment) for assignment in RUNS]
+        for name in students
+    }
+
+
+def part_of(student: str, folder: str, assignment: str) -> Part:
+    try:
+        if os.path.islink(folder):
+            raise Wrong("its folder is a link")
+        command = command_of(folder, assignment)
+        if not command:
+            raise Wrong("no program")
+        check_folder(folder)
+        return Part(student, folder, assignment, command)
+    except (Wrong, OSError) as why:
+        return Part(student, folder, assignment, found={"why": str(why)})
+
+
+def command_of(folder: str, assignment: str) -> list[str]:
+    """How the program of an assignment is run in its folder; empty if there is none."""
+    if os.path.isfile(os.path.join(folder, "commands")):
+        return said_command(folder, assignment)
+    names = [name for name in sorted(os.listdir(folder)) if is_program(folder, name, assignment)]
+    ways = [way for name in names if (way := way_to_run(folder, name))]
+    if len(ways) > 1:
+        raise Wrong(f"{' and '.join(way[-1] for way in ways)}: which one?")
+    if names and not ways:
+        raise Wrong(f"{names[0]} can't be run: it has to be compiled, or `chmod +x {names[0]}`")
+    return ways[0] if ways else []
+
+
+def said_command(folder: str, assignment: str) -> list[str]:
+    """The command that the file `commands` says."""
+    with open(os.path.join(folder, "commands"), encoding="utf-8", errors="replace") as file:
+        lines = [line.partition(":") for line in file.read(1 << 16).splitlines()]
+    try:
+        said = [shlex.split(words) for name, _, words in lines if name.strip() == assignment]
+    except ValueError as why:
+        raise Wrong(f"`commands`: {why}") from None
+    command = said[0] if said else []
+    if "--" in command:
+        raise Wrong("`commands`: `--` stands between commands, and one is played")
+    return command
+
+
+def is_program(folder: str, name: str, assignment: str) -> bool:
+    stem, _ = os.path.splitext(name)
+    return stem in STEMS[assignment] and os.path.isfile(os.path.join(folder, name))
+
+
+def way_to_run(folder: str, name: str) -> list[str]:
+    _, ending = os.path.splitext(name)
+    if ending in RUNNERS:
+        return [RUNNERS[ending], name]
+    return [f"./{name}"] if os.access(os.path.join(folder, name), os.X_OK) else []
+
+
+def check_folder(folder: str) -> None:
+    """Refuses a folder that can't be copied."""
+    if kept_in(folder) > MOST_BYTES:
+        raise Wrong(f"its folder has more than {MOST_BYTES >> 20} megabytes, or is too deep")
+    for at, _, names in os.walk(folder):
+        for path in (os.path.join(at, name) for name in names):
+            if not os.path.isfile(path) and not os.path.islink(path):
+                name = clean(os.path.basename(path))
+                raise Wrong(f"its folder has a named pipe or a device in it: {name}")
+
+
+def kept_in(folder: str) -> int:
+    """The bytes of all files below a folder; of too many files, folders too deep, or what can't be looked at, as a path
+    that is too long, too many bytes."""
+    size, files, folders = 0, 0, [(folder, 0)]
+    try:
+        for at, depth in folders:
+            with contextlib.suppress(FileNotFoundError):  # it has gone meanwhile
+                for entry in os.scandir(at):
+                    files += 1
+                    if files > MOST_FILES or depth > DEEPEST:
+                        return MOST_BYTES + 1
+                    if entry.is_dir(follow_symlinks=False):
+                        folders.append((entry.path, depth + 1))
+                    else:
+                        size += entry.stat(follow_symlinks=False).st_size
+    except OSError:
+        return MOST_BYTES + 1
+    return size
+
+
+def clean(words: str) -> str:
+    """Words of a student, as they may be printed in one line."""
+    return shown(words, 200)[1:-1]
