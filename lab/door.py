@@ -10,7 +10,7 @@ import signal
 import sys
 import traceback
 
-from lab.wrong import Stopped, Wrong
+from lab.wrong import Wrong
 
 # What ends a command so that nothing is left of it and of what it runs.
 STOPS = (signal.SIGINT, signal.SIGTERM, signal.SIGHUP)
@@ -22,7 +22,7 @@ def stop(number, _):
     signal.signal(number, signal.SIG_IGN)  # a second one doesn't disturb how the command ends
     if number == signal.SIGINT:
         raise KeyboardInterrupt
-    raise Stopped(128 + number)
+    sys.exit(128 + number)
 
 
 @contextlib.contextmanager

@@ -6,7 +6,7 @@ import subprocess
 import sys
 
 TOP = os.path.dirname(os.path.dirname(os.path.realpath(__file__)))
-NUMBER = "0.5.0"
+NUMBER = "0.6.0"
 
 
 def commit() -> str:

@@ -5,10 +5,6 @@ class Wrong(Exception):
     """A text is wrong, or a network is too large for what is asked."""
 
 
-class Stopped(SystemExit):
-    """A signal has ended the command; no file that it runs catches this as an end of its own."""
-
-
 def wrong_line(name, line, what):
     return Wrong(f"{name} line {line}: {what}")
 

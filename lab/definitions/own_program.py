@@ -33,7 +33,7 @@ from types import CodeType, FunctionType, ModuleType, SimpleNamespace
 
 from lab.definitions.nodes import synchronous_pulses
 from lab.definitions.values import by_name, frozen
-from lab.wrong import Stopped, Wrong, wrong_line
+from lab.wrong import Wrong, wrong_line
 
 # A function that is needed, by the names that it may have.
 NEEDED = (("greet",), ("step", "next"), ("result",))
@@ -114,8 +114,6 @@ def called(path: str, where: str, function, *values):
     try:
         with contextlib.redirect_stdout(sys.stderr), limited():
             return function(*values)
-    except Stopped:
-        raise
     except (Exception, SystemExit, TooLong) as why:
         lines = [
             frame.lineno

@@ -1,5 +1,6 @@
 """Tests of programs of one's own, from a Python file, and of those that have a name, in `explore`, `simulate`,
 `transcript` and `picture`. sequels.py has what nodes find."""
+import itertools
 import subprocess
 import textwrap
 import time
@@ -172,6 +173,8 @@ WRONG = [
         "everything in `me`",
     ),
     (ELECTION, "changes the variable `best` outside `me`"),
+    # Chance that is only kept would make more states, and ends that no seed repeats.
+    (keeping("__import__('random').random()"), "`greet` at pulse 0 of the node of ", TWICE),
     # The rounds, played twice and once more, have 12 calls, so they can't show this one.
     (
         LATE.replace('("best", heard)', '("best", heard + (builtins.calls > 12))'),
@@ -370,7 +373,8 @@ class OwnAlgorithms(Case):
         listed = self.told(text, "--list")
         self.same("its list of events", (listed[0], len(listed[1].splitlines())), (1, 28))
         page = text_in("docs", "learn", "OWN_ALGORITHM.md")
-        block = page.partition("Of an independent set:\n\n")[2].partition("\n\n## ")[0]
+        rest = page.partition("Of an independent set:\n\n")[2].splitlines(keepends=True)
+        block = "".join(itertools.takewhile(lambda line: line.startswith("    "), rest))
         text = text_in(SET) + "\n" + textwrap.dedent(block) + "\n"
         for change, first in (
             (("", ""), "every schedule of two"),
@@ -442,7 +446,7 @@ class OwnAlgorithms(Case):
 
     def test_messages(self):
         """One token walks along a row: held, or under way; a second one is found at once."""
-        status, text, _ = self.told(TOKEN, network="path3")
+        status, text, _ = self.told(TOKEN, "--puts", network="path3")
         self.note("one token", status == 0 and text.startswith("every schedule of path3"), text)
         twice = TOKEN.replace(
             "[None] * (me.degree - 1) + [", "[('token', pulse)] * (me.degree - 1) + ["
@@ -450,6 +454,16 @@ class OwnAlgorithms(Case):
         status, text, _ = self.told(twice, network="path3")
         said = "0 held, under way: [(2, 1, ('token', 1)), (2, 3, ('token', 1))]"
         self.note("two tokens", status == 1 and text.splitlines()[0].endswith(said), text)
+
+    def test_what_nodes_share(self):
+        """Nothing: a class of the file is another one at each node, so nobody is elected without a message."""
+        text = ELECTION.replace("best = 0\n", "class Shared:\n    best = 0\n").replace(
+            "    global best\n", ""
+        )
+        text = text.replace("    best = max(best,", "    Shared.best = max(Shared.best,")
+        got = self.told(text.replace("{best}", "{Shared.best}"))
+        good = got[0] == 0 and got[1].endswith("one end: 1 leader 1, 2 leader 2\n")
+        self.note("a class of the file", good, got)
 
     def test_how_it_ends(self):
         """What the file does can't end the command with another status: an end of the process, a signal, a loop."""
