@@ -48,9 +48,10 @@ usage: forestlab COMMAND [words]
 this is. These commands are Python over slow definitions: tested, not proved. The
 proved programs are `forestplan` and `forestplay`, and a command that asks one says so.
 
-A NETWORK is a file, - for standard input, the name of an example (petersen), or a kind
-with its size (path5, ring7, star4, complete4, grid3x4, queen5x5). -o FILE writes to a
-file that stays as it was if something goes wrong. The same --seed gives the same result.
+A NETWORK is the name of an example (petersen), a kind with its size (path5, ring7,
+star4, complete4, grid3x4, queen5x5), a file, or - for standard input; where a file has
+such a name, ./petersen is the file. -o FILE writes to a file that stays as it was if
+something goes wrong. The same --seed gives the same result.
 
 Status: 0 done, and right where something is judged; 1 what was given can't be read, or
 isn't right; 2 the command line is refused; 130 stopped by Ctrl-C.

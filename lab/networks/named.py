@@ -10,36 +10,53 @@ from lab.programs import TOP
 from lab.words import bytes_at, called
 from lab.wrong import Wrong
 
+# The name of a kind with its size, as ring7 or grid3x4.
+MADE = re.compile(r"([a-z]+)([0-9]{1,5})(?:x([0-9]{1,5}))?")
 EXAMPLES = [os.path.join(TOP, "examples", "workshop"), os.path.join(TOP, "examples")]
 
 
 def path_of(name: str) -> str | None:
-    """The file that a name means, or `-`; None if it means none."""
-    if name == "-" or os.path.exists(name):
+    """The file that a name means, or `-`; None if it means none. A name of an example or of a kind means that in any
+    folder, whatever is there: `./two` is the file."""
+    if name == "-":
         return name
-    found = (os.path.join(folder, f"{name}.col") for folder in EXAMPLES)
-    return next((path for path in found if os.sep not in name and os.path.isfile(path)), None)
+    for folder in EXAMPLES:
+        example = os.path.join(folder, f"{name}.col")
+        if os.sep not in name and os.path.isfile(example):
+            return example
+    return name if os.path.exists(name) and not sizes_of(name) else None
+
+
+def sizes_of(name: str) -> tuple[str, list[int]] | None:
+    """The kind that a name has, and its sizes, as ring7 or grid3x4 do; None if it names none that is made so."""
+    found = MADE.fullmatch(name)
+    if not found:
+        return None
+    kind, sizes = KINDS.get(found[1]), [int(size) for size in found.groups()[1:] if size]
+    if not kind or kind.is_by_chance or len(kind.sizes) != len(sizes):
+        return None
+    return found[1], sizes
 
 
 def network_bytes(name: str) -> bytes:
-    """The text of the network of a name: a file, or a kind with its size, as ring7 or grid3x4."""
+    """The text of the network of a name: a file, an example, or a kind with its size."""
     path = path_of(name)
     if path is not None:
         return bytes_at(path)
-    found = re.fullmatch(r"([a-z]+)([0-9]{1,5})(?:x([0-9]{1,5}))?", name)
-    if not found:
+    found = sizes_of(name)
+    if found:
+        kind, sizes = found
+        return text_of(KINDS[kind].make(*sizes)).encode()
+    if not MADE.fullmatch(name):
         raise Wrong(f"{called(name)}: No such file or directory")
-    kind, sizes = KINDS.get(found[1]), [int(size) for size in found.groups()[1:] if size]
-    if not kind or kind.is_by_chance or len(kind.sizes) != len(sizes):
-        names = ", ".join(
-            kind + ("N" if len(of.sizes) == 1 else "RxC")
-            for kind, of in KINDS.items()
-            if not of.is_by_chance
-        )
-        raise Wrong(
-            f"{name}: there is no such file or example, and no network of this name is made, as {names} are"
-        )
-    return text_of(kind.make(*sizes)).encode()
+    made = [
+        kind + ("N" if len(of.sizes) == 1 else "RxC")
+        for kind, of in KINDS.items()
+        if not of.is_by_chance
+    ]
+    raise Wrong(
+        f"{name}: there is no such file or example, and no network of this name is made, as {', '.join(made)} are"
+    )
 
 
 def network_at(name: str) -> Network:

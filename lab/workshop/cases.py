@@ -7,7 +7,7 @@ from random import Random
 from typing import Any
 
 from lab.network import Network
-from lab.networks.named import network_at, path_of
+from lab.networks.named import network_at
 from lab.networks.smaller import remade
 from lab.workshop.findings import Finding
 from lab.workshop.protocol import COLOURING
@@ -47,11 +47,7 @@ known = lru_cache(network_at)
 def network_of(name: str, chance: Random) -> Network:
     """The network of a name: one by chance, or what all commands mean by it."""
     found = re.fullmatch(r"random([1-9][0-9]{0,2})", name)
-    return (
-        random_network(name, int(found[1]), chance)
-        if found and path_of(name) is None
-        else known(name)
-    )
+    return random_network(name, int(found[1]), chance) if found else known(name)
 
 
 def random_network(name: str, nodes: int, chance: Random) -> Network:

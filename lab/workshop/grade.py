@@ -26,7 +26,8 @@ HELP = f"""\
 Grades all submissions of a folder: each folder in it is a student's. The program of an
 assignment is the file rounds_node, alpha_node or open_node in it: python3 runs one that
 ends in .py, node .js, java .java (once it is compiled), and what may be executed is
-run as it is. Or a file `commands` says how, in lines as `alpha: ./mine --fast`.
+run as it is. Or a file `commands` says how, in lines as `alpha: ./mine --fast`, whose
+words name files of the folder itself, without `/`, `@` and `..`.
 
 rounds has {POINTS['rounds']} points times the share of its {RUNS['rounds']} runs that are right,
 rounded down; alpha {EACH} for each of the {len(POLICIES)} policies of which all {RUNS_EACH} runs
@@ -178,6 +179,8 @@ def main(words: list[str]) -> int:
     if status:
         raise Wrong(f"forestplan plain ends with status {status}: {why}")
     shut()
+    # No program is looked for in the folder in which the command is called.
+    os.environ["PATH"] = ":".join(filter(os.path.isabs, os.environ.get("PATH", "").split(":")))
     room = tempfile.mkdtemp(prefix="grade-")
     try:
         os.chmod(room, 0o711)

@@ -1,6 +1,7 @@
 """What is submitted: each folder is a student's, and has the programs of the assignments; and the points of each."""
 import contextlib
 import os
+import re
 import shlex
 from dataclasses import dataclass, field
 
@@ -19,7 +20,10 @@ STEMS = {
     "open": ("open_node", "OpenNode", "own_node", "OwnNode"),
 }
 RUNNERS = {".py": "python3", ".js": "node", ".java": "java", ".pl": "perl", ".rb": "ruby"}
-MOST_BYTES, MOST_FILES, DEEPEST = 16 << 20, 10_000, 64
+MOST_BYTES, MOST_FILES, MOST_ENTRIES, DEEPEST = 16 << 20, 10_000, 1000, 64
+# What is in no word of `commands`.
+OUTSIDE = re.compile(r"/|@|\.\.")
+OF_THE_FOLDER = "files are named as they are in the folder itself, without `/`, `@` and `..`"
 
 
 @dataclass
@@ -115,8 +119,11 @@ def command_of(folder: str, assignment: str) -> list[str]:
 
 
 def said_command(folder: str, assignment: str) -> list[str]:
-    """The command that the file `commands` says."""
-    with open(os.path.join(folder, "commands"), encoding="utf-8", errors="replace") as file:
+    """The command that the file `commands` says. Its words name programs, options and files of the folder itself."""
+    path = os.path.join(folder, "commands")
+    if os.path.islink(path):
+        raise Wrong("`commands` is a link")
+    with open(path, encoding="utf-8", errors="replace") as file:
         lines = [line.partition(":") for line in file.read(1 << 16).splitlines()]
     try:
         said = [shlex.split(words) for name, _, words in lines if name.strip() == assignment]
@@ -125,6 +132,9 @@ def said_command(folder: str, assignment: str) -> list[str]:
     command = said[0] if said else []
     if "--" in command:
         raise Wrong("`commands`: `--` stands between commands, and one is played")
+    for word in command:
+        if OUTSIDE.search(word.removeprefix("./")):
+            raise Wrong(f"`commands`: {clean(word)}: {OF_THE_FOLDER}")
     return command
 
 
@@ -144,6 +154,8 @@ def check_folder(folder: str) -> None:
     """Refuses a folder that can't be copied."""
     if kept_in(folder) > MOST_BYTES:
         raise Wrong(f"its folder has more than {MOST_BYTES >> 20} megabytes, or is too deep")
+    if len(os.listdir(folder)) > MOST_ENTRIES:
+        raise Wrong(f"its folder has more than {MOST_ENTRIES:,} files in it")
     for at, _, names in os.walk(folder):
         for path in (os.path.join(at, name) for name in names):
             if not os.path.isfile(path) and not os.path.islink(path):
@@ -152,8 +164,8 @@ def check_folder(folder: str) -> None:
 
 
 def kept_in(folder: str) -> int:
-    """The bytes of all files below a folder; of too many files, folders too deep, or what can't be looked at, as a path
-    that is too long, too many bytes."""
+    """The bytes of all files below a folder, with their holes, which a copy would fill; of too many files, folders too
+    deep, or what can't be looked at, as a path that is too long, too many bytes."""
     size, files, folders = 0, 0, [(folder, 0)]
     try:
         for at, depth in folders:

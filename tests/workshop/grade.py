@@ -17,47 +17,12 @@ from lab.workshop.workshop import main
 from tests.cases import Case, text_in, wait_until
 from tests.tools import need
 from tests.workshop.base import DOOR, EXAMPLES, LIMIT, call
+from tests.workshop.submitted import MUTE, RIGHT, ZERO, Submitted
 from tests.workshop.forgers import BEGIN, got, program
 from tests.workshop.misbehaving import MARK, left, left_at_last
 
-RIGHT = os.path.join(EXAMPLES, "python")
-ZERO = "import sys\nfor line in sys.stdin:\n    if line == 'end\\n':\n        print('channel 0\\nend ', flush=True)\n"
-MUTE = "import sys\nfor line in sys.stdin:\n    if line == 'end\\n':\n        print('end')\n"
 
-
-class Grades(Case):
-    def setUp(self):
-        os.chmod(self.folder, 0o755)
-        self.subs = os.path.join(self.folder, "home", "submissions")
-
-    def tearDown(self):
-        self.assertEqual(left_at_last(), [])
-
-    def submit(self, student: str, **files: str) -> str:
-        """A submission: files by name, with `_py` for `.py`."""
-        folder = os.path.join(self.subs, student)
-        os.makedirs(folder, exist_ok=True)
-        for name, text in files.items():
-            self.file(os.path.join(folder, re.sub("_(py|js|c)$", r".\1", name)), text)
-        return folder
-
-    def graded(self, *words: str, runs: str = "2", timeout: str = "30") -> dict:
-        """By student, of `grade --json` with few runs."""
-        done = call(
-            "grade",
-            self.subs,
-            "--seed",
-            "7",
-            "--json",
-            "--timeout",
-            timeout,
-            "--runs",
-            runs,
-            *words,
-        )
-        self.assertIn(done.returncode, (0, 1), done)
-        return {one["student"]: one for one in json.loads(done.stdout)["submissions"]}
-
+class Grades(Submitted):
     def test_a_class(self):
         """Right and wrong submissions, and strange ones: what is no file is no program, and a name that is no text, or
         is too long for a report, is its student's alone. No letter is printed that a terminal obeys.

@@ -86,6 +86,7 @@ ATTACKS = {
 }
 # Those that an ordinary user can't do either, so that they get through only if root plays.
 OF_ROOT = {
+    "system": "open('/opt/{mark}/new', 'w')",
     "device": "os.mknod('device', stat.S_IFBLK | 0o600, os.makedev(8, 0))",
     "kernel": "os.open('/proc/sys/kernel/hostname', os.O_WRONLY)",
     "host": "socket.sethostname(socket.gethostname())",
@@ -191,6 +192,10 @@ class Sandboxed(Case):
         of_root = OF_ROOT if os.geteuid() == 0 else {}
         attacks = {name: words.format(**names) for name, words in (ATTACKS | of_root).items()}
         self.addCleanup(lambda: os.path.exists(f"/dev/{MARK}") and os.remove(f"/dev/{MARK}"))
+        if of_root:  # a folder of the system that is open to all
+            os.makedirs(f"/opt/{MARK}")
+            os.chmod(f"/opt/{MARK}", 0o777)
+            self.addCleanup(shutil.rmtree, f"/opt/{MARK}")
         within, without = self.guards()
         guarded, open_to = (got(done(guard, program(attacks))) for guard in (within, without))
         self.same("all are tried", guarded.keys(), attacks.keys())
