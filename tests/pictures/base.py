@@ -54,6 +54,10 @@ class PictureCase(Case):
             raise AssertionError(f"{kind} is refused: {fault.decode()}")
         return drawn.decode()
 
+    def rows_of(self, name):
+        """What makes the rows of a picture: `row(what, shown, wanted)`."""
+        return lambda what, shown, wanted: self.same(f"{name}: {what}", shown, wanted)
+
     def facts(self, name, found):
         """Rows of what a picture shows and of what it has to, by their names."""
         for what, (shown, wanted) in found.items():

@@ -1,4 +1,5 @@
 """Pictures of plans and rounds, read back: marks, hues and numbers beside lab/definitions."""
+import itertools
 import re
 from collections import Counter
 
@@ -37,6 +38,25 @@ NETWORKS = examples() | {
     "barred petersen": BARRED,
 }
 QUEEN = example("queen5_5")
+OF_ROUNDS = (
+    "petersen",
+    "triangle",
+    "star",
+    "four_cycle",
+    "path",
+    "chain6",
+    "drops",
+    "barred",
+    "barred petersen",
+)
+PLAYED = {name: NETWORKS[name] for name in ("triangle", "petersen", "barred", "two")} | {
+    "one": b"p edge 1 0\n",
+    "all joined": network_bytes("complete8"),
+    "three": b"p edge 3 0\n",
+    "three with bars": b"p edge 3 0\nb 1 1\nb 1 2\nb 3 2\n",
+}
+# What the player says of a merge pulse: the three-colour, the forest, the old colour and its channel.
+TURN = r"colour (\d+) in forest (\d+), colour (\d+) \(channel (\d+)\) so far"
 
 
 def circles(mark, net_colours):
@@ -46,9 +66,8 @@ def circles(mark, net_colours):
 
 def words_of_bars(net, v):
     """What comes after a vertex's channel: the barred ones."""
-    return (
-        f", barred {', '.join(str(c + 1) for c in sorted(net.barred[v]))}" if net.barred[v] else ""
-    )
+    channels = ", ".join(str(c + 1) for c in sorted(net.barred[v]))
+    return f", barred {channels}" if channels else ""
 
 
 def bars_of(net):
@@ -64,27 +83,97 @@ def bars_in(root):
     return numbered(root, "bar"), words(root, "more")
 
 
+def is_loose(end, places):
+    """Whether the end of an edge isn't in the circle that is nearest to it."""
+    return gap(places[nearest(places, end)], end) > 0.3
+
+
+def places_given(network):
+    """The places that comments of a network give."""
+    rows = re.findall(rb"c at (\d+) (\S+) (\S+)", network)
+    return {int(v): (float(x), float(y)) for v, x, y in rows}
+
+
 def seen_from_1(places):
     """Places as vertex 1 sees them, in parts of the farthest one's distance."""
     (x, y), far = places[1], max(gap(place, places[1]) for place in places.values())
     return {v: ((a - x) / far, (b - y) / far) for v, (a, b) in places.items()}
 
 
-def strip_mark(column, colour, is_in_forest):
-    mark = "alone" if column and not is_in_forest else "colour"
-    if column and colour < 6:
-        return mark, COLOURS[colour], str(colour)
-    digits = max(1, colour.bit_length())
-    level = 235 - min(140, 7 * digits)
-    return (
-        mark,
-        f"#{level:02X}{level:02X}{level:02X}",
-        str(colour) if colour < 1000 else f"{digits}d",
-    )
-
-
 def parents_in(net, f):
     return {v: net.parent(f, v) for v in net.vertices if net.parent(f, v)}
+
+
+def in_forest(parents, v):
+    """Whether an edge of the forest ends at a vertex."""
+    return v in parents or v in parents.values()
+
+
+def joined(arrows, places):
+    """The vertex at which each arrow ends, by the one at which it begins."""
+    found = {}
+    for start, end in map(ends, arrows):
+        child = nearest(places, start)
+        others = {v: place for v, place in places.items() if v != child}
+        found[child] = nearest(others, end)
+    return dict(sorted(found.items()))
+
+
+def square(colour, is_in_forest):
+    """The square of one of six colours."""
+    return "colour" if is_in_forest else "alone", COLOURS[colour], str(colour)
+
+
+def strip_mark(column, colour, is_in_forest):
+    """The square of a colour in a column of the rounds, of which the first has identifiers: those are grey, as are
+    colours of more than one digit."""
+    if column and colour < 6:
+        return square(colour, is_in_forest)
+    digits = max(1, colour.bit_length())
+    level = 235 - min(140, 7 * digits)
+    mark = "alone" if column and not is_in_forest else "colour"
+    said = str(colour) if colour < 1000 else f"{digits}d"
+    return mark, f"#{level:02X}{level:02X}{level:02X}", said
+
+
+def middles_of(group):
+    """Where the heads over the columns of a forest have to be. A column is a pulse from 2 on, and bit steps are four of
+    them under one head."""
+    squares = marks(group, "colour", "alone")
+    start, *steps = sorted({round(centre(mark)[0], 1) for mark in squares})
+    return [start, sum(steps[:4]) / 4, *steps[4:]]
+
+
+def heads_beside(root, groups):
+    """The places of the heads that aren't over the middles of their columns."""
+    heads = [number(head, "x") for head in marks(root, "group")]
+    middles = [x for group in groups for x in middles_of(group)]
+    return [head for head, middle in zip(heads, middles) if abs(head - middle) > 0.3]
+
+
+def turns_in(facts, f):
+    """The three-colour and the old colour of each vertex in a merge."""
+    return {v: (facts.colours[f][12][v], facts.merged[f][v]) for v in facts.network.vertices}
+
+
+def pairs_shown(facts, drawn):
+    """The pairs over the merge columns of each forest: all, or, if they are many, those that a node has."""
+    if 3 * facts.width * len(drawn) <= 40:
+        return [[*itertools.product(range(3), range(facts.width))] for _ in drawn]
+    return [sorted(set(turns_in(facts, f).values())) for f in drawn]
+
+
+def backwards(value, digits):
+    """The binary digits of a number, the last one first."""
+    return f"{value:0{digits}b}"[::-1]
+
+
+def colours_after(facts, p):
+    """The colours of each vertex in all forests, as the player has them: from pulse 2 until the merges."""
+    if not facts.forests or not 2 <= p < FIRST_MERGE:
+        return None
+    vertices, forests = facts.network.vertices, range(facts.forests)
+    return [[facts.colours[f][p][v] for f in forests] for v in vertices]
 
 
 class Maps(PictureCase):
@@ -93,48 +182,30 @@ class Maps(PictureCase):
             net, root = network_of(network), parsed(self.drawn("plan", network))
             plan = dict(sorted(colours(net).items()))
             places = {v: centre(mark) for v, mark in zip(plan, marks(root, "channel"))}
-            is_small, said = len(plan) <= 100, " ".join(texts(root)[:3])
-            self.facts(
-                f"plan of {name}",
-                {
-                    "a vertex each": (
-                        titles(root, "vertex"),
-                        [
-                            f"vertex {v}: channel {c + 1}{words_of_bars(net, v)}"
-                            for v, c in plan.items()
-                        ],
-                    ),
-                    "hues and numbers": (numbered(root, "channel"), circles("channel", plan)),
-                    "its edges": (pairs_joined(root, "edge", places), net.edges),
-                    "edges end in circles": (
-                        [
-                            end
-                            for mark in marks(root, "edge")
-                            for end in ends(mark)
-                            if gap(places[nearest(places, end)], end) > 0.3
-                        ],
-                        [],
-                    ),
-                    "labels": (sorted(map(int, words(root, "number"))), [*plan] * is_small),
-                    "crossed out": (bars_in(root), bars_of(net) if is_small else ([], [])),
-                    "it says what is crossed out": ("barred" in said, net.greatest_bars > 0),
-                    "it says how many are used": (
-                        f": {len({*plan.values()})} of the {net.span + 1} allowed" in said,
-                        True,
-                    ),
-                },
-            )
-            given = {
-                int(v): (float(x), float(y))
-                for v, x, y in re.findall(rb"c at (\d+) (\S+) (\S+)", network)
-            }
+            row = self.rows_of(f"plan of {name}")
+            said = [f"vertex {v}: channel {c + 1}{words_of_bars(net, v)}" for v, c in plan.items()]
+            row("a vertex each", titles(root, "vertex"), said)
+            row("hues and numbers", numbered(root, "channel"), circles("channel", plan))
+            row("its edges", pairs_joined(root, "edge", places), net.edges)
+            loose = [
+                end for mark in marks(root, "edge") for end in ends(mark) if is_loose(end, places)
+            ]
+            row("edges end in circles", loose, [])
+            labels = sorted(map(int, words(root, "number")))
+            if len(plan) <= 100:
+                row("labels", labels, [*plan])
+                row("crossed out", bars_in(root), bars_of(net))
+            else:
+                row("no labels", labels, [])
+                row("nothing crossed out", bars_in(root), ([], []))
+            heading = " ".join(texts(root)[:3])
+            row("it says what is crossed out", "barred" in heading, net.greatest_bars > 0)
+            used = f": {len({*plan.values()})} of the {net.span + 1} allowed"
+            row("it says how many are used", used in heading, True)
+            given = places_given(network)
             if len(given) == len(plan):
                 wanted, got = seen_from_1(given), seen_from_1(places)
-                self.same(
-                    f"plan of {name}: the places given",
-                    [v for v in got if gap(got[v], wanted[v]) > 0.01],
-                    [],
-                )
+                row("the places given", [v for v in got if gap(got[v], wanted[v]) > 0.01], [])
 
     def test_forests(self):
         for name, network in NETWORKS.items():
@@ -144,143 +215,73 @@ class Maps(PictureCase):
 
     def forests_rows(self, name, network, kept, *options):
         facts, root = Rounds(network_of(network)), parsed(self.drawn("forests", network, *options))
-        above, below = (
-            {title(group): group for group in marks(root, mark)} for mark in ("forest", "merged")
-        )
-        self.facts(
-            f"forests of {name}",
-            {
-                "those drawn": (
-                    ([*above], [*below]),
-                    ([f"forest {f}" for f in kept], [f"after forest {f}" for f in kept]),
-                )
-            },
-        )
-        for f, *groups in zip(kept, above.values(), below.values()):
+        above, below = marks(root, "forest"), marks(root, "merged")
+        row = self.rows_of(f"forests of {name}")
+        row("those drawn", [*map(title, above)], [f"forest {f}" for f in kept])
+        row("those merged", [*map(title, below)], [f"after forest {f}" for f in kept])
+        for f, *groups in zip(kept, above, below):
             self.forest_rows(f"forest {f} of {name}", facts, f, *groups)
 
     def forest_rows(self, name, facts, f, above, below):
-        """The colours and parents of a forest, and the plan after its merge. Of more than 40 vertices an arrow may be
-        nearer to another vertex than to its own."""
+        """The colours and parents of a forest, and the plan after its merge."""
         net, parents = facts.network, parents_in(facts.network, f)
-        is_small, ended = net.nodes <= 40, {*parents, *parents.values()}
-        places = dict(zip(net.vertices, map(centre, marks(above, "colour", "alone"))))
-        arrows = {}
-        for start, end in map(ends, marks(above, "arrow")):
-            child = nearest(places, start)
-            arrows[child] = nearest({v: place for v, place in places.items() if v != child}, end)
+        row = self.rows_of(name)
         squares = [
-            ("colour" if v in ended else "alone", COLOURS[c], str(c))
-            for v, c in sorted(facts.colours[f][12].items())
+            square(c, in_forest(parents, v)) for v, c in sorted(facts.colours[f][12].items())
         ]
-        self.facts(
-            name,
-            {
-                "squares": (numbered(above, "colour", "alone"), squares),
-                "an arrow from each child to its parent": (
-                    dict(sorted(arrows.items())) if is_small else {},
-                    parents if is_small else {},
-                ),
-                "as many arrows as children": (len(marks(above, "arrow")), len(parents)),
-                "channels after its merge": (
-                    numbered(below, "channel"),
-                    circles("channel", facts.merged[f + 1]),
-                ),
-                "its edges below": (
-                    Counter(mark.get("stroke") == INK for mark in marks(below, "edge")),
-                    Counter({True: len(parents), False: len(net.edges) - len(parents)}),
-                ),
-            },
-        )
+        row("squares", numbered(above, "colour", "alone"), squares)
+        arrows = marks(above, "arrow")
+        row("as many arrows as children", len(arrows), len(parents))
+        # Of more than 40 vertices an arrow may be nearer to another vertex than to its own.
+        if net.nodes <= 40:
+            places = dict(zip(net.vertices, map(centre, marks(above, "colour", "alone"))))
+            row("an arrow from each child to its parent", joined(arrows, places), parents)
+        after = circles("channel", facts.merged[f + 1])
+        row("channels after its merge", numbered(below, "channel"), after)
+        edges = Counter(mark.get("stroke") == INK for mark in marks(below, "edge"))
+        wanted = Counter({True: len(parents), False: len(net.edges) - len(parents)})
+        row("its edges below are dark", edges, wanted)
 
     def test_rounds(self):
-        for name in (
-            "petersen",
-            "triangle",
-            "star",
-            "four_cycle",
-            "path",
-            "chain6",
-            "drops",
-            "barred",
-            "barred petersen",
-        ):
+        for name in OF_ROUNDS:
             self.rounds_rows(name, NETWORKS[name], range(network_of(NETWORKS[name]).forest_count))
         for forests, options in (([0], ()), ([1], ("--forest", 1)), ([4, 5], ("--forest", "4..5"))):
             self.rounds_rows("queen5_5", QUEEN, forests, *options)
 
     def rounds_rows(self, name, network, drawn, *options):
         facts, root = Rounds(network_of(network)), parsed(self.drawn("rounds", network, *options))
-        net, width = facts.network, facts.network.span + 1
-        left, right = marks(root, "colours"), marks(root, "choices")
-        turns = [
-            {v: (facts.colours[f][12][v], facts.merged[f][v]) for v in net.vertices} for f in drawn
+        net, left = facts.network, marks(root, "colours")
+        row = self.rows_of(f"rounds of {name}")
+        row("its forests", titles(root, "colours"), [f"forest {f}" for f in drawn])
+        row("its merges", titles(root, "choices"), [f"forest {f}" for f in drawn])
+        says = any(text.startswith("Here forest") for text in texts(root))
+        row("it says which are left out", says, len(drawn) < net.forest_count)
+        row("what each pulse does", words(root, "group"), HEADS * len(drawn))
+        row("heads over their columns", heads_beside(root, left), [])
+        pairs = pairs_shown(facts, drawn)
+        row("J", [*map(int, words(root, "old"))], [j for own in pairs for _, j in own])
+        turns = [k for own in pairs for k in sorted({k for k, _ in own})]
+        row("K", [*map(int, words(root, "turn"))], turns)
+        for f, colours_of, choices in zip(drawn, left, marks(root, "choices")):
+            self.strip_rows(f"rounds of {name}, forest {f}", facts, f, colours_of, choices)
+
+    def strip_rows(self, name, facts, f, colours_of, choices):
+        """A forest of the rounds: its colours pulse by pulse, and who chooses before whom."""
+        net, parents, turn = facts.network, parents_in(facts.network, f), turns_in(facts, f)
+        row = self.rows_of(name)
+        squares = [
+            strip_mark(column, colours[v], in_forest(parents, v))
+            for v in turn
+            for column, colours in enumerate(facts.colours[f].values())
         ]
-        # Over the merge columns is the pair whose turn it is: all pairs, or, if they are many, those that a node has.
-        pairs = [
-            [(k, j) for k in range(3) for j in range(width)]
-            if 3 * width * len(drawn) <= 40
-            else sorted(set(turn.values()))
-            for turn in turns
-        ]
-        # A column is a pulse from 2 on, and bit steps are four of them.
-        columns = [
-            sorted({round(centre(mark)[0], 1) for mark in marks(group, "colour", "alone")})
-            for group in left
-        ]
-        middles = [x for start, *steps in columns for x in (start, sum(steps[:4]) / 4, *steps[4:])]
-        self.facts(
-            f"rounds of {name}",
-            {
-                "its forests": (
-                    titles(root, "colours", "choices"),
-                    [f"forest {f}" for f in drawn for _ in "ab"],
-                ),
-                "it says which are left out": (
-                    any(text.startswith("Here forest") for text in texts(root)),
-                    len(drawn) < net.forest_count,
-                ),
-                "what each pulse does": (words(root, "group"), HEADS * len(drawn)),
-                "heads beside their columns": (
-                    [
-                        head.text
-                        for head, x in zip(marks(root, "group"), middles)
-                        if abs(number(head, "x") - x) > 0.3
-                    ],
-                    [],
-                ),
-                "J": ([*map(int, words(root, "old"))], [j for own in pairs for _, j in own]),
-                "K": (
-                    [*map(int, words(root, "turn"))],
-                    [k for own in pairs for k in sorted({k for k, _ in own})],
-                ),
-            },
-        )
-        for f, turn, colours_of, choices in zip(drawn, turns, left, right):
-            parents = parents_in(net, f)
-            xs = dict(zip(turn, (centre(mark)[0] for mark in marks(choices, "choice"))))
-            self.facts(
-                f"rounds of {name}, forest {f}",
-                {
-                    "squares": (
-                        numbered(colours_of, "colour", "alone"),
-                        [
-                            strip_mark(column, row[v], v in {*parents, *parents.values()})
-                            for v in turn
-                            for column, row in enumerate(facts.colours[f].values())
-                        ],
-                    ),
-                    **{
-                        mark: (numbered(choices, mark), circles(mark, facts.merged[f + 1]))
-                        for mark in ("choice", "after")
-                    },
-                    "crossed out": (bars_in(choices), bars_of(net)),
-                    "who chooses first": (
-                        [(v, w) for v in xs for w in xs if (xs[v] < xs[w]) != (turn[v] < turn[w])],
-                        [],
-                    ),
-                },
-            )
+        row("squares", numbered(colours_of, "colour", "alone"), squares)
+        for mark in ("choice", "after"):
+            row(mark, numbered(choices, mark), circles(mark, facts.merged[f + 1]))
+        row("crossed out", bars_in(choices), bars_of(net))
+        xs = dict(zip(turn, (centre(mark)[0] for mark in marks(choices, "choice"))))
+        pairs = itertools.permutations(xs, 2)
+        wrong = [(v, w) for v, w in pairs if (xs[v] < xs[w]) != (turn[v] < turn[w])]
+        row("who chooses first", wrong, [])
 
     def test_bits(self):
         for name, v in (("petersen", 6), ("queen5_5", 5), ("star", 1), ("long_names", 1)):
@@ -295,93 +296,43 @@ class Maps(PictureCase):
         for p, pair in enumerate(marks(root, "pair"), 2):
             after, boxes = bit(net, f, before), marks(pair, "digit", "ringed")
             digits = max(1, before[v].bit_length(), before[w].bit_length())
-            xs, place = [number(mark, "x") for mark in boxes[:digits]], after[v] >> 1
-            self.facts(
-                f"{name}, pulse {p}",
-                {
-                    "digits": (
-                        "".join("01"[mark.get("fill") == INK] for mark in boxes),
-                        "".join(f"{before[node]:0{digits}b}"[::-1] for node in (v, w)),
-                    ),
-                    "the first is on the right": (xs, sorted(xs, reverse=True)),
-                    "the ring": (
-                        [at for at, mark in enumerate(boxes) if mark.get("class") == "ringed"],
-                        [place, digits + place] if p < 6 else [],
-                    ),
-                    "its title": (title(pair), f"pulse {p}: {before[v]} under {before[w]}"),
-                    "the next number": (
-                        [int(said.split(" = ")[-1]) for said in words(pair, "next")],
-                        [after[v]] if p < 6 else [],
-                    ),
-                },
-            )
+            row = self.rows_of(f"{name}, pulse {p}")
+            shown = "".join("01"[mark.get("fill") == INK] for mark in boxes)
+            row("digits", shown, backwards(before[v], digits) + backwards(before[w], digits))
+            xs = [number(mark, "x") for mark in boxes[:digits]]
+            row("the first is on the right", xs, sorted(xs, reverse=True))
+            row("its title", title(pair), f"pulse {p}: {before[v]} under {before[w]}")
+            ringed = [at for at, mark in enumerate(boxes) if mark.get("class") == "ringed"]
+            following = [int(said.split(" = ")[-1]) for said in words(pair, "next")]
+            if p < 6:
+                place = after[v] >> 1
+                row("the ring", ringed, [place, digits + place])
+                row("the next number", following, [after[v]])
+            else:
+                row("nothing after the last step", (ringed, following), ([], []))
             before = after
 
     def test_players(self):
-        networks = {name: NETWORKS[name] for name in ("triangle", "petersen", "barred", "two")} | {
-            "one": b"p edge 1 0\n",
-            "all joined": network_bytes("complete8"),
-            "three": b"p edge 3 0\n",
-            "three with bars": b"p edge 3 0\nb 1 1\nb 1 2\nb 3 2\n",
-        }
-        turn = r"colour (\d+) in forest (\d+), colour (\d+) \(channel (\d+)\) so far"
-        for name, network in networks.items():
-            facts, data = Rounds(network_of(network)), data_of(self.drawn("player", network))
-            net, film, last = facts.network, data["film"], last_pulse(facts.network)
-            vertices, forests, steps = (
-                net.vertices,
-                range(net.forest_count),
-                range(FIRST_MERGE, last + 1),
-            )
+        for name, network in PLAYED.items():
+            self.player_rows(name, network)
 
-            def shown(key):
-                return [pulse[key] for pulse in film["pulses"]]
-
-            self.facts(
-                f"player of {name}",
-                {
-                    "its last pulse": (film["last"], last),
-                    "parents": (
-                        film["parents"],
-                        [
-                            [v, f, net.parent(f, v)]
-                            for v in vertices
-                            for f in forests
-                            if net.parent(f, v)
-                        ],
-                    ),
-                    "the first colours": (film["first"], [facts.merged[0][v] for v in vertices]),
-                    "its edges": (sorted(map(tuple, data["net"]["edges"])), net.edges),
-                    "messages": (
-                        shown("puts"),
-                        [[[*put] for put in pulse.puts] for pulse in facts.pulses],
-                    ),
-                    "colours": (
-                        shown("colours"),
-                        [
-                            [[facts.colours[f][p][v] for f in forests] for v in vertices]
-                            if 2 <= p < FIRST_MERGE and forests
-                            else None
-                            for p in range(last + 1)
-                        ],
-                    ),
-                    "choices": (
-                        shown("chosen"),
-                        [
-                            {str(v): colour for v, colour in pulse.chosen.items()}
-                            for pulse in facts.pulses
-                        ],
-                    ),
-                    "whose turn it is": (
-                        shown("step")[FIRST_MERGE:],
-                        [[*merge_step(net, p)] for p in steps],
-                    ),
-                    "the turn in words": (
-                        [re.findall(turn, said) for said in shown("said")[FIRST_MERGE:]],
-                        [
-                            [(str(k), str(f), str(j), str(j + 1))]
-                            for f, k, j in (merge_step(net, p) for p in steps)
-                        ],
-                    ),
-                },
-            )
+    def player_rows(self, name, network):
+        facts, data = Rounds(network_of(network)), data_of(self.drawn("player", network))
+        net, film, last = facts.network, data["film"], last_pulse(facts.network)
+        row = self.rows_of(f"player of {name}")
+        row("its last pulse", film["last"], last)
+        parents = [[v, f, w] for v, ws in net.higher.items() for f, w in enumerate(ws)]
+        row("parents", film["parents"], parents)
+        row("the first colours", film["first"], [*facts.merged[0].values()])
+        row("its edges", sorted(map(tuple, data["net"]["edges"])), net.edges)
+        shown = {key: [pulse[key] for pulse in film["pulses"]] for key in film["pulses"][0]}
+        row("messages", shown["puts"], [[*map(list, pulse.puts)] for pulse in facts.pulses])
+        lists = [colours_after(facts, p) for p in range(last + 1)]
+        row("colours", shown["colours"], lists)
+        chosen = [{str(v): c for v, c in pulse.chosen.items()} for pulse in facts.pulses]
+        row("choices", shown["chosen"], chosen)
+        steps = [merge_step(net, p) for p in range(FIRST_MERGE, last + 1)]
+        row("whose turn it is", shown["step"][FIRST_MERGE:], [*map(list, steps)])
+        said = [re.findall(TURN, text) for text in shown["said"][FIRST_MERGE:]]
+        wanted = [[(str(k), str(f), str(j), str(j + 1))] for f, k, j in steps]
+        row("the turn in words", said, wanted)
