@@ -103,6 +103,42 @@ def turns_in(group):
     }
 
 
+def chain_of(rounds):
+    """The node that goes wrong in a forest, below those above it whose colours it depends on."""
+    clash = rounds.clash
+    chain, v = [clash.v], clash.v
+    while len(chain) < clash.pulse - 1 and (v := rounds.net.parent(clash.forest, v)):
+        chain.insert(0, v)
+    return chain
+
+
+def shapes_of(group, name):
+    return [shape for mark, shape in shapes(group) if mark.get("class") == name]
+
+
+def numbers_in(group, *names):
+    return [int(said) for _, _, said in numbered(group, *names)]
+
+
+def alike(net, f, channels):
+    """The edges of the forests merged so far whose ends have one channel."""
+    return sorted(
+        tuple(sorted(edge))
+        for edge, forest in net.number.items()
+        if forest <= f and len({channels[v] for v in edge}) == 1
+    )
+
+
+def heard_by(net, v, f, lists, left_out):
+    """The channels that a node has heard at its turn in a merge: of the neighbours in the forests merged so far whose
+    turn was before, with the rules that are left out."""
+    before, colours, after = lists
+    turn = {w: (colours[w], 0 if "pair" in left_out else before[w]) for w in net.vertices}
+    forests = range(f, f + 1) if "earlier" in left_out else range(f + 1)
+    near = [w for w in net.neighbours[v] if net.number[frozenset((v, w))] in forests]
+    return {w: after[w] + 1 for w in near if turn[w] < turn[v]}
+
+
 class Broken(PictureCase):
     def picture_of(self, *options):
         """A picture whose words have the sentences of `forestlab explore`, with quotes of its own."""
@@ -143,95 +179,40 @@ class Broken(PictureCase):
     def forest_rows(self, name, rounds, root, without, with_all):
         """The rows are the node that goes wrong and those above it; the squares are the colours; the frame is around
         two equal ones."""
-        clash, net = rounds.clash, rounds.net
-        chain, v = [clash.v], clash.v
-        while len(chain) < clash.pulse - 1 and (v := net.parent(clash.forest, v)):
-            chain.insert(0, v)
-        (frame,) = [shape for mark, shape in shapes(without) if mark.get("class") == "wrong"]
-        squares = [shape for mark, shape in shapes(without) if mark.get("class") == "colour"]
-        lists = (
-            rounds.colours[clash.forest],
-            [*Rounds(net).colours[clash.forest].values()][: clash.pulse - 1],
-        )
-        self.facts(
-            name,
-            {
-                "its nodes": (words(root, "node"), 2 * [str(v) for v in chain]),
-                "the colours": (
-                    [squares_of(group) for group in (without, with_all)],
-                    [[[c[v] for c in row] for v in chain] for row in lists],
-                ),
-                "in the red frame": (
-                    [
-                        said
-                        for square, (_, _, said) in zip(squares, numbered(without, "colour"))
-                        if depth(square, frame) > 0
-                    ],
-                    2 * [str(clash.colour)],
-                ),
-                "frames with all rules": (marks(with_all, "wrong"), []),
-            },
-        )
+        clash, chain, row = rounds.clash, chain_of(rounds), self.rows_of(name)
+        row("its nodes", words(root, "node"), 2 * [*map(str, chain)])
+        lists = rounds.colours[clash.forest]
+        row("the colours", squares_of(without), [[c[v] for c in lists] for v in chain])
+        lists = [*Rounds(rounds.net).colours[clash.forest].values()][: clash.pulse - 1]
+        row("with all rules", squares_of(with_all), [[c[v] for c in lists] for v in chain])
+        (frame,) = shapes_of(without, "wrong")
+        squares = zip(shapes_of(without, "colour"), numbered(without, "colour"))
+        framed = [said for square, (_, _, said) in squares if depth(square, frame) > 0]
+        row("in the red frame", framed, 2 * [str(clash.colour)])
+        row("frames with all rules", marks(with_all, "wrong"), [])
 
     def merge_rows(self, name, rounds, root, *groups):
         """Three panels each; red are the edges of the forests merged whose ends have one channel, and no others."""
         clash, net, right = rounds.clash, rounds.net, Rounds(rounds.net)
-        f, vertices = clash.forest, sorted(rounds.net.neighbours)
-        for group, (before, colours, after), left_out in zip(
-            groups,
-            (
-                (rounds.merged[f], rounds.colours[f][-1], rounds.merged[f + 1]),
-                (right.merged[f], right.colours[f][12], right.merged[f + 1]),
-            ),
-            (rounds.without, ()),
-        ):
-            places = dict(
-                zip(vertices, [centre(mark) for mark in marks(group, "channel")][len(vertices) :])
-            )
-            same = sorted(
-                tuple(sorted(edge))
-                for edge, forest in net.number.items()
-                if forest <= f and len({after[v] for v in edge}) == 1
-            )
-            turn = {
-                v: (colours[v],) if "pair" in left_out else (colours[v], before[v])
-                for v in vertices
-            }
-            forests = range(f, f + 1) if "earlier" in left_out else range(f + 1)
-            self.facts(
-                f"{name}, {group.get('class')}",
-                {
-                    "channels": (
-                        [int(said) for _, _, said in numbered(group, "channel")],
-                        [c[v] + 1 for c in (before, after) for v in vertices],
-                    ),
-                    "colours": (
-                        [int(said) for _, _, said in numbered(group, "colour", "alone")],
-                        [colours[v] for v in vertices],
-                    ),
-                    "what is red": (pairs_joined(group, "wrong", places), same),
-                    "whether something is red": (bool(same), bool(left_out)),
-                    "who takes what and has heard what": (
-                        turns_in(group),
-                        {
-                            v: (
-                                after[v] + 1,
-                                {
-                                    w: after[w] + 1
-                                    for w in net.neighbours[v]
-                                    if turn[w] < turn[v]
-                                    and net.number[frozenset((v, w))] in forests
-                                },
-                            )
-                            for v in (clash.v, clash.w)
-                        },
-                    ),
-                    "the forest's edges": (
-                        len(marks(group, "arrow")),
-                        sum(forest == f for forest in net.number.values()),
-                    ),
-                },
-            )
+        f = clash.forest
+        ruled = (rounds.merged[f], rounds.colours[f][-1], rounds.merged[f + 1])
+        whole = (right.merged[f], right.colours[f][12], right.merged[f + 1])
+        for group, lists, left_out in zip(groups, (ruled, whole), (rounds.without, ())):
+            before, colours, after = lists
+            row = self.rows_of(f"{name}, {group.get('class')}")
+            channels = [c + 1 for one in (before, after) for c in one.values()]
+            row("channels", numbers_in(group, "channel"), channels)
+            row("colours", numbers_in(group, "colour", "alone"), [*colours.values()])
+            # The channels after the merge are the second half.
+            circles = [*map(centre, marks(group, "channel"))][net.nodes :]
+            places, same = dict(zip(net.vertices, circles)), alike(net, f, after)
+            row("what is red", pairs_joined(group, "wrong", places), same)
+            row("whether something is red", bool(same), bool(left_out))
+            heard = {v: heard_by(net, v, f, lists, left_out) for v in (clash.v, clash.w)}
+            wanted = {v: (after[v] + 1, channels) for v, channels in heard.items()}
+            row("who takes what and has heard what", turns_in(group), wanted)
+            edges = [*net.number.values()].count(f)
+            row("the forest's edges", len(marks(group, "arrow")), edges)
 
     def test_ends(self):
         """Each rule of a program that goes on where the colouring ends."""

@@ -46,16 +46,12 @@ class Counted:
         ]
 
     def stage(self):
+        if self.pulse == self.last:
+            return "last"
         kinds = {kind for kind, _ in self.waits()}
-        return (
-            "last"
-            if self.pulse == self.last
-            else "asks"
-            if "ack" in kinds
-            else "safe"
-            if kinds
-            else "ready"
-        )
+        if "ack" in kinds:
+            return "asks"
+        return "safe" if kinds else "ready"
 
     def level(self, w):
         """How far a neighbour is known to be: (safes, whether the next pulse's payload is here) above its own pulse."""

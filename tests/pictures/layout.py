@@ -1,7 +1,7 @@
 """How pictures are laid out, whatever they show: nothing reaches over the edge, and no text, circle or square is on
 another one. And where the vertices of a network are drawn, and their names."""
 import re
-from itertools import combinations
+from itertools import combinations, product
 
 from lab.networks.network_text import network_of
 from lab.schedules import rules
@@ -57,6 +57,42 @@ OTHERS = (
 )
 # What lies on other marks by its meaning.
 ABOVE = ("faded", "wrong", "wrong-node")
+# Texts that are drawn beside marks.
+BESIDE = ("number", "found", "more")
+
+
+def is_seen(mark):
+    """Whether a mark has a meaning of its own and a place of its own."""
+    return mark.get("class") not in ABOVE and (mark.get("class") or mark.text)
+
+
+def called(mark):
+    return mark.get("class") or mark.text
+
+
+def is_cut(shape, wide, high):
+    left, top, right, bottom, r = shape
+    return min(left, top) < r or right > wide - r or bottom > high - r
+
+
+def overlaps(pairs, most):
+    """The pairs of marks of which one reaches farther into the other than that."""
+    return [
+        (called(one), called(other))
+        for (one, shape), (other, beneath) in pairs
+        if depth(shape, beneath) > most
+    ]
+
+
+def edges_of_grid(wide, high):
+    nodes = wide * high
+    across = {(v, v + 1) for v in range(1, nodes + 1) if v % wide}
+    return across | {(v, v + wide) for v in range(1, nodes - wide + 1)}
+
+
+def is_straight(place, other):
+    """Whether a line is nearly level or upright."""
+    return min(abs(a - b) for a, b in zip(place, other)) < 0.12 * gap(place, other)
 
 
 class Layout(PictureCase):
@@ -73,36 +109,20 @@ class Layout(PictureCase):
 
     def layout_rows(self, kind, of, *options, seed="layout"):
         network, name = NETWORKS.get(of), " ".join(map(str, [kind, of, *options, seed]))
-        picture = self.drawn(
-            kind, network, *options, text=transcript(network, seed) if kind in OF_RUNS else None
-        )
+        text = transcript(network, seed) if kind in OF_RUNS else None
+        picture = self.drawn(kind, network, *options, text=text)
         root = parsed(picture)
-        wide, high = map(float, root.get("viewBox").split()[2:])
-        found = [
-            (element, shape)
-            for element, shape in shapes(root)
-            if element.get("class") not in ABOVE and (element.get("class") or element.text)
-        ]
-        cut = [
-            one
-            for one, (left, top, right, bottom, r) in found
-            if min(left, top) < r or right > wide - r or bottom > high - r
-        ]
-        self.same(f"{name}: nothing is cut", [(one.get("class"), one.text) for one in cut], [])
-        texts, others = (
-            [pair for pair in found if (pair[0].tag == f"{SVG}text") == is_text]
-            for is_text in (True, False)
-        )
-        beside = [pair for pair in texts if pair[0].get("class") in ("number", "found", "more")]
+        box = [*map(float, root.get("viewBox").split()[2:])]
+        found = [pair for pair in shapes(root) if is_seen(pair[0])]
+        cut = [called(mark) for mark, shape in found if is_cut(shape, *box)]
+        self.same(f"{name}: nothing is cut", cut, [])
+        texts = [pair for pair in found if pair[0].tag == f"{SVG}text"]
+        others = [pair for pair in found if pair[0].tag != f"{SVG}text"]
+        beside = [pair for pair in texts if pair[0].get("class") in BESIDE]
         on = [
-            (a.get("class") or a.text, b.get("class") or b.text)
-            for pairs, most in (
-                (combinations(texts, 2), 1),
-                (combinations(others, 2), 0.2),
-                (((a, b) for a in beside for b in others), 0.5),
-            )
-            for (a, one), (b, other) in pairs
-            if depth(one, other) > most
+            *overlaps(combinations(texts, 2), 1),
+            *overlaps(combinations(others, 2), 0.2),
+            *overlaps(product(beside, others), 0.5),
         ]
         self.same(f"{name}: nothing is on another", on, [])
         self.note(f"{name}: it has a title", title(root))
@@ -150,10 +170,8 @@ class Layout(PictureCase):
     def test_grids(self):
         """A grid without places is drawn as one: edges about equally long, and all other pairs farther apart."""
         for wide, high in ((10, 10), (4, 7)):
-            name, nodes = f"a grid of {wide} by {high}", wide * high
-            edges = {(v, v + 1) for v in range(1, nodes + 1) if v % wide}
-            edges |= {(v, v + wide) for v in range(1, nodes - wide + 1)}
-            places = self.places(nodes, edges)
+            name, edges = f"a grid of {wide} by {high}", edges_of_grid(wide, high)
+            places = self.places(wide * high, edges)
             far = {(v, w): gap(places[v], places[w]) for v, w in combinations(places, 2)}
             longest, shortest = (of(far[e] for e in edges) for of in (max, min))
             other = min(length for pair, length in far.items() if pair not in edges)
@@ -162,10 +180,7 @@ class Layout(PictureCase):
                 longest < 1.25 * shortest and other > 1.15 * longest,
                 (longest, shortest, other),
             )
-            level = sum(
-                min(abs(a - b) for a, b in zip(places[v], places[w])) < 0.12 * far[v, w]
-                for v, w in edges
-            )
+            level = sum(is_straight(places[v], places[w]) for v, w in edges)
             self.note(
                 f"{name}: its edges are level or upright",
                 level > 0.9 * len(edges),

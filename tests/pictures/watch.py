@@ -2,6 +2,7 @@
 
 What is read here is the page's table. It is compared with the transcript's own lines, counted: a node waits for the
 acknowledgements of the payloads that it put and hasn't had, and so on. Nothing comes from lab/pictures."""
+from collections import defaultdict
 from itertools import islice, product
 from unittest import mock
 
@@ -19,6 +20,37 @@ from tests.pictures.counted import fields_of, played
 from tests.pictures.marks import data_of
 
 
+def shown_by(look):
+    """A node's pulse, what it waits for, what it has, and what it keeps early, as the page has them."""
+    return [look["p"], look["w"], sorted(look["h"]), sorted(look["k"])]
+
+
+def known_by(node):
+    """The same by the lines of the run so far."""
+    safes = [["safe", w] for w in node.near if node.level(w)[0] == 2]
+    early = node.payloads(node.pulse + 1) + safes
+    return [node.pulse, node.waits(), sorted(node.payloads(node.pulse)), sorted(early)]
+
+
+def wires_shown(run):
+    """When each wire is put and taken, by the link."""
+    found = defaultdict(list)
+    for v, w, _, *flight in run["wires"]:
+        found[str(v), str(w)].append(flight)
+    return found
+
+
+def wires_of(lines):
+    """The same by the lines: the place and the stamp of the put, and of the take."""
+    puts, takes = defaultdict(list), defaultdict(list)
+    for at, (stamp, v, kind, *more) in enumerate(lines):
+        if kind == "put":
+            puts[v, more[0]].append([at, int(stamp)])
+        elif kind == "take":
+            takes[more[0], v].append([at, int(stamp)])
+    return {ends: [put + take for put, take in zip(puts[ends], takes[ends])] for ends in puts}
+
+
 class Watch(PictureCase):
     def page(self, name, *texts, options=()):
         """The page of some runs of an example."""
@@ -30,51 +62,23 @@ class Watch(PictureCase):
         for name in ("two", "triangle", "barred", "star", "petersen"):
             text, net = transcript(example(name), f"watch {name}"), network_of(example(name))
             page, lines = self.page(name, text), fields_of(text)
-            run, wrong, last, since, links = data_of(page)["runs"][0], [], {}, {}, {}
+            run, wrong, last, since = data_of(page)["runs"][0], [], {}, {}
             nodes = (node for node, *_ in played(example(name), text))
-            for at, ((stamp, v, look, _), line, node) in enumerate(zip(run["rows"], lines, nodes)):
-                look, p = run["looks"][look], node.pulse
-                early = node.payloads(p + 1) + [
-                    ["safe", w] for w in node.near if node.level(w)[0] == 2
-                ]
-                if [str(stamp), str(v)] != line[:2] or [
-                    p,
-                    node.waits(),
-                    sorted(node.payloads(p)),
-                    sorted(early),
-                ] != [look["p"], look["w"], sorted(look["h"]), sorted(look["k"])]:
+            for (stamp, v, look, _), line, node in zip(run["rows"], lines, nodes):
+                look = run["looks"][look]
+                if [str(stamp), str(v)] != line[:2] or shown_by(look) != known_by(node):
                     wrong.append((line, look))
                 last[v] = look
                 if look["c"]:
-                    since.setdefault(v, p)
-                if line[2] != "pulse":
-                    ends = (line[1], line[3]) if line[2] == "put" else (line[3], line[1])
-                    links.setdefault(ends, {"put": [], "take": []})[line[2]].append([at, stamp])
-            wires = {}
-            for v, w, _, *flight in run["wires"]:
-                wires.setdefault((str(v), str(w)), []).append(flight)
-            self.facts(
-                f"rows of {name}",
-                {
-                    "as many as lines": (len(run["rows"]), len(lines)),
-                    "those that are wrong": (wrong[:3], []),
-                    "wires": (
-                        wires,
-                        {
-                            ends: [put + take for put, take in zip(both["put"], both["take"])]
-                            for ends, both in links.items()
-                        },
-                    ),
-                    "since when it has a channel": (
-                        dict(sorted(since.items())),
-                        {v: Rounds(net).turns[0, v] for v in net.vertices},
-                    ),
-                    "the plan": (
-                        {v: (look["c"] - 1, bool(look["e"])) for v, look in last.items()},
-                        {v: (colour, True) for v, colour in colours(net).items()},
-                    ),
-                },
-            )
+                    since.setdefault(v, node.pulse)
+            row = self.rows_of(f"rows of {name}")
+            row("as many as lines", len(run["rows"]), len(lines))
+            row("those that are wrong", wrong[:3], [])
+            row("wires", wires_shown(run), wires_of(lines))
+            turns = Rounds(net).turns
+            row("since when it has a channel", since, {v: turns[0, v] for v in net.vertices})
+            plan = {v: (look["c"] - 1, bool(look["e"])) for v, look in last.items()}
+            row("the plan", plan, {v: (colour, True) for v, colour in colours(net).items()})
             self.assertNotRegex(page, r"(src|href)=|https?://(?!www\.w3\.org/2000/svg)|@[A-Z]+@")
 
     def test_pulses(self):
