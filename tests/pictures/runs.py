@@ -40,6 +40,39 @@ def early_in(picture):
     return int(re.search(r"put here, (\w+) came", " ".join(texts(picture)))[1].replace("none", "0"))
 
 
+def ticks_of(root):
+    """Where the ticks of a row are, by the row's place."""
+    ticks = {}
+    for (x, y), _ in map(ends, marks(root, "tick")):
+        ticks.setdefault(y + 10, []).append(x)
+    return ticks
+
+
+def early_of(entries):
+    """How many payloads a node takes before the pulse in which they are put."""
+    begun, early = 0, 0
+    for _, kind, *more in entries:
+        if kind == "pulse":
+            begun += 1
+        elif kind == "take" and more[1] == "payload" and int(more[2]) > begun:
+            early += 1
+    return early
+
+
+def times_of(network, text):
+    """When each node begins each pulse, by its stamp; pulse 0 is there at the start."""
+    times = {(v, 0): 0 for v in network_of(network).neighbours}
+    for stamp, v, kind, *more in fields_of(text):
+        if kind == "pulse":
+            times[int(v), int(more[0])] = int(stamp)
+    return times
+
+
+def times_beside(times, first, final):
+    """When pulses are begun that aren't of these, nor the next one."""
+    return [time for (_, p), time in times.items() if not first <= p <= final + 1]
+
+
 class Runs(PictureCase):
     needs_programs = True
 
@@ -62,23 +95,16 @@ class Runs(PictureCase):
         """A run that is drawn whole is read back from left to right into its transcript. Its bars go from where a
         payload is taken to the tick that reads it."""
         last = last_pulse(network_of(network))
-        picture = parsed(
-            self.drawn("run", network, *pulses((0, last)), "--only", ",".join(WIRES), text=text)
-        )
-        (root,), ticks = marks(picture, "upper"), {}
-        for mark in marks(root, "tick"):
-            (x, y), _ = ends(mark)
-            ticks.setdefault(y + 10, []).append(x)
+        options = [*pulses((0, last)), "--only", ",".join(WIRES)]
+        picture = parsed(self.drawn("run", network, *options, text=text))
+        (root,) = marks(picture, "upper")
+        ticks = ticks_of(root)
         rows = dict(enumerate(sorted(ticks), 1))
+        # Of each node what it does, from left to right.
         found = {
             v: [(x, f"pulse {p}") for p, x in enumerate(ticks[y])][1:] for v, y in rows.items()
         }
-        wrong, tips, read, early = [], [], entries_of(text), 0
-        for own in read.values():
-            begun = 0
-            for _, kind, *more in own:
-                begun += kind == "pulse"
-                early += kind == "take" and more[1] == "payload" and int(more[2]) > begun
+        wrong, tips = [], []
         for group in marks(root, *WIRES):
             v, w, said = re.fullmatch(r"(\d+) to (\d+): (.*)", title(group)).groups()
             start, tip = begins_and_tip(group)
@@ -88,21 +114,13 @@ class Runs(PictureCase):
                 wrong.append(title(group))
             if said.startswith("payload"):
                 tips.append((tip, (ticks[tip[1]][int(said.split()[1]) + 1], tip[1])))
-        self.facts(
-            f"run of {name}",
-            {
-                "its entries": (
-                    {v: [said for _, said in sorted(own)] for v, own in found.items()},
-                    {v: [" ".join(entry[1:]) for entry in own] for v, own in read.items()},
-                ),
-                "those that come early": (early_in(picture), early),
-                "arrows between other rows": (wrong, []),
-                "each payload is kept until it is read": (
-                    [ends(bar) for bar in marks(root, "bar")],
-                    tips,
-                ),
-            },
-        )
+        row, read = self.rows_of(f"run of {name}"), entries_of(text)
+        entries = {v: [said for _, said in sorted(own)] for v, own in found.items()}
+        wanted = {v: [" ".join(entry[1:]) for entry in own] for v, own in read.items()}
+        row("its entries", entries, wanted)
+        row("those that come early", early_in(picture), sum(map(early_of, read.values())))
+        row("arrows between other rows", wrong, [])
+        row("each payload is kept until it is read", [*map(ends, marks(root, "bar"))], tips)
 
     def test_runs(self):
         for name, v in (("triangle", 1), ("petersen", 4), ("ring14", 3)):
@@ -165,47 +183,25 @@ class Runs(PictureCase):
     def overview_rows(self, name, network, text, window=None):
         """All pulses, or some: their ticks and the next pulse's, as far apart as their times; other pulses' ticks are
         grey."""
-        last, times = last_pulse(network_of(network)), {
-            (v, 0): 0 for v in network_of(network).neighbours
-        }
-        times |= {
-            (int(v), int(more[0])): int(stamp)
-            for stamp, v, kind, *more in fields_of(text)
-            if kind == "pulse"
-        }
+        last, times = last_pulse(network_of(network)), times_of(network, text)
         first, final = window or usual(last)
         root = parsed(self.drawn("overview", network, *pulses(window), text=text))
+        row = self.rows_of(f"overview of {name}, pulses {first} to {final}")
         wanted = sorted((v, times[v, p]) for v, p in times if first <= p <= final + 1)
         ticks = [ends(mark)[0] for mark in marks(root, "tick")]
         rows = {y: v for v, y in enumerate(sorted({y for _, y in ticks}), 1)}
-        left, right, low, high = (
-            of(row)[0] for row in (ticks, [(time, v) for v, time in wanted]) for of in (min, max)
-        )
-        self.facts(
-            f"overview of {name}, pulses {first} to {final}",
-            {
-                "ticks at their times": (
-                    sorted(
-                        (rows[y], low + round((x - left) / (right - left) * (high - low)))
-                        for x, y in ticks
-                    ),
-                    wanted,
-                ),
-                "grey ticks": (
-                    len(marks(root, "outside")),
-                    sum(
-                        not first <= p <= final + 1 and low <= time <= high
-                        for (_, p), time in times.items()
-                    ),
-                ),
-                "bands": (len(marks(root, "band")), final - first + 1),
-                "numbers over them": (
-                    sorted({*range(first, final + 1)} & {*map(int, words(root, "name"))}),
-                    [*map(int, words(root, "name"))],
-                ),
-                "its title": (f": pulses {first} to {final} of {last}," in texts(root)[0], True),
-            },
-        )
+        left, right = min(ticks)[0], max(ticks)[0]
+        low, high = (of(time for _, time in wanted) for of in (min, max))
+        scale = (high - low) / (right - left)
+        shown = sorted((rows[y], low + round((x - left) * scale)) for x, y in ticks)
+        row("ticks at their times", shown, wanted)
+        others = times_beside(times, first, final)
+        grey = [time for time in others if low <= time <= high]
+        row("grey ticks", len(marks(root, "outside")), len(grey))
+        row("bands", len(marks(root, "band")), final - first + 1)
+        numbers = [*map(int, words(root, "name"))]
+        row("numbers over them", numbers, sorted({*range(first, final + 1)}.intersection(numbers)))
+        row("its title", f": pulses {first} to {final} of {last}," in texts(root)[0], True)
 
     def test_long(self):
         """Of a long run the first 40 pulses are drawn, and only what they depend on is read: the same picture as of a

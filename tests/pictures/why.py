@@ -5,6 +5,7 @@ that is named is one of the rounds by the definitions; and a colour stays the sa
 not to depend change."""
 import random
 import re
+from collections import namedtuple
 from itertools import pairwise
 
 from lab.definitions.colours import three
@@ -36,8 +37,34 @@ HAND = [
 DROPS = (8, 10, 12)
 
 
+# A message of the cone: who told whom what in which pulse, in a forest or in its merge.
+TOLD = r"^(\d+) told (\d+) (colour|chosen) (\d+) in pulse (\d+), in (the merge of )?forest (\d+)$"
+Told = namedtuple("Told", "v w kind number pulse merge forest")
+
+
 def numbers(text):
     return [int(digits) for digits in re.findall(r"\d+", text)]
+
+
+def is_message(told, net, text):
+    """Whether a message is one of the rounds: a choice in a merge, or the colour of a parent."""
+    v, w, kind, number, pulse, merge, forest = told
+    is_sent = f"{v} put {w} payload {pulse} {kind} {number}" in text
+    if merge:
+        return is_sent and kind == "chosen"
+    return is_sent and kind == "colour" and net.parent(int(forest), int(w)) == int(v)
+
+
+def missing(said, told):
+    """(node, pulse) where a child's colour changes and its parent hasn't told it any."""
+    heard = {(it.w, int(it.pulse), it.forest) for it in told if it.kind == "colour"}
+    found = []
+    for f, v, row in re.findall("forest (.*), node (.*), parent .*, pulses .*: (.*)", said):
+        for p, (old, new) in enumerate(pairwise(row.split(" ")), 3):
+            is_needed = new != "." and (p not in DROPS or new != old)
+            if is_needed and (v, p - 1, f) not in heard:
+                found.append((v, p))
+    return found
 
 
 class Why(PictureCase):
@@ -65,55 +92,24 @@ class Why(PictureCase):
             net = network_of(example(name))
             text = set(rounds_text(net).decode().splitlines())
             for vertex in net.vertices:
-                said = self.said(name, vertex)
-                rows = re.findall(
-                    r"^(\d+) told (\d+) (colour|chosen) (\d+) in pulse (\d+), in (the merge of )?forest "
-                    r"(\d+)$",
-                    said,
-                    re.M,
+                self.message_rows(
+                    f"{name}, node {vertex}", net, text, vertex, self.said(name, vertex)
                 )
-                wrong = [
-                    row
-                    for row in rows
-                    for v, w, kind, number, pulse, merge, f in [row]
-                    if f"{v} put {w} payload {pulse} {kind} {number}" not in text
-                    or bool(merge) != (kind == "chosen")
-                    or not merge
-                    and net.parent(int(f), int(w)) != int(v)
-                ]
-                choices = re.findall(r"it chooses colour (\d+), .*\n((?:  .*\n)*)", said)
-                names, far = numbers(re.search(r"decided it: (.*)", said)[1]), reached(net, vertex)
-                most = max(far[v] for v in names)
-                taken = [
-                    [int(k) for k in re.findall(r"  channel (\d+)", lower)] for _, lower in choices
-                ]
-                pulses = [int(row[4]) for row in rows]
-                heard = {
-                    (w, int(pulse), f) for _, w, kind, _, pulse, _, f in rows if kind == "colour"
-                }
-                children = re.findall("forest (.*), node (.*), parent .*, pulses .*: (.*)", said)
-                missing = [
-                    (v, p)
-                    for f, v, row in children
-                    for p, (old, new) in enumerate(pairwise(row.split(" ")), 3)
-                    if new != "." and (p not in DROPS or new != old) and (v, p - 1, f) not in heard
-                ]
-                self.facts(
-                    f"{name}, node {vertex}",
-                    {
-                        "those that are none, and those that are missing": (wrong + missing, []),
-                        "as many as are counted": (len(rows), numbers(said)[2]),
-                        "by pulse": (pulses, sorted(pulses)),
-                        "lower channels": (
-                            taken,
-                            [[*range(1, int(colour) + 1)] for colour, _ in choices],
-                        ),
-                        "the farthest": (
-                            numbers(re.search("The farthest, .*", said)[0]),
-                            [most, *(v for v in names if far[v] == most)],
-                        ),
-                    },
-                )
+
+    def message_rows(self, name, net, text, vertex, said):
+        row, told = self.rows_of(name), [Told(*words) for words in re.findall(TOLD, said, re.M)]
+        row("those that are none", [it for it in told if not is_message(it, net, text)], [])
+        row("those that are missing", missing(said, told), [])
+        row("as many as are counted", len(told), numbers(said)[2])
+        pulses = [int(it.pulse) for it in told]
+        row("by pulse", pulses, sorted(pulses))
+        choices = re.findall(r"it chooses colour (\d+), .*\n((?:  .*\n)*)", said)
+        taken = [numbers(" ".join(re.findall(r"  channel \d+", lower))) for _, lower in choices]
+        row("lower channels", taken, [[*range(1, int(colour) + 1)] for colour, _ in choices])
+        names, far = numbers(re.search(r"decided it: (.*)", said)[1]), reached(net, vertex)
+        most = max(far[v] for v in names)
+        farthest = numbers(re.search("The farthest, .*", said)[0])
+        row("the farthest", farthest, [most, *(v for v in names if far[v] == most)])
 
     def test_other_identifiers(self):
         """A colour of three in a forest doesn't change if the identifiers change on which it isn't said to depend, as
