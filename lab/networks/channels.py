@@ -2,6 +2,7 @@
 import os
 import re
 import sys
+from argparse import ArgumentParser, Namespace
 
 from lab.networks.fields import shown
 from lab.networks.network_text import MAX_CHANNEL
@@ -47,7 +48,7 @@ def file_in(words: list[str]) -> str | None:
     return words[0] if is_file and os.path.isfile(words[0]) else None
 
 
-def channels_asked(given, words: list[str], command: str) -> list[int] | None:
+def channels_asked(given: Namespace, words: list[str], command: str) -> list[int] | None:
     """The table of real channel numbers that words of a command name, or a file; None without words.
 
     Its first number is channel 1 of the plan, and none comes twice.
@@ -66,6 +67,7 @@ def channels_asked(given, words: list[str], command: str) -> list[int] | None:
         return each_once(numbers_of(words))
     except Wrong as why:
         given.refuse(str(why))
+        raise
 
 
 def each_once(numbers: list[int], begin: str = "") -> list[int]:
@@ -135,7 +137,7 @@ def too_many(rows: list, table: list[int]) -> str:
     return f", and the table has {len(table)}: it takes {most} channels"
 
 
-def command_line():
+def command_line() -> ArgumentParser:
     asked = parser_of(
         "channels",
         "[--back] TABLE.. < PLAN\n       forestlab channels --run [TABLE..] < RUN",
@@ -162,7 +164,7 @@ def command_line():
     return asked
 
 
-def refuse_words(given) -> None:
+def refuse_words(given: Namespace) -> None:
     """Refuses words that don't go together."""
     if not given.table and not given.back and not given.run:
         given.refuse("a table is wanted, as 1 6 11")
@@ -172,7 +174,7 @@ def refuse_words(given) -> None:
         given.refuse("--columns, --no-heading and --encoding are of a TABLE in a file")
 
 
-def is_stated(given) -> bool:
+def is_stated(given: Namespace) -> bool:
     """Whether something is stated of a table."""
     return bool(given.columns or given.no_heading or given.encoding)
 

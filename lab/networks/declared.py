@@ -8,6 +8,7 @@ import json
 import re
 import xml.sax
 import xml.sax.handler
+import xml.sax.xmlreader
 from collections.abc import Iterator
 from dataclasses import dataclass, field
 from io import BytesIO
@@ -64,21 +65,24 @@ class Elements(xml.sax.handler.ContentHandler):
         self.depth = 0
         self.data_depth: int | None = None
 
-    def startElementNS(self, name, _qname, attributes):
+    def setDocumentLocator(self, locator: xml.sax.xmlreader.Locator) -> None:
+        self.lines = locator
+
+    def startElementNS(self, name, qname, attrs) -> None:
         space, tag = name
         if self.depth == 0:
             self.space = space
         self.depth += 1
         if self.data_depth is None and space == self.space:
-            self.element(tag, {key: value for (_, key), value in attributes.items()})
+            self.element(tag, {key: value for (_, key), value in attrs.items()})
 
-    def endElementNS(self, _name, _qname):
+    def endElementNS(self, name, qname) -> None:
         if self.data_depth == self.depth:
             self.data_depth = None
         self.depth -= 1
 
     def element(self, tag: str, has: dict[str, str]) -> None:
-        line = self._locator.getLineNumber()
+        line = self.lines.getLineNumber()
         if tag in ("data", "attvalues"):
             self.data_depth = self.depth
         elif tag == "graph":

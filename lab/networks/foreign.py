@@ -10,7 +10,8 @@ import re
 import site
 import sys
 import warnings
-from collections.abc import Iterable
+from collections.abc import Callable, Iterable
+from typing import Any
 
 from lab.networks.declared import Declared, in_gml, in_json, in_xml
 from lab.networks.fields import shown
@@ -30,7 +31,10 @@ NEW_GEXF, GEXF = b"http://gexf.net/1.3", b"http://www.gexf.net/1.2draft"
 GRAPH_OF_GML = re.compile(r"^\s*graph\s*\[", re.M)
 
 
-def networkx():
+Reader = Callable[[Any, bytes], Any]
+
+
+def networkx() -> Any:
     """The module, or None. Commands start without the packages of the system, so these are looked for now."""
     if "networkx" not in sys.modules and importlib.util.find_spec("networkx") is None:
         site.main()
@@ -40,33 +44,33 @@ def networkx():
         return None
 
 
-def from_graphml(nx, data: bytes):
+def from_graphml(nx: Any, data: bytes) -> Any:
     return nx.read_graphml(io.BytesIO(data), force_multigraph=True)
 
 
-def from_gexf(nx, data: bytes):
+def from_gexf(nx: Any, data: bytes) -> Any:
     """Gephi writes GEXF 1.3, whose nodes and edges are those of 1.2."""
     return nx.read_gexf(io.BytesIO(data.replace(NEW_GEXF, GEXF)))
 
 
-def from_gml(nx, data: bytes):
+def from_gml(nx: Any, data: bytes) -> Any:
     """Two edges may have the same ends: without the word `multigraph` networkx refuses that."""
     text = GRAPH_OF_GML.sub("graph [ multigraph 1 ", data.decode(), count=1)
     return nx.parse_gml(text, label=None)
 
 
-def from_json(nx, data: bytes):
+def from_json(nx: Any, data: bytes) -> Any:
     """What networkx calls the list of edges depends on its version."""
     whole = json.loads(data)
     edges = whole.get("links", whole.get("edges"))
     return nx.node_link_graph({**whole, "multigraph": True, "links": edges, "edges": edges})
 
 
-def from_graph6(nx, data: bytes):
+def from_graph6(nx: Any, data: bytes) -> Any:
     return nx.from_graph6_bytes(data.strip())
 
 
-def from_sparse6(nx, data: bytes):
+def from_sparse6(nx: Any, data: bytes) -> Any:
     return nx.from_sparse6_bytes(data.strip())
 
 
@@ -78,7 +82,7 @@ def in_one_line(data: bytes, path: str) -> None:
 
 
 # Of each form: how networkx reads it, and what counts the nodes and edges that its text declares.
-READERS = {
+READERS: dict[str, tuple[Reader, Callable[[bytes, str], Declared | None]]] = {
     "graphml": (from_graphml, in_xml),
     "gexf": (from_gexf, in_xml),
     "gml": (from_gml, in_gml),
@@ -114,7 +118,7 @@ def read(data: bytes, name: str, form: str, stated: Stated = Stated()) -> Listed
     return found
 
 
-def graph_of(nx, reader, data: bytes, name: str, form: str):
+def graph_of(nx: Any, reader: Reader, data: bytes, name: str, form: str) -> tuple[Any, list[str]]:
     """The graph that networkx reads, and what it warns of."""
     try:
         with warnings.catch_warnings(record=True) as warned:
@@ -129,7 +133,7 @@ def graph_of(nx, reader, data: bytes, name: str, form: str):
     return graph, [f"networkx warns: {one_line(str(one.message))[:MOST_SAID]}" for one in warned]
 
 
-def compare(declared: Declared, graph, name: str) -> None:
+def compare(declared: Declared, graph: Any, name: str) -> None:
     """Refuses a graph that hasn't as many nodes and edges as its text declares."""
     there = len(declared.nodes), len(declared.edges)
     read = graph.number_of_nodes(), graph.number_of_edges()
@@ -140,7 +144,7 @@ def compare(declared: Declared, graph, name: str) -> None:
         )
 
 
-def listed(graph, name: str, form: str, declared: Declared | None, stated: Stated) -> Listed:
+def listed(graph: Any, name: str, form: str, declared: Declared | None, stated: Stated) -> Listed:
     """The nodes and edges of a graph by the names of its nodes."""
     where = where_of(graph, declared)
     key = naming(graph, name, where, stated)
@@ -162,13 +166,13 @@ def listed(graph, name: str, form: str, declared: Declared | None, stated: State
     return found
 
 
-def where_of(graph, declared: Declared | None) -> dict[object, Where]:
+def where_of(graph: Any, declared: Declared | None) -> dict[object, Where]:
     """Where each node is in the text: networkx keeps the order of the nodes."""
     places: Iterable[Where] = declared.nodes.values() if declared else [1] * len(graph)
     return dict(zip(graph, places))
 
 
-def naming(graph, name: str, where: dict[object, Where], stated: Stated) -> str | None:
+def naming(graph: Any, name: str, where: dict[object, Where], stated: Stated) -> str | None:
     """The key that names the nodes, None for the id: the one that the user states, or one of NAMES."""
     key = stated.columns.get("site")
     if key == "id":
@@ -181,7 +185,7 @@ def naming(graph, name: str, where: dict[object, Where], stated: Stated) -> str 
     return key
 
 
-def first_without(graph, key: str):
+def first_without(graph: Any, key: str) -> Any:
     """The first node that has no value of a key, or one that a node before it has; None if there is none."""
     seen: set[str] = set()
     for node, has in graph.nodes(data=True):
@@ -192,7 +196,7 @@ def first_without(graph, key: str):
     return None
 
 
-def places_in(graph, own: dict[object, str]) -> dict[str, tuple[float, float]]:
+def places_in(graph: Any, own: dict[object, str]) -> dict[str, tuple[float, float]]:
     """The places of the nodes, if each has one in numbers `x` and `y`."""
     try:
         places = {

@@ -2,7 +2,7 @@
 import re
 
 from lab.networks.fields import shown
-from lab.networks.listed import Listed, Where, name_of
+from lab.networks.listed import Listed, Where, name_of, wrong_at
 from lab.networks.table import NUMBER, TITLES
 from lab.words import counted
 from lab.wrong import Wrong, wrong_line
@@ -98,8 +98,8 @@ def adjacency(text: str, name: str) -> Listed:
             raise wrong_line(name, line, f"a second line of {shown(node)}")
         nodes[node] = line
         found.edges += [(line, node, node_of(other, name, line)) for other in others]
-    for line, _, other in found.edges:
+    for where, _, other in found.edges:
         if other not in nodes:
-            raise wrong_line(name, line, f"{shown(other)} has no line of its own: is the text cut?")
+            raise wrong_at(name, where, f"{shown(other)} has no line of its own: is the text cut?")
     found.nodes = nodes
     return found

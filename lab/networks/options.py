@@ -26,13 +26,13 @@ def words_of(columns: dict[str, str]) -> str:
     return text.getvalue()
 
 
-def add_form(command) -> None:
+def add_form(command: argparse.ArgumentParser) -> None:
     command.add_argument(
         "--as", dest="form", choices=FORMS, help="the form, whatever the file is called"
     )
 
 
-def add_stated(command) -> None:
+def add_stated(command: argparse.ArgumentParser) -> None:
     """The options of tables."""
     command.add_argument(
         "--columns",
@@ -52,7 +52,7 @@ def add_stated(command) -> None:
     )
 
 
-def stated_by(given) -> Stated:
+def stated_by(given: argparse.Namespace) -> Stated:
     """What the options state."""
     columns = dict(given.columns)
     if len(columns) < len(given.columns):

@@ -1,12 +1,14 @@
 """Places of sites, on a plane in kilometres or on the globe, and which of them are near each other."""
 import math
-from collections.abc import Iterator
+from collections.abc import Collection, Iterator
 from itertools import product
 
 # The mean radius of the earth in kilometres, and half of its circumference.
 EARTH = 6371.0088
 WIDEST = math.pi * EARTH
 Point = tuple[float, float, float]
+# The rows in each cube of space, with their points.
+Cells = dict[tuple[int, int, int], list[tuple[int, Point]]]
 
 
 def on_ground(latitude: float, longitude: float) -> Point:
@@ -29,28 +31,30 @@ def on_map(places: dict[str, tuple[float, float]]) -> dict[str, tuple[float, flo
     }
 
 
-def across_of(points: list[Point | None]) -> float:
-    """How far the points reach from west to east, or from south to north, in kilometres."""
-    xs, ys = zip(*(point[:2] for point in points if point)) if any(points) else ((0,), (0,))
-    return max(max(xs) - min(xs), max(ys) - min(ys))
+def across_of(places: Collection[tuple[float, float]]) -> float:
+    """How far places reach from west to east, or from south to north."""
+    xs, ys = [x for x, _ in places], [y for _, y in places]
+    return max(max(xs) - min(xs), max(ys) - min(ys)) if places else 0.0
 
 
 def near(points: list[Point | None], reach: float, is_globe: bool) -> Iterator[tuple[int, int]]:
     """The pairs of rows that are less than the reach apart on the ground; those in neighbouring cells are looked at."""
     # On a globe the straight line is shorter than the way on the ground.
     span = 2 * EARTH * math.sin(min(reach / (2 * EARTH), math.pi / 2)) if is_globe else reach
-    cells: dict[tuple[int, ...], list[int]] = {}
+    cells: Cells = {}
     for at, point in enumerate(points):
         if point:
-            cells.setdefault(tuple(math.floor(part / span) for part in point), []).append(at)
+            x, y, z = (math.floor(part / span) for part in point)
+            cells.setdefault((x, y, z), []).append((at, point))
     for cell, rows in cells.items():
         around = list(rows_around(cells, cell))
-        for at, other in product(rows, around):
-            if at < other and math.dist(points[at], points[other]) < span:
+        for (at, here), (other, there) in product(rows, around):
+            if at < other and math.dist(here, there) < span:
                 yield at, other
 
 
-def rows_around(cells: dict[tuple[int, ...], list[int]], cell: tuple[int, ...]) -> Iterator[int]:
+def rows_around(cells: Cells, cell: tuple[int, int, int]) -> Iterator[tuple[int, Point]]:
     """The rows of a cell and of those beside it."""
-    for way in product((-1, 0, 1), repeat=3):
-        yield from cells.get(tuple(map(sum, zip(cell, way))), ())
+    x, y, z = cell
+    for across, down, up in product((-1, 0, 1), repeat=3):
+        yield from cells.get((x + across, y + down, z + up), ())

@@ -64,14 +64,15 @@ def made_of(found: Listed, name: str) -> tuple[Network, list[str]]:
         stem(name),
     )
     checked(network, name)
-    return network, [summary(network, found.form, by), *found.notes, *notes]
+    return network, [summary(network, len(edges), found.form, by), *found.notes, *notes]
 
 
 def edges_of(
     found: Listed, number: dict[str, int], path: str
 ) -> tuple[set[tuple[int, int]], list[str]]:
     """The edges by numbers, and notes of those that aren't there for themselves."""
-    edges, loops, again = set(), 0, 0
+    edges: set[tuple[int, int]] = set()
+    loops, again = 0, 0
     for where, one, other in found.edges:
         v, w = sorted((number[one], number[other]))
         if v == w:
@@ -90,11 +91,11 @@ def edges_of(
     return edges, notes
 
 
-def summary(network: Network, form: str, by: str) -> str:
+def summary(network: Network, many: int, form: str, by: str) -> str:
     """The form and the counts, to be compared with one's data."""
     alone = sum(not beside for beside in network.neighbours.values())
     lone = f", {alone} of them without a neighbour" if alone else ""
-    nodes, edges = counted(network.nodes, "node"), counted(len(network.edges), "edge")
+    nodes, edges = counted(network.nodes, "node"), counted(many, "edge")
     most = counted(network.greatest_degree, "neighbour")
     return f"{form}; {nodes}{lone}, {edges}, at most {most}; {by}"
 

@@ -11,19 +11,22 @@ def remade(
     return Network(len(identifiers), edges, identifiers, bars, name=network.name)
 
 
+def without_node(network: Network, gone: int) -> tuple[Network, list[int]]:
+    """The network without a node, and the vertices that its own were."""
+    left = [v for v in network.vertices if v != gone]
+    new = {v: k for k, v in enumerate(left, 1)}
+    edges = [(new[v], new[w]) for v, w in network.edges if gone not in (v, w)]
+    identifiers = {new[v]: network.identifiers[v] for v in left}
+    bars = {new[v]: network.bars.get(v, []) for v in left}
+    return remade(network, edges, identifiers, bars), left
+
+
 def smaller(network: Network) -> Iterator[tuple[Network, list[int]]]:
     """The networks without one of the nodes, without one of the edges, or without the bars of one node; and that with
     small identifiers in the same order. With each the vertices that its own were."""
     same, names = list(network.vertices), network.identifiers
     for gone in same:
-        left = [v for v in same if v != gone]
-        new = {v: k for k, v in enumerate(left, 1)}
-        yield remade(
-            network,
-            [(new[v], new[w]) for v, w in network.edges if gone not in (v, w)],
-            {new[v]: names[v] for v in left},
-            {new[v]: network.bars.get(v, []) for v in left},
-        ), left
+        yield without_node(network, gone)
     for edge in network.edges:
         edges = [other for other in network.edges if other != edge]
         yield remade(network, edges, names, network.bars), same

@@ -13,9 +13,12 @@ from lab.wrong import Wrong, wrong_line
 
 # How many digits a real number of a channel has at most, as a frequency in kHz.
 MOST_DIGITS = 12
-# Two columns of places, and what makes kilometres of their numbers; None of degrees.
+# The two columns of places, in degrees or in a unit, and how many kilometres that is.
 DEGREES = ("lat", "lon")
-PLACES = {DEGREES: None, ("x_km", "y_km"): 1.0, ("x_m", "y_m"): 0.001}
+UNITS = {("x_km", "y_km"): 1.0, ("x_m", "y_m"): 0.001}
+PLACES = (DEGREES, *UNITS)
+Place = tuple[float, float]
+Columns = tuple[str, str]
 PAIRS = ("source", "target")
 SITES = ("site", "identifier", *(column for columns in PLACES for column in columns))
 BARS = ("site", "channel")
@@ -51,12 +54,12 @@ def real_channel(table: Table, line: int, row: dict[str, str]) -> int:
 
 @dataclass
 class Site:
-    """A row of a table of sites: its place in two numbers, as the table has them."""
+    """A row of a table of sites, with its place in degrees or in kilometres."""
 
     line: int
     name: str
     identifier: int | None
-    place: tuple[float, float] | None
+    place: Place | None
 
 
 @dataclass
@@ -65,7 +68,7 @@ class Sites:
 
     path: str
     sites: list[Site]
-    columns: tuple[str, str] | None
+    columns: Columns | None
     notes: list[str]
 
     @property
@@ -74,23 +77,17 @@ class Sites:
 
     def points(self) -> list[Point | None]:
         """The points of the sites in kilometres, by which distances are measured."""
-        return [self.point_of(site) for site in self.sites]
+        return [site.place and self.point_of(site.place) for site in self.sites]
 
-    def point_of(self, site: Site) -> Point | None:
-        if site.place is None:
-            return None
-        if self.is_globe:
-            return on_ground(*site.place)
-        unit = PLACES[self.columns]
-        return (site.place[0] * unit, site.place[1] * unit, 0.0)
+    def point_of(self, place: Place) -> Point:
+        return on_ground(*place) if self.is_globe else (*place, 0.0)
 
-    def on_picture(self) -> dict[str, tuple[float, float]]:
+    def on_picture(self) -> dict[str, Place]:
         """The places with north on top, in kilometres."""
-        placed = [site for site in self.sites if site.place]
+        places = {site.name: site.place for site in self.sites if site.place}
         if self.is_globe:
-            return on_map({site.name: site.place for site in placed})
-        points = {site.name: self.point_of(site) for site in placed}
-        return {name: (x, -y) for name, (x, y, _) in points.items()}
+            return on_map(places)
+        return {name: (x, -y) for name, (x, y) in places.items()}
 
 
 def sites_of(text: str, path: str, stated: Stated) -> Sites:
@@ -111,7 +108,7 @@ def sites_of(text: str, path: str, stated: Stated) -> Sites:
     return Sites(path, sites, columns, table.notes)
 
 
-def place_columns(table: Table) -> tuple[str, str] | None:
+def place_columns(table: Table) -> Columns | None:
     """The two columns that places are in: of several pairs the one that the user names."""
     there = [columns for columns in PLACES if table.columns.keys() & set(columns)]
     named = [columns for columns in there if table.stated.columns.keys() & set(columns)]
@@ -128,7 +125,7 @@ def place_columns(table: Table) -> tuple[str, str] | None:
     return meant[0]
 
 
-def several_places(table: Table, kinds: list[tuple[str, str]]) -> Wrong:
+def several_places(table: Table, kinds: list[Columns]) -> Wrong:
     """The refusal of a table that has places in degrees and in kilometres, say."""
     what = table.wrong(table.heading, f"places are in {', or in '.join(map(in_words, kinds))}")
     choices = []
@@ -148,15 +145,15 @@ def identifier_in(table: Table, line: int, field: str) -> int | None:
     return number
 
 
-def place_in(
-    table: Table, line: int, row: dict[str, str], columns: tuple[str, str] | None
-) -> tuple[float, float] | None:
+def place_in(table: Table, line: int, row: dict[str, str], columns: Columns | None) -> Place | None:
     """The place of a row; a site may have none."""
     if columns is None or not any(row[column] for column in columns):
         return None
     first, second = (table.number(line, row[column]) for column in columns)
-    is_on_earth = -90 <= first <= 90 and -180 <= second <= 360
-    if columns == DEGREES and not is_on_earth:
+    if columns != DEGREES:
+        unit = UNITS[columns]
+        return first * unit, second * unit
+    if not (-90 <= first <= 90 and -180 <= second <= 360):
         raise table.wrong(line, "no latitude and longitude in degrees: are they exchanged?")
     return first, second
 
@@ -175,7 +172,7 @@ def with_sites(found: Listed, sites: Sites, path: str) -> None:
     if sites.columns is None:
         return
     found.places = sites.on_picture()
-    across = across_of(list(found.places.values()))
+    across = across_of(found.places.values())
     by = " and ".join(sites.columns)
     found.notes.append(f"the places of {sites.path} are by {by}, and {across:,.3g} km across")
 
