@@ -69,10 +69,10 @@ COLOURING = {
     ),
     "merge_this": (
         "a choice is told in this forest alone, and not in those before",
-        "if f <= forest]",
-        "if f == forest]",
+        " if f <= forest\n",
+        " if f == forest\n",
     ),
-    "merge_all": ("a choice is told by all ports", "if f <= forest]", "]"),
+    "merge_all": ("a choice is told by all ports", " if f <= forest\n", "\n"),
     "merge_last": (
         "a choice is told in the last pulse of a merge too",
         "        if step == 3 * self.width - 1:\n            return {}\n",
@@ -155,7 +155,7 @@ ALPHA = {
     ),
     "safe_twice": (
         "safe is said with every wire that comes once all is acknowledged",
-        "        self.go_on()                            # a `close` asks for nothing\n",
+        "        self.go_on()  # a `close` asks for nothing\n",
         "        self.say_safe_if_it_is()\n        self.go_on()\n",
     ),
     "safe_with_ack": (
@@ -186,7 +186,7 @@ ALPHA = {
     ),
     "leaves": (
         "the program ends with the first close that comes",
-        "        self.go_on()                            # a `close` asks for nothing\n",
+        "        self.go_on()  # a `close` asks for nothing\n",
         '        if kind == "close":\n            raise SystemExit\n        self.go_on()\n',
     ),
     "no_channel": (

@@ -11,7 +11,7 @@ from tests.workshop.base import EXAMPLES, call, compiled
 FOLDER = os.path.join(EXAMPLES, "skeletons")
 # Two nodes in one process: after both have started, each is asked for its own identifier.
 OWN = "to {0}\nworkshop 1 {1}\nidentifier {2}\ndegree 1\nnodes 2\ndelta 1\nbars 0\nforests 1\nlast 18\nbarred 0\nend\n"
-PULSE, TAKE = (f"return []           # yours: `put PORT {what}" for what in ("WORD", "WIRE"))
+PULSE, TAKE = (f"# Yours: `put PORT {what}" for what in ("WORD", "WIRE"))
 PYTHON = "return [f\"put 0 {'.'.join(%s)} {self.own['identifier']}\"]  #"
 LABEL = ["label {}"] * 2
 # A skeleton, its kind, what stands in it in one place, what is put there, and what it then says twice. In Python what

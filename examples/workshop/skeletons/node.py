@@ -18,9 +18,8 @@ class Node:
             return [
                 f"put {port} hello {self.own['identifier']}" for port in range(self.own["degree"])
             ]
-        return (
-            []
-        )  # yours: `put PORT WORD NUMBER`, and in the last pulse, of `open` once, `channel C`
+        # Yours: `put PORT WORD NUMBER`, and once, in the last pulse or of `open` when you know it, `channel C`.
+        return []
 
     def start(self):
         """Without a clock, in `alpha`: what the node does at its start, in pulse 0, as lines."""
@@ -32,7 +31,8 @@ class Node:
     def take(self, port, wire):
         """What it does after it has taken a wire, as lines; a wire is a list of words: ["payload", "0", "hello", "3"],
         ["ack", "0"], ["safe", "0"] or ["close"]."""
-        return []  # yours: `put PORT WIRE`, `pulse P`, and after the last pulse `channel C`
+        # Yours: `put PORT WIRE`, `pulse P`, and after the last pulse, once, `channel C`.
+        return []
 
 
 def own_data(lines):
