@@ -9,7 +9,7 @@ from lab.transcripts.fields import first_line
 from lab.transcripts.proved_judge import Verdict, verdict_of
 from lab.workshop.findings import Fault
 from lab.workshop.nodes import PATIENCE, Nodes
-from lab.workshop.protocol import fields_of, forms_of, own_data, wire_of
+from lab.workshop.protocol import fields_of, forms_of, own_data, shown, wire_of
 from lab.workshop.right_rounds import RightRounds, words_of
 
 OWN_DATA = "its own data"
@@ -38,8 +38,9 @@ class Link(Step):
 
 
 class AlphaRun:
-    """`entries` in the order in which they happened; `results[v]`, what v said that it has found; `stop`, of a node
-    that gave no answer (node, fault, the last line of the message)."""
+    """`entries` in the order in which they happened; `pulses[v]`, the last one that v said; `results[v]`, what it said
+    that it has found; `stop`, of a node that gave no answer (node, fault, the last line of the message).
+    """
 
     kept = "run.transcript"
 
@@ -49,6 +50,7 @@ class AlphaRun:
         self.count, self.counters = 0, dict.fromkeys(self.network.vertices, 0)
         self.entries: list[Entry] = []
         self.results: dict[int, str] = {}
+        self.pulses = dict.fromkeys(self.network.vertices, 0)
         self.stop: tuple[int, Fault, str] | None = None
 
     def play(self, nodes: Nodes) -> None:
@@ -91,6 +93,7 @@ class AlphaRun:
         program, neighbours = self.rounds.program, self.network.neighbours[v]
         match fields_of(line, forms_of("alpha", program), len(neighbours)):
             case "pulse", pulse:
+                self.pulses[v] = int(pulse)
                 self.write(v, f"pulse {pulse}")
             case "put", port, wire:
                 w, words = neighbours[int(port)], wire_of(line, wire, program)
@@ -100,7 +103,17 @@ class AlphaRun:
                 link.wires.append((words, self.counters[v], self.count))
                 link.renew()
             case result:
+                self.hear_result(v, line)
                 self.results[v] = " ".join(result)
+
+    def hear_result(self, v: int, line: str) -> None:
+        """Refuses what isn't the one result of a node that has made its last pulse."""
+        if v in self.results:
+            words = f"it has said `{self.results[v]}` before, and a result is final"
+            raise Fault("garbage", f"{shown(line)}: {words}")
+        if self.pulses[v] != self.rounds.last:
+            words = f"a node says that once it has made its last pulse, {self.rounds.last}"
+            raise Fault("garbage", f"{shown(line)} at pulse {self.pulses[v]}: {words}")
 
     def write(self, v: int, words: str, after: int = 0) -> None:
         self.counters[v] = 1 + max(self.counters[v], after)

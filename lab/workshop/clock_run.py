@@ -107,9 +107,19 @@ class RoundsRun(ClockRun):
 
     def hear(self, v, line, fields):
         about = {"colour": " ".join(fields[:2]), "chose": "chose"}.get(fields[0], "result")
+        if about in self.said[v]:
+            words = f"it has said `{self.said[v][about]}` in this answer already"
+            raise Fault("garbage", f"{shown(line)}: {words}")
         self.said[v][about] = " ".join(fields)
 
     def difference(self, p, v):
+        if p < self.rounds.last and "result" in self.said[v]:
+            lines = [
+                ("wrong", self.said[v]["result"]),
+                ("right", "nothing yet of what it has found"),
+                ("why", f"a node says that once, in its last pulse, {self.rounds.last}"),
+            ]
+            return self.finding("differs", p, v, lines, way="early result")
         for wrong, right, of in self.compared(p, v):
             if wrong != right:
                 lines = [("wrong", wrong), ("right", right), ("why", Why(self.rounds, v).of(**of))]
@@ -169,10 +179,10 @@ class OpenRun(ClockRun):
             raise Fault(
                 "garbage", f"{shown(line)}: channels count from 1; a channel is a colour plus 1"
             )
-        if self.channels.setdefault(v, channel) != channel:
-            raise Fault(
-                "garbage", f"{shown(line)}, but it has said channel {self.channels[v]} before"
-            )
+        if v in self.channels:
+            words = f"it has said channel {self.channels[v]} before, and a result is final"
+            raise Fault("garbage", f"{shown(line)}: {words}")
+        self.channels[v] = channel
 
     def is_done(self) -> bool:
         """Whether every node has said its channel, and nothing is on its way."""

@@ -99,6 +99,17 @@ def answering(*lines: str) -> list[str]:
     ]
 
 
+def ending_with(line: str) -> list[str]:
+    """A node that is silent, and says this in its last pulse."""
+    code = (
+        "import sys\nnumber = {'last': 0, 'pulse': 0}\nfor line in sys.stdin:\n    word, *rest = line.split()\n"
+        "    if word in number:\n        number[word] = int(rest[0])\n    if word == 'end':\n"
+        f"        said = [{line!r}] if number['pulse'] == number['last'] else []\n"
+        "        print(*said, 'end', sep='\\n', flush=True)\n"
+    )
+    return [sys.executable, "-S", "-c", code]
+
+
 def call(*words: str, **more) -> subprocess.CompletedProcess:
     return subprocess.run([*DOOR, *words], capture_output=True, text=True, timeout=LIMIT, **more)
 

@@ -7,7 +7,9 @@ forest 0 node 1 is below 2, and 2 below 3, and in forest 1 node 1 is below 3. Th
 forest 0, and 1, 2, 0 in the plan, after pulse 30. So node 3 takes node 2 in pulse 14. Node 3 joins the set in pulse 31,
 and the others hear of it. Node 2 chooses anew in pulse 31 and takes 0, node 1 in pulse 32 and takes 1, node 3 in
 pulse 33."""
+import os
 import re
+import sys
 
 from lab.network import Network
 from lab.schedules.policies import POLICIES
@@ -23,6 +25,7 @@ from tests.workshop.base import (
     ROUNDS,
     Played,
     answering,
+    ending_with,
     compiled,
     network,
     options_of,
@@ -309,7 +312,7 @@ class RightNodes(Played):
                 one_process=True,
                 program=program,
             )
-        # A node alone is silent, and says its result in each pulse.
+        # A node alone is silent, and says its result in the last pulse.
         for program, line in (
             ("leader", "leader 01"),
             ("layers", "layer 00"),
@@ -317,8 +320,8 @@ class RightNodes(Played):
             ("independent-set", "in"),
             ("recolouring", "channel 001"),
         ):
-            self.right("rounds", "path1", answering(line), program=program)
-        self.right("rounds", "alone4", answering("layer none"), program="layers")
+            self.right("rounds", "path1", ending_with(line), program=program)
+        self.right("rounds", "alone4", ending_with("layer none"), program="layers")
 
     def test_nodes_of_several_programs(self):
         self.right("rounds", "star4", ROUNDS, compiled(C))
@@ -466,6 +469,79 @@ class Mistakes(Played):
             ALPHA,
             self.wrong_node("safes_none", "alpha_node.py"),
         )
+
+
+# A right node whose answers are changed: `asked` counts the messages before, `found` is the result if it is in this
+# answer, and `done` what it has said by then.
+CHANGED = """\
+import sys
+sys.path[:0] = [{path!r}]
+sys.argv[1:] = []
+import talk
+from {file} import {node}
+right, done, asked = talk.answer, [], 0
+def answer(lines):
+    global asked
+    found = [line for line in lines if line.startswith("channel")]
+    done.extend(found)
+    if {when}:
+        lines = {lines}
+    asked += 1
+    right(lines)
+talk.answer = answer
+talk.serve({node})
+"""
+# By assignment, when and how an answer on `two` is changed: the verdict with its node and pulse, and words of it. There
+# 18 is the last pulse of the rounds; of the own algorithm node 2 chooses in pulse 1, and node 1 hears of it in pulse 2.
+RESULTS = (
+    ("rounds", "not found", "[*lines, 'channel 99']", ("differs", 1, 0), "channel 99"),
+    ("rounds", "asked == 17", "[*lines, 'channel 1']", ("differs", 1, 17), "channel 1"),
+    ("rounds", "found", "[*lines, 'channel 7', *found]", ("garbage", 1, 18), "already"),
+    ("rounds", "found", "[*lines, *found]", ("garbage", 1, 18), "already"),
+    ("rounds", "found", "['channel 9', *lines]", ("garbage", 1, 18), "`channel 9` in this answer"),
+    ("alpha", "not done", "[*lines, 'channel 99']", ("garbage", 1, 0), "its last pulse, 18"),
+    (
+        "alpha",
+        "found",
+        "found + [line for line in lines if line not in found]",
+        ("garbage", 2, 17),
+        "at pulse 17",
+    ),
+    ("alpha", "found", "[*lines, *found]", ("garbage", 1, 18), "a result is final"),
+    (
+        "alpha",
+        "done and not found",
+        "[*lines, 'channel 9']",
+        ("garbage", 1, 18),
+        "a result is final",
+    ),
+    ("alpha", "done and not found", "[*lines, *done]", ("garbage", 1, 18), "a result is final"),
+    ("open", "done and not found", "[*lines, *done]", ("garbage", 2, 2), "a result is final"),
+    ("open", "done and not found", "[*lines, 'channel 9']", ("garbage", 2, 2), "a result is final"),
+    ("open", "found", "[*lines, *found]", ("garbage", 2, 1), "a result is final"),
+    *((name, "False", "[]", None, "") for name in ("rounds", "alpha", "open")),
+)
+
+
+class Results(Played):
+    """A result is said once, in its pulse, and is final."""
+
+    def test_each_row(self):
+        names = {
+            "rounds": ("rounds_node", "RoundsNode"),
+            "alpha": ("alpha_node", "AlphaNode"),
+            "open": ("greedy_node", "GreedyNode"),
+        }
+        for assignment, when, lines, right, words in RESULTS:
+            file, node = names[assignment]
+            told = {"path": os.path.dirname(ROUNDS[-1]), "file": file, "node": node}
+            code = CHANGED.format(when=when, lines=lines, **told)
+            command = [sys.executable, "-S", "-c", code]
+            found = played(assignment, "two", command, policy="oldest").finding
+            got = found and (found.kind, found.node, found.pulse)
+            said = dict(found.lines)["wrong"] if found else ""
+            name = f"{assignment}, {when}: {lines}"
+            self.note(name, got == right and words in said, (got, said))
 
 
 class Lines(Played):
