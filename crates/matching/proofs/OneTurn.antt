@@ -65,7 +65,7 @@ told_free-map : (f : ℕ) (partner : Option ℕ) (role : ℕ → Role) (ws : Lis
 told_free-map f None role ws = map-map (tells_free f) role ws
 told_free-map f (Some port) role ws = ap (λ (n : ℕ). nothing n) (length-map ws role) ∙ same-for_all None ws
 
-offer-some : (f : ℕ) (partner : Option ℕ) (role : Role) (x : Wire) → offer_by f partner role ≡ Some x → (partner ≡ None) × (role ≡ Up f)
+pub offer-some : (f : ℕ) (partner : Option ℕ) (role : Role) (x : Wire) → offer_by f partner role ≡ Some x → (partner ≡ None) × (role ≡ Up f)
 offer-some f (Some port) role x e = absurd cc
 offer-some f None Unknown x e = absurd cc
 offer-some f None (Down g) x e = absurd cc
@@ -83,7 +83,7 @@ offer-is f partner role free up =
 taken-if : (k j f : ℕ) (b : Bool) → (k == j) ≡ b → taken_by f (Some j) k ≡ (if b then Some (chooses f) else None)
 taken-if k j f b e = ap (λ (c : Bool). if c then Some (chooses f) else None) e
 
-taken-some : (f : ℕ) (child : Option ℕ) (k : ℕ) (x : Wire) → taken_by f child k ≡ Some x → child ≡ Some k
+pub taken-some : (f : ℕ) (child : Option ℕ) (k : ℕ) (x : Wire) → taken_by f child k ≡ Some x → child ≡ Some k
 taken-some f None k x e = absurd cc
 taken-some f (Some j) k x e = elim (cases_eq k j) [
   | inl same ↦ ap (λ (n : ℕ). Some n) (sym same)
@@ -207,7 +207,7 @@ module _ (net : Net) (ok : IsNetwork net) (f c p : ℕ) (in_range : f < forest_c
       ∙ ap (λ (next : Both Node (Option ℕ) × List (Option Wire)). option_or next.0.beside (first_came inbox)) (second v is_vertex))
 
   -- what is told at the first pulse, and what comes at the second
-  told1 : (v : ℕ) → IsVertex net v → (at net ok (suc p) v).1 ≡ map (λ w. offer_by f (before v) (role_of net v w)) (neighbours net v)
+  pub told1 : (v : ℕ) → IsVertex net v → (at net ok (suc p) v).1 ≡ map (λ w. offer_by f (before v) (role_of net v w)) (neighbours net v)
   told1 v is_vertex =
       subst (λ (next : Both Node (Option ℕ) × List (Option Wire)). next.1 ≡ told_free next.0.beside f (node v).roles) (sym (first v is_vertex)) refl
       ∙ told_free-map f (before v) (role_of net v) (neighbours net v)
@@ -246,7 +246,7 @@ module _ (net : Net) (ok : IsNetwork net) (f c p : ℕ) (in_range : f < forest_c
       (offer-is f (before (neighbour_of net v k)) (role_of net (neighbour_of net v k) v) child_free up) (ap first_came (sym (came2 v is_vertex)) ∙ nobody)
 
   -- what is told at the second pulse, and what comes after it
-  told2 : (v : ℕ) → IsVertex net v → (at net ok (suc (suc p)) v).1 ≡ map (λ w. taken_by f (child v) (port_to net v w)) (neighbours net v)
+  pub told2 : (v : ℕ) → IsVertex net v → (at net ok (suc (suc p)) v).1 ≡ map (λ w. taken_by f (child v) (port_to net v w)) (neighbours net v)
   told2 v is_vertex =
       let many : ports (node v) ≡ degree_of net v = length-map (neighbours net v) (role_of net v) in
       ap (λ (next : Both Node (Option ℕ) × List (Option Wire)). next.1) (second v is_vertex)

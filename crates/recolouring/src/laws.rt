@@ -1,11 +1,17 @@
 //! What holds of the last states on every network. The law is the contract of a function that does nothing.
 
 ghost use Rattle.std.specs.Prelude.{◌≡◌, ◌≢◌, ◌+◌, ◌<◌, ◌≤◌, ℕ, [], Contains};
+ghost use Rattle.std.specs.FinSet.{FinSet, insert};
+ghost use Rattle.std.specs.Ordering.{nat_cmp};
 ghost use Rattle.interference.specs.Net.{IsBarred, IsEdge, IsNetwork, IsVertex, Net, bars_of, bar_count_of, degree_of};
 ghost use Rattle.interference.specs.Net.{neighbours};
 ghost use Rattle.node_api.specs.Run.{last_state};
 ghost use Rattle.colour_laws.specs.Colours.{colours};
-ghost use Rattle.recolouring.specs.Knowing.{recolouring};
+ghost use Rattle.followed.specs.declared.said.Said.TheVariants.{First, Then};
+ghost use Rattle.forest_merge.specs.declared.chosen.TheConstants.{COLOURS};
+ghost use Rattle.colour_rules.specs.declared.payload.Payload.{Payload};
+ghost use Rattle.recolouring.specs.Knowing.{and_anew, recolouring};
+ghost use Rattle.recolouring.specs.declared.anew.Anew.{Anew};
 ghost use Rattle.recolouring.specs.Texts.{plan_of_passes};
 
 /// In the last state of the synchronous run, after a pass and any number again, the new colours differ on every edge,
@@ -29,4 +35,14 @@ pub fn rounds_end_with_a_plan_that_none_can_lower()
     ensures never_more { (again : ℕ) (net : Net) → IsNetwork net → ((w : ℕ) → IsVertex net w → bars_of net w ≡ [])
         → (greatest : ℕ) → ((w : ℕ) → IsVertex net w → colours net w ≤ greatest)
         → (v : ℕ) → IsVertex net v → (last_state (recolouring again) net v).beside.colour ≤ greatest }
+{}
+
+/// What a node makes of what comes at a port, for the colours that neighbours have chosen: a payload of the colouring is
+/// passed over, and so is a colour that no set has room for; any other colour is chosen. None is refused.
+pub fn table_has_these_rows()
+    ensures colouring { (chosen : FinSet nat_cmp) (port : ℕ) (x : Payload) → and_anew chosen port (First x) ≡ chosen }
+    ensures anew { (chosen : FinSet nat_cmp) (port : ℕ) (x : Anew) → x.0 < COLOURS
+        → and_anew chosen port (Then x) ≡ insert chosen x.0 }
+    ensures too_great { (chosen : FinSet nat_cmp) (port : ℕ) (x : Anew) → COLOURS ≤ x.0
+        → and_anew chosen port (Then x) ≡ chosen }
 {}

@@ -1,0 +1,2 @@
+pub mod Composed
+mod Simulating

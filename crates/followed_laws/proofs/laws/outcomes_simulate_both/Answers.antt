@@ -1,0 +1,10 @@
+use Rattle.gather_laws.specs.Outcome.{node_in, put_by, taken_by}
+use Rattle.followed.specs.Followed.{followed}
+use Rattle.followed_laws.proofs.Simulating.{simulate_both}
+use Rattle.followed_laws.proofs.laws.outcomes_simulate_both.Goals as goal
+
+pub returns : goal.returns
+returns g c = record {
+  law = λ first sequel laws net ok capacity transcript outcome is.
+      simulate_both first sequel laws net ok (node_in (followed first sequel) net outcome) (put_by outcome) (taken_by net outcome) is.simulates;
+}
