@@ -1,6 +1,6 @@
 //! What a worker does.
 
-ghost use Rattle.std.specs.Prelude.{◌≡◌, ◌<◌, length, map};
+ghost use Rattle.std.specs.Prelude.{◌≡◌, ◌<◌, length, map, option_map};
 ghost use Rattle.crossbeam_deque.specs.Handles.{stealer_deque, worker_deque};
 ghost use Rattle.worker_deques.specs.Passes.{deques_of};
 ghost use Rattle.actor.specs.Stepped.{refusal_after, refusal_of};
@@ -60,7 +60,7 @@ fn turn<J: Wiring, P: NodeProgram, R: Wait, G: Gate>(
     turned
 }
 
-// A turn of the node in hand, if there is one.
+// A turn of the node in hand, if there is one. It remembers a refusal of this turn exactly if that is returned.
 fn turn_in_hand<J: Wiring, P: NodeProgram, R: Wait, G: Gate>(
     rt: &R,
     shared: &Shared<J, P, G>,
@@ -69,6 +69,8 @@ fn turn_in_hand<J: Wiring, P: NodeProgram, R: Wait, G: Gate>(
 ) -> Result<bool, TurnRefused>
     ensures own { state.new.own ≡ state.old.own }
     ensures passes { state.new.passes ≡ state.old.passes }
+    ensures refusal { option_map (λ b. refusal_of b.value) state.new.task
+        ≡ option_map (λ b. refusal_after (refusal_of b.value) result) state.old.task }
 {
     match &mut state.task {
         Some(node) => turn(rt, shared, worker, node),
