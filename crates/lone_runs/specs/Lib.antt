@@ -1,0 +1,2 @@
+pub mod Went
+pub mod Fair
