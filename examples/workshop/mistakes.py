@@ -31,6 +31,16 @@ COLOURING = {
         "elif own == {8: 5, 10: 4, 12: 3}[p]:",
         "elif own >= 3:",
     ),
+    "drop_three": (
+        "3 is never dropped",
+        "elif own == {8: 5, 10: 4, 12: 3}[p]:",
+        "elif own == {8: 5, 10: 4}.get(p):",
+    ),
+    "drop_four": (
+        "4 is never dropped",
+        "elif own == {8: 5, 10: 4, 12: 3}[p]:",
+        "elif own == {8: 5, 12: 3}.get(p):",
+    ),
     "bit_highest": (
         "the bit step takes the highest digit that differs",
         "    digit = 0\n    while above is not None and (own >> digit & 1) == (above >> digit & 1):\n"
@@ -122,6 +132,11 @@ ALPHA = {
         "not any(port.waits for port in self.ports)",
         "(not self.ports or sum(port.waits for port in self.ports) < len(self.ports))",
     ),
+    "acks_any": (
+        "any wire counts as the acknowledgement",
+        "        port = self.ports[int(at)]\n",
+        "        port = self.ports[int(at)]\n        port.waits = False\n",
+    ),
     "early_present": (
         "an early payload is put among the present ones",
         "        if pulse == self.pulse:\n            port.present = payload\n        else:\n"
@@ -132,6 +147,11 @@ ALPHA = {
         "an early payload is lost with the next pulse",
         "port.present, port.early = port.early, None",
         "port.present, port.early = None, None",
+    ),
+    "early_twice": (
+        "an early payload isn't cleared, and counts twice",
+        "port.present, port.early = port.early, None",
+        "port.present, port.early = port.early, port.early",
     ),
     "early_safe_lost": (
         "an early safe is lost with the next pulse",
@@ -228,6 +248,11 @@ OTHERS = {
         "it takes a child in the turn of any colour",
         "if self.partner is not None or self.colours[forest] != colour or not inbox:",
         "if self.partner is not None or not inbox:",
+    ),
+    "matching_greatest": (
+        "it takes the child of the greatest port",
+        '        self.partner = min(inbox)\n        return {self.partner: ("take", forest)}',
+        '        self.partner = max(inbox)\n        return {self.partner: ("take", forest)}',
     ),
     "matching_untold": (
         "it doesn't tell the child that it takes it",

@@ -12,8 +12,11 @@ from lab.networks.smaller import remade
 from lab.workshop.findings import Finding
 from lab.workshop.protocol import COLOURING
 
-# Each mistake of the colouring that can be caught shows on most4 or rest3, and each of the synchroniser on alone4.
+# Each mistake of the colouring that can be caught shows on most4, rest3 or drops, and each of the synchroniser on
+# alone4 or triangle.
 NETWORKS = "path1,two,path3,triangle,rest3,alone4,most4,star4,ring5,complete4,random6,drops"
+# How the identifiers of a varied run are chosen: in half of the runs so that bit steps and drops stay as they are.
+HOW = ("own", "moved", "moved", "mixed", "sparse", "long")
 # The programs whose nodes heed bars.
 WITH_BARS = (COLOURING, "independent-set", "recolouring")
 
@@ -22,7 +25,7 @@ WITH_BARS = (COLOURING, "independent-set", "recolouring")
 class Case:
     """One run. `number` counts the runs of a seed; `owners`, by vertex from 1 on, the numbers of the commands that run
     there; `finding` is None if it was right; `run` is what was played, and `league` what a right run of an own
-    algorithm took."""
+    algorithm took; `is_part`, whether its network is what was left of a greater one."""
 
     number: int
     network: Network
@@ -32,6 +35,7 @@ class Case:
     finding: Finding | None = None
     run: Any = field(default=None, repr=False)
     league: dict[str, int] | None = None
+    is_part: bool = False
 
     def size(self) -> tuple[int, int, int, int]:
         """What makes a case that isn't right small."""
@@ -63,13 +67,14 @@ def random_network(name: str, nodes: int, chance: Random) -> Network:
 def varied(network: Network, chance: Random, program: str) -> Network:
     """The same edges with other identifiers; for programs that heed bars also sometimes with other bars, and for the
     layers with identifier 1, their root, at one node in most networks."""
-    vertices, how = list(network.vertices), chance.choice(["own", "mixed", "sparse", "long"])
+    vertices, own = list(network.vertices), [network.identifiers[v] for v in network.vertices]
     names = {
-        "own": lambda: [network.identifiers[v] for v in vertices],
+        "own": lambda: own,
+        "moved": lambda: moved(own, chance),
         "mixed": lambda: chance.sample(vertices, len(vertices)),
         "sparse": lambda: chance.sample(range(max(100, 4 * len(vertices))), len(vertices)),
         "long": lambda: [chance.getrandbits(128) for _ in vertices],
-    }[how]()
+    }[chance.choice(HOW)]()
     if program == "layers" and 1 not in names and chance.random() < 0.8:
         names[chance.randrange(len(names))] = 1
     bars = network.bars
@@ -81,6 +86,12 @@ def varied(network: Network, chance: Random, program: str) -> Network:
             if chance.random() < 0.3
         }
     return remade(network, network.edges, dict(zip(vertices, names)), bars)
+
+
+def moved(own: list[int], chance: Random) -> list[int]:
+    """Other identifiers whose low digits are as before, so that they take the same bit steps and drops."""
+    more = chance.getrandbits(100) << 20
+    return [name + more for name in own] if max(own, default=0) >> 120 == 0 else own
 
 
 def cases_of(options: Namespace) -> list[Case]:

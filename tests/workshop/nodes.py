@@ -64,6 +64,9 @@ COLOURING = {
     "bars_forgotten": ((4, 19), (1, 13)),
     "bars_channels": ((4, 19), (1, 13)),
     "bars_width": ((4, 19), (3, 16)),
+    # 3 is dropped at node 3 of the row of nine, and 4 at node 1 (the network's own comment).
+    "drop_three": (None, None, (3, 12)),
+    "drop_four": (None, None, (1, 10)),
     "merge_last": (None, None),  # nobody ever chooses in the last pulse of a merge
 }
 # By mistake, what is found on alone4; what else the node could do there, why it can't do that, and what came early.
@@ -158,7 +161,19 @@ SYNCHRONISER = {
     ),
     # A payload completes nothing, so nothing else is in the answer to it.
     "acks_after": None,
+    # Here acknowledgements come last: node 2 takes both payloads, then one acknowledgement, and says safe.
+    "acks_any": (
+        "NothingToPut",
+        2,
+        0,
+        "waits for ack 0 by port",
+        "it lacks the acknowledgement of pulse 0 by port",
+    ),
+    "early_twice": ("WrongWire", 2, 16, "put 0 payload 16 chosen 1", "pulse 16 is the turn of"),
 }
+LATE_ACKS = ("acks_any", "early_twice")
+# Where a mistake shows, or one of a program, if that isn't the triangle.
+SHOWN_ON = {"anew_bars": BARRED, "matching_greatest": "star4", "layers": "path4"}
 # By program and mistake, (node, pulse) of what is found with a clock on path4 or a triangle, the verdict and the pulse
 # without one, and the rule and this node's numbers.
 OTHERS = {
@@ -210,6 +225,14 @@ OTHERS = {
             "WrongWire",
             14,
             "pulse 14 is the second of the turn of colour 0 in forest 0",
+        ),
+        # Node 4 has the colour 1 in forest 0, as all others have 0, so it takes one of three in the second turn.
+        "matching_greatest": (
+            4,
+            16,
+            "NothingToPut",
+            16,
+            "has no partner takes the child of the least port by which `free 0` has come",
         ),
         "matching_untold": (
             3,
@@ -374,7 +397,7 @@ class Mistakes(Played):
 
     def test_of_the_colouring(self):
         for name, rights in COLOURING.items():
-            for given, right in zip(("most4", "rest3"), rights):
+            for given, right in zip(("most4", "rest3", "drops"), rights):
                 self.found(
                     right and ("differs", *right),
                     "rounds",
@@ -390,7 +413,7 @@ class Mistakes(Played):
                 "alpha",
                 "alone4",
                 self.wrong_node(name, "alpha_node.py"),
-                policy="newest",
+                policy="late-acks" if name in LATE_ACKS else "newest",
                 one_process=name != "leaves",
             )
             if row:
@@ -403,13 +426,7 @@ class Mistakes(Played):
     def test_of_other_programs(self):
         for program, names in OTHERS.items():
             for name, (node, pulse, verdict, later, why) in names.items():
-                given = (
-                    BARRED
-                    if name == "anew_bars"
-                    else "path4"
-                    if program == "layers"
-                    else "triangle"
-                )
+                given = SHOWN_ON.get(name) or SHOWN_ON.get(program, "triangle")
                 more = {"program": program, "one_process": True, "policy": "newest"}
                 found = self.found(
                     ("differs", node, pulse),
@@ -507,7 +524,7 @@ RESULTS = (
         ("garbage", 2, 17),
         "at pulse 17",
     ),
-    ("alpha", "found", "[*lines, *found]", ("garbage", 1, 18), "a result is final"),
+    ("alpha", "found", "[*lines, *found]", ("garbage", 2, 18), "a result is final"),
     (
         "alpha",
         "done and not found",
