@@ -14,6 +14,20 @@ from lab.workshop.why import Why
 
 # No run has such a pulse, so an entry that names it is refused, and the judge says what would be possible.
 IMPOSSIBLE = (1 << 32) - 1
+START = "its start is pulse 0, so the first pulse that a node says is `pulse 1`"
+# What the judge's word for a run that isn't right means.
+MEANINGS = {
+    "NotReady": "the node can't make a pulse there",
+    "NothingToPut": "the node has nothing to put for this neighbour there",
+    "WrongWire": "the node can do this there, but with another wire or pulse",
+    "NotWhole": "all entries are possible, and at the end something is missing",
+}
+
+
+def judged(verdict: Verdict) -> str:
+    """The judge's own line, and what it means."""
+    meaning = MEANINGS.get(verdict.name)
+    return f"{verdict.line} ({meaning})" if meaning else verdict.line
 
 
 @dataclass
@@ -31,7 +45,7 @@ class At(Standing):
         """What a right node could do there."""
         dues = self.dues()
         if dues:
-            return "one of: " * (len(dues) > 1) + "; ".join(dues)
+            return f"one of: {'; '.join(dues)}" if len(dues) > 1 else dues[0]
         if self.pulse == self.last:
             return "nothing more: it has made its last pulse and put all that it has to"
         return f"nothing yet: before its next pulse it waits for {self.lacks}"
@@ -113,7 +127,7 @@ def finding_of(run: AlphaRun) -> Finding | None:
 def wrong_entry(run: AlphaRun, entries: list[Entry], verdict: Verdict) -> Finding:
     stamp, v, words = entries[verdict.at]
     at, own = at_node(run.rounds, entries[: verdict.at], v), with_port(run.rounds, v, words)
-    neighbour = f" (to node {words.split()[1]})" * words.startswith("put")
+    neighbour = f" (to node {words.split()[1]})" if words.startswith("put") else ""
     lines = [
         (
             "where",
@@ -121,9 +135,9 @@ def wrong_entry(run: AlphaRun, entries: list[Entry], verdict: Verdict) -> Findin
         ),
         ("wrong", own + neighbour),
         ("right", at.right()),
-        ("why", rule_of(at, own)),
+        ("why", START if words == "pulse 0" else rule_of(at, own)),
         *at.hints(),
-        ("judge", verdict.line),
+        ("judge", judged(verdict)),
     ]
     return Finding(verdict.name, v, at.pulse, lines, verdict.at, way=kind_of(words))
 
@@ -161,7 +175,7 @@ def stuck(run: AlphaRun, entries: list[Entry], verdict: Verdict) -> Finding:
         *first.hints(),
         *others[:3],
         *waits,
-        ("judge", verdict.line),
+        ("judge", judged(verdict)),
     ]
     return Finding("stuck", first.v, first.pulse, lines, way=kind_of(first.dues()[0]))
 

@@ -7,6 +7,7 @@ import tempfile
 from typing import Collection, Iterator
 
 from lab import checksums, version
+from lab.__main__ import COMMANDS
 from lab.programs import FIRST, SCRIPT, TOP, program_file
 from lab.words import parser_of
 
@@ -55,6 +56,7 @@ LEFT_OUT = (
 # The line of its VERSION by which it is known.
 IS_CLASS = "for a class"
 
+STAR = "A command with a star (\\*) isn't in this folder; your teacher's folder has it."
 README = """\
 # A class with forestplan
 
@@ -98,7 +100,24 @@ def page_for_a_class(text: str, path: str, paths: Collection[str]) -> str:
         )
 
     text = BESIDE.sub(lambda beside: beside[0] if is_there(beside[1]) else "", text)
-    return LINK.sub(lambda link: link[0] if is_there(link[2]) else link[1], text)
+    text = LINK.sub(lambda link: link[0] if is_there(link[2]) else link[1], text)
+    absent = [name for name, module in COMMANDS.items() if module_path(module) not in paths]
+    return marked(text, absent)
+
+
+def module_path(module: str) -> str:
+    return f"{module.replace('.', '/')}.py"
+
+
+def marked(text: str, absent: Collection[str]) -> str:
+    """A page with a star at each command that the folder of a class hasn't, and a line that says so below the title."""
+    command = rf"forestlab (?:{'|'.join(absent)})\b"
+    new = re.sub(rf"(?m)^( {{4,}}\$ .*{command}.*)$", r"\1    # *", text)
+    new = re.sub(rf"(`{command}[^`]*`)", r"\1\\*", new)
+    if new == text or STAR in text:  # a folder of a class makes another one
+        return text
+    title, _, rest = new.partition("\n")
+    return f"{title}\n\n{STAR}\n{rest}"
 
 
 def write_scripts(room: str) -> None:

@@ -123,7 +123,8 @@ class RoundsRun(ClockRun):
         for wrong, right, of in self.compared(p, v):
             if wrong != right:
                 lines = [("wrong", wrong), ("right", right), ("why", Why(self.rounds, v).of(**of))]
-                way = f"{''.join(self.rounds.phase[p][:1])} {kind_of(wrong if right.startswith('no') else right)}"
+                kind = kind_of(wrong if right.startswith("no") else right)
+                way = f"{''.join(self.rounds.phase[p][:1])} {kind}"
                 return self.finding("differs", p, v, lines, way=way)
         return None
 
@@ -150,12 +151,15 @@ class RoundsRun(ClockRun):
 
     def text(self) -> str:
         """What the nodes sent, as `forestplay rounds` writes it."""
-        return "".join(
-            f"{v} put {self.network.neighbours[v][port]} payload {p} {words}\n"
-            for p, by in enumerate(self.puts)
-            for v, puts in by.items()
-            for port, words in sorted(puts.items())
-        )
+        lines = []
+        for p, by in enumerate(self.puts):
+            for v, puts in by.items():
+                to = self.network.neighbours[v]
+                lines += [
+                    f"{v} put {to[port]} payload {p} {words}\n"
+                    for port, words in sorted(puts.items())
+                ]
+        return "".join(lines)
 
 
 class OpenRun(ClockRun):

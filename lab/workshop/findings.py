@@ -57,4 +57,7 @@ def last_of(words) -> list[str]:
 def listed(what: str, numbers) -> str:
     """`no port`, `port 1`, `ports 1 and 2`, `ports 0, 1 and 2`."""
     numbers = list(numbers)
-    return f"{what}{'s' * (len(numbers) > 1)} {in_words(numbers)}" if numbers else f"no {what}"
+    if not numbers:
+        return f"no {what}"
+    several = what if len(numbers) == 1 else f"{what}s"
+    return f"{several} {in_words(numbers)}"

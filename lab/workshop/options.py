@@ -136,19 +136,22 @@ def parsed(words: list[str]) -> argparse.Namespace:
     at = words.index("--") if "--" in words else len(words)
     line = command_line()
     options = line.parse_intermixed_args(words[:at])
-    options.commands = [
-        list(command) for is_mark, command in groupby(words[at + 1 :], "--".__eq__) if not is_mark
-    ]
+    groups = groupby(words[at + 1 :], "--".__eq__)
+    options.commands = [list(command) for is_mark, command in groups if not is_mark]
+    is_alpha = options.assignment == "alpha"
     if not options.commands:
         line.error("there is no command after `--`")
     if options.assignment == "open" and options.program:
         line.error("--program is of rounds and alpha")
-    if options.assignment != "alpha" and (options.policies or options.picture):
+    if not is_alpha and (options.policies or options.picture):
         line.error("--policies and --picture are of alpha alone")
+    fill(options, list(POLICIES) if is_alpha else [""])
+    return options
+
+
+def fill(options: argparse.Namespace, policies: list[str]) -> None:
+    """What isn't said."""
     options.program = options.program or COLOURING
-    options.policies = options.policies or (
-        list(POLICIES) if options.assignment == "alpha" else [""]
-    )
+    options.policies = options.policies or policies
     options.runs = options.runs or len(options.networks) or 100
     options.networks = options.networks or NETWORKS.split(",")
-    return options

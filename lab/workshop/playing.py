@@ -108,18 +108,8 @@ class Player:
         """The cases that were played: all, or those up to the first that isn't right. Once the time is over no more is
         played, and none if nothing answers its first message in two runs, on two networks if there are two.
         """
-        other = next(
-            (case for case in cases if case.network.name != cases[0].network.name), cases[-1]
-        )
-        if (
-            not self.options.first
-            and other is not cases[0]
-            and self.is_mute(cases[0])
-            and self.is_mute(other)
-        ):
-            for case in (cases[0], other):
-                case.finding.lines.append(("note", UNPLAYED))
-            return left_out(cases, other.finding)
+        if not self.options.first and self.are_mute(cases):
+            return cases
         for count, case in enumerate(cases, 1):
             if time.monotonic() > self.over:
                 return cases[: count - 1] + left_out(cases[count - 1 :], LATE)
@@ -132,6 +122,19 @@ class Player:
                 case.run = None  # nobody asks for it any more
         return cases
 
+    def are_mute(self, cases: list[Case]) -> bool:
+        """Whether nothing answers its first message in two runs; then all others count as silent, too."""
+        first, *others = cases
+        other = next(
+            (case for case in others if case.network.name != first.network.name), cases[-1]
+        )
+        if other is first or not self.is_mute(first) or not self.is_mute(other):
+            return False
+        for case in (first, other):
+            case.finding.lines.append(("note", UNPLAYED))
+        left_out(cases, other.finding)
+        return True
+
     def is_mute(self, case: Case) -> bool:
         """Whether a program is silent from its first message on."""
         return not self.play(case) and case.finding.kind == "silent" and case.finding.is_first
@@ -139,19 +142,14 @@ class Player:
     def shrunk(self, case: Case) -> Case:
         """A smaller case that is wrong in the same way, as long as one is found, and as few runs allow. What took all
         the time that it may take isn't tried again."""
-        left = MOST_SHRINKS * (case.finding.kind not in ("silent", "late"))
+        left = 0 if case.finding.kind in ("silent", "late") else MOST_SHRINKS
         while left and time.monotonic() < self.over:
             found = None
             for network, vertices in smaller(case.network):
                 left -= 1
                 self.say(f"looking for a smaller case that is wrong, {MOST_SHRINKS - left} tried")
-                other = Case(
-                    case.number,
-                    network,
-                    case.policy,
-                    case.seed,
-                    [case.owners[v - 1] for v in vertices],
-                )
+                owners = [case.owners[v - 1] for v in vertices]
+                other = Case(case.number, network, case.policy, case.seed, owners, is_part=True)
                 if not self.play(other) and other.finding.is_like(case.finding):
                     found = other
                 if found or not left:

@@ -74,7 +74,8 @@ def shown(got: str | bytes | bytearray, most: int = 80) -> str:
     """The first of what a program wrote, as it may be printed in one line."""
     text = got if isinstance(got, str) else bytes(got[:most]).decode("utf-8", "replace")
     text = text.replace("\r", "").replace("\n", " | ").strip(" |")[:most]
-    return f"`{''.join(c if c.isprintable() else '?' for c in text)}{' ..' if len(got) > most else ''}`"
+    printed = "".join(letter if letter.isprintable() else "?" for letter in text)
+    return f"`{printed} ..`" if len(got) > most else f"`{printed}`"
 
 
 @cache
@@ -110,16 +111,9 @@ def fields_of(line: str, forms: list[str], degree: int) -> tuple[str, ...]:
             "find mistakes goes to standard error",
         )
     if found[1] == "put" and int(found[2]) >= degree:
-        ports = (
-            "no port"
-            if degree == 0
-            else "port 0 alone"
-            if degree == 1
-            else f"ports 0 to {degree - 1}"
-        )
-        raise Fault(
-            "garbage", f"{shown(line)}: there is no port {found[2][:9]}; the node has {ports}"
-        )
+        ports = {0: "no port", 1: "port 0 alone"}.get(degree, f"ports 0 to {degree - 1}")
+        words = f"there is no port {found[2][:9]}; the node has {ports}"
+        raise Fault("garbage", f"{shown(line)}: {words}")
     return found.groups()
 
 

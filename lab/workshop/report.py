@@ -1,6 +1,7 @@
 """What the workshop prints: a table of right runs, a league, the case that isn't right; or all of it for a program."""
 from argparse import Namespace
 
+from lab.words import counted
 from lab.workshop.cases import Case
 from lab.workshop.findings import first_of
 
@@ -47,9 +48,8 @@ def described(case: Case) -> list[str]:
     edges = ", ".join(first_of([f"{v}-{w}" for v, w in network.edges]))
     edges = f"edges {edges}" if edges else "no edges"
     policy = f", {case.policy}" if case.policy else ""
-    lines = [
-        f"case   {case.number}: {network.name}{policy}; {network.nodes} node{'s' * (network.nodes != 1)}, {edges}"
-    ]
+    name = f"a part of {network.name}" if case.is_part else network.name
+    lines = [f"case   {case.number}: {name}{policy}; {counted(network.nodes, 'node')}, {edges}"]
     names = [
         f"node {v} is {network.identifiers[v]}"
         for v in network.vertices

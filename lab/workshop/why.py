@@ -104,13 +104,11 @@ class Why:
             for f, up in sorted(self.up.items())
         )
         given = {"name": names[self.v], "higher": higher or "none", "dropped": DROPPED.get(p)}
-        return (
-            phase,
-            given,
-            [self.in_forest(p, self.forest_by[port] if forest is None else forest)]
-            if p > 1
-            else [],
-        )
+        if p < 2:
+            return phase, given, []
+        if forest is None:
+            forest = self.forest_by[port]
+        return phase, given, [self.in_forest(p, forest)]
 
     def of_sequel(self, p: int) -> tuple[str, dict, list[str]]:
         """The same of a pulse after the colouring."""

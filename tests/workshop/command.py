@@ -13,6 +13,12 @@ WAITS = [sys.executable, "-S", "-c", "import time; time.sleep(100)"]
 TEE = 'tee "$0/$$.in" | "$@" | tee "$0/$$.out"'
 
 
+def by_vertex(line: str, neighbours: list[int]) -> str:
+    """A line of a node as a transcript has it, with a neighbour in place of the port."""
+    what, at, *rest = line.split(" ")
+    return line if what == "pulse" else " ".join([what, str(neighbours[int(at)]), *rest])
+
+
 class Command(Played):
     def path(self, *names):
         return os.path.join(self.folder, *names)
@@ -205,23 +211,12 @@ class Command(Played):
             messages, answers = (
                 text_in(logs, name.replace(".in", part)).split("end\n") for part in (".in", ".out")
             )
-            lines = [
-                line
-                for both in zip(messages, answers)
-                for part in both
-                for line in part.splitlines()
-            ]
+            parts = [part for both in zip(messages, answers) for part in both]
+            lines = "".join(parts).splitlines()
             v = next(int(line.split()[1]) for line in lines if line.startswith("identifier"))
+            did = [line for line in lines if line.startswith(("take ", "put ", "pulse "))]
             neighbours = {1: [2], 2: [1, 3], 3: [2]}[v]
-            did = [
-                line.split(" ") for line in lines if line.startswith(("take ", "put ", "pulse "))
-            ]
-            did = [
-                " ".join([what, str(neighbours[int(at)]), *rest])
-                if what != "pulse"
-                else f"pulse {at}"
-                for what, at, *rest in did
-            ]
+            did = [by_vertex(line, neighbours) for line in did]
             self.assertEqual(did, [words for u, words in rows if u == str(v)])
             seen += len(did)
         self.assertEqual(seen, len(rows))
