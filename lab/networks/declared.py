@@ -184,6 +184,9 @@ def declare_item(declared: Declared, key: str, item: Pairs, line: int) -> None:
     for own in ONCE:
         if keys.count(own) > 1:
             raise wrong_line(declared.path, line, f"a second `{own}` of one `{key}`")
+    for own, _, inner in lists_of(item):
+        if own in ONCE:
+            raise wrong_line(declared.path, inner, f"`{own}` of a `{key}` is a list")
     has = {own: word for own, word, _ in item}
     if key == "node":
         declared.node(line, has.get("id"))

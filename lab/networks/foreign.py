@@ -16,6 +16,7 @@ from typing import Any
 from lab.networks.declared import Declared, in_gml, in_json, in_xml
 from lab.networks.fields import shown
 from lab.networks.listed import Listed, Where, name_of, wrong_at
+from lab.networks.network_text import MAX_NODES
 from lab.networks.stated import Stated, decoded
 from lab.networks.table import FARTHEST
 from lab.words import counted, one_line
@@ -75,10 +76,18 @@ def from_sparse6(nx: Any, data: bytes) -> Any:
 
 
 def in_one_line(data: bytes, path: str) -> None:
-    """Refuses a second graph: each is a line."""
+    """Refuses a second graph, each of which is a line, and one that says that it has too many nodes."""
     rows = data.strip().split(b"\n")
     if len(rows) > 1:
         raise wrong_line(path, 2, "a second graph: a file of one graph is read")
+    # Up to 62 nodes are one letter; up to 258,047 three after one `~`.
+    letters = rows[0].removeprefix(b">>graph6<<").removeprefix(b">>sparse6<<").removeprefix(b":")
+    sizes = [letter - 63 for letter in letters[1:4]]
+    if (
+        letters.startswith(b"~")
+        and sum(size << 12 - 6 * at for at, size in enumerate(sizes)) > MAX_NODES
+    ):
+        raise wrong_line(path, 1, f"more than {MAX_NODES} nodes")
 
 
 # Of each form: how networkx reads it, and what counts the nodes and edges that its text declares.

@@ -5,7 +5,7 @@ from lab.networks.fields import whole
 from lab.networks.listed import Listed, note_alike, wrong_at
 from lab.networks.named import path_of
 from lab.networks.network_text import MAX_EDGES, checked, network_of, read_network, stem
-from lab.networks.stated import Stated, decoded, form_of
+from lab.networks.stated import Stated, decoded, form_of, letters_of
 from lab.networks.texts import text_of
 from lab.words import counted, one_line
 from lab.wrong import Wrong
@@ -25,10 +25,10 @@ def listed_of(data: bytes, name: str, form: str, stated: Stated = Stated()) -> L
 
 def dimacs_of(data: bytes, name: str, stated: Stated) -> Network:
     """The network of a text in the DIMACS format, of which nothing is mended, not even its line ends."""
-    if stated.encoding is None:
+    encoding = stated.encoding
+    if encoding is None:
         return network_of(data, name)
-    decoded(data, name, stated.encoding)
-    return read_network(data.decode(stated.encoding), name)
+    return read_network(letters_of(data, name, encoding, encoding), name)
 
 
 def listed_in(network: Network, name: str) -> Listed:

@@ -153,22 +153,25 @@ def encoding_of(data: bytes, stated: str | None) -> str:
     return stated or "utf-8"
 
 
-def decoded(data: bytes, name: str, stated: str | None = None) -> str:
-    """The text of a file, whose lines end with line feeds."""
-    encoding = encoding_of(data, stated)
+def letters_of(data: bytes, name: str, encoding: str, stated: str | None) -> str:
+    """The letters of a file in an encoding."""
     try:
-        text = data.decode(encoding)
+        return data.decode(encoding)
     except LookupError:
         raise Wrong(f"{name}: there is no encoding {encoding}") from None
     except UnicodeDecodeError as why:
         line = data.count(b"\n", 0, why.start) + 1
         what = str(wrong_line(name, line, f"it isn't in {encoding.upper()}"))
-        if stated:
-            raise Wrong(what) from None
-        choices = [({"encoding": "cp1252"}, "its letters are those of western Windows")]
-        raise Unsaid(what, choices) from None
     except UnicodeError:
         raise Wrong(f"{name}: it isn't in {encoding.upper()}") from None
+    if stated:
+        raise Wrong(what)
+    raise Unsaid(what, [({"encoding": "cp1252"}, "its letters are those of western Windows")])
+
+
+def decoded(data: bytes, name: str, stated: str | None = None) -> str:
+    """The text of a file, whose lines end with line feeds."""
+    text = letters_of(data, name, encoding_of(data, stated), stated)
     text = text.replace("\r\n", "\n").replace("\r", "\n")
     before, zero, _ = text.partition("\0")
     if zero:
